@@ -10,6 +10,8 @@ import sys
 TOP = pathlib.Path(__file__).resolve().parent.parent
 # What the script itself refuses, before the coordinator sees it.
 BY_SCRIPT = {"Started", "NotStarted", "NotReady", "BadConfig", "BadShape", "BadThreads", "NotPending", "FilesUsedUp"}
+# What each picture says, also if it is 0.
+CALLS = ("records", "accepted", "refused")
 START = b"config 1000 0 1 600000 0 1 delete\njob 3\nstart 0\ntick 1000\n"
 REFUSED = [
     START + b"all 1000 1 99 1\n",
@@ -62,7 +64,8 @@ def wanted(job, script):
     n["still pending"] = sum('"state":"pending"' in line for line in shown)
     ended = n["records"] - n["retained"] - n["still pending"]
     n["dropped"] = ended - n["subsumed"] - n["expired"] - n["declined"] - n["disposed"]
-    return n
+    # a picture has no sign for an ending that no record has
+    return {name: count for name, count in n.items() if count > 0 or name in CALLS}
 
 
 def drawn(chart, script):

@@ -9,6 +9,7 @@
 mod fault;
 mod history;
 mod lanes;
+mod legend;
 mod panels;
 mod picture;
 mod player;

@@ -2,14 +2,24 @@
 use crate::history::{Ending, History, Record, Sample};
 use crate::picture::Layout;
 use crate::scale::{Scale, step};
-use crate::svg::{DARK, LIGHT, Svg, TEXT_END};
+use crate::svg::{DARK, INSIDE, LIGHT, Svg, TEXT, TEXT_END};
 use ckpt_ids::Kind;
 
-const BAR: u64 = 160;
+/// The height of a bar.
+pub(crate) const BAR: u64 = 170;
 
-const PALE: &str = " fill-opacity='0.35'";
+/// A phase that is narrower gets a pointer.
+const SHORT: u64 = 60;
 
-const FULL: &str = " fill-opacity='1'";
+/// How a bar is filled while its record waits, and once it is complete.
+pub(crate) const PALE: &str = " fill-opacity='0.35'";
+
+pub(crate) const FULL: &str = " fill-opacity='1'";
+
+/// How an acknowledgement is drawn.
+pub(crate) const ACK: &str = "class='dark' stroke='#111827' stroke-width='16'";
+
+const THIN_ACK: &str = "class='dark' stroke='#111827' stroke-width='6' stroke-opacity='0.7'";
 
 /// Three counts, with the colours of their lines.
 #[derive(Clone, Copy)]
@@ -40,7 +50,7 @@ impl Count {
         match self {
             Count::InUse => "#009e73",
             Count::Waiting => "#e69f00",
-            Count::Taken => "#7c3aed",
+            Count::Taken => "#8b5cf6",
         }
     }
 }
@@ -63,9 +73,21 @@ pub(crate) fn bars(svg: &mut Svg, layout: &Layout, record: &Record, named: bool)
     acks(svg, layout, record, y, named);
     if named {
         name_beside(svg, record, y);
+        if is_short(&layout.time, record) {
+            svg.pointer((begin, y.saturating_sub(10)));
+        }
     } else {
         number_inside(svg, record, (begin, end), y);
     }
+}
+
+/// Whether the record waited or was complete for so short a time that one can't see it.
+pub(crate) fn is_short(time: &Scale, record: &Record) -> bool {
+    let begin = time.right(record.triggered);
+    let end = time.right(record.ended.unwrap_or(time.to));
+    let complete = time.right(record.completed.unwrap_or(time.to)).min(end);
+    let is_seen_complete = record.completed.is_none() || end.saturating_sub(complete) >= SHORT;
+    complete.saturating_sub(begin) < SHORT || !is_seen_complete
 }
 
 fn bar(svg: &mut Svg, across: (u64, u64), y: u64, ending: Ending, opacity: &str) {
@@ -76,11 +98,7 @@ fn bar(svg: &mut Svg, across: (u64, u64), y: u64, ending: Ending, opacity: &str)
 
 /// A line for each acknowledgement.
 fn acks(svg: &mut Svg, layout: &Layout, record: &Record, y: u64, named: bool) {
-    let how = if named {
-        "stroke='#111827' stroke-width='16'"
-    } else {
-        "stroke='#111827' stroke-width='6' stroke-opacity='0.7'"
-    };
+    let how = if named { ACK } else { THIN_ACK };
     let top = y.saturating_sub(20);
     let bottom = y.saturating_add(BAR + 20);
     for moment in &record.acks {
@@ -95,18 +113,18 @@ fn name_beside(svg: &mut Svg, record: &Record, y: u64) {
         Kind::Checkpoint => "checkpoint ",
         Kind::Savepoint => "savepoint ",
     };
-    let base = y.saturating_add(125);
-    svg.numbered((1030, base), "end", kind, record.id.0);
+    let base = y.saturating_add(145);
+    svg.numbered((1430, base), "end", kind, record.id.0);
 }
 
 /// The number of a record, in its bar, if there is room.
 fn number_inside(svg: &mut Svg, record: &Record, across: (u64, u64), y: u64) {
     let (begin, end) = across;
     let width = end.saturating_sub(begin);
-    if width > 350 {
+    if width > 500 {
         let x = begin.saturating_add(width / 2);
-        let base = y.saturating_add(125);
-        svg.text_from((x, base), 110, "middle", "#111827");
+        let base = y.saturating_add(145);
+        svg.text_from((x, base), TEXT, "middle", INSIDE);
         svg.number(record.id.0);
         svg.text(TEXT_END);
     }
@@ -161,7 +179,7 @@ fn count_axis(svg: &mut Svg, layout: &Layout, count: &Scale, step: u64) {
 fn count_line(svg: &mut Svg, across: (u64, u64), y: u64, value: u64) {
     let (left, right) = across;
     svg.stroke((left, y), (right, y), LIGHT);
-    let at = (left.saturating_sub(70), y.saturating_add(45));
+    let at = (left.saturating_sub(70), y.saturating_add(60));
     svg.numbered(at, "end", "", value);
 }
 
@@ -197,18 +215,18 @@ fn across_to(svg: &mut Svg, x: u64) {
 }
 
 fn file_legend(svg: &mut Svg, layout: &Layout) {
-    let y = layout.files_top.saturating_sub(150);
-    svg.words((250, y), 150, "start", "Number of files");
-    let mut x: u64 = 2300;
+    let y = layout.files_top.saturating_sub(200);
+    svg.words((250, y), 200, "start", "Number of files");
+    let mut x: u64 = 2400;
     for kind in &COUNTS {
         line_meaning(svg, x, y, *kind);
-        x = x.saturating_add(2300);
+        x = x.saturating_add(2500);
     }
 }
 
 /// The line of a count, and its name.
 fn line_meaning(svg: &mut Svg, x: u64, y: u64, kind: Count) {
-    curve_from(svg, kind.colour(), x, y.saturating_sub(45));
+    curve_from(svg, kind.colour(), x, y.saturating_sub(60));
     svg.text("h320'/>\n");
-    svg.words((x.saturating_add(400), y), 130, "start", kind.name());
+    svg.words((x.saturating_add(400), y), TEXT, "start", kind.name());
 }

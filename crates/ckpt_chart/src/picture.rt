@@ -1,43 +1,36 @@
 //! The whole picture: 1000 pixels wide, in tenths of a pixel.
-use crate::history::{Ending, Event, History};
+use crate::history::{Event, History};
+use crate::legend::legend;
 use crate::panels::{bars, file_panel};
 use crate::scale::{Scale, first_multiple, step};
-use crate::svg::{DARK, LIGHT, Svg, TEXT_END};
+use crate::svg::{DARK, EVENT, LIGHT, STYLE, Svg, TEXT, TEXT_END};
 use ckpt_ids::Choice;
 use std::alloc::{AllocError, Global};
 
 /// Where the plot begins, and its length, from the left.
-const LEFT: u64 = 1100;
+const LEFT: u64 = 1500;
 
-const LENGTH: u64 = 8650;
+const LENGTH: u64 = 8250;
 
 const MIDDLE: u64 = LEFT + LENGTH / 2;
 
-/// Where the rows of the records begin, from the top.
-const ROWS_TOP: u64 = 1750;
-
-const ROW: u64 = 230;
+const ROW: u64 = 280;
 
 const FILES_HEIGHT: u64 = 1500;
 
-/// How the lines of events that concern all records are drawn.
-const STOP: &str = "stroke='#b91c1c' stroke-width='14' stroke-dasharray='50 30'";
+/// The height of one name of an event. There are four such levels.
+const LEVEL: u64 = 200;
 
-/// The meaning of the signs.
-const SIGNS: &str = "\
-<rect x='250' y='740' width='300' height='140' fill='#56b4e9' fill-opacity='0.35' stroke='#374151' stroke-width='6'/>
-<rect x='550' y='740' width='300' height='140' fill='#56b4e9' stroke='#374151' stroke-width='6'/>
-<text x='910' y='860' font-size='130' text-anchor='start' fill='#1f2937'>pale: waits for acknowledgements, full: complete</text>
-<line x1='5000' y1='720' x2='5000' y2='900' stroke='#111827' stroke-width='16'/>
-<text x='5080' y='860' font-size='130' text-anchor='start' fill='#1f2937'>acknowledgement</text>
-<line x1='6700' y1='720' x2='6700' y2='900' stroke='#b91c1c' stroke-width='14' stroke-dasharray='50 30'/>
-<text x='6780' y='860' font-size='130' text-anchor='start' fill='#1f2937'>restore, fail-over or cancel</text>
-";
+/// How the lines of events that concern all records are drawn.
+pub(crate) const STOP: &str =
+    "class='stop' stroke='#b91c1c' stroke-width='14' stroke-dasharray='50 30'";
 
 /// The places of the parts of the picture.
 #[derive(Clone, Copy)]
 pub(crate) struct Layout {
     pub(crate) time: Scale,
+    /// Where the names of events begin, and where the rows of the records begin.
+    pub(crate) names_top: u64,
     pub(crate) rows_top: u64,
     pub(crate) row: u64,
     /// Where the rows end.
@@ -66,32 +59,37 @@ impl Layout {
     pub(crate) fn axis_below(&self, svg: &mut Svg, y: u64) {
         let right = self.time.right(self.time.to);
         svg.stroke((LEFT, y), (right, y), DARK);
-        svg.words(
-            (MIDDLE, y.saturating_add(380)),
-            130,
-            "middle",
-            "time, in milliseconds",
-        );
+        let name = "time, in milliseconds";
+        svg.words((MIDDLE, y.saturating_add(450)), TEXT, "middle", name);
     }
 }
 
-fn laid_out(history: &History, rows: usize) -> Layout {
+/// The axis of time. It goes on for a while after the last call, so that the effect of that can be seen.
+fn time_of(history: &History) -> Scale {
+    let after = history.now.saturating_sub(history.start) / 40 + 1;
+    Scale {
+        from: history.start,
+        to: history.now.saturating_add(after),
+        begin: LEFT,
+        length: LENGTH,
+    }
+}
+
+/// The layout below a legend that ends here.
+fn laid_out(history: &History, rows: usize, legend_end: u64) -> Layout {
     let rows = (rows as u64).clamp(1, 1000);
-    let axis = ROWS_TOP
+    let levels = if history.marks.is_empty() { 0 } else { 4 };
+    let names_top = legend_end.saturating_add(300);
+    let rows_top = names_top.saturating_add(levels * LEVEL);
+    let axis = rows_top
         .saturating_add(rows.saturating_mul(ROW))
         .saturating_add(80);
-    let files_top = axis.saturating_add(1100);
+    let files_top = axis.saturating_add(1250);
     let files_bottom = files_top.saturating_add(FILES_HEIGHT);
-    // Adds some time after the last call, so that its effect can be seen.
-    let after = history.now.saturating_sub(history.start) / 40 + 1;
     Layout {
-        time: Scale {
-            from: history.start,
-            to: history.now.saturating_add(after),
-            begin: LEFT,
-            length: LENGTH,
-        },
-        rows_top: ROWS_TOP,
+        time: time_of(history),
+        names_top,
+        rows_top,
         row: ROW,
         axis,
         files_top,
@@ -100,49 +98,14 @@ fn laid_out(history: &History, rows: usize) -> Layout {
     }
 }
 
-const ENDINGS: [Ending; 7] = [
-    Ending::Retained,
-    Ending::Subsumed,
-    Ending::Expired,
-    Ending::Declined,
-    Ending::Disposed,
-    Ending::Dropped,
-    Ending::Pending,
-];
-
-impl Ending {
-    fn name(self) -> &'static str {
-        match self {
-            Ending::Retained => "retained",
-            Ending::Subsumed => "subsumed",
-            Ending::Expired => "expired",
-            Ending::Declined => "declined",
-            Ending::Disposed => "disposed",
-            Ending::Dropped => "dropped",
-            Ending::Pending => "still pending",
-        }
-    }
-
-    pub(crate) fn colour(self) -> &'static str {
-        match self {
-            Ending::Retained => "#009e73",
-            Ending::Subsumed => "#56b4e9",
-            Ending::Expired => "#e69f00",
-            Ending::Declined => "#d55e00",
-            Ending::Disposed => "#cc79a7",
-            Ending::Dropped => "#6b7280",
-            Ending::Pending => "#ffffff",
-        }
-    }
-}
-
 /// The picture of a run whose records have their rows, of which there are this many, as SVG.
 pub(crate) fn drawn(alloc: Global, history: &History, rows: usize) -> Result<String, AllocError> {
-    let layout = laid_out(history, rows);
+    let legend_end = legend(&mut Svg::new(alloc), history, &time_of(history));
+    let layout = laid_out(history, rows, legend_end);
     let mut svg = Svg::new(alloc);
     head(&mut svg, layout.height);
     title(&mut svg, history);
-    legend(&mut svg, history);
+    legend(&mut svg, history, &layout.time);
     time_axis(&mut svg, &layout);
     marks(&mut svg, &layout, history);
     for record in &history.records {
@@ -161,14 +124,15 @@ fn head(svg: &mut Svg, height: u64) {
     svg.text(" viewBox='0 0 10000 ");
     svg.number(height);
     svg.text("' font-family='DejaVu Sans, Verdana, sans-serif'>\n");
+    svg.text(STYLE);
     svg.element("<rect", &[("width", 10000), ("height", height)]);
-    svg.text(" fill='#ffffff'/>\n");
+    svg.text(" class='ground' fill='#ffffff'/>\n");
 }
 
 fn title(svg: &mut Svg, history: &History) {
-    let name = "Checkpoints and savepoints of a job";
-    svg.words((250, 330), 200, "start", name);
-    svg.text_from((9750, 330), 130, "end", "#4b5563");
+    let name = "Each checkpoint and savepoint, from its trigger to its end";
+    svg.words((250, 340), 230, "start", name);
+    svg.text_from((250, 620), TEXT, "start", "fill='#4b5563'");
     svg.number(history.records.len() as u64);
     svg.text(" records; ");
     svg.number(history.accepted);
@@ -177,29 +141,9 @@ fn title(svg: &mut Svg, history: &History) {
     svg.texts(&[" refused", TEXT_END]);
 }
 
-/// The meaning of the colours and signs, and how many records ended in each way.
-fn legend(svg: &mut Svg, history: &History) {
-    let mut x: u64 = 250;
-    for ending in &ENDINGS {
-        colour_meaning(svg, x, *ending, history.count(*ending));
-        x = x.saturating_add(1310);
-    }
-    svg.text(SIGNS);
-}
-
-/// The colour of an ending, and how many records ended so.
-fn colour_meaning(svg: &mut Svg, x: u64, ending: Ending, count: u64) {
-    svg.swatch((x, 490), (140, 140), ending.colour(), "");
-    let x = x.saturating_add(200);
-    svg.element("<text", &[("x", x), ("y", 610), ("font-size", 130)]);
-    svg.texts(&[" fill='#1f2937'>", ending.name(), ": "]);
-    svg.number(count);
-    svg.text(TEXT_END);
-}
-
 /// The axis of time, with its lines through both panels.
 fn time_axis(svg: &mut Svg, layout: &Layout) {
-    let step = step(layout.time.span(), 10);
+    let step = step(layout.time.span(), 7);
     let mut moment = first_multiple(layout.time.from, step);
     for _ in 0..12u32 {
         if moment > layout.time.to {
@@ -214,9 +158,9 @@ fn time_axis(svg: &mut Svg, layout: &Layout) {
 fn moment_line(svg: &mut Svg, layout: &Layout, moment: u64) {
     let x = layout.time.right(moment);
     layout.lines_at(svg, x, layout.rows_top, LIGHT);
-    let below = layout.axis.saturating_add(180);
+    let below = layout.axis.saturating_add(220);
     svg.numbered((x, below), "middle", "", moment);
-    let foot = layout.files_bottom.saturating_add(180);
+    let foot = layout.files_bottom.saturating_add(220);
     svg.numbered((x, foot), "middle", "", moment);
 }
 
@@ -225,18 +169,18 @@ fn marks(svg: &mut Svg, layout: &Layout, history: &History) {
     let mut level: u64 = 0;
     for mark in &history.marks {
         let x = layout.time.right(mark.moment);
-        let y = level.saturating_add(1130);
+        let y = level.saturating_add(layout.names_top);
         layout.lines_at(svg, x, y, STOP);
         mark_name(svg, x, y, mark.event);
-        level = level.saturating_add(150) % 600;
+        level = level.saturating_add(LEVEL) % (4 * LEVEL);
     }
 }
 
 fn mark_name(svg: &mut Svg, x: u64, y: u64, event: Event) {
-    if x > 8000 {
-        svg.text_from((x.saturating_sub(40), y), 120, "end", "#b91c1c");
+    if x > 7300 {
+        svg.text_from((x.saturating_sub(40), y), TEXT, "end", EVENT);
     } else {
-        svg.text_from((x.saturating_add(40), y), 120, "start", "#b91c1c");
+        svg.text_from((x.saturating_add(40), y), TEXT, "start", EVENT);
     }
     event_name(svg, event);
     svg.text(TEXT_END);
@@ -254,7 +198,7 @@ fn choice_name(svg: &mut Svg, choice: Choice) {
     let (name, id) = match choice {
         Choice::Checkpoint(id) => ("restored: checkpoint ", id),
         Choice::Savepoint(id) => ("restored: savepoint ", id),
-        Choice::Fresh => return svg.text("restored: fresh"),
+        Choice::Fresh => return svg.text("restored: from nothing"),
     };
     svg.text(name);
     svg.number(id.0);

@@ -1,14 +1,32 @@
 //! The elements of a picture, as SVG text. Places are tenths of a pixel.
 use std::alloc::{AllocError, Global};
 
+/// The height of all texts but the titles: 14 pixels still on a page that shows the picture in 850.
+pub(crate) const TEXT: u64 = 165;
+
+/// How the picture looks on a dark page. A class is more than the attribute beside it.
+pub(crate) const STYLE: &str = "\
+<style>@media (prefers-color-scheme: dark) {\
+.ground { fill: #0d1117 } text { fill: #e6edf3 } .inside { fill: #111827 } .stop { fill: #ff7b72; stroke: #ff7b72 } \
+text.stop { stroke: none } .dark { stroke: #e6edf3 } .light { stroke: #30363d } .short { fill: #e6edf3 } \
+.border { stroke: #9da7b3 }}</style>
+";
+
 /// How axes are drawn.
-pub(crate) const DARK: &str = "stroke='#111827' stroke-width='12'";
+pub(crate) const DARK: &str = "class='dark' stroke='#111827' stroke-width='12'";
 
 /// How the lines across a panel are drawn.
-pub(crate) const LIGHT: &str = "stroke='#e5e7eb' stroke-width='8'";
+pub(crate) const LIGHT: &str = "class='light' stroke='#e5e7eb' stroke-width='8'";
+
+/// How a dark text is drawn, one on a bar, and one of an event.
+const WORDS: &str = "fill='#1f2937'";
+
+pub(crate) const INSIDE: &str = "class='inside' fill='#111827'";
+
+pub(crate) const EVENT: &str = "class='stop' fill='#b91c1c'";
 
 /// The border of a box, and the end of its element.
-const BORDER: &str = " stroke='#374151' stroke-width='6'/>\n";
+const BORDER: &str = " class='border' stroke='#374151' stroke-width='6'/>\n";
 
 /// Ends an element of text.
 pub(crate) const TEXT_END: &str = "</text>\n";
@@ -70,23 +88,22 @@ impl Svg {
         self.text("'");
     }
 
-    /// Begins a text in this colour that begins here, ends here (`end`) or is centred here
-    /// (`middle`).
-    pub(crate) fn text_from(&mut self, at: (u64, u64), size: u64, anchor: &str, colour: &str) {
+    /// Begins a text, drawn so, that begins here, ends here (`end`) or is centred here (`middle`).
+    pub(crate) fn text_from(&mut self, at: (u64, u64), size: u64, anchor: &str, how: &str) {
         let (x, y) = at;
         self.element("<text", &[("x", x), ("y", y), ("font-size", size)]);
-        self.texts(&[" text-anchor='", anchor, "' fill='", colour, "'>"]);
+        self.texts(&[" text-anchor='", anchor, "' ", how, ">"]);
     }
 
     /// A dark text.
     pub(crate) fn words(&mut self, at: (u64, u64), size: u64, anchor: &str, text: &str) {
-        self.text_from(at, size, anchor, "#1f2937");
+        self.text_from(at, size, anchor, WORDS);
         self.texts(&[text, TEXT_END]);
     }
 
     /// A dark text that ends with a number.
     pub(crate) fn numbered(&mut self, at: (u64, u64), anchor: &str, text: &str, value: u64) {
-        self.text_from(at, 120, anchor, "#1f2937");
+        self.text_from(at, TEXT, anchor, WORDS);
         self.text(text);
         self.number(value);
         self.text(TEXT_END);
@@ -101,6 +118,16 @@ impl Svg {
             &[("x", x), ("y", y), ("width", width), ("height", height)],
         );
         self.texts(&[" fill='", colour, "'", opacity, BORDER]);
+    }
+
+    /// The sign of a phase that is too short to be seen, above its bar.
+    pub(crate) fn pointer(&mut self, at: (u64, u64)) {
+        let (x, y) = at;
+        self.text("<path class='short' fill='#111827' d='M");
+        self.number(x);
+        self.text(" ");
+        self.number(y);
+        self.text("l-60 -90h120z'/>\n");
     }
 
     /// A straight line.
