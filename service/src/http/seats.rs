@@ -162,7 +162,7 @@ mod tests {
     use super::*;
     use std::future::Future;
     use std::pin::pin;
-    use std::task::{Context, Wake};
+    use std::task::{Context, Waker};
 
     fn places() -> Arc<Places> {
         Places::of(&Limits { connections: 2, polls: 1, new_connections: 2, ..Limits::default() })
@@ -172,14 +172,8 @@ mod tests {
         places.enter().unwrap_or_else(|| panic!("there is a place"))
     }
 
-    struct Nobody;
-
-    impl Wake for Nobody {
-        fn wake(self: Arc<Nobody>) {}
-    }
-
     fn is_lost(seat: &Arc<Seat>) -> bool {
-        pin!(seat.lost()).poll(&mut Context::from_waker(&Arc::new(Nobody).into())).is_ready()
+        pin!(seat.lost()).poll(&mut Context::from_waker(Waker::noop())).is_ready()
     }
 
     #[test]
