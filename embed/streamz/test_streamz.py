@@ -93,6 +93,19 @@ class Restores(Base):
             self.assertEqual(total.state, sum(range(5)) + (7 if place == 99 else 0))
             checkpoints.emit(1, position=6)
 
+    def test_a_state_that_can_not_be_written(self):
+        source = streamz.Stream()
+        last = source.accumulate(lambda _, x: x, start=0)
+        with self.opened(source, every=10**9) as checkpoints:
+            checkpoints.emit(1, position=1)
+            checkpoints.savepoint()
+            checkpoints.emit(lambda: 2, position=2)
+            self.assertRaises(Exception, checkpoints.savepoint)
+            self.assertRaises(NotWhole, checkpoints.emit, 3, 3)
+            self.assertEqual((checkpoints.restore(), last.state), (1, 1))
+            checkpoints.emit(4, position=4)
+            self.assertIsNotNone(checkpoints.savepoint())
+
     def test_starts_that_a_function_changes_in_place(self):
         source = streamz.Stream()
         seen = source.accumulate(lambda all, x: all.append(x) or all, start=[])
@@ -173,6 +186,7 @@ class Refuses(Base):
         with self.opened(source) as checkpoints:
             kept.append(source.accumulate(add, stream_name="more"))
             self.assertRaises(GraphError, self.take, checkpoints)
+            self.assertRaises(NotWhole, checkpoints.emit, 1, 1)
 
     def test_files_that_are_damaged_or_gone(self):
         source, *kept = graph()

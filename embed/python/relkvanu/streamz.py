@@ -45,7 +45,8 @@ class StateError(Error):
 
 
 class NotWhole(Error):
-    """An element failed in the graph, so some nodes may have seen it and others not. restore() puts the states of the last checkpoint back."""
+    """An element failed in the graph, so some nodes may have seen it and others not, or a checkpoint failed halfway. restore() puts the states of
+    the last checkpoint back."""
 
 
 def _nodes(sources: Sequence[Any]) -> List[Any]:
@@ -142,7 +143,7 @@ class Checkpoints:
 
     def emit(self, x: Any, position: Any, source: Optional[Any] = None) -> None:
         """Gives an element to the graph: to `source`, or to the first one. `position` is where the caller goes on after it. Takes a
-        checkpoint if one is due. Raises what the graph raises, and then NotWhole until restore()."""
+        checkpoint if one is due. Raises what the graph or `dumps` raises, and then NotWhole until restore()."""
         with self._lock:
             self._check()
             self._whole = False
@@ -173,8 +174,8 @@ class Checkpoints:
         """Puts the states of the last checkpoint, or of a savepoint, back into the nodes. Returns the position that was saved with them, or
         None if there is no checkpoint: then the nodes begin again."""
         with self._lock:
-            self._whole = False
             reply = self._make(self._job.restore, savepoint, self._shape).reply
+            self._whole = False
             id = reply.id if isinstance(reply, (RestoredCheckpoint, RestoredSavepoint)) else None
             states = dict(self._unpacked("a start", it) for it in self._starts) if id is None else self._read(id)
             self.position = states.pop("", None)
@@ -194,7 +195,7 @@ class Checkpoints:
 
     def _check(self) -> None:
         if not self._whole:
-            raise NotWhole("an element failed in the graph: restore() puts the states of the last checkpoint back")
+            raise NotWhole("an element or a checkpoint failed halfway: restore() puts the states of the last checkpoint back")
         if self._fault is not None:
             raise self._fault
 
@@ -243,17 +244,23 @@ class Checkpoints:
             raise StoreError("Failed", FAILED, False)
         if not isinstance(made.reply, (SavepointTriggered, Triggered)):
             return None
-        id = made.reply.id
-        if not self._is_as_it_was():
-            self._decline(id)
-            raise GraphError("the graph has changed since its checkpoints were opened")
-        parts = [(STATES, index, self._packed(name, node.state)) for index, (name, node) in enumerate(self._nodes.items())]
-        parts.append((POSITION, 0, self._packed("", self.position)))
+        self._whole = False  # what is raised below leaves a record that only a restore ends
+        parts = self._parts()
         written = self._write(parts)
         if written is None:
-            self._decline(id)
-            return None
-        return self._acknowledged(id, [(vertex, index, file) for (vertex, index, _), file in zip(parts, written)])
+            self._decline(made.reply.id)
+            done = None
+        else:
+            done = self._acknowledged(made.reply.id, [(vertex, index, file) for (vertex, index, _), file in zip(parts, written)])
+        self._whole = True
+        return done
+
+    def _parts(self) -> List[Tuple[int, int, bytes]]:
+        """What each subtask writes. Raises what `dumps` raises."""
+        if not self._is_as_it_was():
+            raise GraphError("the graph has changed since its checkpoints were opened")
+        parts = [(STATES, index, self._packed(name, node.state)) for index, (name, node) in enumerate(self._nodes.items())]
+        return [*parts, (POSITION, 0, self._packed("", self.position))]
 
     def _is_as_it_was(self) -> bool:
         """Whether the graph has the nodes that it had."""
