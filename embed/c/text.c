@@ -55,7 +55,7 @@ static const char *done_text(uint32_t what) {
     case RELKVANU_LINE_CONFIG: return "line config {a}";
     case RELKVANU_LINE_JOB: return "line job {a}";
     case RELKVANU_LINE_START: return "line start {a}";
-    case RELKVANU_LINE_CALL: return "line call {a} {b}";
+    case RELKVANU_LINE_CALL: return "line call {a}";
     case RELKVANU_LINE_ALL: return "line all {a}";
     case RELKVANU_WRITTEN: return "written {a}";
     case RELKVANU_SAVED: return "saved {a}";

@@ -25,7 +25,7 @@ SCALARS = {
 BUILT_IN = {"void", "char"}
 
 # The comment of a number: what a and b are, a sentence, and the text of the answer in quotes.
-COMMENT = re.compile(r'(?:a: (?P<a>[^,."]+)(?:, b: (?P<b>[^."]+))?)?(?P<rest>.*?)(?:"(?P<form>[^"]*)")?$', re.S)
+COMMENT = re.compile(r'(?:a: (?P<a>[^,.;"]+)(?:, b: (?P<b>[^.;"]+))?)?(?P<rest>.*?)(?:"(?P<form>[^"]*)")?$', re.S)
 
 # The names of the fields of replies, by what the header says of a and b. Any other one has the first word of that.
 FIELDS = {
