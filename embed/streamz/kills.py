@@ -18,8 +18,8 @@ import relkvanu.store
 import relkvanu.streamz
 import sample
 
-LINES = 400
-MOST = 80  # calls at which a process ends
+LINES = 200
+MOST = 60  # calls at which a process ends
 # What a checkpoint calls: an object, and the name of its function.
 CALLS = ((os, "open"), (os, "fsync"), (os, "unlink"), (relkvanu.store.Store, "calls"), (relkvanu.store.Store, "unknown"))
 

@@ -48,6 +48,12 @@ class Base(unittest.TestCase):
                 return taken
             time.sleep(0.002)
 
+    def wait(self, until):
+        end = time.monotonic() + 20
+        while not until() and time.monotonic() < end:
+            time.sleep(0.005)
+        self.assertTrue(until())
+
 
 class Restores(Base):
     def test_the_states_and_the_position(self):
@@ -96,11 +102,12 @@ class Restores(Base):
     def test_a_state_that_can_not_be_written(self):
         source = streamz.Stream()
         last = source.accumulate(lambda _, x: x, start=0)
-        with self.opened(source, every=10**9) as checkpoints:
+        with self.opened(source) as checkpoints:
             checkpoints.emit(1, position=1)
-            checkpoints.savepoint()
-            checkpoints.emit(lambda: 2, position=2)
-            self.assertRaises(Exception, checkpoints.savepoint)
+            self.take(checkpoints)
+            with self.assertRaisesRegex(Exception, "pickle"):
+                checkpoints.emit(lambda: 2, position=2)
+                self.take(checkpoints)
             self.assertRaises(NotWhole, checkpoints.emit, 3, 3)
             self.assertEqual((checkpoints.restore(), last.state), (1, 1))
             checkpoints.emit(4, position=4)
@@ -127,12 +134,6 @@ class Restores(Base):
             self.assertEqual(len(self.files()), 6)
             checkpoints.dispose(second)
             self.wait(lambda: len(self.files()) == 3)
-
-    def wait(self, until):
-        end = time.monotonic() + 20
-        while not until() and time.monotonic() < end:
-            time.sleep(0.005)
-        self.assertTrue(until())
 
     def test_what_is_released_is_deleted(self):
         source, total, twice = graph()
@@ -190,10 +191,10 @@ class Refuses(Base):
 
     def test_files_that_are_damaged_or_gone(self):
         source, *kept = graph()
-        with self.opened(source, every=10**9) as checkpoints:
+        with self.opened(source) as checkpoints:
             self.emit(checkpoints, 0, 3)
-            checkpoints.savepoint()
-            checkpoints.emit(5, position=9)
+            self.take(checkpoints)
+            self.wait(lambda: checkpoints.counts() == (3, 0, 0))
         files, path = self.files(), None
         for file in files:
             path = self.folder / "states" / file
