@@ -87,7 +87,9 @@ impl FromStr for Refusal {
             None => (text, None),
         };
         let of_file = file.unwrap_or_default();
-        let found = Refusal::all(of_file).into_iter().find(|one| one.name() == name);
+        let found = Refusal::all(of_file)
+            .into_iter()
+            .find(|one| one.name() == name);
         found.filter(|one| one.file() == file).ok_or(ParseError)
     }
 }
