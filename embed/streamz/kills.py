@@ -19,7 +19,7 @@ import relkvanu.streamz
 import sample
 
 LINES = 200
-MOST = 60  # calls at which a process ends
+MOST = 44  # calls at which a process ends
 # What a checkpoint calls: an object, and the name of its function.
 CALLS = ((os, "open"), (os, "fsync"), (os, "unlink"), (relkvanu.store.Store, "calls"), (relkvanu.store.Store, "unknown"))
 
