@@ -279,11 +279,9 @@ class Checkpoints:
         left, done = list(parts), None
         while left:
             outcomes = self._job.calls([Call.ack(id, vertex, index, [file]) for vertex, index, file in left])
-            for (_, _, file), outcome in zip(left, outcomes):
-                if isinstance(outcome, Refused):
-                    self._delete(file)
-                elif isinstance(outcome, Made) and isinstance(outcome.reply, AckCompleted):
-                    done = id
+            self._drop([file for (_, _, file), outcome in zip(left, outcomes) if isinstance(outcome, Refused)])
+            if any(isinstance(it, Made) and isinstance(it.reply, AckCompleted) for it in outcomes):
+                done = id
             left = [part for part, outcome in zip(left, outcomes) if isinstance(outcome, OutOfMemory)]
             time.sleep(1 if left else 0)
         return done
@@ -317,11 +315,15 @@ class Checkpoints:
                     os.fsync(to.fileno())
             os.fsync(self._folder())
         except OSError:
-            for file in files:
-                with contextlib.suppress(OSError):
-                    self._delete(file)
+            self._drop(files)
             return None
         return files
+
+    def _drop(self, files: Sequence[int]) -> None:
+        """Deletes files that were not acknowledged. What stays, the sweep of the next start deletes."""
+        for file in files:
+            with contextlib.suppress(OSError):
+                self._delete(file)
 
     @contextlib.contextmanager
     def _made(self, file: int) -> Iterator[Any]:
