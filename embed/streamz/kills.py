@@ -1,5 +1,5 @@
-"""kills.py FOLDER SECONDS SEED: the program of docs/STREAMZ.md ends at each call of the system and of the coordinator that a checkpoint makes,
-before it and after it, and then for so many seconds it is killed at random moments. Each time it begins again, and in the end its counts
+"""kills.py FOLDER SECONDS SEED: the program of docs/STREAMZ.md ends before and after it opens, syncs or deletes a file or calls the
+coordinator, at the first such moment, the second, and so on, and then for so many seconds it is killed at random moments. Each time it begins again, and in the end its counts
 are those of the text, and the folder has exactly the files that the coordinator uses."""
 import collections
 import contextlib
