@@ -10,6 +10,7 @@
 #   make demo                   a job that runs for a minute with threads, a clock and files
 #   make programs               ckpt_job, ckpt_chart and ckpt_demo, proved and built
 #   make check                  all proofs, wrong bodies, tests and programs (.ci/run); in a release, the tests of its library (packaging/check)
+#   make note VERSION=..        the note of a release: the news for its users in CHANGELOG.md; VERSION=next for what is not released yet
 #   make clean                  removes build/
 #
 # A release has make, install, uninstall and check alone.
@@ -29,7 +30,7 @@ filled = sed -e 's|@PREFIX@|$(PREFIX)|g' -e 's|@LIBDIR@|$(patsubst $(PREFIX)/%,$
 # The programs that are built: in a release in build/bin.
 BUILT = $(wildcard $(PROGRAMS:%=build/bin/%) $(foreach it,$(PROGRAMS),crates/$(it)/out/$(it)))
 
-.PHONY: library install uninstall dist first job demo programs check clean
+.PHONY: library install uninstall dist first job demo programs check note clean
 
 library: $(LIBRARY) $(STORE)
 
@@ -42,7 +43,7 @@ SOURCES := $(wildcard crates/*/src/*.rt crates/*/src/*/*.rt crates/*/specs/*.ant
 $(ARCHIVE): $(SOURCES)
 	embed/archive
 
-build/librelkvanu.a: $(ARCHIVE) embed/c/heap.c embed/c/version.c include/relkvanu.h include/relkvanu_alloc.h packaging/relkvanu.map packaging/link
+build/librelkvanu.a: $(ARCHIVE) embed/c/heap.c embed/c/text.c embed/c/version.c include/relkvanu.h include/relkvanu_alloc.h packaging/relkvanu.map packaging/link
 	embed/library build $(ARCHIVE)
 
 build/librelkvanu.so.0: build/librelkvanu.a
@@ -50,7 +51,7 @@ build/librelkvanu.so.0: build/librelkvanu.a
 build/librelkvanu-store.a: build/librelkvanu.a $(wildcard embed/store/src/*) include/relkvanu_store.h
 	embed/store/library build
 
-$(PAGES)/docs: $(wildcard docs/*.md) embed/samples packaging/pages
+$(PAGES)/docs: $(wildcard docs/*.md) $(wildcard packaging/man/*.3) $(HEADERS) embed/samples packaging/pages packaging/man_pages
 	packaging/pages $(PAGES)
 	touch $@
 else
@@ -72,7 +73,8 @@ install: $(LIBRARY) $(STORE) $(PAGES)/docs
 	fi
 	$(filled) packaging/relkvanu-config-version.cmake.in | $(INSTALL) -m 644 /dev/stdin $(libraries)/cmake/relkvanu/relkvanu-config-version.cmake
 	$(INSTALL) -m 644 packaging/relkvanu-config.cmake $(libraries)/cmake/relkvanu
-	$(INSTALL) -m 644 packaging/man/*.3 $(into)/share/man/man3
+	$(INSTALL) -m 644 $(PAGES)/packaging/man/*.3 $(into)/share/man/man3
+	[ -n "$(STORE)" ] || rm -f $(into)/share/man/man3/relkvanu_store*.3
 	$(INSTALL) -m 644 $(PAGES)/docs/*.md $(into)/share/doc/relkvanu
 	$(INSTALL) -m 644 examples/*.script examples/*.stdout $(into)/share/doc/relkvanu/examples
 	cp -R $(PAGES)/samples/. $(into)/share/doc/relkvanu/examples/engine
@@ -87,7 +89,7 @@ uninstall:
 	rm -f $(HEADERS:include/%=$(into)/include/%)
 	rm -f $(libraries)/librelkvanu.a $(libraries)/librelkvanu.so $(libraries)/librelkvanu.so.0 $(libraries)/pkgconfig/relkvanu.pc
 	rm -f $(libraries)/librelkvanu-store.* $(libraries)/pkgconfig/relkvanu-store.pc $(into)/include/relkvanu_store.h $(into)/include/relkvanu_store.hpp
-	rm -f $(patsubst packaging/man/%,$(into)/share/man/man3/%,$(wildcard packaging/man/*.3))
+	rm -f $(into)/share/man/man3/relkvanu.3 $(into)/share/man/man3/relkvanu_*.3
 	rm -f $(PROGRAMS:%=$(into)/bin/%) $(PROGRAMS:%=$(into)/share/man/man1/%.1)
 	rm -rf $(libraries)/cmake/relkvanu $(into)/share/doc/relkvanu
 	@[ -n "$(DESTDIR)" ] || echo "If ldconfig was run after the install, run it again."
@@ -113,6 +115,9 @@ programs:
 
 check:
 	bash .ci/run
+
+note:
+	@packaging/release_note $(VERSION)
 
 clean:
 	rm -rf build

@@ -104,37 +104,37 @@ typedef struct {
 #define RELKVANU_REFUSED 1u      /* nothing has changed: what is a refusal */
 #define RELKVANU_NO_MEMORY 2u    /* nothing has changed; what, a and b are 0: make the same call again later */
 #define RELKVANU_CLOSED 3u       /* the handle has no coordinator; what, a and b are 0 */
-#define RELKVANU_BAD_ARGUMENT 4u /* nothing has changed: what is an argument */
-#define RELKVANU_TOO_SHORT 5u    /* nothing has changed: the buffer needs a places; what is 0, and b too but in relkvanu_line_call */
-#define RELKVANU_BAD_LINE 6u     /* nothing has changed: what is a fault of a line */
+#define RELKVANU_BAD_ARGUMENT 4u /* nothing has changed: what is an argument. "refused {name}" */
+#define RELKVANU_TOO_SHORT 5u    /* nothing has changed: the buffer needs a places; what is 0, and b too but in relkvanu_line_call. "too short {a}" */
+#define RELKVANU_BAD_LINE 6u     /* nothing has changed: what is a fault of a line. "fault {name}" */
 
 /* what, if code is RELKVANU_DONE */
 #define RELKVANU_OPENED 0u
-#define RELKVANU_TICK_TRIGGERED 1u      /* a: expired records, b: number */
-#define RELKVANU_TICK_HELD_INTERVAL 2u  /* a: expired records */
-#define RELKVANU_TICK_HELD_AT_ONCE 3u   /* a: expired records */
-#define RELKVANU_TICK_HELD_PAUSE 4u     /* a: expired records */
-#define RELKVANU_TICK_FAILED 5u         /* a: expired records */
-#define RELKVANU_SAVEPOINT_TRIGGERED 6u /* a: number */
-#define RELKVANU_ACK_PENDING 7u         /* a: subtasks missing */
-#define RELKVANU_ACK_COMPLETED 8u       /* a: records dropped, b: files released */
-#define RELKVANU_ACK_LATE 9u            /* a: fresh files that this call handed out for deletion */
-#define RELKVANU_DECLINE_ABORTED 10u    /* a: files released */
-#define RELKVANU_DECLINE_FAILED 11u     /* a: files released */
-#define RELKVANU_DECLINE_LATE 12u
-#define RELKVANU_DISPOSED 13u            /* a: files released */
-#define RELKVANU_RESTORED_CHECKPOINT 14u /* a: files released, b: number */
-#define RELKVANU_RESTORED_SAVEPOINT 15u  /* a: files released, b: number */
-#define RELKVANU_RESTORED_FRESH 16u      /* a: files released */
-#define RELKVANU_CANCELLED 17u           /* a: records dropped, b: files released */
+#define RELKVANU_TICK_TRIGGERED 1u       /* a: expired records, b: number. A checkpoint was triggered. "tick expired {a} triggered {b}" */
+#define RELKVANU_TICK_HELD_INTERVAL 2u   /* a: expired records. No checkpoint is due yet. "tick expired {a} held interval" */
+#define RELKVANU_TICK_HELD_AT_ONCE 3u    /* a: expired records. As many checkpoints are pending as may be. "tick expired {a} held at-once" */
+#define RELKVANU_TICK_HELD_PAUSE 4u      /* a: expired records. The pause after the last completion has not passed. "tick expired {a} held pause" */
+#define RELKVANU_TICK_FAILED 5u          /* a: expired records. Too many checkpoints failed in a row: restore the job. "tick expired {a} failed" */
+#define RELKVANU_SAVEPOINT_TRIGGERED 6u  /* a: number. A savepoint was triggered */
+#define RELKVANU_ACK_PENDING 7u          /* a: subtasks missing. The record is not complete yet */
+#define RELKVANU_ACK_COMPLETED 8u        /* a: records dropped, b: files released. The record is complete */
+#define RELKVANU_ACK_LATE 9u             /* a: fresh files that this call handed out for deletion. The record was done or had ended */
+#define RELKVANU_DECLINE_ABORTED 10u     /* a: files released. The record is dropped */
+#define RELKVANU_DECLINE_FAILED 11u      /* a: files released. The record is dropped, and the job has failed: restore it */
+#define RELKVANU_DECLINE_LATE 12u        /* the record was done or had ended */
+#define RELKVANU_DISPOSED 13u            /* a: files released. The savepoint is gone */
+#define RELKVANU_RESTORED_CHECKPOINT 14u /* a: files released, b: number. The job begins again from a checkpoint. "restored checkpoint {b} {a}" */
+#define RELKVANU_RESTORED_SAVEPOINT 15u  /* a: files released, b: number. The job begins again from a savepoint. "restored savepoint {b} {a}" */
+#define RELKVANU_RESTORED_FRESH 16u      /* a: files released. The job begins again from nothing */
+#define RELKVANU_CANCELLED 17u           /* a: records dropped, b: files released. The job has ended for good */
 #define RELKVANU_TAKEN 18u               /* a: files at the start of the buffer */
-#define RELKVANU_DELETED 19u             /* a: file */
-#define RELKVANU_UNDELETED 20u           /* a: file */
+#define RELKVANU_DELETED 19u             /* a: file. The file is forgotten */
+#define RELKVANU_UNDELETED 20u           /* a: file. The file waits again */
 #define RELKVANU_SHOWN 21u               /* a: bytes at the start of the buffer */
-#define RELKVANU_COUNTED 22u             /* a: file, b: uses */
+#define RELKVANU_COUNTED 22u             /* a: file, b: uses. The uses by live records. "count {a} {b}" */
 
 /* what, if a read is RELKVANU_DONE */
-#define RELKVANU_MODE_RUNNING 23u
+#define RELKVANU_MODE_RUNNING 23u   /* the job takes checkpoints */
 #define RELKVANU_MODE_FAILED 24u    /* too many checkpoints failed in a row: restore the job */
 #define RELKVANU_MODE_CANCELLED 25u /* the job has ended for good */
 #define RELKVANU_DUE 26u            /* a: moment */
@@ -175,30 +175,30 @@ typedef struct {
 #define RELKVANU_NONE_WAITS 54u       /* there are fewer waiting files */
 
 /* what, if code is RELKVANU_REFUSED; they are checked in this order */
-#define RELKVANU_MOMENT_TOO_LARGE 1u
-#define RELKVANU_NOT_RUNNING 2u
-#define RELKVANU_TOO_MANY_FILES 3u
-#define RELKVANU_REPEATED_FILE 4u
-#define RELKVANU_UNKNOWN_CHECKPOINT 5u
-#define RELKVANU_UNKNOWN_SUBTASK 6u
-#define RELKVANU_ALREADY_ACKNOWLEDGED 7u
-#define RELKVANU_NAME_TAKEN 8u /* a: file */
-#define RELKVANU_FILE_GONE 9u  /* a: file */
-#define RELKVANU_NO_SUCH_SAVEPOINT 10u
-#define RELKVANU_IN_USE 11u
-#define RELKVANU_TOO_MANY_SAVEPOINTS 12u
-#define RELKVANU_NOT_TAKEN 13u
-#define RELKVANU_NO_SUCH_RECORD 14u
-#define RELKVANU_IDS_USED_UP 15u
+#define RELKVANU_MOMENT_TOO_LARGE 1u     /* the moment is above its limit */
+#define RELKVANU_NOT_RUNNING 2u          /* the job has failed or was cancelled */
+#define RELKVANU_TOO_MANY_FILES 3u       /* an acknowledgement has more than 4096 files */
+#define RELKVANU_REPEATED_FILE 4u        /* an acknowledgement names a file twice */
+#define RELKVANU_UNKNOWN_CHECKPOINT 5u   /* no record has had the number */
+#define RELKVANU_UNKNOWN_SUBTASK 6u      /* the job has no such subtask */
+#define RELKVANU_ALREADY_ACKNOWLEDGED 7u /* the subtask has acknowledged in this record. Its files may belong to the coordinator: do not delete them */
+#define RELKVANU_NAME_TAKEN 8u           /* a: file. The coordinator knows a file with the number of a fresh one. It may be in use: do not delete it */
+#define RELKVANU_FILE_GONE 9u            /* a: file. A reused file is no longer in use: the task writes its state again, under a new number */
+#define RELKVANU_NO_SUCH_SAVEPOINT 10u   /* no completed savepoint has the number */
+#define RELKVANU_IN_USE 11u              /* the job would begin again from this savepoint */
+#define RELKVANU_TOO_MANY_SAVEPOINTS 12u /* 1000 savepoints are pending or done */
+#define RELKVANU_NOT_TAKEN 13u           /* the file was not fetched for deletion, or was reported before */
+#define RELKVANU_NO_SUCH_RECORD 14u      /* no live record has the number */
+#define RELKVANU_IDS_USED_UP 15u         /* no number is left for another record */
 
 /* what, if code is RELKVANU_BAD_ARGUMENT */
-#define RELKVANU_ALREADY_OPEN 1u
-#define RELKVANU_BAD_CONFIG 2u
-#define RELKVANU_BAD_SHAPE 3u
-#define RELKVANU_BAD_MOMENT 4u
-#define RELKVANU_BAD_FIRST 5u
-#define RELKVANU_BAD_KIND 6u
-#define RELKVANU_BAD_IMAGE 7u /* the bytes are not an image, or the state is not sound, or no coordinator could be opened so */
+#define RELKVANU_ALREADY_OPEN 1u /* the handle has a coordinator already */
+#define RELKVANU_BAD_CONFIG 2u   /* a value of the settings is outside its limits */
+#define RELKVANU_BAD_SHAPE 3u    /* 1 to 256 vertices, at least 1 subtask each, at most 4096 in sum */
+#define RELKVANU_BAD_MOMENT 4u   /* the moment of an opening is above 2^62 - 1 */
+#define RELKVANU_BAD_FIRST 5u    /* the number of the first record is not within 1 to 2^62 - 1 */
+#define RELKVANU_BAD_KIND 6u     /* the kind of a call that is to be written */
+#define RELKVANU_BAD_IMAGE 7u    /* the bytes are not an image, or the state is not sound, or no coordinator could be opened so */
 
 /* what, if code is RELKVANU_BAD_LINE: the first fault from the left */
 #define RELKVANU_FAULT_TOO_LONG 1u /* a line has at most 131072 bytes */
@@ -223,7 +223,10 @@ typedef struct {
 #define RELKVANU_CALL_COUNT 12u
 
 /* The same numbers as types, for debuggers, and for a compiler that warns of a switch which lacks one: switch ((enum relkvanu_refusal)
- * answer.what). A later version may give others. */
+ * answer.what). A later version may give others. The packages of other languages and relkvanu_answer_text are made from these, and from the
+ * comments of the numbers: the numbers a and b come first, and an answer's text last, in quotes, if it is not the name and these numbers. */
+
+/* What an answer is. */
 enum relkvanu_code {
     relkvanu_code_done = RELKVANU_DONE,
     relkvanu_code_refused = RELKVANU_REFUSED,
@@ -234,6 +237,7 @@ enum relkvanu_code {
     relkvanu_code_bad_line = RELKVANU_BAD_LINE
 };
 
+/* What was answered, if the code is RELKVANU_DONE. */
 enum relkvanu_reply {
     relkvanu_reply_opened = RELKVANU_OPENED,
     relkvanu_reply_tick_triggered = RELKVANU_TICK_TRIGGERED,
@@ -293,6 +297,7 @@ enum relkvanu_reply {
     relkvanu_reply_none_waits = RELKVANU_NONE_WAITS
 };
 
+/* Why a call was refused: the first of these that applies. */
 enum relkvanu_refusal {
     relkvanu_refusal_moment_too_large = RELKVANU_MOMENT_TOO_LARGE,
     relkvanu_refusal_not_running = RELKVANU_NOT_RUNNING,
@@ -311,6 +316,7 @@ enum relkvanu_refusal {
     relkvanu_refusal_ids_used_up = RELKVANU_IDS_USED_UP
 };
 
+/* The argument that is outside its limits. */
 enum relkvanu_argument {
     relkvanu_argument_already_open = RELKVANU_ALREADY_OPEN,
     relkvanu_argument_bad_config = RELKVANU_BAD_CONFIG,
@@ -321,6 +327,7 @@ enum relkvanu_argument {
     relkvanu_argument_bad_image = RELKVANU_BAD_IMAGE
 };
 
+/* What is wrong with a line: the first fault from the left. */
 enum relkvanu_line_fault {
     relkvanu_line_fault_too_long = RELKVANU_FAULT_TOO_LONG,
     relkvanu_line_fault_word = RELKVANU_FAULT_WORD,
@@ -330,6 +337,7 @@ enum relkvanu_line_fault {
     relkvanu_line_fault_no_call = RELKVANU_FAULT_NO_CALL
 };
 
+/* Which call it is. */
 enum relkvanu_call_kind {
     relkvanu_call_kind_tick = RELKVANU_CALL_TICK,
     relkvanu_call_kind_savepoint = RELKVANU_CALL_SAVEPOINT,
@@ -471,6 +479,13 @@ relkvanu_counts relkvanu_file_counts(relkvanu *handle);
 /* Returns the length of the name of the refusal with this number, such as "NotRunning", or 0 if no refusal has the
  * number. Writes the name, without a zero at its end, if text_len is at least the length. */
 size_t relkvanu_refusal_text(uint32_t what, uint8_t *text, size_t text_len);
+
+/* Returns the length of the text of an answer, such as "tick expired 0 triggered 1", "refused NameTaken 7", "no memory" or, for an answer
+ * that this version does not have, "unknown code 9, what 3, a 0, b 0". No text is longer than RELKVANU_ANSWER_TEXT. Writes the text, without
+ * a zero at its end, if text_len is at least the length. The reply to a call has the text that a script prints (docs/SCRIPT.md); that to a
+ * take or show has the count alone, as "taken 3". Takes no memory. */
+size_t relkvanu_answer_text(const relkvanu_answer *answer, uint8_t *text, size_t text_len);
+#define RELKVANU_ANSWER_TEXT 128 /* no text of an answer has more bytes */
 
 /* Lines of a script, which docs/SCRIPT.md defines: to replay a log of calls, and for programs that read scripts. A
  * line is the bytes before its newline, at most 131072. A carriage return at its end is dropped. A log may have any
@@ -621,6 +636,10 @@ static inline size_t relkvanu_refusal_text_nullable(uint32_t what, uint8_t *text
     return relkvanu_refusal_text(what, relkvanu_bytes_of(text, text_len), text_len);
 }
 
+static inline size_t relkvanu_answer_text_nullable(const relkvanu_answer *answer, uint8_t *text, size_t text_len) {
+    return relkvanu_answer_text(answer, relkvanu_bytes_of(text, text_len), text_len);
+}
+
 static inline RELKVANU_NODISCARD relkvanu_answer relkvanu_line_nullable(relkvanu *handle, const uint8_t *line, size_t line_len, uint64_t *files, size_t files_len) {
     return relkvanu_line(handle, relkvanu_text_of(line, line_len), line_len, relkvanu_places_of(files, files_len), files_len);
 }
@@ -668,6 +687,7 @@ static inline RELKVANU_NODISCARD relkvanu_answer relkvanu_taken_files_nullable(r
 #define relkvanu_take relkvanu_take_nullable
 #define relkvanu_show relkvanu_show_nullable
 #define relkvanu_refusal_text relkvanu_refusal_text_nullable
+#define relkvanu_answer_text relkvanu_answer_text_nullable
 #define relkvanu_line relkvanu_line_nullable
 #define relkvanu_line_says relkvanu_line_says_nullable
 #define relkvanu_line_call relkvanu_line_call_nullable

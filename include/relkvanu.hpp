@@ -7,8 +7,9 @@
  * throw std::bad_alloc. open and open_saved throw what std::random_device throws. All others are noexcept.
  *
  * The process is aborted, with or without NDEBUG, if a closed coordinator is read, since no answer would be right: a count of 0 lets a
- * caller delete a file that is in use. It is aborted too if the library gives an answer that this header does not have, because the
- * library is of another version.
+ * caller delete a file that is in use. If the library gives an answer that this header does not have, because it is of another version, a
+ * call is refused as error::unknown, and mode() and standing() return unknown. choice(), live() and live_from() have no place for such an
+ * answer, and abort the process.
  */
 #ifndef RELKVANU_HPP
 #define RELKVANU_HPP
@@ -57,38 +58,71 @@ using files = span<const std::uint64_t>;
 using shape = span<const std::uint64_t>;
 
 /* Why a call changed nothing: the header's code and what, as one number. */
+/* embed/bindings makes the errors */
 enum class error : int {
-    moment_too_large = RELKVANU_REFUSED << 8 | RELKVANU_MOMENT_TOO_LARGE,
-    not_running = RELKVANU_REFUSED << 8 | RELKVANU_NOT_RUNNING,
-    too_many_files = RELKVANU_REFUSED << 8 | RELKVANU_TOO_MANY_FILES,
-    repeated_file = RELKVANU_REFUSED << 8 | RELKVANU_REPEATED_FILE,
-    unknown_checkpoint = RELKVANU_REFUSED << 8 | RELKVANU_UNKNOWN_CHECKPOINT,
-    unknown_subtask = RELKVANU_REFUSED << 8 | RELKVANU_UNKNOWN_SUBTASK,
-    already_acknowledged = RELKVANU_REFUSED << 8 | RELKVANU_ALREADY_ACKNOWLEDGED,
-    name_taken = RELKVANU_REFUSED << 8 | RELKVANU_NAME_TAKEN,
-    file_gone = RELKVANU_REFUSED << 8 | RELKVANU_FILE_GONE,
-    no_such_savepoint = RELKVANU_REFUSED << 8 | RELKVANU_NO_SUCH_SAVEPOINT,
-    in_use = RELKVANU_REFUSED << 8 | RELKVANU_IN_USE,
-    too_many_savepoints = RELKVANU_REFUSED << 8 | RELKVANU_TOO_MANY_SAVEPOINTS,
-    not_taken = RELKVANU_REFUSED << 8 | RELKVANU_NOT_TAKEN,
-    no_such_record = RELKVANU_REFUSED << 8 | RELKVANU_NO_SUCH_RECORD,
-    ids_used_up = RELKVANU_REFUSED << 8 | RELKVANU_IDS_USED_UP,
-    no_memory = RELKVANU_NO_MEMORY << 8, /* make the same call again */
-    closed = RELKVANU_CLOSED << 8,       /* the coordinator was moved from */
-    bad_config = RELKVANU_BAD_ARGUMENT << 8 | RELKVANU_BAD_CONFIG,
-    bad_shape = RELKVANU_BAD_ARGUMENT << 8 | RELKVANU_BAD_SHAPE,
-    bad_moment = RELKVANU_BAD_ARGUMENT << 8 | RELKVANU_BAD_MOMENT,
-    bad_first = RELKVANU_BAD_ARGUMENT << 8 | RELKVANU_BAD_FIRST,
-    bad_kind = RELKVANU_BAD_ARGUMENT << 8 | RELKVANU_BAD_KIND,
-    bad_image = RELKVANU_BAD_ARGUMENT << 8 | RELKVANU_BAD_IMAGE,
-    too_short = RELKVANU_TOO_SHORT << 8, /* the buffer needs more places */
-    line_too_long = RELKVANU_BAD_LINE << 8 | RELKVANU_FAULT_TOO_LONG,
-    line_word = RELKVANU_BAD_LINE << 8 | RELKVANU_FAULT_WORD,
-    line_missing = RELKVANU_BAD_LINE << 8 | RELKVANU_FAULT_MISSING,
-    line_number = RELKVANU_BAD_LINE << 8 | RELKVANU_FAULT_NUMBER,
-    line_extra = RELKVANU_BAD_LINE << 8 | RELKVANU_FAULT_EXTRA,
-    line_no_call = RELKVANU_BAD_LINE << 8 | RELKVANU_FAULT_NO_CALL,
+    moment_too_large = RELKVANU_REFUSED << 8 | RELKVANU_MOMENT_TOO_LARGE, /* The moment is above its limit. */
+    not_running = RELKVANU_REFUSED << 8 | RELKVANU_NOT_RUNNING, /* The job has failed or was cancelled. */
+    too_many_files = RELKVANU_REFUSED << 8 | RELKVANU_TOO_MANY_FILES, /* An acknowledgement has more than 4096 files. */
+    repeated_file = RELKVANU_REFUSED << 8 | RELKVANU_REPEATED_FILE, /* An acknowledgement names a file twice. */
+    unknown_checkpoint = RELKVANU_REFUSED << 8 | RELKVANU_UNKNOWN_CHECKPOINT, /* No record has had the number. */
+    unknown_subtask = RELKVANU_REFUSED << 8 | RELKVANU_UNKNOWN_SUBTASK, /* The job has no such subtask. */
+    already_acknowledged = RELKVANU_REFUSED << 8 | RELKVANU_ALREADY_ACKNOWLEDGED, /* The subtask has acknowledged in this record. Its files may belong to the coordinator: do not delete them. */
+    name_taken = RELKVANU_REFUSED << 8 | RELKVANU_NAME_TAKEN, /* The coordinator knows a file with the number of a fresh one. It may be in use: do not delete it. */
+    file_gone = RELKVANU_REFUSED << 8 | RELKVANU_FILE_GONE, /* A reused file is no longer in use: the task writes its state again, under a new number. */
+    no_such_savepoint = RELKVANU_REFUSED << 8 | RELKVANU_NO_SUCH_SAVEPOINT, /* No completed savepoint has the number. */
+    in_use = RELKVANU_REFUSED << 8 | RELKVANU_IN_USE, /* The job would begin again from this savepoint. */
+    too_many_savepoints = RELKVANU_REFUSED << 8 | RELKVANU_TOO_MANY_SAVEPOINTS, /* 1000 savepoints are pending or done. */
+    not_taken = RELKVANU_REFUSED << 8 | RELKVANU_NOT_TAKEN, /* The file was not fetched for deletion, or was reported before. */
+    no_such_record = RELKVANU_REFUSED << 8 | RELKVANU_NO_SUCH_RECORD, /* No live record has the number. */
+    ids_used_up = RELKVANU_REFUSED << 8 | RELKVANU_IDS_USED_UP, /* No number is left for another record. */
+    no_memory = RELKVANU_NO_MEMORY << 8, /* Make the same call again. */
+    closed = RELKVANU_CLOSED << 8, /* The coordinator was moved from. */
+    already_open = RELKVANU_BAD_ARGUMENT << 8 | RELKVANU_ALREADY_OPEN, /* The handle has a coordinator already. */
+    bad_config = RELKVANU_BAD_ARGUMENT << 8 | RELKVANU_BAD_CONFIG, /* A value of the settings is outside its limits. */
+    bad_shape = RELKVANU_BAD_ARGUMENT << 8 | RELKVANU_BAD_SHAPE, /* 1 to 256 vertices, at least 1 subtask each, at most 4096 in sum. */
+    bad_moment = RELKVANU_BAD_ARGUMENT << 8 | RELKVANU_BAD_MOMENT, /* The moment of an opening is above 2^62 - 1. */
+    bad_first = RELKVANU_BAD_ARGUMENT << 8 | RELKVANU_BAD_FIRST, /* The number of the first record is not within 1 to 2^62 - 1. */
+    bad_kind = RELKVANU_BAD_ARGUMENT << 8 | RELKVANU_BAD_KIND, /* The kind of a call that is to be written. */
+    bad_image = RELKVANU_BAD_ARGUMENT << 8 | RELKVANU_BAD_IMAGE, /* The bytes are not an image, or the state is not sound, or no coordinator could be opened so. */
+    too_short = RELKVANU_TOO_SHORT << 8, /* The buffer needs more places. */
+    line_too_long = RELKVANU_BAD_LINE << 8 | RELKVANU_FAULT_TOO_LONG, /* A line has at most 131072 bytes. */
+    line_word = RELKVANU_BAD_LINE << 8 | RELKVANU_FAULT_WORD, /* A word that does not belong there. */
+    line_missing = RELKVANU_BAD_LINE << 8 | RELKVANU_FAULT_MISSING, /* The line ends before a word that it needs. */
+    line_number = RELKVANU_BAD_LINE << 8 | RELKVANU_FAULT_NUMBER, /* Not a number, or not a subtask. */
+    line_extra = RELKVANU_BAD_LINE << 8 | RELKVANU_FAULT_EXTRA, /* A word follows the last one. */
+    line_no_call = RELKVANU_BAD_LINE << 8 | RELKVANU_FAULT_NO_CALL, /* A config, job, start or all line: it was read, and makes no call. */
+    unknown = 0xff << 8, /* The library is of another version. After it alone the call may have been made. */
 };
+
+/* Whether an answer with this code has a `what`. */
+constexpr bool has_what(std::uint32_t code) noexcept {
+    return code == RELKVANU_REFUSED || code == RELKVANU_BAD_ARGUMENT || code == RELKVANU_BAD_LINE;
+}
+/* embed/bindings: end */
+
+/* embed/bindings makes the messages */
+inline const char *message_of(error it) noexcept {
+    switch (it) {
+    case error::no_memory: return "out of memory";
+    case error::closed: return "closed";
+    case error::already_open: return "AlreadyOpen";
+    case error::bad_config: return "BadConfig";
+    case error::bad_shape: return "BadShape";
+    case error::bad_moment: return "BadMoment";
+    case error::bad_first: return "BadFirst";
+    case error::bad_kind: return "BadKind";
+    case error::bad_image: return "BadImage";
+    case error::too_short: return "the buffer is too short";
+    case error::line_too_long: return "TooLong";
+    case error::line_word: return "Word";
+    case error::line_missing: return "Missing";
+    case error::line_number: return "Number";
+    case error::line_extra: return "Extra";
+    case error::line_no_call: return "NoCall";
+    default: return "unknown";
+    }
+}
+/* embed/bindings: end */
 
 class error_category_type final : public std::error_category {
 public:
@@ -98,26 +132,9 @@ public:
         std::uint8_t text[32] = {};
         if (value >> 8 == RELKVANU_REFUSED) {
             std::size_t len = relkvanu_refusal_text(static_cast<std::uint32_t>(value & 0xff), text, sizeof text);
-            return std::string(reinterpret_cast<const char *>(text), len);
+            return len == 0 || len > sizeof text ? "unknown" : std::string(reinterpret_cast<const char *>(text), len);
         }
-        switch (static_cast<error>(value)) {
-        case error::no_memory: return "out of memory";
-        case error::closed: return "closed";
-        case error::bad_config: return "BadConfig";
-        case error::bad_shape: return "BadShape";
-        case error::bad_moment: return "BadMoment";
-        case error::bad_first: return "BadFirst";
-        case error::bad_kind: return "BadKind";
-        case error::bad_image: return "BadImage";
-        case error::too_short: return "the buffer is too short";
-        case error::line_too_long: return "TooLong";
-        case error::line_word: return "Word";
-        case error::line_missing: return "Missing";
-        case error::line_number: return "Number";
-        case error::line_extra: return "Extra";
-        case error::line_no_call: return "NoCall";
-        default: return "unknown";
-        }
+        return message_of(static_cast<error>(value));
     }
 
     std::error_condition default_error_condition(int value) const noexcept override {
@@ -144,26 +161,32 @@ struct refused {
     std::uint64_t file = 0, places = 0;
 };
 
+/* Whether the call was made, and this is its reply. */
+constexpr bool is_reply(relkvanu_answer told, std::uint32_t what) noexcept { return told.code == RELKVANU_DONE && told.what == what; }
+
+/* Why a call was not made. An answer that is no reply of the call is unknown. */
 inline refused refusal(relkvanu_answer told) noexcept {
-    bool has_what = told.code == RELKVANU_REFUSED || told.code == RELKVANU_BAD_ARGUMENT || told.code == RELKVANU_BAD_LINE;
-    error why = static_cast<error>(told.code << 8 | (has_what ? told.what : 0));
+    bool is_value = told.code != RELKVANU_DONE && told.code < 0xff && told.what <= 0xff;
+    error why = is_value ? static_cast<error>(told.code << 8 | (has_what(told.code) ? told.what : 0)) : error::unknown;
     return refused{make_error_code(why), told.code == RELKVANU_REFUSED ? told.a : 0, told.code == RELKVANU_TOO_SHORT ? told.a : 0};
 }
 
-struct triggered { std::uint64_t expired, id; };
-struct held_interval { std::uint64_t expired; };
-struct held_at_once { std::uint64_t expired; };
-struct held_pause { std::uint64_t expired; };
-struct failed { std::uint64_t expired; }; /* the job fails over: restore it */
-struct savepoint_triggered { std::uint64_t id; };
-struct ack_pending { std::uint64_t missing; };
-struct ack_completed { std::uint64_t dropped, released; };
-struct ack_late { std::uint64_t handed_out; };
-struct decline_aborted { std::uint64_t released; };
-struct decline_failed { std::uint64_t released; }; /* the job fails over: restore it */
-struct decline_late {};
-struct disposed { std::uint64_t released; };
-struct cancelled { std::uint64_t dropped, released; };
+/* embed/bindings makes the replies */
+struct triggered { std::uint64_t expired, id; }; /* A checkpoint was triggered. */
+struct held_interval { std::uint64_t expired; }; /* No checkpoint is due yet. */
+struct held_at_once { std::uint64_t expired; }; /* As many checkpoints are pending as may be. */
+struct held_pause { std::uint64_t expired; }; /* The pause after the last completion has not passed. */
+struct failed { std::uint64_t expired; }; /* Too many checkpoints failed in a row: restore the job. */
+struct savepoint_triggered { std::uint64_t id; }; /* A savepoint was triggered. */
+struct ack_pending { std::uint64_t missing; }; /* The record is not complete yet. */
+struct ack_completed { std::uint64_t dropped, released; }; /* The record is complete. */
+struct ack_late { std::uint64_t handed_out; }; /* The record was done or had ended. */
+struct decline_aborted { std::uint64_t released; }; /* The record is dropped. */
+struct decline_failed { std::uint64_t released; }; /* The record is dropped, and the job has failed: restore it. */
+struct decline_late {}; /* The record was done or had ended. */
+struct disposed { std::uint64_t released; }; /* The savepoint is gone. */
+struct cancelled { std::uint64_t dropped, released; }; /* The job has ended for good. */
+/* embed/bindings: end */
 struct reported { std::uint64_t file; };
 
 /* What a job begins again from. */
@@ -174,10 +197,12 @@ using choice = std::variant<fresh, checkpoint, savepoint>;
 struct restored { choice from; std::uint64_t released; };
 
 /* The answer to each call. The last alternative says that nothing has changed. */
+/* embed/bindings makes the answers */
 using tick_answer = std::variant<triggered, held_interval, held_at_once, held_pause, failed, refused>;
-using savepoint_answer = std::variant<savepoint_triggered, refused>;
 using ack_answer = std::variant<ack_pending, ack_completed, ack_late, refused>;
 using decline_answer = std::variant<decline_aborted, decline_failed, decline_late, refused>;
+/* embed/bindings: end */
+using savepoint_answer = std::variant<savepoint_triggered, refused>;
 using dispose_answer = std::variant<disposed, refused>;
 using restore_answer = std::variant<restored, refused>;
 using cancel_answer = std::variant<cancelled, refused>;
@@ -198,11 +223,35 @@ struct said_call {
 };
 using line_call_answer = std::variant<skipped, said_call, refused>;
 
-enum class mode { running, failed, cancelled };
+/* embed/bindings makes the modes */
+enum class mode { running, failed, cancelled, unknown };
+
+inline mode mode_of(std::uint32_t what) noexcept {
+    switch (what) {
+    case RELKVANU_MODE_RUNNING: return mode::running;
+    case RELKVANU_MODE_FAILED: return mode::failed;
+    case RELKVANU_MODE_CANCELLED: return mode::cancelled;
+    default: return mode::unknown;
+    }
+}
+/* embed/bindings: end */
 
 /* What a number is. A live record has it (pending or done), or one that is no longer live had it. Or no record has had it yet. Or none
  * ever has it, because it is below the first number of the opening. */
-enum class standing { pending, done, ended, not_yet, never };
+/* embed/bindings makes the standings */
+enum class standing { pending, done, ended, not_yet, never, unknown };
+
+inline standing standing_of(std::uint32_t what) noexcept {
+    switch (what) {
+    case RELKVANU_STANDS_PENDING: return standing::pending;
+    case RELKVANU_STANDS_DONE: return standing::done;
+    case RELKVANU_STANDS_ENDED: return standing::ended;
+    case RELKVANU_STANDS_NOT_YET: return standing::not_yet;
+    case RELKVANU_STANDS_NEVER: return standing::never;
+    default: return standing::unknown;
+    }
+}
+/* embed/bindings: end */
 
 /* The files that a read returns, in ascending order, for reads that take memory. */
 using files_answer = std::variant<std::vector<std::uint64_t>, refused>;
@@ -222,6 +271,7 @@ struct live_record {
 
 /* The answers of relkvanu.h as those of this header. */
 
+/* embed/bindings makes what tells the answers */
 inline tick_answer tick_of(relkvanu_answer told) noexcept {
     if (told.code != RELKVANU_DONE) {
         return refusal(told);
@@ -232,7 +282,7 @@ inline tick_answer tick_of(relkvanu_answer told) noexcept {
     case RELKVANU_TICK_HELD_AT_ONCE: return held_at_once{told.a};
     case RELKVANU_TICK_HELD_PAUSE: return held_pause{told.a};
     case RELKVANU_TICK_FAILED: return failed{told.a};
-    default: abort_unknown();
+    default: return refusal(told);
     }
 }
 
@@ -244,7 +294,7 @@ inline ack_answer ack_of(relkvanu_answer told) noexcept {
     case RELKVANU_ACK_PENDING: return ack_pending{told.a};
     case RELKVANU_ACK_COMPLETED: return ack_completed{told.a, told.b};
     case RELKVANU_ACK_LATE: return ack_late{told.a};
-    default: abort_unknown();
+    default: return refusal(told);
     }
 }
 
@@ -256,9 +306,11 @@ inline decline_answer decline_of(relkvanu_answer told) noexcept {
     case RELKVANU_DECLINE_ABORTED: return decline_aborted{told.a};
     case RELKVANU_DECLINE_FAILED: return decline_failed{told.a};
     case RELKVANU_DECLINE_LATE: return decline_late{};
-    default: abort_unknown();
+    default: return refusal(told);
     }
 }
+
+/* embed/bindings: end */
 
 inline restore_answer restore_of(relkvanu_answer told) noexcept {
     if (told.code != RELKVANU_DONE) {
@@ -268,7 +320,7 @@ inline restore_answer restore_of(relkvanu_answer told) noexcept {
     case RELKVANU_RESTORED_CHECKPOINT: return restored{checkpoint{told.b}, told.a};
     case RELKVANU_RESTORED_SAVEPOINT: return restored{savepoint{told.b}, told.a};
     case RELKVANU_RESTORED_FRESH: return restored{fresh{}, told.a};
-    default: abort_unknown();
+    default: return refusal(told);
     }
 }
 
@@ -348,7 +400,7 @@ public:
             return too_large();
         }
         relkvanu_answer told = relkvanu_savepoint(&handle_, now);
-        return told.code == RELKVANU_DONE ? savepoint_answer(savepoint_triggered{told.a}) : refusal(told);
+        return is_reply(told, RELKVANU_SAVEPOINT_TRIGGERED) ? savepoint_answer(savepoint_triggered{told.a}) : refusal(told);
     }
 
     /* After a refusal the task may delete a file only if no accepted acknowledgement ever named it: after already_acknowledged it
@@ -369,7 +421,7 @@ public:
 
     dispose_answer dispose(std::uint64_t id) noexcept {
         relkvanu_answer told = relkvanu_dispose(&handle_, id);
-        return told.code == RELKVANU_DONE ? dispose_answer(disposed{told.a}) : refusal(told);
+        return is_reply(told, RELKVANU_DISPOSED) ? dispose_answer(disposed{told.a}) : refusal(told);
     }
 
     /* Restores the latest record, in the current shape or in a given one. A bad shape is reported before any refusal. */
@@ -388,13 +440,13 @@ public:
             return too_large();
         }
         relkvanu_answer told = relkvanu_cancel(&handle_, now);
-        return told.code == RELKVANU_DONE ? cancel_answer(cancelled{told.a, told.b}) : refusal(told);
+        return is_reply(told, RELKVANU_CANCELLED) ? cancel_answer(cancelled{told.a, told.b}) : refusal(told);
     }
 
     /* Fetches files that wait for deletion into a buffer, at most as many as it has places. */
     [[nodiscard]] take_answer take(span<std::uint64_t> buffer) noexcept {
         relkvanu_answer told = relkvanu_take(&handle_, buffer.data(), buffer.size());
-        return told.code == RELKVANU_DONE ? take_answer(files(buffer.data(), static_cast<std::size_t>(told.a))) : refusal(told);
+        return is_reply(told, RELKVANU_TAKEN) ? take_answer(files(buffer.data(), static_cast<std::size_t>(told.a))) : refusal(told);
     }
 
     report_answer deleted(std::uint64_t file) noexcept { return report(relkvanu_deleted(&handle_, file)); }
@@ -432,12 +484,7 @@ public:
     [[nodiscard]] std::uint64_t count(std::uint64_t file) noexcept { return read(relkvanu_count(&handle_, file)).b; }
 
     [[nodiscard]] ckpt::mode mode() noexcept {
-        switch (read(relkvanu_mode(&handle_)).what) {
-        case RELKVANU_MODE_RUNNING: return ckpt::mode::running;
-        case RELKVANU_MODE_FAILED: return ckpt::mode::failed;
-        case RELKVANU_MODE_CANCELLED: return ckpt::mode::cancelled;
-        default: abort_unknown();
-        }
+        return mode_of(read(relkvanu_mode(&handle_)).what);
     }
 
     /* The greatest moment that the coordinator has seen. It takes an earlier one for this one. */
@@ -481,14 +528,7 @@ public:
     [[nodiscard]] std::optional<live_record> live_from(std::uint64_t id) noexcept { return record_of(relkvanu_live_from(&handle_, id)); }
 
     [[nodiscard]] ckpt::standing standing(std::uint64_t id) noexcept {
-        switch (read(relkvanu_standing(&handle_, id)).what) {
-        case RELKVANU_STANDS_PENDING: return ckpt::standing::pending;
-        case RELKVANU_STANDS_DONE: return ckpt::standing::done;
-        case RELKVANU_STANDS_ENDED: return ckpt::standing::ended;
-        case RELKVANU_STANDS_NOT_YET: return ckpt::standing::not_yet;
-        case RELKVANU_STANDS_NEVER: return ckpt::standing::never;
-        default: abort_unknown();
-        }
+        return standing_of(read(relkvanu_standing(&handle_, id)).what);
     }
 
     /* The files that a subtask acknowledged in this record. nullopt if the record is not live or the subtask has not acknowledged. */
@@ -601,7 +641,7 @@ private:
     }
 
     static report_answer report(relkvanu_answer told) noexcept {
-        return told.code == RELKVANU_DONE ? report_answer(reported{told.a}) : refusal(told);
+        return is_reply(told, RELKVANU_DELETED) || is_reply(told, RELKVANU_UNDELETED) ? report_answer(reported{told.a}) : refusal(told);
     }
 
     restore_answer restore_from(std::uint64_t now, std::uint64_t savepoint, shape of) noexcept {

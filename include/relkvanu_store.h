@@ -29,7 +29,7 @@ extern "C" {
 typedef struct relkvanu_store relkvanu_store;
 
 /* Status. After the first group nothing was made, and the store is as it was. */
-#define RELKVANU_STORE_OK 0
+#define RELKVANU_STORE_OK 0           /* it was done */
 #define RELKVANU_STORE_BAD_ARGUMENT 1 /* of a call: its kind, shape, number of files or a reserved field; of an opening: its settings */
 #define RELKVANU_STORE_NO_MEMORY 2    /* make the same call again later */
 #define RELKVANU_STORE_IN_USE 3       /* open: another process, or this one, has the job open. The message names it */
@@ -200,6 +200,8 @@ typedef struct {
     uint64_t checkpoints, failed_checkpoints, retries;
     uint64_t reserved[4];
 } relkvanu_store_counts;
+
+/* Writes the counts since the opening. */
 void relkvanu_store_count(relkvanu_store *store, relkvanu_store_counts *counts);
 
 /* What closed the store, as a text with a zero at its end; otherwise empty. Returns its length, also if text_len is too short. */

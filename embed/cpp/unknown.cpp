@@ -1,4 +1,5 @@
-/* The C++ header over a library of another version, which gives answers that the header does not have: none is taken for another one. */
+/* The C++ header over a library of another version, which gives answers that the header does not have: none is taken for another one,
+ * and those of calls are error values. */
 #include "../../include/relkvanu.hpp"
 
 #include "aborts.hpp"
@@ -7,13 +8,16 @@
 
 static std::uint32_t what = RELKVANU_OPENED;
 
-static relkvanu_answer answer() { return {RELKVANU_DONE, what, 0, 0}; }
+static std::uint32_t code = RELKVANU_DONE;
+
+static relkvanu_answer answer() { return {code, what, 0, 0}; }
 
 /* The functions of the library that are called here; the header has macros for some of them. */
 #undef relkvanu_open
 #undef relkvanu_close
 #undef relkvanu_ack
 #undef relkvanu_restore
+#undef relkvanu_take
 #undef relkvanu_refusal_text
 extern "C" {
 relkvanu_answer relkvanu_open(relkvanu *handle, const relkvanu_settings *, const uint64_t *, size_t, uint64_t, uint64_t, uint64_t, uint64_t) {
@@ -29,23 +33,51 @@ relkvanu_answer relkvanu_oldest_expiry(relkvanu *) { return answer(); }
 relkvanu_answer relkvanu_ack(relkvanu *, uint64_t, uint64_t, uint16_t, uint16_t, const uint64_t *, size_t, const uint64_t *, size_t) { return answer(); }
 relkvanu_answer relkvanu_decline(relkvanu *, uint64_t, uint64_t, uint16_t, uint16_t) { return answer(); }
 relkvanu_answer relkvanu_restore(relkvanu *, uint64_t, uint64_t, const uint64_t *, size_t) { return answer(); }
+relkvanu_answer relkvanu_savepoint(relkvanu *, uint64_t) { return answer(); }
+relkvanu_answer relkvanu_dispose(relkvanu *, uint64_t) { return answer(); }
+relkvanu_answer relkvanu_cancel(relkvanu *, uint64_t) { return answer(); }
+relkvanu_answer relkvanu_take(relkvanu *, uint64_t *, size_t) { return answer(); }
+relkvanu_answer relkvanu_deleted(relkvanu *, uint64_t) { return answer(); }
+relkvanu_answer relkvanu_undeleted(relkvanu *, uint64_t) { return answer(); }
 relkvanu_answer relkvanu_mode(relkvanu *) { return answer(); }
 relkvanu_answer relkvanu_choice(relkvanu *) { return answer(); }
 relkvanu_answer relkvanu_live(relkvanu *, size_t) { return answer(); }
 relkvanu_answer relkvanu_live_from(relkvanu *, uint64_t) { return answer(); }
 relkvanu_answer relkvanu_standing(relkvanu *, uint64_t) { return answer(); }
-size_t relkvanu_refusal_text(uint32_t, uint8_t *text, size_t) {
-    text[0] = '?';
-    return 1;
-}
+size_t relkvanu_refusal_text(uint32_t, uint8_t *, size_t) { return 0; }
 }
 
-/* How many of them abort the process. */
+/* Whether a call is refused because of an unknown answer. */
+template <class Answer> static bool is_unknown(const Answer &told) {
+    const ckpt::refused *why = std::get_if<ckpt::refused>(&told);
+    return why != nullptr && why->why == ckpt::error::unknown && why->why.message() == "unknown";
+}
+
+/* How many of the calls are refused so, how many reads say it, and how many have no place for it and abort the process. */
 static int unknown(ckpt::Coordinator &job) {
-    what = 99;
-    return aborts([&] { return job.tick(0); }) + aborts([&] { return job.ack(0, 1, 0, 0, {}); }) + aborts([&] { return job.decline(0, 1, 0, 0); }) +
-           aborts([&] { return job.restore(0); }) + aborts([&] { return job.mode(); }) + aborts([&] { return job.choice(); }) +
-           aborts([&] { return job.live(0); }) + aborts([&] { return job.live_from(0); }) + aborts([&] { return job.standing(1); });
+    what = 999;
+    std::uint64_t places[1];
+    int refused = is_unknown(job.tick(0)) + is_unknown(job.savepoint(0)) + is_unknown(job.ack(0, 1, 0, 0, {})) + is_unknown(job.decline(0, 1, 0, 0)) +
+                  is_unknown(job.dispose(1)) + is_unknown(job.restore(0)) + is_unknown(job.cancel(0)) + is_unknown(job.take(places)) +
+                  is_unknown(job.deleted(1)) + is_unknown(job.undeleted(1));
+    int said = (job.mode() == ckpt::mode::unknown) + (job.standing(1) == ckpt::standing::unknown);
+    int aborted = aborts([&] { return job.choice(); }) + aborts([&] { return job.live(0); }) + aborts([&] { return job.live_from(0); });
+    std::printf("%d of 10 calls are refused, %d of 2 reads say it, %d of 3 abort\n", refused, said, aborted);
+    return refused + said + aborted;
+}
+
+/* Codes and refusals that the header does not have are error values. */
+static int other_codes(ckpt::Coordinator &job) {
+    what = 999;
+    int refused = 0;
+    for (std::uint32_t it : {RELKVANU_REFUSED, RELKVANU_BAD_ARGUMENT, RELKVANU_BAD_LINE, 99u}) {
+        code = it;
+        auto told = job.tick(0);
+        const ckpt::refused *why = std::get_if<ckpt::refused>(&told);
+        refused += why != nullptr && why->why && why->why.message() == "unknown";
+    }
+    code = RELKVANU_DONE;
+    return refused;
 }
 
 int main() {
@@ -53,7 +85,7 @@ int main() {
     ckpt::Coordinator &job = std::get<ckpt::Coordinator>(opened);
     what = RELKVANU_TICK_FAILED;
     bool is_known = std::holds_alternative<ckpt::failed>(job.tick(0));
-    int aborted = unknown(job);
-    std::printf("%d of 9 unknown answers abort the process, a known one %s\n", aborted, is_known ? "does not" : "is another one");
-    return is_known && aborted == 9 ? 0 : 1;
+    int found = unknown(job), codes = other_codes(job);
+    std::printf("%d of 4 unknown codes are error values, a known answer %s\n", codes, is_known ? "is itself" : "is another one");
+    return is_known && found == 15 && codes == 4 ? 0 : 1;
 }

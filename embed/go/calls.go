@@ -8,6 +8,7 @@ type CallKind uint32
 
 // The kinds of calls.
 const (
+	// embed/bindings makes the kinds
 	CallTick      CallKind = C.RELKVANU_CALL_TICK
 	CallSavepoint CallKind = C.RELKVANU_CALL_SAVEPOINT
 	CallAck       CallKind = C.RELKVANU_CALL_ACK
@@ -20,6 +21,7 @@ const (
 	CallUndeleted CallKind = C.RELKVANU_CALL_UNDELETED
 	CallShow      CallKind = C.RELKVANU_CALL_SHOW
 	CallCount     CallKind = C.RELKVANU_CALL_COUNT
+	// embed/bindings: end
 )
 
 // Call is a call as a line of a log says it. Fields that its kind does not use are zero.

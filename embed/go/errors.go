@@ -21,21 +21,23 @@ type Refusal uint32
 
 // The refusals, in the order in which they are checked.
 const (
-	MomentTooLarge      Refusal = C.RELKVANU_MOMENT_TOO_LARGE
-	NotRunning          Refusal = C.RELKVANU_NOT_RUNNING
-	TooManyFiles        Refusal = C.RELKVANU_TOO_MANY_FILES
-	RepeatedFile        Refusal = C.RELKVANU_REPEATED_FILE
-	UnknownCheckpoint   Refusal = C.RELKVANU_UNKNOWN_CHECKPOINT
-	UnknownSubtask      Refusal = C.RELKVANU_UNKNOWN_SUBTASK
-	AlreadyAcknowledged Refusal = C.RELKVANU_ALREADY_ACKNOWLEDGED // the files may be those of its first message: do not delete them
-	NameTaken           Refusal = C.RELKVANU_NAME_TAKEN           // a fresh file is known. It may be in use: do not delete it
-	FileGone            Refusal = C.RELKVANU_FILE_GONE            // a reused file is gone: the task writes its state again, under a new number
-	NoSuchSavepoint     Refusal = C.RELKVANU_NO_SUCH_SAVEPOINT
-	InUse               Refusal = C.RELKVANU_IN_USE
-	TooManySavepoints   Refusal = C.RELKVANU_TOO_MANY_SAVEPOINTS
-	NotTaken            Refusal = C.RELKVANU_NOT_TAKEN
-	NoSuchRecord        Refusal = C.RELKVANU_NO_SUCH_RECORD
-	IDsUsedUp           Refusal = C.RELKVANU_IDS_USED_UP
+	// embed/bindings makes the refusals
+	MomentTooLarge      Refusal = C.RELKVANU_MOMENT_TOO_LARGE     // The moment is above its limit.
+	NotRunning          Refusal = C.RELKVANU_NOT_RUNNING          // The job has failed or was cancelled.
+	TooManyFiles        Refusal = C.RELKVANU_TOO_MANY_FILES       // An acknowledgement has more than 4096 files.
+	RepeatedFile        Refusal = C.RELKVANU_REPEATED_FILE        // An acknowledgement names a file twice.
+	UnknownCheckpoint   Refusal = C.RELKVANU_UNKNOWN_CHECKPOINT   // No record has had the number.
+	UnknownSubtask      Refusal = C.RELKVANU_UNKNOWN_SUBTASK      // The job has no such subtask.
+	AlreadyAcknowledged Refusal = C.RELKVANU_ALREADY_ACKNOWLEDGED // The subtask has acknowledged in this record. Its files may belong to the coordinator: do not delete them.
+	NameTaken           Refusal = C.RELKVANU_NAME_TAKEN           // The coordinator knows a file with the number of a fresh one. It may be in use: do not delete it.
+	FileGone            Refusal = C.RELKVANU_FILE_GONE            // A reused file is no longer in use: the task writes its state again, under a new number.
+	NoSuchSavepoint     Refusal = C.RELKVANU_NO_SUCH_SAVEPOINT    // No completed savepoint has the number.
+	InUse               Refusal = C.RELKVANU_IN_USE               // The job would begin again from this savepoint.
+	TooManySavepoints   Refusal = C.RELKVANU_TOO_MANY_SAVEPOINTS  // 1000 savepoints are pending or done.
+	NotTaken            Refusal = C.RELKVANU_NOT_TAKEN            // The file was not fetched for deletion, or was reported before.
+	NoSuchRecord        Refusal = C.RELKVANU_NO_SUCH_RECORD       // No live record has the number.
+	IDsUsedUp           Refusal = C.RELKVANU_IDS_USED_UP          // No number is left for another record.
+	// embed/bindings: end
 )
 
 // String is the name of the refusal, such as "NotRunning".
@@ -75,17 +77,30 @@ type BadArgument uint32
 
 // The arguments that are checked. A shape is checked before any refusal.
 const (
-	BadConfig    BadArgument = C.RELKVANU_BAD_CONFIG
-	BadShape     BadArgument = C.RELKVANU_BAD_SHAPE
-	BadMoment    BadArgument = C.RELKVANU_BAD_MOMENT
-	BadFirst     BadArgument = C.RELKVANU_BAD_FIRST
-	BadImage     BadArgument = C.RELKVANU_BAD_IMAGE
+	// embed/bindings makes the arguments
+	AlreadyOpen BadArgument = C.RELKVANU_ALREADY_OPEN // The handle has a coordinator already.
+	BadConfig   BadArgument = C.RELKVANU_BAD_CONFIG   // A value of the settings is outside its limits.
+	BadShape    BadArgument = C.RELKVANU_BAD_SHAPE    // 1 to 256 vertices, at least 1 subtask each, at most 4096 in sum.
+	BadMoment   BadArgument = C.RELKVANU_BAD_MOMENT   // The moment of an opening is above 2^62 - 1.
+	BadFirst    BadArgument = C.RELKVANU_BAD_FIRST    // The number of the first record is not within 1 to 2^62 - 1.
+	BadKind     BadArgument = C.RELKVANU_BAD_KIND     // The kind of a call that is to be written.
+	BadImage    BadArgument = C.RELKVANU_BAD_IMAGE    // The bytes are not an image, or the state is not sound, or no coordinator could be opened so.
+	// embed/bindings: end
+
 	BadSavepoint BadArgument = 1 << 31 // no savepoint has the number 0: only this package checks it
 )
 
 var arguments = map[BadArgument]string{
-	BadConfig: "BadConfig", BadShape: "BadShape", BadMoment: "BadMoment", BadFirst: "BadFirst", BadImage: "BadImage",
 	BadSavepoint: "BadSavepoint",
+	// embed/bindings makes the names of arguments
+	AlreadyOpen: "AlreadyOpen",
+	BadConfig:   "BadConfig",
+	BadShape:    "BadShape",
+	BadMoment:   "BadMoment",
+	BadFirst:    "BadFirst",
+	BadKind:     "BadKind",
+	BadImage:    "BadImage",
+	// embed/bindings: end
 }
 
 // String is the name of the argument, such as "BadShape".
@@ -100,16 +115,25 @@ type LineFault uint32
 
 // The faults of lines.
 const (
-	LineTooLong LineFault = C.RELKVANU_FAULT_TOO_LONG // more than 131,072 bytes, also of the line that a call would have
-	LineWord    LineFault = C.RELKVANU_FAULT_WORD     // a word that does not belong there
-	LineMissing LineFault = C.RELKVANU_FAULT_MISSING  // the line ends before a word that it needs
-	LineNumber  LineFault = C.RELKVANU_FAULT_NUMBER   // not a number, or not a subtask
-	LineExtra   LineFault = C.RELKVANU_FAULT_EXTRA    // a word follows the last one
-	LineNoCall  LineFault = C.RELKVANU_FAULT_NO_CALL  // a config, job, start or all line, which was read and makes no call
+	// embed/bindings makes the faults of lines
+	LineTooLong LineFault = C.RELKVANU_FAULT_TOO_LONG // A line has at most 131072 bytes.
+	LineWord    LineFault = C.RELKVANU_FAULT_WORD     // A word that does not belong there.
+	LineMissing LineFault = C.RELKVANU_FAULT_MISSING  // The line ends before a word that it needs.
+	LineNumber  LineFault = C.RELKVANU_FAULT_NUMBER   // Not a number, or not a subtask.
+	LineExtra   LineFault = C.RELKVANU_FAULT_EXTRA    // A word follows the last one.
+	LineNoCall  LineFault = C.RELKVANU_FAULT_NO_CALL  // A config, job, start or all line: it was read, and makes no call.
+	// embed/bindings: end
 )
 
 var faults = map[LineFault]string{
-	LineTooLong: "TooLong", LineWord: "Word", LineMissing: "Missing", LineNumber: "Number", LineExtra: "Extra", LineNoCall: "NoCall",
+	// embed/bindings makes the names of faults
+	LineTooLong: "TooLong",
+	LineWord:    "Word",
+	LineMissing: "Missing",
+	LineNumber:  "Number",
+	LineExtra:   "Extra",
+	LineNoCall:  "NoCall",
+	// embed/bindings: end
 }
 
 // String is the name of the fault, such as "Missing".
@@ -117,6 +141,10 @@ func (f LineFault) String() string { return named(faults, f) }
 
 func (f LineFault) Error() string { return "relkvanu: the line can't be read: " + f.String() }
 
+// embed/bindings makes the other enums
+// embed/bindings: end
+
+// named is the name of a number, or the number if it has none: the library is of another version.
 func named[Number ~uint32](names map[Number]string, number Number) string {
 	if name, is := names[number]; is {
 		return name
@@ -155,10 +183,12 @@ func fault(answer C.relkvanu_answer) error {
 		return ErrNoMemory
 	case C.RELKVANU_CLOSED:
 		return ErrClosed
-	case C.RELKVANU_BAD_LINE:
-		return LineFault(answer.what)
+	// embed/bindings makes the codes
 	case C.RELKVANU_BAD_ARGUMENT:
 		return BadArgument(answer.what)
+	case C.RELKVANU_BAD_LINE:
+		return LineFault(answer.what)
+		// embed/bindings: end
 	}
 	return unknown(answer)
 }

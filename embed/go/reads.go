@@ -13,12 +13,20 @@ type Mode uint32
 
 // The modes.
 const (
-	Running      Mode = C.RELKVANU_MODE_RUNNING
-	Failed       Mode = C.RELKVANU_MODE_FAILED    // too many checkpoints failed in a row: a restore starts the job again
-	WasCancelled Mode = C.RELKVANU_MODE_CANCELLED // the job has ended for good
+	// embed/bindings makes the modes
+	Running      Mode = C.RELKVANU_MODE_RUNNING   // The job takes checkpoints.
+	Failed       Mode = C.RELKVANU_MODE_FAILED    // Too many checkpoints failed in a row: restore the job.
+	WasCancelled Mode = C.RELKVANU_MODE_CANCELLED // The job has ended for good.
+	// embed/bindings: end
 )
 
-var modes = map[Mode]string{Running: "running", Failed: "failed", WasCancelled: "cancelled"}
+var modes = map[Mode]string{
+	// embed/bindings makes the names of modes
+	Running:      "running",
+	Failed:       "failed",
+	WasCancelled: "cancelled",
+	// embed/bindings: end
+}
 
 func (m Mode) String() string { return named(modes, m) }
 
@@ -62,14 +70,24 @@ type Standing uint32
 
 // The standings.
 const (
-	Pending Standing = C.RELKVANU_STANDS_PENDING // a live record has the number, and lacks an acknowledgement
-	Done    Standing = C.RELKVANU_STANDS_DONE    // a live record has it, and is complete
-	Ended   Standing = C.RELKVANU_STANDS_ENDED   // a record had it, and is live no more
-	NotYet  Standing = C.RELKVANU_STANDS_NOT_YET // no record has had it so far
-	Never   Standing = C.RELKVANU_STANDS_NEVER   // it is below the first number of the opening
+	// embed/bindings makes the standings
+	Pending Standing = C.RELKVANU_STANDS_PENDING // A live record has the number, and lacks an acknowledgement.
+	Done    Standing = C.RELKVANU_STANDS_DONE    // A live record has the number, and is complete.
+	Ended   Standing = C.RELKVANU_STANDS_ENDED   // A record had the number, and is no longer live.
+	NotYet  Standing = C.RELKVANU_STANDS_NOT_YET // No record has had the number so far.
+	Never   Standing = C.RELKVANU_STANDS_NEVER   // The number is below the first one of the opening.
+	// embed/bindings: end
 )
 
-var standings = map[Standing]string{Pending: "pending", Done: "done", Ended: "ended", NotYet: "not yet", Never: "never"}
+var standings = map[Standing]string{
+	// embed/bindings makes the names of standings
+	Pending: "pending",
+	Done:    "done",
+	Ended:   "ended",
+	NotYet:  "not yet",
+	Never:   "never",
+	// embed/bindings: end
+}
 
 func (s Standing) String() string { return named(standings, s) }
 

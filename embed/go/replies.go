@@ -21,11 +21,13 @@ type TickEnd uint32
 
 // The ends of ticks. The zero value is that of no tick.
 const (
-	Triggered    TickEnd = C.RELKVANU_TICK_TRIGGERED     // a checkpoint was triggered
-	HeldInterval TickEnd = C.RELKVANU_TICK_HELD_INTERVAL // no checkpoint is due yet
-	HeldAtOnce   TickEnd = C.RELKVANU_TICK_HELD_AT_ONCE  // as many are pending as may be at once
-	HeldPause    TickEnd = C.RELKVANU_TICK_HELD_PAUSE    // the pause after the last completion has not passed
-	TickFailed   TickEnd = C.RELKVANU_TICK_FAILED        // too many checkpoints failed in a row: the job fails over. Restore it
+	// embed/bindings makes the ends of ticks
+	Triggered    TickEnd = C.RELKVANU_TICK_TRIGGERED     // A checkpoint was triggered.
+	HeldInterval TickEnd = C.RELKVANU_TICK_HELD_INTERVAL // No checkpoint is due yet.
+	HeldAtOnce   TickEnd = C.RELKVANU_TICK_HELD_AT_ONCE  // As many checkpoints are pending as may be.
+	HeldPause    TickEnd = C.RELKVANU_TICK_HELD_PAUSE    // The pause after the last completion has not passed.
+	TickFailed   TickEnd = C.RELKVANU_TICK_FAILED        // Too many checkpoints failed in a row: restore the job.
+	// embed/bindings: end
 )
 
 // Ticked is the reply to a tick.
@@ -43,9 +45,11 @@ type AckEnd uint32
 
 // The ends of acknowledgements.
 const (
-	AckPending   AckEnd = C.RELKVANU_ACK_PENDING   // other subtasks are missing
-	AckCompleted AckEnd = C.RELKVANU_ACK_COMPLETED // the record is complete
-	AckLate      AckEnd = C.RELKVANU_ACK_LATE      // the record was done or had ended
+	// embed/bindings makes the ends of acknowledgements
+	AckPending   AckEnd = C.RELKVANU_ACK_PENDING   // The record is not complete yet.
+	AckCompleted AckEnd = C.RELKVANU_ACK_COMPLETED // The record is complete.
+	AckLate      AckEnd = C.RELKVANU_ACK_LATE      // The record was done or had ended.
+	// embed/bindings: end
 )
 
 // Acked is the reply to an accepted acknowledgement: its fresh files belong to the coordinator.
@@ -62,9 +66,11 @@ type DeclineEnd uint32
 
 // The ends of declines.
 const (
-	DeclineAborted DeclineEnd = C.RELKVANU_DECLINE_ABORTED // the record is dropped
-	DeclineFailed  DeclineEnd = C.RELKVANU_DECLINE_FAILED  // the record is dropped, and the job fails over. Restore it
-	DeclineLate    DeclineEnd = C.RELKVANU_DECLINE_LATE    // the record was done or had ended
+	// embed/bindings makes the ends of declines
+	DeclineAborted DeclineEnd = C.RELKVANU_DECLINE_ABORTED // The record is dropped.
+	DeclineFailed  DeclineEnd = C.RELKVANU_DECLINE_FAILED  // The record is dropped, and the job has failed: restore it.
+	DeclineLate    DeclineEnd = C.RELKVANU_DECLINE_LATE    // The record was done or had ended.
+	// embed/bindings: end
 )
 
 // Declined is the reply to a decline.
@@ -148,15 +154,18 @@ func (FileUndeleted) isReply()      {}
 func (Shown) isReply()              {}
 func (Counted) isReply()            {}
 
-var ticks = map[TickEnd]string{HeldInterval: "held interval", HeldAtOnce: "held at-once", HeldPause: "held pause", TickFailed: "failed"}
+var ticks = map[TickEnd]string{
+	// embed/bindings makes the names of ends
+	Triggered:    "triggered",
+	HeldInterval: "held interval",
+	HeldAtOnce:   "held at-once",
+	HeldPause:    "held pause",
+	TickFailed:   "failed",
+	// embed/bindings: end
+}
 
 // String is the end as a script prints it, such as "held pause".
-func (e TickEnd) String() string {
-	if e == Triggered {
-		return "triggered"
-	}
-	return named(ticks, e)
-}
+func (e TickEnd) String() string { return named(ticks, e) }
 
 func (r Ticked) String() string {
 	if r.End == Triggered {

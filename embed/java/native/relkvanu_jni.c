@@ -197,6 +197,21 @@ JNIEXPORT jlong JNICALL Java_relkvanu_Native_refusalText(JNIEnv *env, jclass of,
     return (jlong)told;
 }
 
+JNIEXPORT jlong JNICALL Java_relkvanu_Native_answerText(JNIEnv *env, jclass of, jlongArray answer, jbyteArray text) {
+    (void)of;
+    jlong of_answer[4];
+    (*env)->GetLongArrayRegion(env, answer, 0, 4, of_answer);
+    relkvanu_answer in_answer = {(uint32_t)of_answer[0], (uint32_t)of_answer[1], (uint64_t)of_answer[2], (uint64_t)of_answer[3]};
+    struct room of_text;
+    size_t told = 0;
+    if (bytes_room(env, &of_text, text)) {
+        told = relkvanu_answer_text(&in_answer, of_text.at, of_text.len);
+    }
+    bytes_out(env, &of_text, text, told);
+    close_room(&of_text);
+    return (jlong)told;
+}
+
 JNIEXPORT void JNICALL Java_relkvanu_Native_line(JNIEnv *env, jclass of, jlong handle, jbyteArray line, jlongArray files, jlongArray out) {
     (void)of;
     struct room of_line;

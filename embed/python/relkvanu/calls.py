@@ -1,5 +1,6 @@
 """Calls as values: what a line of a log says (docs/SCRIPT.md), and the line of each."""
 import ctypes
+import enum
 from dataclasses import dataclass
 from typing import Callable, Dict, Optional, Tuple, Union
 
@@ -9,6 +10,25 @@ from relkvanu.lines import (
     _line, ack_line, cancel_line, decline_line, deleted_line, dispose_line, restore_line, savepoint_line, take_line, tick_line,
     undeleted_line,
 )
+
+
+# embed/bindings makes the kinds
+class CallKind(enum.IntEnum):
+    """Which call it is."""
+
+    TICK = header.CALL_TICK
+    SAVEPOINT = header.CALL_SAVEPOINT
+    ACK = header.CALL_ACK
+    DECLINE = header.CALL_DECLINE
+    DISPOSE = header.CALL_DISPOSE
+    RESTORE = header.CALL_RESTORE
+    CANCEL = header.CALL_CANCEL
+    TAKE = header.CALL_TAKE
+    DELETED = header.CALL_DELETED
+    UNDELETED = header.CALL_UNDELETED
+    SHOW = header.CALL_SHOW
+    COUNT = header.CALL_COUNT
+# embed/bindings: end
 
 
 @dataclass(frozen=True)
@@ -110,7 +130,7 @@ class Show:
     id: int
 
     def line(self) -> str:
-        return _line(header.CALL_SHOW, number=self.id)
+        return _line(CallKind.SHOW, number=self.id)
 
 
 @dataclass(frozen=True)
@@ -118,15 +138,15 @@ class Count:
     file: int
 
     def line(self) -> str:
-        return _line(header.CALL_COUNT, number=self.file)
+        return _line(CallKind.COUNT, number=self.file)
 
 
 Call = Union[Tick, Savepoint, Ack, Decline, Dispose, Restore, Cancel, Take, Deleted, Undeleted, Show, Count]
 
-OF_A_MOMENT: Dict[int, Callable[[int], Call]] = {header.CALL_TICK: Tick, header.CALL_SAVEPOINT: Savepoint, header.CALL_CANCEL: Cancel}
+OF_A_MOMENT: Dict[int, Callable[[int], Call]] = {CallKind.TICK: Tick, CallKind.SAVEPOINT: Savepoint, CallKind.CANCEL: Cancel}
 OF_A_NUMBER: Dict[int, Callable[[int], Call]] = {
-    header.CALL_DISPOSE: Dispose, header.CALL_TAKE: Take, header.CALL_DELETED: Deleted, header.CALL_UNDELETED: Undeleted,
-    header.CALL_SHOW: Show, header.CALL_COUNT: Count,
+    CallKind.DISPOSE: Dispose, CallKind.TAKE: Take, CallKind.DELETED: Deleted, CallKind.UNDELETED: Undeleted,
+    CallKind.SHOW: Show, CallKind.COUNT: Count,
 }
 
 
@@ -155,10 +175,10 @@ def _call(it: header.relkvanu_call, first: Tuple[int, ...], second: Tuple[int, .
         return OF_A_MOMENT[it.kind](it.now)
     if it.kind in OF_A_NUMBER:
         return OF_A_NUMBER[it.kind](it.number)
-    if it.kind == header.CALL_ACK:
+    if it.kind == CallKind.ACK:
         return Ack(it.now, it.number, it.vertex, it.index, first, second)
-    if it.kind == header.CALL_DECLINE:
+    if it.kind == CallKind.DECLINE:
         return Decline(it.now, it.number, it.vertex, it.index)
-    if it.kind == header.CALL_RESTORE:
+    if it.kind == CallKind.RESTORE:
         return Restore(it.now, it.number or None, first or None)
     raise Unknown(header.DONE, header.LINE_CALL)

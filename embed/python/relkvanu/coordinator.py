@@ -6,7 +6,7 @@ import pathlib
 import secrets
 import threading
 from dataclasses import dataclass
-from typing import Any, Callable, Iterator, NoReturn, Optional, Sequence, Tuple, TypeVar, Union
+from typing import Any, Callable, Dict, Iterator, NoReturn, Optional, Sequence, Tuple, TypeVar, Union
 
 from relkvanu import header
 from relkvanu.reads import CHOSEN, LIVE, Chosen, FileCounts, Live, Mode, Standing
@@ -17,23 +17,28 @@ U64 = ctypes.c_uint64
 T = TypeVar("T")
 DAY = 24 * 60 * 60 * 1000
 LAST_MOMENT = (1 << 62) - 1
-FAULTS = {
-    header.FAULT_TOO_LONG: "TooLong",
-    header.FAULT_WORD: "Word",
-    header.FAULT_MISSING: "Missing",
-    header.FAULT_NUMBER: "Number",
-    header.FAULT_EXTRA: "Extra",
-    header.FAULT_NO_CALL: "NoCall",
+# embed/bindings makes the names
+# The names of what an answer has, by its code.
+NAMES: Dict[int, Dict[int, str]] = {
+    header.BAD_ARGUMENT: {
+        header.ALREADY_OPEN: "AlreadyOpen",
+        header.BAD_CONFIG: "BadConfig",
+        header.BAD_SHAPE: "BadShape",
+        header.BAD_MOMENT: "BadMoment",
+        header.BAD_FIRST: "BadFirst",
+        header.BAD_KIND: "BadKind",
+        header.BAD_IMAGE: "BadImage",
+    },
+    header.BAD_LINE: {
+        header.FAULT_TOO_LONG: "TooLong",
+        header.FAULT_WORD: "Word",
+        header.FAULT_MISSING: "Missing",
+        header.FAULT_NUMBER: "Number",
+        header.FAULT_EXTRA: "Extra",
+        header.FAULT_NO_CALL: "NoCall",
+    },
 }
-ARGUMENTS = {
-    header.ALREADY_OPEN: "AlreadyOpen",
-    header.BAD_CONFIG: "BadConfig",
-    header.BAD_SHAPE: "BadShape",
-    header.BAD_MOMENT: "BadMoment",
-    header.BAD_FIRST: "BadFirst",
-    header.BAD_KIND: "BadKind",
-    header.BAD_IMAGE: "BadImage",
-}
+# embed/bindings: end
 
 
 class Error(Exception):
@@ -206,10 +211,11 @@ def _done(answer: header.relkvanu_answer) -> header.relkvanu_answer:
         raise OutOfMemory
     if answer.code == header.CLOSED:
         raise Closed
-    if answer.code == header.BAD_LINE and answer.what in FAULTS:
-        raise BadLine(FAULTS[answer.what])
-    if answer.code == header.BAD_ARGUMENT and answer.what in ARGUMENTS:
-        raise BadArgument(ARGUMENTS[answer.what])
+    name = NAMES.get(answer.code, {}).get(answer.what)
+    if answer.code == header.BAD_LINE and name is not None:
+        raise BadLine(name)
+    if answer.code == header.BAD_ARGUMENT and name is not None:
+        raise BadArgument(name)
     raise Unknown(answer.code, answer.what)
 
 

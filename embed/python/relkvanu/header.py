@@ -109,6 +109,7 @@ CALL_DELETED = 9
 CALL_UNDELETED = 10
 CALL_SHOW = 11
 CALL_COUNT = 12
+ANSWER_TEXT = 128
 
 
 class relkvanu(Structure):
@@ -183,6 +184,7 @@ FUNCTIONS: Dict[str, Tuple[Any, List[Any]]] = {
     "relkvanu_missing": (relkvanu_answer, [POINTER(relkvanu), c_uint64]),
     "relkvanu_file_counts": (relkvanu_counts, [POINTER(relkvanu)]),
     "relkvanu_refusal_text": (c_size_t, [c_uint32, POINTER(c_uint8), c_size_t]),
+    "relkvanu_answer_text": (c_size_t, [POINTER(relkvanu_answer), POINTER(c_uint8), c_size_t]),
     "relkvanu_line": (relkvanu_answer, [POINTER(relkvanu), POINTER(c_uint8), c_size_t, POINTER(c_uint64), c_size_t]),
     "relkvanu_line_says": (relkvanu_answer, [POINTER(c_uint8), c_size_t, POINTER(c_uint64), c_size_t]),
     "relkvanu_line_call": (relkvanu_answer, [POINTER(c_uint8), c_size_t, POINTER(relkvanu_call), POINTER(c_uint64), c_size_t, POINTER(c_uint64), c_size_t]),

@@ -5,12 +5,14 @@ from dataclasses import dataclass
 from relkvanu import header
 
 
+# embed/bindings makes the modes
 class Mode(enum.Enum):
     """What the job is doing."""
 
-    RUNNING = header.MODE_RUNNING
-    FAILED = header.MODE_FAILED  # too many checkpoints failed in a row: a restore starts the job again
+    RUNNING = header.MODE_RUNNING  # the job takes checkpoints
+    FAILED = header.MODE_FAILED  # too many checkpoints failed in a row: restore the job
     CANCELLED = header.MODE_CANCELLED  # the job has ended for good
+# embed/bindings: end
 
 
 class Kind(enum.Enum):
@@ -35,14 +37,16 @@ class Live:
     done: bool
 
 
+# embed/bindings makes the standings
 class Standing(enum.Enum):
     """What a number is."""
 
-    PENDING = header.STANDS_PENDING  # a live record has it, and lacks an acknowledgement
-    DONE = header.STANDS_DONE  # a live record has it, and is complete
-    ENDED = header.STANDS_ENDED  # a record had it, and is live no more
-    NOT_YET = header.STANDS_NOT_YET  # no record has had it so far
-    NEVER = header.STANDS_NEVER  # it is below the first number of the opening
+    PENDING = header.STANDS_PENDING  # a live record has the number, and lacks an acknowledgement
+    DONE = header.STANDS_DONE  # a live record has the number, and is complete
+    ENDED = header.STANDS_ENDED  # a record had the number, and is no longer live
+    NOT_YET = header.STANDS_NOT_YET  # no record has had the number so far
+    NEVER = header.STANDS_NEVER  # the number is below the first one of the opening
+# embed/bindings: end
 
 
 @dataclass(frozen=True)

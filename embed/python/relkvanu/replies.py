@@ -11,134 +11,10 @@ class Reply:
 
 
 @dataclass(frozen=True)
-class Triggered(Reply):
-    """A checkpoint was triggered, after `expired` records expired."""
-
-    expired: int
-    id: int
-
-
-@dataclass(frozen=True)
-class HeldInterval(Reply):
-    """No checkpoint is due yet."""
-
-    expired: int
-
-
-@dataclass(frozen=True)
-class HeldAtOnce(Reply):
-    """As many checkpoints are pending as may be at once."""
-
-    expired: int
-
-
-@dataclass(frozen=True)
-class HeldPause(Reply):
-    """The pause after the last completion has not passed."""
-
-    expired: int
-
-
-@dataclass(frozen=True)
-class Failed(Reply):
-    """Too many checkpoints failed in a row: the job fails over."""
-
-    expired: int
-
-
-@dataclass(frozen=True)
-class SavepointTriggered(Reply):
-    id: int
-
-
-@dataclass(frozen=True)
-class AckPending(Reply):
-    """This many subtasks are missing."""
-
-    missing: int
-
-
-@dataclass(frozen=True)
-class AckCompleted(Reply):
-    """The record is complete. This many records were dropped, and this many files released."""
-
-    dropped: int
-    released: int
-
-
-@dataclass(frozen=True)
-class AckLate(Reply):
-    """The record was done or had ended. This many of the fresh files were handed out for deletion."""
-
-    handed_out: int
-
-
-@dataclass(frozen=True)
-class DeclineAborted(Reply):
-    released: int
-
-
-@dataclass(frozen=True)
-class DeclineFailed(Reply):
-    """The record is dropped, and the job fails over."""
-
-    released: int
-
-
-@dataclass(frozen=True)
-class DeclineLate(Reply):
-    """The record was done or had ended."""
-
-
-@dataclass(frozen=True)
-class Disposed(Reply):
-    released: int
-
-
-@dataclass(frozen=True)
-class RestoredCheckpoint(Reply):
-    """The job begins again from this checkpoint."""
-
-    id: int
-    released: int
-
-
-@dataclass(frozen=True)
-class RestoredSavepoint(Reply):
-    """The job begins again from this savepoint."""
-
-    id: int
-    released: int
-
-
-@dataclass(frozen=True)
-class RestoredFresh(Reply):
-    """The job begins again from nothing."""
-
-    released: int
-
-
-@dataclass(frozen=True)
-class Cancelled(Reply):
-    dropped: int
-    released: int
-
-
-@dataclass(frozen=True)
 class Taken(Reply):
     """The files that were fetched, in their order."""
 
     files: Tuple[int, ...]
-
-
-@dataclass(frozen=True)
-class Deleted(Reply):
-    file: int
-
-
-@dataclass(frozen=True)
-class Undeleted(Reply):
-    file: int
 
 
 @dataclass(frozen=True)
@@ -159,9 +35,203 @@ class Shown(Reply):
         return {(int(vertex), int(index)): tuple(files) for (vertex, index), files in acks}
 
 
+# embed/bindings makes the replies
+@dataclass(frozen=True)
+class Triggered(Reply):
+    """A checkpoint was triggered.
+
+    expired: expired records; id: number.
+    """
+
+    expired: int
+    id: int
+
+
+@dataclass(frozen=True)
+class HeldInterval(Reply):
+    """No checkpoint is due yet.
+
+    expired: expired records.
+    """
+
+    expired: int
+
+
+@dataclass(frozen=True)
+class HeldAtOnce(Reply):
+    """As many checkpoints are pending as may be.
+
+    expired: expired records.
+    """
+
+    expired: int
+
+
+@dataclass(frozen=True)
+class HeldPause(Reply):
+    """The pause after the last completion has not passed.
+
+    expired: expired records.
+    """
+
+    expired: int
+
+
+@dataclass(frozen=True)
+class Failed(Reply):
+    """Too many checkpoints failed in a row: restore the job.
+
+    expired: expired records.
+    """
+
+    expired: int
+
+
+@dataclass(frozen=True)
+class SavepointTriggered(Reply):
+    """A savepoint was triggered.
+
+    id: number.
+    """
+
+    id: int
+
+
+@dataclass(frozen=True)
+class AckPending(Reply):
+    """The record is not complete yet.
+
+    missing: subtasks missing.
+    """
+
+    missing: int
+
+
+@dataclass(frozen=True)
+class AckCompleted(Reply):
+    """The record is complete.
+
+    dropped: records dropped; released: files released.
+    """
+
+    dropped: int
+    released: int
+
+
+@dataclass(frozen=True)
+class AckLate(Reply):
+    """The record was done or had ended.
+
+    handed_out: fresh files that this call handed out for deletion.
+    """
+
+    handed_out: int
+
+
+@dataclass(frozen=True)
+class DeclineAborted(Reply):
+    """The record is dropped.
+
+    released: files released.
+    """
+
+    released: int
+
+
+@dataclass(frozen=True)
+class DeclineFailed(Reply):
+    """The record is dropped, and the job has failed: restore it.
+
+    released: files released.
+    """
+
+    released: int
+
+
+@dataclass(frozen=True)
+class DeclineLate(Reply):
+    """The record was done or had ended."""
+
+
+@dataclass(frozen=True)
+class Disposed(Reply):
+    """The savepoint is gone.
+
+    released: files released.
+    """
+
+    released: int
+
+
+@dataclass(frozen=True)
+class RestoredCheckpoint(Reply):
+    """The job begins again from a checkpoint.
+
+    id: number; released: files released.
+    """
+
+    id: int
+    released: int
+
+
+@dataclass(frozen=True)
+class RestoredSavepoint(Reply):
+    """The job begins again from a savepoint.
+
+    id: number; released: files released.
+    """
+
+    id: int
+    released: int
+
+
+@dataclass(frozen=True)
+class RestoredFresh(Reply):
+    """The job begins again from nothing.
+
+    released: files released.
+    """
+
+    released: int
+
+
+@dataclass(frozen=True)
+class Cancelled(Reply):
+    """The job has ended for good.
+
+    dropped: records dropped; released: files released.
+    """
+
+    dropped: int
+    released: int
+
+
+@dataclass(frozen=True)
+class Deleted(Reply):
+    """The file is forgotten.
+
+    file: file.
+    """
+
+    file: int
+
+
+@dataclass(frozen=True)
+class Undeleted(Reply):
+    """The file waits again.
+
+    file: file.
+    """
+
+    file: int
+
+
 @dataclass(frozen=True)
 class Counted(Reply):
-    """The number of uses of a file."""
+    """The uses by live records.
+
+    file: file; uses: uses.
+    """
 
     file: int
     uses: int
@@ -190,3 +260,4 @@ MADE: Dict[int, Callable[[int, int], Reply]] = {
     header.UNDELETED: lambda a, b: Undeleted(a),
     header.COUNTED: Counted,
 }
+# embed/bindings: end

@@ -46,6 +46,7 @@ final class Answers {
     /** The reply of a call that writes to no buffer. */
     static Reply reply(int what, long a, long b) {
         return switch (what) {
+            // embed/bindings makes what tells the replies
             case Header.TICK_TRIGGERED -> new Reply.Triggered(a, b);
             case Header.TICK_HELD_INTERVAL -> new Reply.HeldInterval(a);
             case Header.TICK_HELD_AT_ONCE -> new Reply.HeldAtOnce(a);
@@ -66,6 +67,7 @@ final class Answers {
             case Header.DELETED -> new Reply.Deleted(a);
             case Header.UNDELETED -> new Reply.Undeleted(a);
             case Header.COUNTED -> new Reply.Counted(a, b);
+            // embed/bindings: end
             default -> throw new CoordinatorException.Unknown("reply", what);
         };
     }

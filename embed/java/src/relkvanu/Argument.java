@@ -1,16 +1,16 @@
 package relkvanu;
 
-/** An argument that was outside its limits. */
+/** The argument that is outside its limits. Made of include/relkvanu.h by embed/bindings. */
 public enum Argument {
     /** The handle has a coordinator already. */
     ALREADY_OPEN(Header.ALREADY_OPEN),
-    /** A value of the settings. */
+    /** A value of the settings is outside its limits. */
     BAD_CONFIG(Header.BAD_CONFIG),
-    /** The shape: 1 to 256 vertices, at least 1 subtask each, at most 4096 in sum. */
+    /** 1 to 256 vertices, at least 1 subtask each, at most 4096 in sum. */
     BAD_SHAPE(Header.BAD_SHAPE),
-    /** The moment of an opening: at most 2<sup>62</sup> - 1. */
+    /** The moment of an opening is above 2<sup>62</sup> - 1. */
     BAD_MOMENT(Header.BAD_MOMENT),
-    /** The number of the first record: 1 to 2<sup>62</sup> - 1. */
+    /** The number of the first record is not within 1 to 2<sup>62</sup> - 1. */
     BAD_FIRST(Header.BAD_FIRST),
     /** The kind of a call that is to be written. */
     BAD_KIND(Header.BAD_KIND),
@@ -34,7 +34,7 @@ public enum Argument {
     }
 
     /**
-     * {@return the name in scripts, such as "BadShape"}
+     * {@return the name in scripts, such as "AlreadyOpen"}
      */
     public String text() {
         return Names.inScripts(this);

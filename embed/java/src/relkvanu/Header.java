@@ -23,49 +23,51 @@ final class Header {
     /** nothing has changed: what is a fault of a line */
     static final int BAD_LINE = 6;
     static final int OPENED = 0;
-    /** a: expired records, b: number */
+    /** a: expired records, b: number. A checkpoint was triggered */
     static final int TICK_TRIGGERED = 1;
-    /** a: expired records */
+    /** a: expired records. No checkpoint is due yet */
     static final int TICK_HELD_INTERVAL = 2;
-    /** a: expired records */
+    /** a: expired records. As many checkpoints are pending as may be */
     static final int TICK_HELD_AT_ONCE = 3;
-    /** a: expired records */
+    /** a: expired records. The pause after the last completion has not passed */
     static final int TICK_HELD_PAUSE = 4;
-    /** a: expired records */
+    /** a: expired records. Too many checkpoints failed in a row: restore the job */
     static final int TICK_FAILED = 5;
-    /** a: number */
+    /** a: number. A savepoint was triggered */
     static final int SAVEPOINT_TRIGGERED = 6;
-    /** a: subtasks missing */
+    /** a: subtasks missing. The record is not complete yet */
     static final int ACK_PENDING = 7;
-    /** a: records dropped, b: files released */
+    /** a: records dropped, b: files released. The record is complete */
     static final int ACK_COMPLETED = 8;
-    /** a: fresh files that this call handed out for deletion */
+    /** a: fresh files that this call handed out for deletion. The record was done or had ended */
     static final int ACK_LATE = 9;
-    /** a: files released */
+    /** a: files released. The record is dropped */
     static final int DECLINE_ABORTED = 10;
-    /** a: files released */
+    /** a: files released. The record is dropped, and the job has failed: restore it */
     static final int DECLINE_FAILED = 11;
+    /** the record was done or had ended */
     static final int DECLINE_LATE = 12;
-    /** a: files released */
+    /** a: files released. The savepoint is gone */
     static final int DISPOSED = 13;
-    /** a: files released, b: number */
+    /** a: files released, b: number. The job begins again from a checkpoint */
     static final int RESTORED_CHECKPOINT = 14;
-    /** a: files released, b: number */
+    /** a: files released, b: number. The job begins again from a savepoint */
     static final int RESTORED_SAVEPOINT = 15;
-    /** a: files released */
+    /** a: files released. The job begins again from nothing */
     static final int RESTORED_FRESH = 16;
-    /** a: records dropped, b: files released */
+    /** a: records dropped, b: files released. The job has ended for good */
     static final int CANCELLED = 17;
     /** a: files at the start of the buffer */
     static final int TAKEN = 18;
-    /** a: file */
+    /** a: file. The file is forgotten */
     static final int DELETED = 19;
-    /** a: file */
+    /** a: file. The file waits again */
     static final int UNDELETED = 20;
     /** a: bytes at the start of the buffer */
     static final int SHOWN = 21;
-    /** a: file, b: uses */
+    /** a: file, b: uses. The uses by live records */
     static final int COUNTED = 22;
+    /** the job takes checkpoints */
     static final int MODE_RUNNING = 23;
     /** too many checkpoints failed in a row: restore the job */
     static final int MODE_FAILED = 24;
@@ -128,28 +130,47 @@ final class Header {
     static final int WAITING = 53;
     /** there are fewer waiting files */
     static final int NONE_WAITS = 54;
+    /** the moment is above its limit */
     static final int MOMENT_TOO_LARGE = 1;
+    /** the job has failed or was cancelled */
     static final int NOT_RUNNING = 2;
+    /** an acknowledgement has more than 4096 files */
     static final int TOO_MANY_FILES = 3;
+    /** an acknowledgement names a file twice */
     static final int REPEATED_FILE = 4;
+    /** no record has had the number */
     static final int UNKNOWN_CHECKPOINT = 5;
+    /** the job has no such subtask */
     static final int UNKNOWN_SUBTASK = 6;
+    /** the subtask has acknowledged in this record. Its files may belong to the coordinator: do not delete them */
     static final int ALREADY_ACKNOWLEDGED = 7;
-    /** a: file */
+    /** a: file. The coordinator knows a file with the number of a fresh one. It may be in use: do not delete it */
     static final int NAME_TAKEN = 8;
-    /** a: file */
+    /** a: file. A reused file is no longer in use: the task writes its state again, under a new number */
     static final int FILE_GONE = 9;
+    /** no completed savepoint has the number */
     static final int NO_SUCH_SAVEPOINT = 10;
+    /** the job would begin again from this savepoint */
     static final int IN_USE = 11;
+    /** 1000 savepoints are pending or done */
     static final int TOO_MANY_SAVEPOINTS = 12;
+    /** the file was not fetched for deletion, or was reported before */
     static final int NOT_TAKEN = 13;
+    /** no live record has the number */
     static final int NO_SUCH_RECORD = 14;
+    /** no number is left for another record */
     static final int IDS_USED_UP = 15;
+    /** the handle has a coordinator already */
     static final int ALREADY_OPEN = 1;
+    /** a value of the settings is outside its limits */
     static final int BAD_CONFIG = 2;
+    /** 1 to 256 vertices, at least 1 subtask each, at most 4096 in sum */
     static final int BAD_SHAPE = 3;
+    /** the moment of an opening is above 2^62 - 1 */
     static final int BAD_MOMENT = 4;
+    /** the number of the first record is not within 1 to 2^62 - 1 */
     static final int BAD_FIRST = 5;
+    /** the kind of a call that is to be written */
     static final int BAD_KIND = 6;
     /** the bytes are not an image, or the state is not sound, or no coordinator could be opened so */
     static final int BAD_IMAGE = 7;
@@ -177,4 +198,6 @@ final class Header {
     static final int CALL_UNDELETED = 10;
     static final int CALL_SHOW = 11;
     static final int CALL_COUNT = 12;
+    /** no text of an answer has more bytes */
+    static final int ANSWER_TEXT = 128;
 }

@@ -1,6 +1,6 @@
 package relkvanu;
 
-/** Why a line of a script can't be read, or can't be written. */
+/** What is wrong with a line: the first fault from the left. Made of include/relkvanu.h by embed/bindings. */
 public enum LineFault {
     /** A line has at most 131072 bytes. */
     TOO_LONG(Header.FAULT_TOO_LONG),

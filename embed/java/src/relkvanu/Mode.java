@@ -1,12 +1,12 @@
 package relkvanu;
 
-/** What a job is doing. */
+/** What a job is doing. Made of include/relkvanu.h by embed/bindings. */
 public enum Mode {
-    /** It runs. */
+    /** The job takes checkpoints. */
     RUNNING,
-    /** Too many checkpoints failed in a row: a restore starts the job again. */
+    /** Too many checkpoints failed in a row: restore the job. */
     FAILED,
-    /** It has ended for good. */
+    /** The job has ended for good. */
     CANCELLED;
 
     static Mode of(int what) {

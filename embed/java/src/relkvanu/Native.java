@@ -58,6 +58,8 @@ final class Native {
 
     static native long refusalText(int what, byte[] text);
 
+    static native long answerText(long[] answer, byte[] text);
+
     static native void line(long handle, byte[] line, long[] files, long[] out);
 
     static native void lineSays(byte[] line, long[] numbers, long[] out);

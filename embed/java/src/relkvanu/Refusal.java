@@ -1,8 +1,8 @@
 package relkvanu;
 
-/** Why a call was refused, in the order in which the coordinator looks for a reason. */
+/** Why a call was refused: the first of these that applies. Made of include/relkvanu.h by embed/bindings. */
 public enum Refusal {
-    /** The moment is above 2<sup>62</sup> - 1, or further ahead than {@link Coordinator#mostAhead} allows. */
+    /** The moment is above its limit. */
     MOMENT_TOO_LARGE(Header.MOMENT_TOO_LARGE),
     /** The job has failed or was cancelled. */
     NOT_RUNNING(Header.NOT_RUNNING),
@@ -14,11 +14,11 @@ public enum Refusal {
     UNKNOWN_CHECKPOINT(Header.UNKNOWN_CHECKPOINT),
     /** The job has no such subtask. */
     UNKNOWN_SUBTASK(Header.UNKNOWN_SUBTASK),
-    /** The subtask has acknowledged in this record before. Its files may belong to the coordinator. */
+    /** The subtask has acknowledged in this record. Its files may belong to the coordinator: do not delete them. */
     ALREADY_ACKNOWLEDGED(Header.ALREADY_ACKNOWLEDGED),
-    /** A fresh file has the number of a file that the coordinator knows. */
+    /** The coordinator knows a file with the number of a fresh one. It may be in use: do not delete it. */
     NAME_TAKEN(Header.NAME_TAKEN),
-    /** A reused file is no longer in use. */
+    /** A reused file is no longer in use: the task writes its state again, under a new number. */
     FILE_GONE(Header.FILE_GONE),
     /** No completed savepoint has the number. */
     NO_SUCH_SAVEPOINT(Header.NO_SUCH_SAVEPOINT),
@@ -50,7 +50,7 @@ public enum Refusal {
     }
 
     /**
-     * {@return the name in scripts, such as "NotRunning"}
+     * {@return the name in scripts, such as "MomentTooLarge"}
      */
     public String text() {
         return Names.inScripts(this);

@@ -31,126 +31,6 @@ public sealed interface Reply {
     }
 
     /**
-     * A checkpoint was triggered.
-     *
-     * @param expired how many records expired before
-     * @param id its number
-     */
-    record Triggered(long expired, long id) implements Tick {}
-
-    /**
-     * No checkpoint is due yet.
-     *
-     * @param expired how many records expired
-     */
-    record HeldInterval(long expired) implements Tick {}
-
-    /**
-     * As many checkpoints are pending as may be at once.
-     *
-     * @param expired how many records expired
-     */
-    record HeldAtOnce(long expired) implements Tick {}
-
-    /**
-     * The pause after the last completion has not passed.
-     *
-     * @param expired how many records expired
-     */
-    record HeldPause(long expired) implements Tick {}
-
-    /**
-     * Too many checkpoints failed in a row: the job fails over.
-     *
-     * @param expired how many records expired
-     */
-    record Failed(long expired) implements Tick {}
-
-    /**
-     * A savepoint was triggered.
-     *
-     * @param id its number
-     */
-    record SavepointTriggered(long id) implements Reply {}
-
-    /**
-     * The record is not complete yet.
-     *
-     * @param missing how many subtasks are missing
-     */
-    record AckPending(long missing) implements Ack {}
-
-    /**
-     * The record is complete.
-     *
-     * @param dropped how many records were dropped
-     * @param released how many files were released
-     */
-    record AckCompleted(long dropped, long released) implements Ack {}
-
-    /**
-     * The record was done or had ended.
-     *
-     * @param handedOut how many of the fresh files wait for deletion now
-     */
-    record AckLate(long handedOut) implements Ack {}
-
-    /**
-     * The record is dropped.
-     *
-     * @param released how many files were released
-     */
-    record DeclineAborted(long released) implements Decline {}
-
-    /**
-     * The record is dropped, and the job fails over.
-     *
-     * @param released how many files were released
-     */
-    record DeclineFailed(long released) implements Decline {}
-
-    /** The record was done or had ended. */
-    record DeclineLate() implements Decline {}
-
-    /**
-     * The savepoint is gone.
-     *
-     * @param released how many files were released
-     */
-    record Disposed(long released) implements Reply {}
-
-    /**
-     * The job begins again from a checkpoint.
-     *
-     * @param id its number
-     * @param released how many files were released
-     */
-    record RestoredCheckpoint(long id, long released) implements Restore {}
-
-    /**
-     * The job begins again from a savepoint.
-     *
-     * @param id its number
-     * @param released how many files were released
-     */
-    record RestoredSavepoint(long id, long released) implements Restore {}
-
-    /**
-     * The job begins again from nothing.
-     *
-     * @param released how many files were released
-     */
-    record RestoredFresh(long released) implements Restore {}
-
-    /**
-     * The job has ended for good.
-     *
-     * @param dropped how many records were dropped
-     * @param released how many files were released
-     */
-    record Cancelled(long dropped, long released) implements Reply {}
-
-    /**
      * Files were fetched for deletion. Two replies with the same files in the same order are equal.
      *
      * @param files the files, the longest waiting first
@@ -190,30 +70,6 @@ public sealed interface Reply {
     }
 
     /**
-     * A file was reported as deleted.
-     *
-     * @param file its number, unsigned
-     */
-    record Deleted(long file) implements Reply {
-        @Override
-        public String toString() {
-            return "Deleted[file=" + FileNumbers.toString(file) + "]";
-        }
-    }
-
-    /**
-     * A file was reported as not deleted.
-     *
-     * @param file its number, unsigned
-     */
-    record Undeleted(long file) implements Reply {
-        @Override
-        public String toString() {
-            return "Undeleted[file=" + FileNumbers.toString(file) + "]";
-        }
-    }
-
-    /**
      * The metadata of a record.
      *
      * @param json the metadata, as docs/SCRIPT.md describes it
@@ -235,11 +91,156 @@ public sealed interface Reply {
         }
     }
 
+    // embed/bindings makes the replies
     /**
-     * How often a file is used.
+     * A checkpoint was triggered.
      *
-     * @param file its number, unsigned
-     * @param uses how many acknowledgements and pins of live records use it
+     * @param expired expired records
+     * @param id number
+     */
+    record Triggered(long expired, long id) implements Tick {}
+
+    /**
+     * No checkpoint is due yet.
+     *
+     * @param expired expired records
+     */
+    record HeldInterval(long expired) implements Tick {}
+
+    /**
+     * As many checkpoints are pending as may be.
+     *
+     * @param expired expired records
+     */
+    record HeldAtOnce(long expired) implements Tick {}
+
+    /**
+     * The pause after the last completion has not passed.
+     *
+     * @param expired expired records
+     */
+    record HeldPause(long expired) implements Tick {}
+
+    /**
+     * Too many checkpoints failed in a row: restore the job.
+     *
+     * @param expired expired records
+     */
+    record Failed(long expired) implements Tick {}
+
+    /**
+     * A savepoint was triggered.
+     *
+     * @param id number
+     */
+    record SavepointTriggered(long id) implements Reply {}
+
+    /**
+     * The record is not complete yet.
+     *
+     * @param missing subtasks missing
+     */
+    record AckPending(long missing) implements Ack {}
+
+    /**
+     * The record is complete.
+     *
+     * @param dropped records dropped
+     * @param released files released
+     */
+    record AckCompleted(long dropped, long released) implements Ack {}
+
+    /**
+     * The record was done or had ended.
+     *
+     * @param handedOut fresh files that this call handed out for deletion
+     */
+    record AckLate(long handedOut) implements Ack {}
+
+    /**
+     * The record is dropped.
+     *
+     * @param released files released
+     */
+    record DeclineAborted(long released) implements Decline {}
+
+    /**
+     * The record is dropped, and the job has failed: restore it.
+     *
+     * @param released files released
+     */
+    record DeclineFailed(long released) implements Decline {}
+
+    /** The record was done or had ended. */
+    record DeclineLate() implements Decline {}
+
+    /**
+     * The savepoint is gone.
+     *
+     * @param released files released
+     */
+    record Disposed(long released) implements Reply {}
+
+    /**
+     * The job begins again from a checkpoint.
+     *
+     * @param id number
+     * @param released files released
+     */
+    record RestoredCheckpoint(long id, long released) implements Restore {}
+
+    /**
+     * The job begins again from a savepoint.
+     *
+     * @param id number
+     * @param released files released
+     */
+    record RestoredSavepoint(long id, long released) implements Restore {}
+
+    /**
+     * The job begins again from nothing.
+     *
+     * @param released files released
+     */
+    record RestoredFresh(long released) implements Restore {}
+
+    /**
+     * The job has ended for good.
+     *
+     * @param dropped records dropped
+     * @param released files released
+     */
+    record Cancelled(long dropped, long released) implements Reply {}
+
+    /**
+     * The file is forgotten.
+     *
+     * @param file file
+     */
+    record Deleted(long file) implements Reply {
+        @Override
+        public String toString() {
+            return "Deleted[file=" + FileNumbers.toString(file) + "]";
+        }
+    }
+
+    /**
+     * The file waits again.
+     *
+     * @param file file
+     */
+    record Undeleted(long file) implements Reply {
+        @Override
+        public String toString() {
+            return "Undeleted[file=" + FileNumbers.toString(file) + "]";
+        }
+    }
+
+    /**
+     * The uses by live records.
+     *
+     * @param file file
+     * @param uses uses
      */
     record Counted(long file, long uses) implements Reply {
         @Override
@@ -247,4 +248,5 @@ public sealed interface Reply {
             return "Counted[file=" + FileNumbers.toString(file) + ", uses=" + uses + "]";
         }
     }
+    // embed/bindings: end
 }

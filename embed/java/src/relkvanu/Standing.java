@@ -1,16 +1,16 @@
 package relkvanu;
 
-/** What the number of a record is. */
+/** What the number of a record is. Made of include/relkvanu.h by embed/bindings. */
 public enum Standing {
-    /** A live record has it, and lacks an acknowledgement. */
+    /** A live record has the number, and lacks an acknowledgement. */
     PENDING,
-    /** A live record has it, and is complete. */
+    /** A live record has the number, and is complete. */
     DONE,
-    /** A record had it, and is no longer live. */
+    /** A record had the number, and is no longer live. */
     ENDED,
-    /** No record has had it so far. */
+    /** No record has had the number so far. */
     NOT_YET,
-    /** It is below the first number of the opening. */
+    /** The number is below the first one of the opening. */
     NEVER;
 
     static Standing of(int what) {

@@ -20,49 +20,51 @@ pub const RELKVANU_TOO_SHORT: u32 = 5;
 /// nothing has changed: what is a fault of a line
 pub const RELKVANU_BAD_LINE: u32 = 6;
 pub const RELKVANU_OPENED: u32 = 0;
-/// a: expired records, b: number
+/// a: expired records, b: number. A checkpoint was triggered
 pub const RELKVANU_TICK_TRIGGERED: u32 = 1;
-/// a: expired records
+/// a: expired records. No checkpoint is due yet
 pub const RELKVANU_TICK_HELD_INTERVAL: u32 = 2;
-/// a: expired records
+/// a: expired records. As many checkpoints are pending as may be
 pub const RELKVANU_TICK_HELD_AT_ONCE: u32 = 3;
-/// a: expired records
+/// a: expired records. The pause after the last completion has not passed
 pub const RELKVANU_TICK_HELD_PAUSE: u32 = 4;
-/// a: expired records
+/// a: expired records. Too many checkpoints failed in a row: restore the job
 pub const RELKVANU_TICK_FAILED: u32 = 5;
-/// a: number
+/// a: number. A savepoint was triggered
 pub const RELKVANU_SAVEPOINT_TRIGGERED: u32 = 6;
-/// a: subtasks missing
+/// a: subtasks missing. The record is not complete yet
 pub const RELKVANU_ACK_PENDING: u32 = 7;
-/// a: records dropped, b: files released
+/// a: records dropped, b: files released. The record is complete
 pub const RELKVANU_ACK_COMPLETED: u32 = 8;
-/// a: fresh files that this call handed out for deletion
+/// a: fresh files that this call handed out for deletion. The record was done or had ended
 pub const RELKVANU_ACK_LATE: u32 = 9;
-/// a: files released
+/// a: files released. The record is dropped
 pub const RELKVANU_DECLINE_ABORTED: u32 = 10;
-/// a: files released
+/// a: files released. The record is dropped, and the job has failed: restore it
 pub const RELKVANU_DECLINE_FAILED: u32 = 11;
+/// the record was done or had ended
 pub const RELKVANU_DECLINE_LATE: u32 = 12;
-/// a: files released
+/// a: files released. The savepoint is gone
 pub const RELKVANU_DISPOSED: u32 = 13;
-/// a: files released, b: number
+/// a: files released, b: number. The job begins again from a checkpoint
 pub const RELKVANU_RESTORED_CHECKPOINT: u32 = 14;
-/// a: files released, b: number
+/// a: files released, b: number. The job begins again from a savepoint
 pub const RELKVANU_RESTORED_SAVEPOINT: u32 = 15;
-/// a: files released
+/// a: files released. The job begins again from nothing
 pub const RELKVANU_RESTORED_FRESH: u32 = 16;
-/// a: records dropped, b: files released
+/// a: records dropped, b: files released. The job has ended for good
 pub const RELKVANU_CANCELLED: u32 = 17;
 /// a: files at the start of the buffer
 pub const RELKVANU_TAKEN: u32 = 18;
-/// a: file
+/// a: file. The file is forgotten
 pub const RELKVANU_DELETED: u32 = 19;
-/// a: file
+/// a: file. The file waits again
 pub const RELKVANU_UNDELETED: u32 = 20;
 /// a: bytes at the start of the buffer
 pub const RELKVANU_SHOWN: u32 = 21;
-/// a: file, b: uses
+/// a: file, b: uses. The uses by live records
 pub const RELKVANU_COUNTED: u32 = 22;
+/// the job takes checkpoints
 pub const RELKVANU_MODE_RUNNING: u32 = 23;
 /// too many checkpoints failed in a row: restore the job
 pub const RELKVANU_MODE_FAILED: u32 = 24;
@@ -125,28 +127,47 @@ pub const RELKVANU_NOT_ACKNOWLEDGED: u32 = 52;
 pub const RELKVANU_WAITING: u32 = 53;
 /// there are fewer waiting files
 pub const RELKVANU_NONE_WAITS: u32 = 54;
+/// the moment is above its limit
 pub const RELKVANU_MOMENT_TOO_LARGE: u32 = 1;
+/// the job has failed or was cancelled
 pub const RELKVANU_NOT_RUNNING: u32 = 2;
+/// an acknowledgement has more than 4096 files
 pub const RELKVANU_TOO_MANY_FILES: u32 = 3;
+/// an acknowledgement names a file twice
 pub const RELKVANU_REPEATED_FILE: u32 = 4;
+/// no record has had the number
 pub const RELKVANU_UNKNOWN_CHECKPOINT: u32 = 5;
+/// the job has no such subtask
 pub const RELKVANU_UNKNOWN_SUBTASK: u32 = 6;
+/// the subtask has acknowledged in this record. Its files may belong to the coordinator: do not delete them
 pub const RELKVANU_ALREADY_ACKNOWLEDGED: u32 = 7;
-/// a: file
+/// a: file. The coordinator knows a file with the number of a fresh one. It may be in use: do not delete it
 pub const RELKVANU_NAME_TAKEN: u32 = 8;
-/// a: file
+/// a: file. A reused file is no longer in use: the task writes its state again, under a new number
 pub const RELKVANU_FILE_GONE: u32 = 9;
+/// no completed savepoint has the number
 pub const RELKVANU_NO_SUCH_SAVEPOINT: u32 = 10;
+/// the job would begin again from this savepoint
 pub const RELKVANU_IN_USE: u32 = 11;
+/// 1000 savepoints are pending or done
 pub const RELKVANU_TOO_MANY_SAVEPOINTS: u32 = 12;
+/// the file was not fetched for deletion, or was reported before
 pub const RELKVANU_NOT_TAKEN: u32 = 13;
+/// no live record has the number
 pub const RELKVANU_NO_SUCH_RECORD: u32 = 14;
+/// no number is left for another record
 pub const RELKVANU_IDS_USED_UP: u32 = 15;
+/// the handle has a coordinator already
 pub const RELKVANU_ALREADY_OPEN: u32 = 1;
+/// a value of the settings is outside its limits
 pub const RELKVANU_BAD_CONFIG: u32 = 2;
+/// 1 to 256 vertices, at least 1 subtask each, at most 4096 in sum
 pub const RELKVANU_BAD_SHAPE: u32 = 3;
+/// the moment of an opening is above 2^62 - 1
 pub const RELKVANU_BAD_MOMENT: u32 = 4;
+/// the number of the first record is not within 1 to 2^62 - 1
 pub const RELKVANU_BAD_FIRST: u32 = 5;
+/// the kind of a call that is to be written
 pub const RELKVANU_BAD_KIND: u32 = 6;
 /// the bytes are not an image, or the state is not sound, or no coordinator could be opened so
 pub const RELKVANU_BAD_IMAGE: u32 = 7;
@@ -174,6 +195,8 @@ pub const RELKVANU_CALL_DELETED: u32 = 9;
 pub const RELKVANU_CALL_UNDELETED: u32 = 10;
 pub const RELKVANU_CALL_SHOW: u32 = 11;
 pub const RELKVANU_CALL_COUNT: u32 = 12;
+/// no text of an answer has more bytes
+pub const RELKVANU_ANSWER_TEXT: u32 = 128;
 
 #[repr(C)]
 #[derive(Clone, Copy, Debug)]
@@ -333,6 +356,13 @@ extern "C" {
 
     /// Returns the length of the name of the refusal with this number, such as "NotRunning", or 0 if no refusal has the number. Writes the name, without a zero at its end, if text_len is at least the length.
     pub fn relkvanu_refusal_text(what: u32, text: *mut u8, text_len: usize) -> usize;
+
+    /// Returns the length of the text of an answer, such as "tick expired 0 triggered 1", "refused NameTaken 7", "no memory" or, for an answer that this version does not have, "unknown code 9, what 3, a 0, b 0". No text is longer than RELKVANU_ANSWER_TEXT. Writes the text, without a zero at its end, if text_len is at least the length. The reply to a call has the text that a script prints (docs/SCRIPT.md); that to a take or show has the count alone, as "taken 3". Takes no memory.
+    pub fn relkvanu_answer_text(
+        answer: *const relkvanu_answer,
+        text: *mut u8,
+        text_len: usize,
+    ) -> usize;
 
     /// Makes the call of a line, and returns what the function of that call returns. A take line writes the files that it fetches to the start of files. If it would fetch more than files_len, the answer is RELKVANU_TOO_SHORT, a is how many places it needs, and nothing has changed. A show line returns what relkvanu_show returns with an empty buffer. A restore line with a bad shape returns RELKVANU_BAD_ARGUMENT with RELKVANU_BAD_SHAPE. A line that has no words or is a comment returns RELKVANU_SKIPPED. A line that can't be read, or makes no call, returns RELKVANU_BAD_LINE. Only RELKVANU_TAKEN changes the buffer. The call takes memory as its own function does, and for the lists of an ack, job or restore line. So such a line may return RELKVANU_NO_MEMORY instead of a refusal.
     pub fn relkvanu_line(

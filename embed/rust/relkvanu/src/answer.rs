@@ -26,18 +26,42 @@ impl fmt::Display for Choice {
     }
 }
 
+// embed/bindings makes the modes
 /// What the job is doing.
 #[derive(Clone, Copy, Debug, PartialEq, Eq, Hash)]
 #[non_exhaustive]
 pub enum Mode {
+    /// The job takes checkpoints.
     Running,
-    /// Too many checkpoints failed in a row: a restore starts the job again.
+    /// Too many checkpoints failed in a row: restore the job.
     Failed,
     /// The job has ended for good.
     Cancelled,
-    /// A number that this crate does not know.
+    /// A number that this crate does not know: the library is of another version.
     Unknown(u32),
 }
+
+impl Mode {
+    pub(crate) fn of(what: u32) -> Mode {
+        match what {
+            sys::RELKVANU_MODE_RUNNING => Mode::Running,
+            sys::RELKVANU_MODE_FAILED => Mode::Failed,
+            sys::RELKVANU_MODE_CANCELLED => Mode::Cancelled,
+            other => Mode::Unknown(other),
+        }
+    }
+
+    /// The number in the header.
+    pub fn number(&self) -> u32 {
+        match self {
+            Mode::Running => sys::RELKVANU_MODE_RUNNING,
+            Mode::Failed => sys::RELKVANU_MODE_FAILED,
+            Mode::Cancelled => sys::RELKVANU_MODE_CANCELLED,
+            Mode::Unknown(what) => *what,
+        }
+    }
+}
+// embed/bindings: end
 
 /// Whether a record is a checkpoint, which belongs to the coordinator, or a savepoint, which belongs to a user.
 #[derive(Clone, Copy, Debug, PartialEq, Eq, Hash)]
@@ -68,23 +92,50 @@ pub struct Live {
     pub done: bool,
 }
 
+// embed/bindings makes the standings
 /// What a number is.
 #[derive(Clone, Copy, Debug, PartialEq, Eq, Hash)]
 #[non_exhaustive]
 pub enum Standing {
-    /// A live record has it, and lacks an acknowledgement.
+    /// A live record has the number, and lacks an acknowledgement.
     Pending,
-    /// A live record has it, and is complete.
+    /// A live record has the number, and is complete.
     Done,
     /// A record had the number, and is no longer live.
     Ended,
-    /// No record has had it so far.
+    /// No record has had the number so far.
     NotYet,
-    /// It is below the first number of the opening.
+    /// The number is below the first one of the opening.
     Never,
-    /// A number that this crate does not know.
+    /// A number that this crate does not know: the library is of another version.
     Unknown(u32),
 }
+
+impl Standing {
+    pub(crate) fn of(what: u32) -> Standing {
+        match what {
+            sys::RELKVANU_STANDS_PENDING => Standing::Pending,
+            sys::RELKVANU_STANDS_DONE => Standing::Done,
+            sys::RELKVANU_STANDS_ENDED => Standing::Ended,
+            sys::RELKVANU_STANDS_NOT_YET => Standing::NotYet,
+            sys::RELKVANU_STANDS_NEVER => Standing::Never,
+            other => Standing::Unknown(other),
+        }
+    }
+
+    /// The number in the header.
+    pub fn number(&self) -> u32 {
+        match self {
+            Standing::Pending => sys::RELKVANU_STANDS_PENDING,
+            Standing::Done => sys::RELKVANU_STANDS_DONE,
+            Standing::Ended => sys::RELKVANU_STANDS_ENDED,
+            Standing::NotYet => sys::RELKVANU_STANDS_NOT_YET,
+            Standing::Never => sys::RELKVANU_STANDS_NEVER,
+            Standing::Unknown(what) => *what,
+        }
+    }
+}
+// embed/bindings: end
 
 /// How many files are in use by live records (each counted once), wait for deletion, and were fetched for deletion and
 /// not yet reported.
@@ -95,100 +146,47 @@ pub struct FileCounts {
     pub taken: u64,
 }
 
+// embed/bindings makes the answers
 /// The answer to a call that was made.
 #[derive(Clone, Copy, Debug, PartialEq, Eq, Hash)]
 #[non_exhaustive]
 pub enum Answer {
-    /// A checkpoint was triggered, after this many records expired.
-    Triggered {
-        expired: u64,
-        id: u64,
-    },
-    /// It is too early for a checkpoint.
-    HeldInterval {
-        expired: u64,
-    },
-    /// As many checkpoints are pending as may be. None is triggered until one ends.
-    HeldAtOnce {
-        expired: u64,
-    },
+    /// A checkpoint was triggered.
+    Triggered { expired: u64, id: u64 },
+    /// No checkpoint is due yet.
+    HeldInterval { expired: u64 },
+    /// As many checkpoints are pending as may be.
+    HeldAtOnce { expired: u64 },
     /// The pause after the last completion has not passed.
-    HeldPause {
-        expired: u64,
-    },
-    /// Too many checkpoints failed in a row: the job fails over. Restore it.
-    Failed {
-        expired: u64,
-    },
+    HeldPause { expired: u64 },
+    /// Too many checkpoints failed in a row: restore the job.
+    Failed { expired: u64 },
+    /// A savepoint was triggered.
     SavepointTriggered(u64),
-    AckPending {
-        missing: u64,
-    },
+    /// The record is not complete yet.
+    AckPending { missing: u64 },
     /// The record is complete.
-    AckCompleted {
-        dropped: u64,
-        released: u64,
-    },
-    /// The record was done or had ended. This many of the fresh files were handed out for deletion.
-    AckLate {
-        handed_out: u64,
-    },
+    AckCompleted { dropped: u64, released: u64 },
+    /// The record was done or had ended.
+    AckLate { handed_out: u64 },
     /// The record is dropped.
-    DeclineAborted {
-        released: u64,
-    },
-    /// The record is dropped, and the job fails over. Restore it.
-    DeclineFailed {
-        released: u64,
-    },
+    DeclineAborted { released: u64 },
+    /// The record is dropped, and the job has failed: restore it.
+    DeclineFailed { released: u64 },
     /// The record was done or had ended.
     DeclineLate,
-    Disposed {
-        released: u64,
-    },
-    /// The job begins again from this record.
-    Restored {
-        from: Choice,
-        released: u64,
-    },
-    Cancelled {
-        dropped: u64,
-        released: u64,
-    },
+    /// The savepoint is gone.
+    Disposed { released: u64 },
+    /// The job has ended for good.
+    Cancelled { dropped: u64, released: u64 },
+    /// The file is forgotten.
     Deleted(u64),
+    /// The file waits again.
     Undeleted(u64),
-    Counted {
-        file: u64,
-        uses: u64,
-    },
-}
-
-/// The line that a script prints (`docs/SCRIPT.md`), as "ack completed 1 2".
-impl fmt::Display for Answer {
-    fn fmt(&self, f: &mut fmt::Formatter<'_>) -> fmt::Result {
-        match *self {
-            Answer::Triggered { expired, id } => write!(f, "tick expired {expired} triggered {id}"),
-            Answer::HeldInterval { expired } => write!(f, "tick expired {expired} held interval"),
-            Answer::HeldAtOnce { expired } => write!(f, "tick expired {expired} held at-once"),
-            Answer::HeldPause { expired } => write!(f, "tick expired {expired} held pause"),
-            Answer::Failed { expired } => write!(f, "tick expired {expired} failed"),
-            Answer::SavepointTriggered(id) => write!(f, "savepoint triggered {id}"),
-            Answer::AckPending { missing } => write!(f, "ack pending {missing}"),
-            Answer::AckCompleted { dropped, released } => {
-                write!(f, "ack completed {dropped} {released}")
-            }
-            Answer::AckLate { handed_out } => write!(f, "ack late {handed_out}"),
-            Answer::DeclineAborted { released } => write!(f, "decline aborted {released}"),
-            Answer::DeclineFailed { released } => write!(f, "decline failed {released}"),
-            Answer::DeclineLate => f.write_str("decline late"),
-            Answer::Disposed { released } => write!(f, "disposed {released}"),
-            Answer::Restored { from, released } => write!(f, "restored {from} {released}"),
-            Answer::Cancelled { dropped, released } => write!(f, "cancelled {dropped} {released}"),
-            Answer::Deleted(file) => write!(f, "deleted {file}"),
-            Answer::Undeleted(file) => write!(f, "undeleted {file}"),
-            Answer::Counted { file, uses } => write!(f, "count {file} {uses}"),
-        }
-    }
+    /// The uses by live records.
+    Counted { file: u64, uses: u64 },
+    /// The job begins again from this record.
+    Restored { from: Choice, released: u64 },
 }
 
 /// The answer to a call that was made and that writes to no buffer.
@@ -211,9 +209,18 @@ pub(crate) fn answer(told: sys::relkvanu_answer) -> Result<Answer, Fault> {
         sys::RELKVANU_DECLINE_FAILED => Answer::DeclineFailed { released: a },
         sys::RELKVANU_DECLINE_LATE => Answer::DeclineLate,
         sys::RELKVANU_DISPOSED => Answer::Disposed { released: a },
-        sys::RELKVANU_RESTORED_CHECKPOINT => restored(Choice::Checkpoint(b), a),
-        sys::RELKVANU_RESTORED_SAVEPOINT => restored(Choice::Savepoint(b), a),
-        sys::RELKVANU_RESTORED_FRESH => restored(Choice::Fresh, a),
+        sys::RELKVANU_RESTORED_CHECKPOINT => Answer::Restored {
+            from: Choice::Checkpoint(b),
+            released: a,
+        },
+        sys::RELKVANU_RESTORED_SAVEPOINT => Answer::Restored {
+            from: Choice::Savepoint(b),
+            released: a,
+        },
+        sys::RELKVANU_RESTORED_FRESH => Answer::Restored {
+            from: Choice::Fresh,
+            released: a,
+        },
         sys::RELKVANU_CANCELLED => Answer::Cancelled {
             dropped: a,
             released: b,
@@ -225,16 +232,103 @@ pub(crate) fn answer(told: sys::relkvanu_answer) -> Result<Answer, Fault> {
     })
 }
 
-fn restored(from: Choice, released: u64) -> Answer {
-    Answer::Restored { from, released }
+/// The numbers of an answer: what it is, and a and b.
+pub(crate) fn numbers_of(answer: &Answer) -> (u32, u64, u64) {
+    match *answer {
+        Answer::Triggered { expired: a, id: b } => (sys::RELKVANU_TICK_TRIGGERED, a, b),
+        Answer::HeldInterval { expired: a } => (sys::RELKVANU_TICK_HELD_INTERVAL, a, 0),
+        Answer::HeldAtOnce { expired: a } => (sys::RELKVANU_TICK_HELD_AT_ONCE, a, 0),
+        Answer::HeldPause { expired: a } => (sys::RELKVANU_TICK_HELD_PAUSE, a, 0),
+        Answer::Failed { expired: a } => (sys::RELKVANU_TICK_FAILED, a, 0),
+        Answer::SavepointTriggered(a) => (sys::RELKVANU_SAVEPOINT_TRIGGERED, a, 0),
+        Answer::AckPending { missing: a } => (sys::RELKVANU_ACK_PENDING, a, 0),
+        Answer::AckCompleted {
+            dropped: a,
+            released: b,
+        } => (sys::RELKVANU_ACK_COMPLETED, a, b),
+        Answer::AckLate { handed_out: a } => (sys::RELKVANU_ACK_LATE, a, 0),
+        Answer::DeclineAborted { released: a } => (sys::RELKVANU_DECLINE_ABORTED, a, 0),
+        Answer::DeclineFailed { released: a } => (sys::RELKVANU_DECLINE_FAILED, a, 0),
+        Answer::DeclineLate => (sys::RELKVANU_DECLINE_LATE, 0, 0),
+        Answer::Disposed { released: a } => (sys::RELKVANU_DISPOSED, a, 0),
+        Answer::Restored {
+            from: Choice::Checkpoint(b),
+            released: a,
+        } => (sys::RELKVANU_RESTORED_CHECKPOINT, a, b),
+        Answer::Restored {
+            from: Choice::Savepoint(b),
+            released: a,
+        } => (sys::RELKVANU_RESTORED_SAVEPOINT, a, b),
+        Answer::Restored {
+            from: Choice::Fresh,
+            released: a,
+        } => (sys::RELKVANU_RESTORED_FRESH, a, 0),
+        Answer::Cancelled {
+            dropped: a,
+            released: b,
+        } => (sys::RELKVANU_CANCELLED, a, b),
+        Answer::Deleted(a) => (sys::RELKVANU_DELETED, a, 0),
+        Answer::Undeleted(a) => (sys::RELKVANU_UNDELETED, a, 0),
+        Answer::Counted { file: a, uses: b } => (sys::RELKVANU_COUNTED, a, b),
+        Answer::Restored {
+            from: Choice::Unknown(what),
+            released,
+        } => (what, released, 0),
+    }
 }
 
-pub(crate) fn mode(told: sys::relkvanu_answer) -> Mode {
-    match told.what {
-        sys::RELKVANU_MODE_RUNNING => Mode::Running,
-        sys::RELKVANU_MODE_FAILED => Mode::Failed,
-        sys::RELKVANU_MODE_CANCELLED => Mode::Cancelled,
-        other => Mode::Unknown(other),
+/// The text of each answer in scripts (`docs/SCRIPT.md`), in which {a} and {b} stand for its numbers.
+pub(crate) const TEXTS: [(u32, &str); 20] = [
+    (
+        sys::RELKVANU_TICK_TRIGGERED,
+        "tick expired {a} triggered {b}",
+    ),
+    (
+        sys::RELKVANU_TICK_HELD_INTERVAL,
+        "tick expired {a} held interval",
+    ),
+    (
+        sys::RELKVANU_TICK_HELD_AT_ONCE,
+        "tick expired {a} held at-once",
+    ),
+    (sys::RELKVANU_TICK_HELD_PAUSE, "tick expired {a} held pause"),
+    (sys::RELKVANU_TICK_FAILED, "tick expired {a} failed"),
+    (sys::RELKVANU_SAVEPOINT_TRIGGERED, "savepoint triggered {a}"),
+    (sys::RELKVANU_ACK_PENDING, "ack pending {a}"),
+    (sys::RELKVANU_ACK_COMPLETED, "ack completed {a} {b}"),
+    (sys::RELKVANU_ACK_LATE, "ack late {a}"),
+    (sys::RELKVANU_DECLINE_ABORTED, "decline aborted {a}"),
+    (sys::RELKVANU_DECLINE_FAILED, "decline failed {a}"),
+    (sys::RELKVANU_DECLINE_LATE, "decline late"),
+    (sys::RELKVANU_DISPOSED, "disposed {a}"),
+    (
+        sys::RELKVANU_RESTORED_CHECKPOINT,
+        "restored checkpoint {b} {a}",
+    ),
+    (
+        sys::RELKVANU_RESTORED_SAVEPOINT,
+        "restored savepoint {b} {a}",
+    ),
+    (sys::RELKVANU_RESTORED_FRESH, "restored fresh {a}"),
+    (sys::RELKVANU_CANCELLED, "cancelled {a} {b}"),
+    (sys::RELKVANU_DELETED, "deleted {a}"),
+    (sys::RELKVANU_UNDELETED, "undeleted {a}"),
+    (sys::RELKVANU_COUNTED, "count {a} {b}"),
+];
+// embed/bindings: end
+
+/// The line that a script prints (`docs/SCRIPT.md`), as "ack completed 1 2".
+impl fmt::Display for Answer {
+    fn fmt(&self, f: &mut fmt::Formatter<'_>) -> fmt::Result {
+        let (what, a, b) = numbers_of(self);
+        match TEXTS.iter().find(|(number, _)| *number == what) {
+            Some((_, form)) => f.write_str(
+                &form
+                    .replace("{a}", &a.to_string())
+                    .replace("{b}", &b.to_string()),
+            ),
+            None => write!(f, "unknown {what}"),
+        }
     }
 }
 
@@ -244,17 +338,6 @@ pub(crate) fn choice(told: sys::relkvanu_answer) -> Choice {
         sys::RELKVANU_CHOICE_SAVEPOINT => Choice::Savepoint(told.a),
         sys::RELKVANU_CHOICE_FRESH => Choice::Fresh,
         other => Choice::Unknown(other),
-    }
-}
-
-pub(crate) fn standing(told: sys::relkvanu_answer) -> Standing {
-    match told.what {
-        sys::RELKVANU_STANDS_PENDING => Standing::Pending,
-        sys::RELKVANU_STANDS_DONE => Standing::Done,
-        sys::RELKVANU_STANDS_ENDED => Standing::Ended,
-        sys::RELKVANU_STANDS_NOT_YET => Standing::NotYet,
-        sys::RELKVANU_STANDS_NEVER => Standing::Never,
-        other => Standing::Unknown(other),
     }
 }
 

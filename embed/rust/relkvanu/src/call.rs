@@ -3,6 +3,67 @@ use crate::fault::{check_library, done, text, Fault};
 use relkvanu_sys as sys;
 use std::num::NonZeroU64;
 
+// embed/bindings makes the kinds
+/// Which call it is.
+#[derive(Clone, Copy, Debug, PartialEq, Eq, Hash)]
+#[non_exhaustive]
+pub(crate) enum CallKind {
+    Tick,
+    Savepoint,
+    Ack,
+    Decline,
+    Dispose,
+    Restore,
+    Cancel,
+    Take,
+    Deleted,
+    Undeleted,
+    Show,
+    Count,
+    /// A number that this crate does not know: the library is of another version.
+    Unknown(u32),
+}
+
+impl CallKind {
+    pub(crate) fn of(what: u32) -> CallKind {
+        match what {
+            sys::RELKVANU_CALL_TICK => CallKind::Tick,
+            sys::RELKVANU_CALL_SAVEPOINT => CallKind::Savepoint,
+            sys::RELKVANU_CALL_ACK => CallKind::Ack,
+            sys::RELKVANU_CALL_DECLINE => CallKind::Decline,
+            sys::RELKVANU_CALL_DISPOSE => CallKind::Dispose,
+            sys::RELKVANU_CALL_RESTORE => CallKind::Restore,
+            sys::RELKVANU_CALL_CANCEL => CallKind::Cancel,
+            sys::RELKVANU_CALL_TAKE => CallKind::Take,
+            sys::RELKVANU_CALL_DELETED => CallKind::Deleted,
+            sys::RELKVANU_CALL_UNDELETED => CallKind::Undeleted,
+            sys::RELKVANU_CALL_SHOW => CallKind::Show,
+            sys::RELKVANU_CALL_COUNT => CallKind::Count,
+            other => CallKind::Unknown(other),
+        }
+    }
+
+    /// The number in the header.
+    pub(crate) fn number(&self) -> u32 {
+        match self {
+            CallKind::Tick => sys::RELKVANU_CALL_TICK,
+            CallKind::Savepoint => sys::RELKVANU_CALL_SAVEPOINT,
+            CallKind::Ack => sys::RELKVANU_CALL_ACK,
+            CallKind::Decline => sys::RELKVANU_CALL_DECLINE,
+            CallKind::Dispose => sys::RELKVANU_CALL_DISPOSE,
+            CallKind::Restore => sys::RELKVANU_CALL_RESTORE,
+            CallKind::Cancel => sys::RELKVANU_CALL_CANCEL,
+            CallKind::Take => sys::RELKVANU_CALL_TAKE,
+            CallKind::Deleted => sys::RELKVANU_CALL_DELETED,
+            CallKind::Undeleted => sys::RELKVANU_CALL_UNDELETED,
+            CallKind::Show => sys::RELKVANU_CALL_SHOW,
+            CallKind::Count => sys::RELKVANU_CALL_COUNT,
+            CallKind::Unknown(what) => *what,
+        }
+    }
+}
+// embed/bindings: end
+
 /// A call for a log. Its line reads back as this call.
 #[derive(Clone, Copy, Debug, PartialEq, Eq, Hash)]
 pub enum Call<'a> {
@@ -88,34 +149,34 @@ impl<'a> Call<'a> {
             number,
         } = call;
         let subtask = (vertex, index);
-        Some(match kind {
-            sys::RELKVANU_CALL_TICK => Call::Tick { now },
-            sys::RELKVANU_CALL_SAVEPOINT => Call::Savepoint { now },
-            sys::RELKVANU_CALL_ACK => Call::Ack {
+        Some(match CallKind::of(kind) {
+            CallKind::Tick => Call::Tick { now },
+            CallKind::Savepoint => Call::Savepoint { now },
+            CallKind::Ack => Call::Ack {
                 now,
                 id: number,
                 subtask,
                 fresh: first,
                 reused: second,
             },
-            sys::RELKVANU_CALL_DECLINE => Call::Decline {
+            CallKind::Decline => Call::Decline {
                 now,
                 id: number,
                 subtask,
             },
-            sys::RELKVANU_CALL_DISPOSE => Call::Dispose { id: number },
-            sys::RELKVANU_CALL_RESTORE => Call::Restore {
+            CallKind::Dispose => Call::Dispose { id: number },
+            CallKind::Restore => Call::Restore {
                 now,
                 savepoint: NonZeroU64::new(number),
                 shape: (!first.is_empty()).then_some(first),
             },
-            sys::RELKVANU_CALL_CANCEL => Call::Cancel { now },
-            sys::RELKVANU_CALL_TAKE => Call::Take { most: number },
-            sys::RELKVANU_CALL_DELETED => Call::Deleted { file: number },
-            sys::RELKVANU_CALL_UNDELETED => Call::Undeleted { file: number },
-            sys::RELKVANU_CALL_SHOW => Call::Show { id: number },
-            sys::RELKVANU_CALL_COUNT => Call::Count { file: number },
-            _ => return None,
+            CallKind::Cancel => Call::Cancel { now },
+            CallKind::Take => Call::Take { most: number },
+            CallKind::Deleted => Call::Deleted { file: number },
+            CallKind::Undeleted => Call::Undeleted { file: number },
+            CallKind::Show => Call::Show { id: number },
+            CallKind::Count => Call::Count { file: number },
+            CallKind::Unknown(_) => return None,
         })
     }
 
@@ -155,8 +216,8 @@ impl<'a> Call<'a> {
     }
 
     pub(crate) fn fields(&self) -> sys::relkvanu_call {
-        let of = |kind, now, number| sys::relkvanu_call {
-            kind,
+        let of = |kind: CallKind, now, number| sys::relkvanu_call {
+            kind: kind.number(),
             vertex: 0,
             index: 0,
             now,
@@ -168,26 +229,22 @@ impl<'a> Call<'a> {
             ..of(kind, now, number)
         };
         match *self {
-            Call::Tick { now } => of(sys::RELKVANU_CALL_TICK, now, 0),
-            Call::Savepoint { now } => of(sys::RELKVANU_CALL_SAVEPOINT, now, 0),
+            Call::Tick { now } => of(CallKind::Tick, now, 0),
+            Call::Savepoint { now } => of(CallKind::Savepoint, now, 0),
             Call::Ack {
                 now, id, subtask, ..
-            } => part(sys::RELKVANU_CALL_ACK, now, id, subtask),
-            Call::Decline { now, id, subtask } => {
-                part(sys::RELKVANU_CALL_DECLINE, now, id, subtask)
+            } => part(CallKind::Ack, now, id, subtask),
+            Call::Decline { now, id, subtask } => part(CallKind::Decline, now, id, subtask),
+            Call::Dispose { id } => of(CallKind::Dispose, 0, id),
+            Call::Restore { now, savepoint, .. } => {
+                of(CallKind::Restore, now, savepoint.map_or(0, NonZeroU64::get))
             }
-            Call::Dispose { id } => of(sys::RELKVANU_CALL_DISPOSE, 0, id),
-            Call::Restore { now, savepoint, .. } => of(
-                sys::RELKVANU_CALL_RESTORE,
-                now,
-                savepoint.map_or(0, NonZeroU64::get),
-            ),
-            Call::Cancel { now } => of(sys::RELKVANU_CALL_CANCEL, now, 0),
-            Call::Take { most } => of(sys::RELKVANU_CALL_TAKE, 0, most),
-            Call::Deleted { file } => of(sys::RELKVANU_CALL_DELETED, 0, file),
-            Call::Undeleted { file } => of(sys::RELKVANU_CALL_UNDELETED, 0, file),
-            Call::Show { id } => of(sys::RELKVANU_CALL_SHOW, 0, id),
-            Call::Count { file } => of(sys::RELKVANU_CALL_COUNT, 0, file),
+            Call::Cancel { now } => of(CallKind::Cancel, now, 0),
+            Call::Take { most } => of(CallKind::Take, 0, most),
+            Call::Deleted { file } => of(CallKind::Deleted, 0, file),
+            Call::Undeleted { file } => of(CallKind::Undeleted, 0, file),
+            Call::Show { id } => of(CallKind::Show, 0, id),
+            Call::Count { file } => of(CallKind::Count, 0, file),
         }
     }
 }

@@ -325,7 +325,7 @@ impl Coordinator {
     /// What the job is doing.
     pub fn mode(&self) -> Mode {
         // SAFETY: as in `count`.
-        answer::mode(read(unsafe { sys::relkvanu_mode(self.read_handle()) }))
+        Mode::of(read(unsafe { sys::relkvanu_mode(self.read_handle()) }).what)
     }
 
     /// The greatest moment that the coordinator has seen, at its opening or in an accepted call. It takes an earlier
@@ -392,9 +392,7 @@ impl Coordinator {
     /// search.
     pub fn standing(&self, id: u64) -> Standing {
         // SAFETY: as in `count`.
-        answer::standing(read(unsafe {
-            sys::relkvanu_standing(self.read_handle(), id)
-        }))
+        Standing::of(read(unsafe { sys::relkvanu_standing(self.read_handle(), id) }).what)
     }
 
     /// The files that a subtask acknowledged in a live record, ascending, or `None` if it has not acknowledged in one.

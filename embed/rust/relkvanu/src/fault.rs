@@ -4,27 +4,40 @@ use relkvanu_sys as sys;
 use std::error::Error;
 use std::fmt;
 
-/// Why a call is refused: the first of these that applies.
+// embed/bindings makes the refusals
+/// Why a call was refused: the first of these that applies.
 #[derive(Clone, Copy, Debug, PartialEq, Eq, Hash)]
 #[non_exhaustive]
 pub enum Refusal {
+    /// The moment is above its limit.
     MomentTooLarge,
+    /// The job has failed or was cancelled.
     NotRunning,
+    /// An acknowledgement has more than 4096 files.
     TooManyFiles,
+    /// An acknowledgement names a file twice.
     RepeatedFile,
+    /// No record has had the number.
     UnknownCheckpoint,
+    /// The job has no such subtask.
     UnknownSubtask,
-    /// The subtask has acknowledged this record. The files may be those of its first message: do not delete them.
+    /// The subtask has acknowledged in this record. Its files may belong to the coordinator: do not delete them.
     AlreadyAcknowledged,
-    /// A fresh file with this number is known. It may be in use: do not delete it.
+    /// The coordinator knows a file with the number of a fresh one. It may be in use: do not delete it.
     NameTaken(u64),
-    /// A reused file is no longer present: the task writes its state again, under a new number.
+    /// A reused file is no longer in use: the task writes its state again, under a new number.
     FileGone(u64),
+    /// No completed savepoint has the number.
     NoSuchSavepoint,
+    /// The job would begin again from this savepoint.
     InUse,
+    /// 1000 savepoints are pending or done.
     TooManySavepoints,
+    /// The file was not fetched for deletion, or was reported before.
     NotTaken,
+    /// No live record has the number.
     NoSuchRecord,
+    /// No number is left for another record.
     IdsUsedUp,
     /// A number that this crate does not know: the library is of another version.
     Unknown(u32),
@@ -52,7 +65,7 @@ impl Refusal {
         }
     }
 
-    /// The number of the refusal in the header.
+    /// The number in the header.
     pub fn number(&self) -> u32 {
         match self {
             Refusal::MomentTooLarge => sys::RELKVANU_MOMENT_TOO_LARGE,
@@ -74,14 +87,39 @@ impl Refusal {
         }
     }
 
-    /// The file that is to blame, if there is one.
+    /// The file that it names, if there is one.
     pub fn file(&self) -> Option<u64> {
         match self {
-            Refusal::NameTaken(file) | Refusal::FileGone(file) => Some(*file),
+            Refusal::NameTaken(of) | Refusal::FileGone(of) => Some(*of),
             _ => None,
         }
     }
 
+    /// Each, with this file if it names one.
+    #[allow(dead_code)]
+    pub(crate) fn all(file: u64) -> [Refusal; 15] {
+        [
+            Refusal::MomentTooLarge,
+            Refusal::NotRunning,
+            Refusal::TooManyFiles,
+            Refusal::RepeatedFile,
+            Refusal::UnknownCheckpoint,
+            Refusal::UnknownSubtask,
+            Refusal::AlreadyAcknowledged,
+            Refusal::NameTaken(file),
+            Refusal::FileGone(file),
+            Refusal::NoSuchSavepoint,
+            Refusal::InUse,
+            Refusal::TooManySavepoints,
+            Refusal::NotTaken,
+            Refusal::NoSuchRecord,
+            Refusal::IdsUsedUp,
+        ]
+    }
+}
+// embed/bindings: end
+
+impl Refusal {
     /// The name of the refusal, such as `NotRunning`.
     pub fn name(&self) -> String {
         let mut text = [0; 32];
@@ -108,6 +146,7 @@ impl fmt::Display for Refusal {
 
 impl Error for Refusal {}
 
+// embed/bindings makes the faults
 /// Why a call has changed nothing. After [`Unknown`](Fault::Unknown) alone it may have been made.
 #[derive(Clone, Copy, Debug, PartialEq, Eq, Hash)]
 #[non_exhaustive]
@@ -116,25 +155,51 @@ pub enum Fault {
     Refused(Refusal),
     /// Memory ran out. Make the same call again. If the log has its line already, make it before any other logged call.
     Memory,
+    /// The coordinator is closed.
+    Closed,
+    /// The handle has a coordinator already.
+    AlreadyOpen,
     /// A value of the settings is outside its limits.
     BadConfig,
-    /// A shape is outside its limits. A restore reports this before any refusal.
+    /// 1 to 256 vertices, at least 1 subtask each, at most 4096 in sum.
     BadShape,
     /// The moment of an opening is above 2^62 - 1.
     BadMoment,
-    /// The first number of an opening is not within 1 to 2^62 - 1.
+    /// The number of the first record is not within 1 to 2^62 - 1.
     BadFirst,
-    /// The bytes are not an image, or the state of the image is not sound, or no coordinator could be opened so.
+    /// The kind of a call that is to be written.
+    BadKind,
+    /// The bytes are not an image, or the state is not sound, or no coordinator could be opened so.
     BadImage,
-    /// A line of a script can't be read, or the line of a call would be too long.
-    BadLine(LineFault),
     /// A `take` line would fetch this many files, and the buffer has fewer places.
     TooShort { places: u64 },
+    /// A line of a script can't be read, or the line of a call would be too long.
+    BadLine(LineFault),
     /// The library that is linked has this version, which does not fit the crate's.
     OtherLibrary { library: &'static str },
     /// The library gave an answer that this crate does not know, so it is of another version.
     Unknown { code: u32, what: u32 },
 }
+
+/// The fault of an answer to a call that was not made.
+fn fault_of(told: sys::relkvanu_answer) -> Fault {
+    match (told.code, told.what) {
+        (sys::RELKVANU_REFUSED, _) => Fault::Refused(Refusal::of(told)),
+        (sys::RELKVANU_NO_MEMORY, _) => Fault::Memory,
+        (sys::RELKVANU_CLOSED, _) => Fault::Closed,
+        (sys::RELKVANU_BAD_ARGUMENT, sys::RELKVANU_ALREADY_OPEN) => Fault::AlreadyOpen,
+        (sys::RELKVANU_BAD_ARGUMENT, sys::RELKVANU_BAD_CONFIG) => Fault::BadConfig,
+        (sys::RELKVANU_BAD_ARGUMENT, sys::RELKVANU_BAD_SHAPE) => Fault::BadShape,
+        (sys::RELKVANU_BAD_ARGUMENT, sys::RELKVANU_BAD_MOMENT) => Fault::BadMoment,
+        (sys::RELKVANU_BAD_ARGUMENT, sys::RELKVANU_BAD_FIRST) => Fault::BadFirst,
+        (sys::RELKVANU_BAD_ARGUMENT, sys::RELKVANU_BAD_KIND) => Fault::BadKind,
+        (sys::RELKVANU_BAD_ARGUMENT, sys::RELKVANU_BAD_IMAGE) => Fault::BadImage,
+        (sys::RELKVANU_TOO_SHORT, _) => Fault::TooShort { places: told.a },
+        (sys::RELKVANU_BAD_LINE, _) => Fault::BadLine(LineFault::of(told.what)),
+        _ => Fault::unknown(told),
+    }
+}
+// embed/bindings: end
 
 impl Fault {
     pub(crate) fn unknown(told: sys::relkvanu_answer) -> Fault {
@@ -172,6 +237,7 @@ impl fmt::Display for Fault {
             Fault::BadMoment => f.write_str("the opening moment is above 2^62 - 1"),
             Fault::BadFirst => f.write_str("the first number is not within 1 to 2^62 - 1"),
             Fault::BadImage => f.write_str("the bytes are no image of a coordinator"),
+            Fault::Closed => f.write_str("the coordinator is closed"),
             Fault::BadLine(why) => write!(f, "the line can't be read: {why}"),
             Fault::TooShort { places } => write!(f, "the buffer has to have {places} places"),
             Fault::OtherLibrary { library } => write!(
@@ -184,6 +250,7 @@ impl fmt::Display for Fault {
                 "version {} of the library gave an answer that the crate does not know: code {code}, what {what}",
                 crate::version()
             ),
+            other => write!(f, "the call was not made: {other:?}"),
         }
     }
 }
@@ -200,18 +267,10 @@ impl Error for Fault {
 
 /// The answer to a call that was made, or why it changed nothing.
 pub(crate) fn done(told: sys::relkvanu_answer) -> Result<sys::relkvanu_answer, Fault> {
-    Err(match (told.code, told.what) {
-        (sys::RELKVANU_DONE, _) => return Ok(told),
-        (sys::RELKVANU_REFUSED, _) => Fault::Refused(Refusal::of(told)),
-        (sys::RELKVANU_NO_MEMORY, _) => Fault::Memory,
-        (sys::RELKVANU_BAD_LINE, what) => Fault::BadLine(LineFault::of(what)),
-        (sys::RELKVANU_BAD_ARGUMENT, sys::RELKVANU_BAD_CONFIG) => Fault::BadConfig,
-        (sys::RELKVANU_BAD_ARGUMENT, sys::RELKVANU_BAD_SHAPE) => Fault::BadShape,
-        (sys::RELKVANU_BAD_ARGUMENT, sys::RELKVANU_BAD_MOMENT) => Fault::BadMoment,
-        (sys::RELKVANU_BAD_ARGUMENT, sys::RELKVANU_BAD_FIRST) => Fault::BadFirst,
-        (sys::RELKVANU_BAD_ARGUMENT, sys::RELKVANU_BAD_IMAGE) => Fault::BadImage,
-        _ => Fault::unknown(told),
-    })
+    match told.code {
+        sys::RELKVANU_DONE => Ok(told),
+        _ => Err(fault_of(told)),
+    }
 }
 
 /// The text that is written into a buffer, which is made longer until it is long enough.

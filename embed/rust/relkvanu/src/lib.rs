@@ -31,7 +31,7 @@ pub use answer::{Answer, Choice, FileCounts, Kind, Live, Mode, Standing};
 pub use call::Call;
 pub use coordinator::{Coordinator, Settings};
 pub use discarder::{Discarded, Discarder, Outbox, Patience};
-pub use fault::{Fault, Refusal};
+pub use fault::*;
 pub use lines::{opening_lines, Line, LineFault, Said};
 pub use parse::ParseError;
 pub use shared::SharedCoordinator;

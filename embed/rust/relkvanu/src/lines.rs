@@ -7,11 +7,12 @@ use relkvanu_sys as sys;
 use std::error::Error;
 use std::fmt;
 
+// embed/bindings makes the faults of lines
 /// What is wrong with a line: the first fault from the left.
 #[derive(Clone, Copy, Debug, PartialEq, Eq, Hash)]
 #[non_exhaustive]
 pub enum LineFault {
-    /// It has more than 131,072 bytes.
+    /// A line has at most 131072 bytes.
     TooLong,
     /// A word that does not belong there.
     Word,
@@ -21,7 +22,7 @@ pub enum LineFault {
     Number,
     /// A word follows the last one.
     Extra,
-    /// It was read, and makes no call: a `config`, `job`, `start` or `all` line.
+    /// A config, job, start or all line: it was read, and makes no call.
     NoCall,
     /// A number that this crate does not know: the library is of another version.
     Unknown(u32),
@@ -39,7 +40,21 @@ impl LineFault {
             other => LineFault::Unknown(other),
         }
     }
+
+    /// The number in the header.
+    pub fn number(&self) -> u32 {
+        match self {
+            LineFault::TooLong => sys::RELKVANU_FAULT_TOO_LONG,
+            LineFault::Word => sys::RELKVANU_FAULT_WORD,
+            LineFault::Missing => sys::RELKVANU_FAULT_MISSING,
+            LineFault::Number => sys::RELKVANU_FAULT_NUMBER,
+            LineFault::Extra => sys::RELKVANU_FAULT_EXTRA,
+            LineFault::NoCall => sys::RELKVANU_FAULT_NO_CALL,
+            LineFault::Unknown(what) => *what,
+        }
+    }
 }
+// embed/bindings: end
 
 /// The name of the fault, such as `Missing`.
 impl fmt::Display for LineFault {

@@ -1,6 +1,7 @@
 //! Reads back the texts of answers and refusals, as a log has them: the inverse of their `Display`.
-use crate::answer::{Answer, Choice, Kind};
+use crate::answer::{answer, Answer, Choice, Kind, TEXTS};
 use crate::fault::Refusal;
+use relkvanu_sys as sys;
 use std::error::Error;
 use std::fmt;
 use std::str::FromStr;
@@ -22,79 +23,29 @@ impl FromStr for Answer {
     type Err = ParseError;
 
     fn from_str(text: &str) -> Result<Answer, ParseError> {
-        let words: Vec<&str> = text.split(' ').collect();
-        let answer = match words[0] {
-            "tick" => tick(&words[1..]),
-            "ack" | "decline" => of_task(&words),
-            _ => of_user(&words),
-        };
-        answer.ok_or(ParseError)
+        let found = TEXTS.iter().find_map(|&(what, form)| {
+            let (a, b) = numbers(form, text)?;
+            let code = sys::RELKVANU_DONE;
+            answer(sys::relkvanu_answer { code, what, a, b }).ok()
+        });
+        found.ok_or(ParseError)
     }
 }
 
-fn tick(rest: &[&str]) -> Option<Answer> {
-    let ["expired", expired, rest @ ..] = rest else {
-        return None;
-    };
-    let expired = number(expired)?;
-    Some(match rest {
-        ["triggered", id] => Answer::Triggered {
-            expired,
-            id: number(id)?,
-        },
-        ["held", "interval"] => Answer::HeldInterval { expired },
-        ["held", "at-once"] => Answer::HeldAtOnce { expired },
-        ["held", "pause"] => Answer::HeldPause { expired },
-        ["failed"] => Answer::Failed { expired },
-        _ => return None,
-    })
-}
-
-fn of_task(words: &[&str]) -> Option<Answer> {
-    Some(match words {
-        ["ack", "pending", missing] => Answer::AckPending {
-            missing: number(missing)?,
-        },
-        ["ack", "completed", dropped, released] => Answer::AckCompleted {
-            dropped: number(dropped)?,
-            released: number(released)?,
-        },
-        ["ack", "late", handed_out] => Answer::AckLate {
-            handed_out: number(handed_out)?,
-        },
-        ["decline", "aborted", released] => Answer::DeclineAborted {
-            released: number(released)?,
-        },
-        ["decline", "failed", released] => Answer::DeclineFailed {
-            released: number(released)?,
-        },
-        ["decline", "late"] => Answer::DeclineLate,
-        _ => return None,
-    })
-}
-
-fn of_user(words: &[&str]) -> Option<Answer> {
-    Some(match words {
-        ["savepoint", "triggered", id] => Answer::SavepointTriggered(number(id)?),
-        ["disposed", released] => Answer::Disposed {
-            released: number(released)?,
-        },
-        ["restored", from @ .., released] => Answer::Restored {
-            from: choice(from)?,
-            released: number(released)?,
-        },
-        ["cancelled", dropped, released] => Answer::Cancelled {
-            dropped: number(dropped)?,
-            released: number(released)?,
-        },
-        ["deleted", file] => Answer::Deleted(number(file)?),
-        ["undeleted", file] => Answer::Undeleted(number(file)?),
-        ["count", file, uses] => Answer::Counted {
-            file: number(file)?,
-            uses: number(uses)?,
-        },
-        _ => return None,
-    })
+/// The numbers a and b of a text in this form.
+fn numbers(form: &str, text: &str) -> Option<(u64, u64)> {
+    let (mut a, mut b) = (0, 0);
+    let mut words = text.split(' ');
+    for place in form.split(' ') {
+        let word = words.next()?;
+        match place {
+            "{a}" => a = number(word)?,
+            "{b}" => b = number(word)?,
+            _ if place == word => (),
+            _ => return None,
+        }
+    }
+    words.next().is_none().then_some((a, b))
 }
 
 impl FromStr for Choice {
@@ -136,30 +87,11 @@ impl FromStr for Refusal {
             None => (text, None),
         };
         let of_file = file.unwrap_or_default();
-        let found = all(of_file).into_iter().find(|one| one.name() == name);
+        let found = Refusal::all(of_file)
+            .into_iter()
+            .find(|one| one.name() == name);
         found.filter(|one| one.file() == file).ok_or(ParseError)
     }
-}
-
-/// Each refusal, with this file if it names one.
-fn all(file: u64) -> [Refusal; 15] {
-    [
-        Refusal::MomentTooLarge,
-        Refusal::NotRunning,
-        Refusal::TooManyFiles,
-        Refusal::RepeatedFile,
-        Refusal::UnknownCheckpoint,
-        Refusal::UnknownSubtask,
-        Refusal::AlreadyAcknowledged,
-        Refusal::NameTaken(file),
-        Refusal::FileGone(file),
-        Refusal::NoSuchSavepoint,
-        Refusal::InUse,
-        Refusal::TooManySavepoints,
-        Refusal::NotTaken,
-        Refusal::NoSuchRecord,
-        Refusal::IdsUsedUp,
-    ]
 }
 
 /// A number as the library writes it: digits, of which the first is 0 only if it is the only one.
@@ -171,31 +103,11 @@ fn number(word: &str) -> Option<u64> {
 #[cfg(test)]
 mod tests {
     use super::*;
+    use crate::answer::numbers_of;
 
-    /// Each answer, with numbers that differ, and its text by docs/SCRIPT.md. The match makes sure that none is left out: a new answer
-    /// does not compile without a place here.
+    /// Each answer, with numbers that differ, and its text by docs/SCRIPT.md. None is left out.
     fn answers() -> Vec<(Answer, &'static str)> {
         use Answer as A;
-        let place = |answer: &Answer| match answer {
-            A::Triggered { .. } => 0,
-            A::HeldInterval { .. } => 1,
-            A::HeldAtOnce { .. } => 2,
-            A::HeldPause { .. } => 3,
-            A::Failed { .. } => 4,
-            A::SavepointTriggered(_) => 5,
-            A::AckPending { .. } => 6,
-            A::AckCompleted { .. } => 7,
-            A::AckLate { .. } => 8,
-            A::DeclineAborted { .. } => 9,
-            A::DeclineFailed { .. } => 10,
-            A::DeclineLate => 11,
-            A::Disposed { .. } => 12,
-            A::Restored { .. } => 13,
-            A::Cancelled { .. } => 14,
-            A::Deleted(_) => 15,
-            A::Undeleted(_) => 16,
-            A::Counted { .. } => 17,
-        };
         #[rustfmt::skip]
         let all = vec![
             (A::Triggered { expired: 0, id: 1 }, "tick expired 0 triggered 1"),
@@ -219,9 +131,10 @@ mod tests {
             (A::Undeleted(11), "undeleted 11"),
             (A::Counted { file: 31, uses: 2 }, "count 31 2"),
         ];
-        let mut places: Vec<i32> = all.iter().map(|(answer, _)| place(answer)).collect();
-        places.dedup();
-        assert!(places.into_iter().eq(0..18), "an answer is left out");
+        for (what, form) in TEXTS {
+            let has_row = all.iter().any(|(answer, _)| numbers_of(answer).0 == what);
+            assert!(has_row, "{form} is left out");
+        }
         all
     }
 
@@ -273,27 +186,8 @@ mod tests {
 
     #[test]
     fn each_refusal_reads_back_as_itself() {
-        let place = |refusal: &Refusal| match refusal {
-            Refusal::MomentTooLarge => 0,
-            Refusal::NotRunning => 1,
-            Refusal::TooManyFiles => 2,
-            Refusal::RepeatedFile => 3,
-            Refusal::UnknownCheckpoint => 4,
-            Refusal::UnknownSubtask => 5,
-            Refusal::AlreadyAcknowledged => 6,
-            Refusal::NameTaken(_) => 7,
-            Refusal::FileGone(_) => 8,
-            Refusal::NoSuchSavepoint => 9,
-            Refusal::InUse => 10,
-            Refusal::TooManySavepoints => 11,
-            Refusal::NotTaken => 12,
-            Refusal::NoSuchRecord => 13,
-            Refusal::IdsUsedUp => 14,
-            Refusal::Unknown(_) => 15, // of another version: it does not read back
-        };
-        assert!(all(7).iter().map(place).eq(0..15), "a refusal is left out");
         for file in [0, 7, u64::MAX] {
-            for refusal in all(file) {
+            for refusal in Refusal::all(file) {
                 let text = refusal.to_string();
                 assert_eq!(text.parse(), Ok(refusal), "{text}");
                 assert_eq!(text.parse::<Answer>(), Err(ParseError), "{text}");

@@ -117,7 +117,7 @@ impl Store {
             replayed: found.replayed,
             taken: found.taken,
             moment: found.moment,
-            mode: answer::mode(found.mode),
+            mode: crate::Mode::of(found.mode.what),
             choice: answer::choice(found.choice),
         };
         Ok(Store {

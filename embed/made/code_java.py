@@ -1,0 +1,254 @@
+"""The header, the native methods, and the kinds, replies, refusals and faults in Java."""
+from typing import Any, Dict, List, Tuple
+
+from made import header
+from made.header import MADE, Enum, Number, macros, parameters, pointed
+
+# A number of the header in Java and in JNI, and an array of them.
+IN_JAVA = {
+    "uint8_t": ("byte", "jbyte"),
+    "uint16_t": ("int", "jint"),
+    "uint32_t": ("int", "jint"),
+    "uint64_t": ("long", "jlong"),
+    "size_t": ("long", "jlong"),
+}
+# The result of a function in Java and in JNI. A struct is written into an array.
+RESULTS = {"size_t": ("long", "jlong"), "char": ("String", "jstring")}
+
+
+def java_name(name: str) -> str:
+    first, *rest = name.removeprefix("relkvanu_").split("_")
+    return first + "".join(it.capitalize() for it in rest)
+
+
+class JavaFunction:
+    """A native method in Java, and its function in C over JNI. A handle is its address. A struct is an array of its fields. A pointer with a
+    length is an array: its elements are copied, because no other thread may change them in a call, and nothing is pinned."""
+
+    def __init__(self, name: str, function: Any, structs: Dict[str, Any]) -> None:
+        self.name, self.structs = name, structs
+        self.result = pointed(function.type)[0]
+        self.given: List[Tuple[str, str, str]] = []
+        self.declared: List[str] = []
+        self.rooms: List[Tuple[str, str]] = []
+        self.arguments: List[str] = []
+        self.outs: List[Tuple[str, str]] = []
+        self.filled: List[str] = []
+        for it, kind in parameters(function):
+            self.take(it, *pointed(kind))
+        if self.result in structs:
+            self.given.append(("long[]", "jlongArray", "out"))
+
+    def take(self, name: str, of: str, depth: int, is_const: bool) -> None:
+        if (of, depth) == ("relkvanu", 1):
+            self.given.append(("long", "jlong", name))
+            self.arguments.append(f"(relkvanu *)(uintptr_t){name}")
+        elif depth == 1 and of in self.structs:
+            self.take_struct(name, of, is_const)
+        elif depth == 1:
+            self.take_array(name, of, is_const)
+        elif not name.endswith("_len"):
+            self.given.append((*IN_JAVA[of], name))
+            self.arguments.append(f"({of}){name}")
+
+    def take_struct(self, name: str, of: str, is_const: bool) -> None:
+        fields = self.structs[of]
+        self.given.append(("long[]", "jlongArray", name))
+        values = ", ".join(f"({pointed(it.type)[0]})of_{name}[{place}]" for place, it in enumerate(fields))
+        self.declared.append(f"jlong of_{name}[{len(fields)}];")
+        self.declared.append(f"(*env)->GetLongArrayRegion(env, {name}, 0, {len(fields)}, of_{name});")
+        self.declared.append(f"{of} in_{name} = {{{values}}};")
+        self.arguments.append(f"&in_{name}")
+        if not is_const:
+            values = ", ".join(f"(jlong)in_{name}.{it.name}" for it in fields)
+            self.filled += [f"const jlong to_{name}[] = {{{values}}};", f"(*env)->SetLongArrayRegion(env, {name}, 0, {len(fields)}, to_{name});"]
+
+    def take_array(self, name: str, of: str, is_const: bool) -> None:
+        java, jni = IN_JAVA[of]
+        self.given.append((f"{java}[]", f"{jni}Array", name))
+        self.declared.append(f"struct room of_{name};")
+        self.rooms.append((name, f"{java}s_in" if is_const else f"{java}s_room"))
+        self.arguments += [f"of_{name}.at", f"of_{name}.len"]
+        self.outs += [] if is_const else [(name, java)]
+
+    def lengths(self) -> List[str]:
+        """How many elements the call has written to each array. If there are two, the comment of an answer's number names the function."""
+        if len(self.outs) < 2:
+            return ["told" if self.result == "size_t" else "written(told)"]
+        (what,) = [it.name for it in macros() if f"of {self.name} a, b: " in it.comment]
+        return [f"told.code == RELKVANU_DONE && told.what == {what} ? told.{it} : 0" for it in ("a", "b")]
+
+    def body(self) -> List[str]:
+        call = f"{self.name}({', '.join(self.arguments)})"
+        tell = {"void": "{};", "char": "return (*env)->NewStringUTF(env, {});", "size_t": "return (jlong){};"}
+        tell = tell.get(self.result, f"tell_{self.result}(env, out, {{}});")
+        if not self.rooms:
+            return [*self.declared, tell.format(call)]
+        none = "0" if self.result == "size_t" else "{RELKVANU_NO_MEMORY, 0, 0, 0}"
+        opened = " & ".join(f"{how}(env, &of_{name}, {name})" for name, how in self.rooms)
+        return [
+            *self.declared, f"{self.result} told = {none};", f"if ({opened}) {{", f"    told = {call};", "}",
+            *(f"{java}s_out(env, &of_{name}, {name}, {length});" for (name, java), length in zip(self.outs, self.lengths())), *self.filled,
+            *(f"close_room(&of_{name});" for name, _ in self.rooms), tell.format("told"),
+        ]
+
+    def c(self) -> str:
+        given = "".join(f", {jni} {name}" for _, jni, name in self.given)
+        lines = ["(void)of;", *self.body()]
+        if not any("env" in it for it in lines):
+            lines.insert(0, "(void)env;")
+        text = "".join(f"    {it}\n" for it in lines)
+        return f"JNIEXPORT {RESULTS.get(self.result, ('', 'void'))[1]} JNICALL Java_relkvanu_Native_{java_name(self.name)}(JNIEnv *env, jclass of{given}) {{\n{text}}}\n"
+
+    def java(self) -> str:
+        given = ", ".join(f"{java} {java_name(name)}" for java, _, name in self.given)
+        return f"    static native {RESULTS.get(self.result, ('void', ''))[0]} {java_name(self.name)}({given});\n"
+
+
+def java_told(name: str, fields: Any) -> str:
+    values = ", ".join(f"(jlong)told.{it.name}" for it in fields)
+    text = f"static void tell_{name}(JNIEnv *env, jlongArray out, {name} told) {{\n    const jlong of_told[] = {{{values}}};\n"
+    return text + f"    (*env)->SetLongArrayRegion(env, out, 0, {len(fields)}, of_told);\n}}\n\n"
+
+
+def java_c(structs: Dict[str, Any], functions: List[JavaFunction]) -> str:
+    """The functions over JNI. An answer that writes to a buffer says so in the comment of its number."""
+    writers = [it.name for it in macros() if "at the start of the buffer" in it.comment]
+    text = f"/* {MADE} */\n" + '#include "room.h"\n\n'
+    text += "/* How many elements an answer has written to the start of the buffer. */\n"
+    text += "static uint64_t written(relkvanu_answer told) {\n    if (told.code != RELKVANU_DONE) {\n        return 0;\n    }\n    switch (told.what) {\n"
+    text += "".join(f"    case {it}:\n" for it in writers) + "        return told.a;\n    default:\n        return 0;\n    }\n}\n\n"
+    text += "".join(java_told(name, it) for name, it in structs.items() if name in {of.result for of in functions})
+    return text + "\n".join(it.c() for it in functions)
+
+
+def java_native(functions: List[JavaFunction]) -> str:
+    text = f"package relkvanu;\n\n/** {MADE} A class that calls it has the lock of the handle. */\nfinal class Native {{\n    private Native() {{}}\n\n"
+    text += "    /** Returns the address of a closed handle, or 0 without memory. */\n    static native long create();\n\n"
+    text += "    /** Frees the memory of a closed handle. */\n    static native void destroy(long handle);\n\n"
+    return text + "\n".join(it.java() for it in functions) + "}\n"
+
+
+def java_header() -> str:
+    text = f"package relkvanu;\n\n/** {MADE} */\nfinal class Header {{\n    private Header() {{}}\n\n"
+    for it in macros():
+        kind = "String" if it.value.startswith('"') else "int"
+        text += (f"    /** {it.comment} */\n" if it.comment else "") + f"    static final {kind} {it.name.removeprefix(header.OWN)} = {it.value.rstrip('u')};\n"
+    return text + "}\n"
+
+
+# Enums with a class of their own: all but those whose numbers have other classes.
+WITHOUT_CLASS = ("code", "reply", "call_kind")
+
+
+def sentence(number: Number) -> str:
+    told = number.sentence() or f"{header.words(number.name).capitalize()}."
+    return told.replace("2^62", "2<sup>62</sup>")
+
+
+def constants(members: List[Tuple[str, Number]]) -> str:
+    return ",\n".join(f"    /** {sentence(it)} */\n    {member.upper()}(Header.{it.name})" for member, it in members)
+
+
+def enum_class(name: str, comment: str, kind: str, members: List[Tuple[str, Number]]) -> str:
+    """A class with the numbers of the header. `kind` is what an unknown number is."""
+    return f"""package relkvanu;
+
+/** {comment} Made of include/relkvanu.h by embed/bindings. */
+public enum {name} {{
+{constants(members)};
+
+    private static final {name}[] ALL = values();
+    private final int what;
+
+    {name}(int what) {{
+        this.what = what;
+    }}
+
+    static {name} of(int what) {{
+        for ({name} it : ALL) {{
+            if (it.what == what) {{
+                return it;
+            }}
+        }}
+        throw new CoordinatorException.Unknown("{kind}", what);
+    }}
+
+    /**
+     * {{@return the name in scripts, such as "{header.camel(members[0][0])}"}}
+     */
+    public String text() {{
+        return Names.inScripts(this);
+    }}
+}}
+"""
+
+
+def mode_class(name: str, comment: str, members: List[Tuple[str, Number]]) -> str:
+    """A class of what a read returns."""
+    listed = ",\n".join(f"    /** {sentence(it)} */\n    {member.upper()}" for member, it in members)
+    cases = "".join(f"            case Header.{it.name} -> {member.upper()};\n" for member, it in members)
+    return f"""package relkvanu;
+
+/** {comment} Made of include/relkvanu.h by embed/bindings. */
+public enum {name} {{
+{listed};
+
+    static {name} of(int what) {{
+        return switch (what) {{
+{cases}            default -> throw new CoordinatorException.Unknown("{name.lower()}", what);
+        }};
+    }}
+}}
+"""
+
+
+def classes() -> Dict[str, str]:
+    """The classes, by name."""
+    found = {header.camel(it.name): enum_of(it) for it in header.enums().values() if it.name not in WITHOUT_CLASS}
+    found["Mode"] = mode_class("Mode", "What a job is doing.", header.members("mode_"))
+    found["Standing"] = mode_class("Standing", "What the number of a record is.", header.members("stands_"))
+    return found
+
+
+def enum_of(it: Enum) -> str:
+    return enum_class(header.camel(it.name), it.comment, it.name.split("_")[-1], it.members)
+
+
+# The interfaces of replies beside Reply itself, by what their names begin with.
+INTERFACES = {"TICK_": "Tick", "ACK_": "Ack", "DECLINE_": "Decline", "RESTORED_": "Restore"}
+
+
+def shown(name: str, fields: List[str]) -> str:
+    """The text of a record with a file, whose number is unsigned."""
+    told = ' + ", '.join(f'{it}=" + ' + (f"FileNumbers.toString({it})" if it == "file" else it) for it in fields)
+    return f'        @Override\n        public String toString() {{\n            return "{name}[{told} + "]";\n        }}\n    '
+
+
+def record(number: Number) -> str:
+    name, kind = header.reply_name(number), [it for prefix, it in INTERFACES.items() if number.name.startswith(prefix)]
+    fields = [(java_name(field), what) for field, _, what in number.fields()]
+    told = sentence(number)
+    if fields:
+        lines = "".join(f"     * @param {field} {what}\n" for field, what in fields)
+        text = f"    /**\n     * {told}\n     *\n{lines}     */\n"
+    else:
+        text = f"    /** {told} */\n"
+    only = [field for field, _ in fields]
+    body = "\n" + shown(name, only) if "file" in only else ""
+    return text + f"    record {name}({', '.join(f'long {field}' for field in only)}) implements {(kind or ['Reply'])[0]} {{{body}}}\n"
+
+
+def replies() -> str:
+    return "\n".join(record(it) for it in header.replies())
+
+
+def cases() -> str:
+    lines = [f"            case Header.{it.name} -> new Reply.{header.reply_name(it)}({', '.join(letter for _, letter, _ in it.fields())});\n"
+             for it in header.replies()]
+    return "".join(lines)
+
+
+def made() -> Dict[str, Dict[str, str]]:
+    """What is made, by file and place."""
+    return {"Reply.java": {"the replies": replies()}, "Answers.java": {"what tells the replies": cases()}}
