@@ -6,7 +6,7 @@
 #include <string.h>
 #include <sys/stat.h>
 
-enum { TICKS_MS = 20, FAILURES_MS = 1000, GUARD_MS = 300000, LEAST_IMAGES = 3 };
+enum { TICKS_MS = 20, FAILURES_MS = 1000, GUARD_MS = 300000, LEAST_IMAGES = 2 };
 
 /* Why the tasks are started, or stop. */
 enum end { BEGINS, FAILED, ROLLS_BACK, RESCALES, OVER };

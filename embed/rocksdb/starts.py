@@ -99,8 +99,8 @@ def check_failing_syncs(program, killed, shim, work):
         faults = {"LD_PRELOAD": str(shim), "STORE_IN": f"{at}/job.db", "STORE_FAULT": "sync", "STORE_AT": nth}
         with Engine(program, at, **faults) as engine:
             told = engine.refusal()
-            assert re.search("I/O error|Input/output error", told), told
-            assert ("is not opened" in told) == (nth == "1"), told
+            assert "status 16" in told and ("is not opened" in told) == (nth == "1"), told
+            assert at == begun or re.search("I/O error|Input/output error", told), told
     for at in (begun, folder):
         with Engine(program, at) as engine:
             engine.wait()
