@@ -6,7 +6,6 @@ import pathlib
 import shutil
 import sqlite3
 import struct
-import tempfile
 from collections import Counter
 from dataclasses import dataclass, field, fields
 from typing import Any, Callable, Dict, List, Optional, Sequence, Set, Tuple
@@ -197,18 +196,21 @@ def reply_of(what: int, a: int, b: int, files: bytes) -> Reply:
     return reply
 
 
+def copy_job(folder: pathlib.Path, to: str) -> None:
+    """Copies a job that no process has open."""
+    for name in ("job.db", "job.db-wal"):
+        if (folder / name).exists():
+            shutil.copy(folder / name, to)
+
+
 def of_job(folder: pathlib.Path) -> Optional[Bookkeeping]:
     """What the images and the lines of FOLDER/job.db say, which no process has open; None if there is no job. Each answer is what the lines
-    say, and so is the last image."""
-    with tempfile.TemporaryDirectory() as copy:  # SQLite may write to what it opens, and the store has to find it as it was left
-        for name in ("job.db", "job.db-wal"):
-            if (folder / name).exists():
-                shutil.copy(folder / name, copy)
-        with contextlib.closing(sqlite3.connect(pathlib.Path(copy) / "job.db")) as database:
-            if not database.execute("SELECT * FROM sqlite_schema").fetchall():
-                return None
-            images = database.execute("SELECT place, text FROM image ORDER BY place").fetchall()
-            rows = database.execute("SELECT place, line, what, a, b, files FROM log WHERE place > ? ORDER BY place", images[0][:1]).fetchall()
+    say, and so is the last image. SQLite may write to the file."""
+    with contextlib.closing(sqlite3.connect(folder / "job.db")) as database:
+        if not database.execute("SELECT * FROM sqlite_schema").fetchall():
+            return None
+        images = database.execute("SELECT place, text FROM image ORDER BY place").fetchall()
+        rows = database.execute("SELECT place, line, what, a, b, files FROM log WHERE place > ? ORDER BY place", images[0][:1]).fetchall()
     books = Bookkeeping(images[0][1])
     for place, (row, line, *answer) in enumerate(rows, images[0][0] + 1):
         same(row, place, "the place of a call")

@@ -9,6 +9,7 @@ import os
 import pathlib
 import signal
 import sys
+import tempfile
 import threading
 import time
 from typing import Any, Callable, Dict, Optional, Sequence, Set, Tuple
@@ -43,11 +44,13 @@ class Stored:
         """Opens FOLDER/job.db, or makes it if the storage has no file. Compares the coordinator with what the lines of its calls say. The process is
         killed after so many calls of its own, once the last of them is committed; 0: it is not."""
         self.folder, self.dies_after = folder, dies_after
-        books = bookkeeping.of_job(folder)
-        try:
-            self.job = Store(folder / "job.db", Settings(**settings), shape, storage=storage.path, create=True, image_calls=IMAGE_CALLS)
-        except StoreError as fault:
-            raise SystemExit(f"the job is not opened: {fault}") from None
+        with tempfile.TemporaryDirectory() as copy:
+            bookkeeping.copy_job(folder, copy)
+            try:
+                self.job = Store(folder / "job.db", Settings(**settings), shape, storage=storage.path, create=True, image_calls=IMAGE_CALLS)
+            except StoreError as fault:
+                raise SystemExit(f"the job is not opened: {fault}") from None
+            books = bookkeeping.of_job(pathlib.Path(copy))
         self.first_file = self.job.report.epoch << 32
         self.calls = itertools.count(1)
         self.made: Dict[int, Reply] = {}  # replies of this process, by the places of their calls

@@ -200,7 +200,7 @@ class StoreTest {
     void callersInThreads() throws Exception {
         ExecutorService threads = Executors.newCachedThreadPool();
         Store job = open(creates());
-        for (Future<Void> it : started(threads, 16, () -> {
+        for (Future<Object> it : started(threads, 16, () -> {
             for (int nth = 0; nth < 25; nth++) {
                 job.savepoint();
             }
