@@ -74,15 +74,20 @@ void storage_get(const struct storage *storage, uint64_t number, const char *fol
     CHECK(fclose(to) == 0, "%s can't be written", path);
 }
 
-bool storage_has(const struct storage *storage, uint64_t number) {
-    bool is = faccessat(storage->folder, name_of(number).text, F_OK, 0) == 0;
-    CHECK(is || errno == ENOENT, "file %" PRIu64 " can't be looked at: %s", number, strerror(errno));
+static bool is_there(const struct storage *storage, const char *name) {
+    bool is = faccessat(storage->folder, name, F_OK, 0) == 0;
+    CHECK(is || errno == ENOENT, "%s can't be looked at: %s", name, strerror(errno));
     return is;
+}
+
+bool storage_has(const struct storage *storage, uint64_t number) {
+    return is_there(storage, name_of(number).text);
 }
 
 void storage_delete(const struct storage *storage, uint64_t number) {
     if (unlinkat(storage->folder, name_of(number).text, 0) != 0) {
         CHECK(errno == ENOENT, "file %" PRIu64 " can't be deleted: %s", number, strerror(errno));
+        CHECK(is_there(storage, ".relkvanu-job"), "the storage has no marker: it is not the job's, or not mounted");
     }
 }
 

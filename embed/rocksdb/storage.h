@@ -1,5 +1,6 @@
 /* The storage folder: state files, each named by its number. A file's first line says which of its database's files it is. The store holds
- * the folder open, so all of them are in the folder that was there at the start, even if another one is mounted over it. The store also keeps its marker. */
+ * the folder open, so all of them are in the folder that was there at the start, even if another one is mounted over it. Its marker says whose
+ * folder it is: in one that is not mounted any more every file is missing. */
 #ifndef ENGINE_STORAGE_H
 #define ENGINE_STORAGE_H
 
@@ -25,7 +26,7 @@ void storage_get(const struct storage *storage, uint64_t number, const char *fol
 
 bool storage_has(const struct storage *storage, uint64_t number);
 
-/* A file that does not exist counts as deleted. The store looks for the marker before it reports one. */
+/* A file that does not exist counts as deleted. Without the marker of the store none does: the process ends. */
 void storage_delete(const struct storage *storage, uint64_t number);
 
 /* Calls for each state file. */
