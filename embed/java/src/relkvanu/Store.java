@@ -162,6 +162,24 @@ public final class Store implements AutoCloseable {
         return isFirst;
     }
 
+    /** The outcome of the numbers from a place on, in the order of store_jni.c, and of the words from another. */
+    private static StoreOutcome outcome(long[] numbers, int at, long[] words, int buffer) {
+        long[] answer = Arrays.copyOfRange(numbers, at, at + 4);
+        if (answer[0] == NOT_MADE) {
+            return new StoreOutcome.NotMade(new CoordinatorException.NoMemory()); // a call before it ran out of memory
+        }
+        try {
+            Answers.check(answer);
+        } catch (CoordinatorException.Unknown other) {
+            throw other;
+        } catch (CoordinatorException why) {
+            return new StoreOutcome.NotMade(why);
+        }
+        int what = (int) answer[1];
+        Reply reply = what == Header.TAKEN ? new Reply.Taken(Arrays.copyOfRange(words, buffer, buffer + (int) answer[2])) : Answers.reply(what, answer[2], answer[3]);
+        return new StoreOutcome.Made(reply, numbers[at + 6], numbers[at + 4] == 0 ? Optional.empty() : Chosen.of((int) numbers[at + 4], numbers[at + 5]));
+    }
+
     /**
      * Makes 1 to 4096 calls, in this order and with no other in between, and returns once they are committed. A refused one changes nothing, and
      * the next ones are made. After one without memory the later ones are not made.
@@ -177,7 +195,7 @@ public final class Store implements AutoCloseable {
         List<StoreOutcome> outcomes = new ArrayList<>();
         int at = 0;
         for (StoreCall it : own) {
-            outcomes.add(StoreOutcome.of(numbers, outcomes.size() * StoreNative.CALL, words, it.buffer(at)));
+            outcomes.add(outcome(numbers, outcomes.size() * StoreNative.CALL, words, it.buffer(at)));
             at = it.after(at);
         }
         return outcomes;
@@ -353,7 +371,7 @@ public final class Store implements AutoCloseable {
         } finally {
             leave();
         }
-        return Optional.of(StoreOutcome.of(outcome, 0, outcome, 0).made());
+        return Optional.of(outcome(outcome, 0, outcome, 0).made());
     }
 
     /**

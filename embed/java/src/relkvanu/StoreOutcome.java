@@ -1,6 +1,5 @@
 package relkvanu;
 
-import java.util.Arrays;
 import java.util.Optional;
 
 /** What became of a call of a list: it was made and is committed, or it was not made. */
@@ -34,23 +33,5 @@ public sealed interface StoreOutcome {
         public Made made() {
             throw why;
         }
-    }
-
-    /** The outcome of the numbers from a place on, in the order of store_jni.c, and of the words from another. */
-    static StoreOutcome of(long[] numbers, int at, long[] words, int buffer) {
-        long[] answer = Arrays.copyOfRange(numbers, at, at + 4);
-        if (answer[0] == Store.NOT_MADE) {
-            return new NotMade(new CoordinatorException.NoMemory()); // a call before it ran out of memory
-        }
-        try {
-            Answers.check(answer);
-        } catch (CoordinatorException.Unknown other) {
-            throw other;
-        } catch (CoordinatorException why) {
-            return new NotMade(why);
-        }
-        int what = (int) answer[1];
-        Reply reply = what == Header.TAKEN ? new Reply.Taken(Arrays.copyOfRange(words, buffer, buffer + (int) answer[2])) : Answers.reply(what, answer[2], answer[3]);
-        return new Made(reply, numbers[at + 6], numbers[at + 4] == 0 ? Optional.empty() : Chosen.of((int) numbers[at + 4], numbers[at + 5]));
     }
 }
