@@ -120,6 +120,19 @@ static void an_older_copy(void) {
     CHECK(report.epoch == 3, "epoch %" PRIu64, report.epoch);
 }
 
+/* On a full disk a job is recovered, so that its discarder can make room, and a new one is not made. */
+static void a_full_storage(void) {
+    relkvanu_store_options options = storage_options(RELKVANU_STORE_CREATE, 0);
+    CHECK(symlink("/dev/full", in("storage/.relkvanu-job.new")) == 0, "a link");
+    opens(&options, RELKVANU_STORE_FULL);
+    unlink(in("storage/.relkvanu-job.new"));
+    relkvanu_store_close(opens(&options, RELKVANU_STORE_OK));
+    CHECK(symlink("/dev/full", in("storage/.relkvanu-job.new")) == 0, "a link");
+    uint64_t epoch = report.epoch;
+    relkvanu_store_close(opens(&options, RELKVANU_STORE_OK));
+    CHECK(report.epoch == epoch + 1 && has("storage/.relkvanu-job"), "epoch %" PRIu64, report.epoch);
+}
+
 /* Earlier versions wrote the first line alone. */
 static void a_marker_without_an_epoch(void) {
     relkvanu_store_options options = storage_options(RELKVANU_STORE_CREATE, 0);
@@ -177,5 +190,5 @@ static void a_sweep(void) {
 }
 
 const struct test storage_cases[] = {{"a_folder_with_files", a_folder_with_files}, {"not_mounted", not_mounted}, {"of_another_job", of_another_job},
-    {"named_or_not", named_or_not}, {"one_folder_for_all", one_folder_for_all}, {"before_the_marker", before_the_marker}, {"an_older_copy", an_older_copy},
+    {"named_or_not", named_or_not}, {"one_folder_for_all", one_folder_for_all}, {"before_the_marker", before_the_marker}, {"an_older_copy", an_older_copy}, {"a_full_storage", a_full_storage},
     {"a_marker_without_an_epoch", a_marker_without_an_epoch}, {"a_sweep", a_sweep}, {NULL, NULL}};
