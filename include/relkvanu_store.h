@@ -108,9 +108,8 @@ typedef struct {
  * *store is NULL unless the status is RELKVANU_STORE_OK. The lock is kept until relkvanu_store_close or the end of the process.
  *
  * With options.storage a new job puts its marker, the file .relkvanu-job (.relkvanu-job.new while it is written), into the folder, and a recovery
- * looks for it. So it
- * refuses a folder of another job and one that is not mounted. The marker names the last opening, so an older copy of PATH is refused too: it
- * does not know the files of later calls. */
+ * looks for it. So it refuses a folder of another job and one that is not mounted. The marker names the last opening, so an older copy of
+ * PATH is refused too: it does not know the files of later calls. */
 int relkvanu_store_open(relkvanu_store **store, const char *path, const relkvanu_store_options *options, relkvanu_store_report *report);
 
 /* Waits for the group under way and for each submit, makes an image, so that the next opening replays nothing, and closes. NULL is
