@@ -38,7 +38,7 @@ typedef struct relkvanu_store relkvanu_store;
 #define RELKVANU_STORE_NOT_A_STORE 6  /* open: another kind of file, or one of a later version */
 #define RELKVANU_STORE_DIFFERS 7      /* open: a call of the log gets another answer, or is refused. The message says which */
 #define RELKVANU_STORE_DAMAGED 8      /* open: an image, a call or the file is damaged. The message says which */
-#define RELKVANU_STORE_STORAGE 9      /* open: the storage folder is not that of this job, or a new job's has files */
+#define RELKVANU_STORE_STORAGE 9      /* open: the storage folder is not that of this job, or a new job's has files, or PATH is an older copy */
 #define RELKVANU_STORE_CLOSED 10      /* an earlier commit failed */
 #define RELKVANU_STORE_FORKED 11      /* this process is a child of the one that opened the store */
 #define RELKVANU_STORE_TIMED_OUT 12   /* await: the time is up */
@@ -107,8 +107,9 @@ typedef struct {
 /* Makes or recovers the job at path. A recovery opens the last image, makes the calls after it again, and compares each answer.
  * *store is NULL unless the status is RELKVANU_STORE_OK. The lock is kept until relkvanu_store_close or the end of the process.
  *
- * With options.storage a new job puts its marker, the file .relkvanu-job, into the folder, and a recovery looks for it. So it
- * refuses a folder of another job and one that is not mounted. */
+ * With options.storage a new job puts its marker, the file .relkvanu-job (.relkvanu-job.new while it is written), into the folder, and a recovery
+ * looks for it. So it refuses a folder of another job and one that is not mounted. The marker names the last opening, so an older copy of
+ * PATH is refused too: it does not know the files of later calls. */
 int relkvanu_store_open(relkvanu_store **store, const char *path, const relkvanu_store_options *options, relkvanu_store_report *report);
 
 /* Waits for the group under way and for each submit, makes an image, so that the next opening replays nothing, and closes. NULL is

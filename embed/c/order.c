@@ -1,17 +1,14 @@
-/* A library to be loaded before the C library into the processes of an engine: shows in which order they sync files and write their log,
- * and can make a sync of the log fail.
+/* A library to be loaded before the C library into the processes of an engine: shows in which order they sync files and commit
+ * acknowledgements.
  *
- * ORDER_TRACE names a file that gets a line `sync PATH` after each sync that succeeded, and before each write to a file named log or
- * log.new what is written, if these are whole lines. Each is one write to its end, so the lines of several processes are in the order
- * of time.
- * ORDER_FAIL=N makes the Nth sync of a log in a process fail. embed/order reads the trace. */
+ * ORDER_TRACE names a file that gets a line `sync PATH` after each sync that succeeded, and the line of each acknowledgement before the durable
+ * coordinator gives it to SQLite. Each is one write to the trace's end, so the lines of several processes are in the order of
+ * time. embed/order reads the trace. */
 #define _GNU_SOURCE
 #include <dlfcn.h>
 #include <errno.h>
 #include <fcntl.h>
 #include <limits.h>
-#include <stdatomic.h>
-#include <stdbool.h>
 #include <stdio.h>
 #include <stdlib.h>
 #include <string.h>
@@ -19,7 +16,7 @@
 #include <unistd.h>
 
 typedef int sync_function(int file);
-typedef ssize_t write_function(int file, const void *bytes, size_t len);
+typedef int bind_function(void *statement, int place, const char *text, int len, void (*destroy)(void *));
 
 struct path {
     char text[PATH_MAX + 1];
@@ -35,11 +32,6 @@ static struct path path_of(int file) {
     return path;
 }
 
-static bool is_log(const struct path *path) {
-    const char *slash = strrchr(path->text, '/');
-    return slash != NULL && (strcmp(slash, "/log") == 0 || strcmp(slash, "/log.new") == 0);
-}
-
 static void tell(const char *word, const void *bytes, size_t len) {
     const char *trace = getenv("ORDER_TRACE");
     int kept = errno, to = trace != NULL ? open(trace, O_CREAT | O_WRONLY | O_APPEND | O_CLOEXEC, 0600) : -1;
@@ -53,19 +45,9 @@ static void tell(const char *word, const void *bytes, size_t len) {
     errno = kept;
 }
 
-static bool has_to_fail(const struct path *path) {
-    static atomic_long logs;
-    const char *nth = getenv("ORDER_FAIL");
-    return nth != NULL && is_log(path) && atomic_fetch_add(&logs, 1) + 1 == atol(nth);
-}
-
 static int synced(int file, const char *name) {
     sync_function *real = (sync_function *)dlsym(RTLD_NEXT, name);
     struct path path = path_of(file);
-    if (has_to_fail(&path)) {
-        errno = EIO;
-        return -1;
-    }
     int result = real(file);
     if (result == 0) {
         tell("sync ", path.text, strlen(path.text));
@@ -81,11 +63,15 @@ int fdatasync(int file) {
     return synced(file, "fdatasync");
 }
 
-ssize_t write(int file, const void *bytes, size_t len) {
-    write_function *real = (write_function *)dlsym(RTLD_NEXT, "write");
-    struct path path = path_of(file);
-    if (is_log(&path) && len != 0 && ((const char *)bytes)[len - 1] == '\n') {
-        tell("", bytes, len);
+/* SQLite may have been loaded after the program's own libraries. */
+int sqlite3_bind_text(void *statement, int place, const char *text, int len, void (*destroy)(void *)) {
+    void *sqlite = dlopen("libsqlite3.so.0", RTLD_NOW | RTLD_NOLOAD);
+    bind_function *real = sqlite != NULL ? (bind_function *)dlsym(sqlite, "sqlite3_bind_text") : NULL;
+    if (real == NULL) {
+        abort();
     }
-    return real(file, bytes, len);
+    if (len > 4 && strncmp(text, "ack ", 4) == 0) {
+        tell("", text, (size_t)len);
+    }
+    return real(statement, place, text, len, destroy);
 }

@@ -1,14 +1,28 @@
-"""What the lines of a log say by docs/RULES.md: a model of the coordinator with sets and lists, which shares nothing with the library. It
-reads the lines itself, and returns the answers to the driver's calls."""
+"""What the lines of a job's log say by docs/RULES.md: a model of the coordinator with sets and lists, which shares nothing with the library. It
+begins with the earlier image of the job (docs/IMAGE.md), reads the lines after it itself, and returns the answers that the calls must have."""
+import contextlib
+import json
+import pathlib
+import shutil
+import sqlite3
+import struct
 from collections import Counter
-from dataclasses import dataclass, field
+from dataclasses import dataclass, field, fields
 from typing import Any, Callable, Dict, List, Optional, Sequence, Set, Tuple
 
 from relkvanu import (
-    AckCompleted, AckLate, AckPending, Cancelled, Chosen, Coordinator, DeclineAborted, DeclineFailed, DeclineLate, Deleted, Failed,
-    FileCounts, HeldAtOnce, HeldInterval, HeldPause, Kind, Live, Mode, Reply, RestoredCheckpoint, RestoredFresh, Standing, Taken,
-    Triggered, Undeleted,
+    AckCompleted, AckLate, AckPending, Cancelled, Chosen, DeclineAborted, DeclineFailed, DeclineLate, Deleted, Failed, FileCounts, HeldAtOnce,
+    HeldInterval, HeldPause, Kind, Live, Mode, Reply, RestoredCheckpoint, RestoredFresh, Standing, Taken, Triggered, Undeleted, header,
 )
+
+# What a row of the log says that its call was answered.
+REPLIES: Dict[int, Any] = {
+    header.TICK_TRIGGERED: Triggered, header.TICK_HELD_INTERVAL: HeldInterval, header.TICK_HELD_AT_ONCE: HeldAtOnce,
+    header.TICK_HELD_PAUSE: HeldPause, header.TICK_FAILED: Failed, header.ACK_PENDING: AckPending, header.ACK_COMPLETED: AckCompleted,
+    header.ACK_LATE: AckLate, header.DECLINE_ABORTED: DeclineAborted, header.DECLINE_FAILED: DeclineFailed, header.DECLINE_LATE: DeclineLate,
+    header.RESTORED_CHECKPOINT: RestoredCheckpoint, header.RESTORED_FRESH: RestoredFresh, header.CANCELLED: Cancelled,
+    header.DELETED: Deleted, header.UNDELETED: Undeleted,
+}
 
 
 @dataclass
@@ -28,20 +42,31 @@ class Record:
         return Counter(self.pins) + Counter(file for files in self.acks.values() for file in files)
 
 
-class Bookkeeping:
-    def __init__(self) -> None:
-        self.records: Dict[int, Record] = {}  # the live ones, in the order of their numbers
-        self.next, self.failures, self.mode = 1, 0, Mode.RUNNING
-        self.completed: Optional[int] = None
-        self.waiting: List[int] = []
-        self.taken: Set[int] = set()
-        self.shape: Tuple[int, ...] = ()
-        self.latest = self.due = 0
+def record_of(image: Dict[str, Any]) -> Record:
+    acks = {f"{ack['vertex']}.{ack['index']}": ack["files"] for ack in image["acks"]}
+    return Record(tuple(image["shape"]), image["started"], set(image["pins"]), acks)
 
-    def follow(self, line: bytes) -> Optional[Reply]:
+
+class Bookkeeping:
+    def __init__(self, image: str) -> None:
+        """What an image says."""
+        it = json.loads(image)
+        config, clock, outbox = it["opening"]["config"], it["clock"], it["outbox"]
+        self.pause, self.timeout, self.tolerable, self.retained = (config[name] for name in ("pause", "timeout", "tolerable", "retained"))
+        self.wait, self.at_once, self.keep = max(config["interval"], self.pause), 1 if self.pause else config["at_once"], config["keep_on_cancel"]
+        self.next, self.failures, self.mode, self.shape = it["next"], it["failures"], Mode[it["mode"].upper()], tuple(it["shape"])
+        self.completed: Optional[int] = clock["completed"]
+        self.latest, self.due = clock["latest"], clock["due"]
+        self.waiting: List[int] = outbox["waiting"]
+        self.taken: Set[int] = set(outbox["taken"])
+        self.records = {of["id"]: record_of(of) for of in it["records"]}  # the live ones, in the order of their numbers
+        self.answers: Dict[int, Reply] = {}  # of the calls that it has followed, by their places
+
+    def follow(self, line: str) -> Reply:
         """Does what a line says, and returns the answer that its call must have."""
-        name, *words = line.decode().split(" ")
-        return getattr(self, "on_" + name)(*words) if name != "#" else None
+        name, *words = line.split(" ")
+        reply: Reply = getattr(self, "on_" + name)(*words)
+        return reply
 
     def uses(self) -> "Counter[int]":
         return sum((record.files() for record in self.records.values()), Counter())
@@ -67,17 +92,6 @@ class Bookkeeping:
     def drop(self, ids: Sequence[int]) -> None:
         for id in ids:
             del self.records[id]
-
-    def on_config(self, interval: str, pause: str, at_once: str, timeout: str, tolerable: str, retained: str, on_cancel: str) -> None:
-        self.wait, self.pause, self.timeout = max(int(interval), int(pause)), int(pause), int(timeout)
-        self.at_once = 1 if self.pause else int(at_once)
-        self.tolerable, self.retained, self.keep = int(tolerable), int(retained), on_cancel == "keep"
-
-    def on_job(self, *shape: str) -> None:
-        self.shape = tuple(map(int, shape))
-
-    def on_start(self, now: str) -> None:
-        self.due = self.seen(now) + self.wait
 
     def on_tick(self, now: str) -> Reply:
         moment = self.seen(now)
@@ -173,7 +187,41 @@ class Bookkeeping:
         return Standing.ENDED
 
 
-def check(books: Bookkeeping, core: Coordinator) -> None:
+def reply_of(what: int, a: int, b: int, files: bytes) -> Reply:
+    if what == header.TAKEN:
+        return Taken(struct.unpack(f"={len(files) // 8}Q", files))
+    kind = REPLIES[what]
+    numbers = (b, a) if kind is RestoredCheckpoint else (a, b)
+    reply: Reply = kind(*numbers[: len(fields(kind))])
+    return reply
+
+
+def copy_job(folder: pathlib.Path, to: str) -> None:
+    """Copies a job that no process has open."""
+    for name in ("job.db", "job.db-wal"):
+        if (folder / name).exists():
+            shutil.copy(folder / name, to)
+
+
+def of_job(folder: pathlib.Path) -> Optional[Bookkeeping]:
+    """What the images and the lines of FOLDER/job.db say, which no process has open; None if there is no job. Each answer is what the lines
+    say, and so is the last image. SQLite may write to the file."""
+    with contextlib.closing(sqlite3.connect(folder / "job.db")) as database:
+        if not database.execute("SELECT * FROM sqlite_schema").fetchall():
+            return None
+        images = database.execute("SELECT place, text FROM image ORDER BY place").fetchall()
+        rows = database.execute("SELECT place, line, what, a, b, files FROM log WHERE place > ? ORDER BY place", images[0][:1]).fetchall()
+    books = Bookkeeping(images[0][1])
+    for place, (row, line, *answer) in enumerate(rows, images[0][0] + 1):
+        same(row, place, "the place of a call")
+        books.answers[place] = reply_of(*answer)
+        same(books.answers[place], books.follow(line), f"the answer of call {place}, {line}")
+        for _, image in images[1:] if place == images[-1][0] else ():
+            same({**vars(Bookkeeping(image)), "answers": books.answers}, vars(books), f"the image after call {place}")
+    return books
+
+
+def check(books: Bookkeeping, core: Any) -> None:
     """Each read of the coordinator says what the books say."""
     uses = books.uses()
     same(core.mode(), books.mode, "the mode")
@@ -191,7 +239,7 @@ def check(books: Bookkeeping, core: Coordinator) -> None:
     same({file: uses[file] for file in uses}, {file: core.count(file).uses for file in uses}, "the uses")
 
 
-def check_record(core: Coordinator, id: int, record: Record) -> None:
+def check_record(core: Any, id: int, record: Record) -> None:
     same(core.pins_of(id), tuple(sorted(record.pins)), f"the pins of {id}")
     same(core.missing(id), None if record.is_done() else sum(record.shape) - len(record.acks), f"what {id} misses")
     for vertex, tasks in enumerate(record.shape):
@@ -200,7 +248,7 @@ def check_record(core: Coordinator, id: int, record: Record) -> None:
             same(core.files_of(id, vertex, index), None if files is None else tuple(files), f"the files of {id} {vertex}.{index}")
 
 
-def live(core: Coordinator) -> List[Live]:
+def live(core: Any) -> List[Live]:
     records, next = [], 0
     while (record := core.live_from(next)) is not None:
         records.append(record)

@@ -1,5 +1,6 @@
-"""job.py [OPTIONS] SECONDS [SEED]: a keyed count as actors on worker processes. The coordinator is in the driver, which keeps a log and
-goes on after a driver that was killed. Or it is in the service that --service names, which may be killed and started again meanwhile.
+"""job.py [OPTIONS] SECONDS [SEED]: a keyed count as actors on worker processes. The coordinator is in the driver, with durable calls
+(relkvanu.store), so that a driver goes on after one that was killed. Or it is in the service that --service names, which may be killed and
+started again meanwhile.
 
 The job has three vertices of different parallelism. Each reads the whole stream and counts its part of the keys. A
 worker process is killed in the middle of a checkpoint, again and again. In turn the driver declines for the lost task, or the
@@ -20,7 +21,7 @@ from typing import Any, Callable, Dict, Iterable, List, Sequence, Tuple
 
 from channel import Channel
 from cluster import Cluster, wait_for
-from relkvanu import AckCompleted, DeclineFailed, Discarder, Failed, Patience, Refused, Reply, RestoredCheckpoint
+from relkvanu import AckCompleted, DeclineFailed, Failed, Refused, Reply, RestoredCheckpoint
 from storage import Storage
 from stream import PARTITIONS, VERTICES, State, counted, read
 
@@ -38,23 +39,21 @@ class Job:
         self.chance = random.Random(seed)
         self.lock = threading.RLock()  # of the channels and what is counted; the coordinator has its own
         self.channels: List[Channel] = []
-        self.next_file = coordinator.files_end
+        self.next_file = coordinator.first_file
         self.stream = threading.Lock()  # of what is put: a barrier comes behind the same records in each queue
         self.ends = dict.fromkeys(range(PARTITIONS), 0)  # the source's offsets
         self.cuts: Dict[int, Dict[int, int]] = {}  # those at the barriers of a record
         self.replies: "Counter[str]" = Counter()
-        self.kills = 0
+        self.kills = self.deleted = self.undeleted = 0
         self.has_failed, self.is_over = threading.Event(), threading.Event()
         self.completed = 0  # checkpoints since the tasks were started
         self.threads = [threading.Thread(target=loop, args=(self,), daemon=True) for loop in (coordinator.run, source)]
-        coordinator.recover(storage)  # before the discarder fetches anything
-        patience = Patience(batch=16, attempts=100, first_wait=0.01, longest_wait=0.05, idle=0.02)
-        self.discarder = Discarder(self.coordinator, self.discard, patience)
+        coordinator.recover(storage)
+        coordinator.start_discarder(self.discard)
 
     def new_files(self, most: int) -> Sequence[int]:
         with self.lock:
             self.next_file += most
-            self.coordinator.reserve(self.next_file)
             return range(self.next_file - most, self.next_file)
 
     def delete(self, files: Sequence[int]) -> None:
@@ -64,8 +63,11 @@ class Job:
     def discard(self, file: int) -> None:
         """Deletes a file. A part of the deletions fails."""
         with self.lock:
-            if self.chance.random() < 0.125:
-                raise PermissionError(f"file {file} is not to be deleted yet")
+            fails = self.chance.random() < 0.125
+            self.undeleted += fails
+            self.deleted += not fails
+        if fails:
+            raise PermissionError(f"file {file} is not to be deleted yet")
         self.storage.delete(file)
 
     def called(self, call: Callable[..., Reply], *arguments: Any) -> Reply:
@@ -190,7 +192,7 @@ class Job:
         self.is_over.set()
         for thread in self.threads:
             thread.join()
-        self.discarder.stop()
+        self.coordinator.stop()
         channels = self.channels
         self.stop_tasks()
         records = self.check_counts(channels)
@@ -221,7 +223,7 @@ class Job:
         """The folder has exactly the files that are in use and those that wait for deletion: how many each. None is taken, as the
         discarder has ended."""
         names = self.storage.numbers()
-        used = self.coordinator.used(range(1, self.next_file))
+        used = self.coordinator.used()
         waiting = set(self.coordinator.take(1 << 16).files)
         assert names == used | waiting, (names - used - waiting, (used | waiting) - names)
         self.delete_taken(waiting)
@@ -239,12 +241,12 @@ class Job:
         assert not self.storage.numbers()
 
     def report(self, records: int, used: int, waiting: int) -> None:
-        told, discarded = self.replies, self.discarder.told()
+        told = self.replies
         restores = told["RestoredCheckpoint"] + told["RestoredFresh"]
         print(f"dask: {records} records of {PARTITIONS} partitions counted exactly by {VERTICES} vertices; {told['AckCompleted']} checkpoints completed")
         print(f"dask: {self.kills} worker processes killed in the middle of a checkpoint; the job failed {told['DeclineFailed']} times by")
         print(f"dask: a decline, {told['Failed']} times as a record expired; {restores} restores, in the shapes {LARGE} and {SMALL}")
-        print(f"dask: {told['AckLate']} late acknowledgements; {discarded.deleted} files deleted, {discarded.failed} deletions failed")
+        print(f"dask: {told['AckLate']} late acknowledgements; {self.deleted} files deleted, {self.undeleted} deletions failed")
         print(f"dask: the folder had {used + waiting} files: {used} in use, {waiting} for deletion")
 
 
@@ -268,8 +270,8 @@ def options() -> argparse.Namespace:
     parser.add_argument("--job", metavar="NAME", default="dask", help="a job that the service does not have yet")
     parser.add_argument("--storage", metavar="FOLDER", type=pathlib.Path, help="where the files lie, and stay; default: a folder that goes, and the job is cancelled")
     parser.add_argument("--answered", metavar="FILE", type=pathlib.Path, help="gets the calls that the service answered, each with its answer")
-    parser.add_argument("--log", metavar="FOLDER", type=pathlib.Path, help="where the driver's log lies, and stays; default: a folder that goes")
-    parser.add_argument("--die", metavar=("PLACE", "NTH"), nargs=2, help="where the driver kills itself (log.py)")
+    parser.add_argument("--durable", metavar="FOLDER", type=pathlib.Path, help="where the coordinator's file job.db lies, and stays; default: a folder that goes")
+    parser.add_argument("--dies-after", metavar="NTH", type=int, default=0, help="the driver kills itself after its NTH call is committed")
     return parser.parse_args()
 
 
@@ -279,13 +281,9 @@ def coordinator_of(given: argparse.Namespace, folder: pathlib.Path, storage: Sto
         from over_service import OverService
 
         return OverService(given.service, given.job, SETTINGS, LARGE)
-    from log import Death, Log, Place
-    from logged import Logged
+    from stored import Stored
 
-    kept = folder / "kept"
-    kept.mkdir(exist_ok=True)
-    death = Death(Place(given.die[0]), int(given.die[1])) if given.die else Death()
-    return Logged(Log(folder / "log", kept, death), storage, SETTINGS, LARGE)
+    return Stored(given.durable or folder, storage, SETTINGS, LARGE, given.dies_after)
 
 
 def main() -> None:
@@ -295,9 +293,7 @@ def main() -> None:
         path = given.storage or folder / "storage"
         path.mkdir(exist_ok=True)
         storage = Storage(path)
-        storage.lock()
-        coordinator = coordinator_of(given, given.log or folder, storage)
-        coordinator.check(storage)
+        coordinator = coordinator_of(given, folder, storage)
         with Cluster(WORKERS) as cluster:
 
             def end_at_fault(fault: threading.ExceptHookArgs) -> None:
@@ -312,7 +308,7 @@ def main() -> None:
             job.finish()
             if not given.storage:
                 job.cancel()
-        coordinator.check(storage)
+        coordinator.close()
     if given.answered:
         given.answered.write_text(json.dumps(coordinator.answered))
 

@@ -1,5 +1,6 @@
-"""kills.py FOLDER SECONDS KILLS [SEED]: the job of job.py, in an empty folder. SIGKILL ends its driver this many times, in turn at each
-place of log.py and at any moment. The next one may run to its end. Each driver opens the log of the one before, and checks what has to hold (logged.py)."""
+"""kills.py FOLDER SECONDS KILLS [SEED]: the job of job.py, in an empty folder. SIGKILL ends its driver this many times, in turn in a write of its durable
+coordinator, before and after it (embed/store/tests/shim.c, which has to be loaded), after a call is committed, and at any moment. The next one may
+run to its end. Each driver opens the job of the one before, and checks what has to hold (stored.py)."""
 import ctypes
 import os
 import pathlib
@@ -8,16 +9,14 @@ import signal
 import subprocess
 import sys
 import time
-from typing import IO, List, Optional
+from typing import IO, Dict, List, Optional, Tuple
 
-from log import Place, whole_log
-from bookkeeping import Bookkeeping
+import bookkeeping
 from storage import Storage
 
 HERE = pathlib.Path(__file__).resolve().parent
-PLACES: List[Optional[Place]] = [*Place, None]  # None: from outside
-OF_A_CUT = {Place.HALF_A_LOG, Place.AFTER_A_LOG, Place.AFTER_A_RENAME, Place.AFTER_A_CUT}
-MOST_CALLS, MOST_CUTS, MOST_SECONDS = 120, 2, 8.0
+PLACES = ["before a write", "after a write", "after a call", None]  # None: from outside
+MOST_WRITES, MOST_CALLS, MOST_SECONDS = 400, 120, 8.0
 LONGEST = 300  # seconds, on a busy machine
 LIBC = ctypes.CDLL(None)
 PR_SET_PDEATHSIG, PR_SET_CHILD_SUBREAPER = 1, 36
@@ -30,9 +29,9 @@ def end_with_parent() -> None:
 class Driver:
     """A driver with its workers: a group of processes. It ends with this one, and they with it."""
 
-    def __init__(self, folder: pathlib.Path, seconds: float, seed: int, told: IO[str], death: List[str]) -> None:
-        words = [str(seconds), str(seed), "--log", str(folder / "log"), "--storage", str(folder / "storage"), *death]
-        environment = {**os.environ, "TMPDIR": str(folder / "temporary")}
+    def __init__(self, folder: pathlib.Path, seconds: float, seed: int, told: IO[str], words: List[str], shim: Dict[str, str]) -> None:
+        words = [str(seconds), str(seed), "--durable", str(folder), "--storage", str(folder / "storage"), *words]
+        environment = {**os.environ, "TMPDIR": str(folder / "temporary"), "STORE_IN": str(folder / "job.db"), **shim}
         self.process = subprocess.Popen(
             [sys.executable, str(HERE / "job.py"), *words], env=environment, stdout=told, stderr=told,
             start_new_session=True, preexec_fn=end_with_parent,
@@ -60,12 +59,19 @@ class Driver:
             return
 
 
+def death_at(place: Optional[str], chance: random.Random) -> Tuple[List[str], Dict[str, str]]:
+    """The options and the environment of a driver that is killed at the place."""
+    if place == "after a call":
+        return ["--dies-after", str(chance.randint(1, MOST_CALLS))], {}
+    nth = {"STORE_DIE": str(chance.randint(1, MOST_WRITES))} if place else {}
+    return [], {**nth, "STORE_DIE_AFTER": "1"} if place == "after a write" else nth
+
+
 def run_and_kill(folder: pathlib.Path, seed: int, nth: int, chance: random.Random) -> None:
     place = PLACES[nth % len(PLACES)]
-    most = MOST_CUTS if place in OF_A_CUT else MOST_CALLS
-    death = ["--die", place.value, str(chance.randint(1, most))] if place else []
+    words, shim = death_at(place, chance)
     with open(folder / "told", "w+", encoding="utf-8") as told:
-        driver = Driver(folder, 3600, seed, told, death)
+        driver = Driver(folder, 3600, seed, told, words, shim)
         status = driver.end(LONGEST if place else chance.uniform(0.5, MOST_SECONDS))
         if status is None:
             driver.kill()
@@ -77,33 +83,32 @@ def run_and_kill(folder: pathlib.Path, seed: int, nth: int, chance: random.Rando
 
 
 def run_to_the_end(folder: pathlib.Path, seconds: float, seed: int) -> None:
-    driver = Driver(folder, seconds, seed, sys.stdout, [])
+    driver = Driver(folder, seconds, seed, sys.stdout, [], {})
     status = driver.end(seconds + LONGEST)
     driver.end_workers()
     assert status == 0, f"the last driver ended with {status}"
 
 
 def check_folder(folder: pathlib.Path) -> int:
-    """The files that all lines leave in use or for deletion are those of the folder, and no other: how many lines."""
-    books, lines = Bookkeeping(), whole_log(folder / "log/log", folder / "log/kept")
-    for line in lines:
-        books.follow(line)
+    """The files that the job's lines leave in use or for deletion are those of the folder, and no other: how many lines are left of the log."""
+    books = bookkeeping.of_job(folder)
+    assert books is not None
     names = Storage(folder / "storage").numbers()
     assert names == books.known(), (names - books.known(), books.known() - names)
-    return len(lines)
+    return len(books.answers)
 
 
 def main(name: str, seconds: str, kills: str, seed: str = "1") -> None:
     LIBC.prctl(PR_SET_CHILD_SUBREAPER, 1, 0, 0, 0)
     chance = random.Random(int(seed))
     folder = pathlib.Path(name)
-    for part in ("log", "storage", "temporary"):
+    for part in ("storage", "temporary"):
         (folder / part).mkdir()
     for nth in range(int(kills)):
         run_and_kill(folder, int(seed), nth, chance)
     run_to_the_end(folder, float(seconds), int(seed))
-    lines, cuts = check_folder(folder), len(list((folder / "log/kept").iterdir()))
-    print(f"dask: the driver was killed {kills} times; its log of {lines} lines was cut {cuts} times")
+    lines = check_folder(folder)
+    print(f"dask: the driver was killed {kills} times; {lines} lines are left behind the earlier image of its job")
 
 
 if __name__ == "__main__":

@@ -1,12 +1,12 @@
 """The coordinator as a service, which ticks by itself, and may be killed and started again. It answers here as the Python package does."""
 import threading
 import uuid
-from typing import Any, Dict, Iterable, List, Sequence, Set, Tuple
+from typing import Any, Callable, Dict, List, Sequence, Set, Tuple
 
 import relkvanu_service as service
 from relkvanu import (
-    AckCompleted, AckLate, AckPending, DeclineAborted, DeclineFailed, DeclineLate, Failed, Refused, Reply, RestoredCheckpoint,
-    RestoredFresh, Taken,
+    AckCompleted, AckLate, AckPending, DeclineAborted, DeclineFailed, DeclineLate, Discarder, Failed, Patience, Refused, Reply,
+    RestoredCheckpoint, RestoredFresh, Taken,
 )
 
 from storage import Storage
@@ -29,7 +29,7 @@ class OverService:
         if self.remote.state()["choice"]["kind"] != "fresh":
             raise SystemExit(f"the service has checkpoints of the job {name}: --job names another one")
         self.begun = 0  # the place of the last restore in the log
-        self.files_end = 1  # the job is new: no file has a number
+        self.first_file = 1  # the job is new: no file has a number
         self.lock = threading.Lock()  # of the list
         self.answered: List[Tuple[Dict[str, Any], Dict[str, Any]]] = []  # calls, each with its answer
 
@@ -50,9 +50,6 @@ class OverService:
         reply: Reply = REPLIES[f"{name} {answer.pop(name)}"](**answer)
         return reply
 
-    def reserve(self, end: int) -> None:
-        """No driver comes after this one, so it alone gives numbers to files."""
-
     def recover(self, storage: Storage) -> None:
         """No driver was before this one, so the folder has no file."""
         storage.begin()
@@ -60,7 +57,15 @@ class OverService:
     def settle(self, storage: Storage) -> None:
         """No file is there yet."""
 
-    def check(self, storage: Storage) -> None:
+    def start_discarder(self, delete: Callable[[int], None]) -> None:
+        patience = Patience(batch=16, attempts=100, first_wait=0.01, longest_wait=0.05, idle=0.02)
+        self.discarder = Discarder(self, delete, patience)
+
+    def stop(self) -> None:
+        """Ends the discarder. run() ends by itself."""
+        self.discarder.stop()
+
+    def close(self) -> None:
         """The service has the log. service/tests compares it."""
 
     def ack(self, id: int, subtask: Subtask, fresh: Sequence[int], reused: Sequence[int]) -> Reply:
@@ -89,13 +94,13 @@ class OverService:
         acks = self.remote.record(id)["live"]["acks"]
         return {subtask(ack["subtask"]): tuple(map(int, ack["files"])) for ack in acks}
 
-    def used(self, files: Iterable[int]) -> Set[int]:
-        """Which of these files are in use, after a restore, which drops pending records: those of completed ones."""
+    def used(self) -> Set[int]:
+        """The files in use, after a restore, which drops pending records: those of completed ones."""
         state = self.remote.state()
         records = [self.files(record["id"]) for record in state["live"] if record["done"]]
         used = {file for record in records for held in record.values() for file in held}
         assert len(used) == state["files"]["in_use"], (len(used), state["files"])
-        return used & set(files)
+        return used
 
     def run(self, job: Any) -> None:
         """Has barriers sent if the service has triggered a checkpoint, until the job is over."""

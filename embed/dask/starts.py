@@ -1,5 +1,5 @@
-"""starts.py: a driver that starts over a log or a storage folder that is not as it was (damages.py), beside another driver, or whose log can't
-be written. It has no cluster: the tests make the calls, and write the files. Each driver is a process."""
+"""starts.py: a driver that starts over a job or a storage folder that is not as it was (damages.py), beside another driver, or whose calls can't
+be committed. It has no cluster: the tests make the calls, and write the files. Each driver is a process, with embed/store/tests/shim.c loaded."""
 import contextlib
 import os
 import pathlib
@@ -7,44 +7,42 @@ import shutil
 import signal
 import sys
 import tempfile
-import time
-from typing import Callable, Iterator, Optional
+import threading
+from typing import Callable, Optional
 
 sys.path.insert(0, str(pathlib.Path(__file__).resolve().parent.parent))
 import damages
-from log import Death, Log, Place
-from logged import Logged
 from relkvanu import AckCompleted, Triggered
 from storage import MARKER, Gone, Storage
+from stored import Stored, or_end
 
 SETTINGS = {"interval": 10, "timeout": 60_000, "retained": 2}
-CHECKPOINTS, FILES = 5, 8  # the log is cut after three checkpoints; two are retained, so files of three wait for deletion
+CHECKPOINTS, FILES = 5, 8  # two are retained, so files of three wait for deletion
+NO_SYNC = {"STORE_FAULT": "sync", "STORE_AT": "1"}
 
 
 class Driver:
     """The coordinator of a folder, as job.py opens it."""
 
-    def __init__(self, folder: pathlib.Path, death: Death = Death()) -> None:
+    def __init__(self, folder: pathlib.Path) -> None:
         (folder / "storage").mkdir(exist_ok=True)
-        (folder / "kept").mkdir(exist_ok=True)
         self.storage = Storage(folder / "storage")
-        self.storage.lock()
-        self.core = Logged(Log(folder / "log", folder / "kept", death), self.storage, SETTINGS, (1,))
-        self.core.check(self.storage)
+        self.core = Stored(folder, self.storage, SETTINGS, (1,))
         self.core.recover(self.storage)
-        self.file = self.core.files_end
+        self.file = self.core.first_file
 
     def checkpoint(self) -> None:
         self.core.restore((1,))
-        while not isinstance(reply := self.core.call(f"tick {time.time_ns() // 1_000_000}"), Triggered):
-            time.sleep(0.001)
+        ticked = None
+        while ticked is None:
+            ticked = or_end(self.core.job.await_tick, 1000)
+        assert isinstance(ticked.reply, Triggered)
         files = range(self.file, self.file + FILES)
         self.file += FILES
-        self.core.reserve(self.file)
         for file in files:
             self.storage.write(file, "state")
         self.storage.sync()
-        assert isinstance(self.core.ack(reply.id, (0, 0), files, []), AckCompleted)
+        assert isinstance(self.core.ack(ticked.reply.id, (0, 0), files, []), AckCompleted)
 
 
 def ended(work: Callable[[], None], folder: pathlib.Path) -> "tuple[Optional[int], str]":
@@ -70,7 +68,7 @@ def ended(work: Callable[[], None], folder: pathlib.Path) -> "tuple[Optional[int
 
 
 def start(folder: pathlib.Path) -> str:
-    status, told = ended(lambda: Driver(folder).core.settle(Storage(folder / "storage")), folder)
+    status, told = ended(lambda: Driver(folder).checkpoint(), folder)
     assert status == 1, (status, told)
     return told
 
@@ -82,7 +80,7 @@ def run_and_kill(folder: pathlib.Path) -> pathlib.Path:
             driver.checkpoint()
         os.kill(os.getpid(), signal.SIGKILL)
 
-    folder.mkdir()
+    folder.mkdir(exist_ok=True)
     status, told = ended(work, folder)
     assert status is None, told
     return folder
@@ -93,39 +91,47 @@ def goes_on(folder: pathlib.Path) -> None:
     assert status == 0, told
 
 
-def check_half_a_line(killed: pathlib.Path, work: pathlib.Path) -> None:
-    """Half a line at the end is no damage."""
-    for rest in (b"# sum 0123", b"# sum 01234567\n", b"# sum 01234567\nack 5 1"):
-        folder = work / f"half-{len(rest)}"
+def check_half_a_commit(killed: pathlib.Path, work: pathlib.Path) -> None:
+    """Half a commit at the end is no damage: the start of a frame of SQLite's log, and more of it."""
+    frame = (killed / "job.db-wal").read_bytes()[32:]
+    for size in (8, 24, 2000):
+        folder = work / f"half-{size}"
         shutil.copytree(killed, folder)
-        with open(folder / "log", "ab") as log:
-            log.write(rest)
+        with open(folder / "job.db-wal", "ab") as log:
+            log.write(frame[:size])
         goes_on(folder)
 
 
 def check_two_drivers(killed: pathlib.Path, work: pathlib.Path) -> None:
-    """Neither a second driver over the log nor one with another log over the storage is let in."""
+    """Neither a second driver over the job, by another name too, nor one with another job over the storage is let in."""
     folder = work / "two"
     shutil.copytree(killed, folder)
     first = Driver(folder)
-    assert "another driver has the storage" in (told := start(folder)), told
-    (work / "elsewhere").mkdir()
-    (work / "elsewhere/storage").symlink_to(folder / "storage")
-    assert "another driver has the storage" in (told := start(work / "elsewhere")), told
-    (work / "beside").mkdir()
-    (work / "beside/log.lock").symlink_to(folder / "log.lock")
-    assert "another driver has the log" in (told := start(work / "beside")), told
+    assert f"in use by process {os.getpid()}" in (told := start(folder)), told
+    for name in ("elsewhere", "beside"):
+        (work / name).mkdir()
+        (work / name / "storage").symlink_to(folder / "storage")
+    assert "has the marker of another job, and this one is new" in (told := start(work / "elsewhere")), told
+    (work / "beside/job.db").symlink_to(folder / "job.db")
+    assert f"in use by process {os.getpid()}" in (told := start(work / "beside")), told
     first.checkpoint()
 
 
-def check_first_log(work: pathlib.Path) -> None:
-    """A driver is killed while it makes its log. The next one begins, or goes on."""
-    for place in (Place.HALF_A_LOG, Place.AFTER_A_LOG, Place.AFTER_A_RENAME, Place.AFTER_A_CUT):
-        folder = work / place.value
+def check_first_writes(work: pathlib.Path) -> None:
+    """A driver is killed while it makes its job. The next one begins, or goes on."""
+    killed = 0
+    for nth in (1, 2, 3, 5, 8, 13, 21, 34):
+        folder = work / f"first-{nth}"
         folder.mkdir()
-        status, told = ended(lambda: Driver(folder, Death(place)), folder)
-        assert status is None, told
+
+        def dies() -> None:
+            os.environ.update(STORE_IN=str(folder), STORE_DIE=str(nth))
+            Driver(folder)
+
+        status, _ = ended(dies, folder)
+        killed += status is None
         goes_on(folder)
+    assert killed >= 4, killed
 
 
 def check_unmounted(killed: pathlib.Path, work: pathlib.Path) -> None:
@@ -137,7 +143,7 @@ def check_unmounted(killed: pathlib.Path, work: pathlib.Path) -> None:
     driver.storage.delete(gone)
     driver.storage.delete(gone)
     assert not driver.storage.has(gone) and driver.storage.has(other)
-    damages.not_mounted(folder, None)
+    damages.not_mounted(folder)
     assert driver.storage.has(other), "the folder is not held open"
     (folder / "away" / MARKER).unlink()
     for call in (driver.storage.delete, driver.storage.has):
@@ -148,46 +154,28 @@ def check_unmounted(killed: pathlib.Path, work: pathlib.Path) -> None:
         raise AssertionError("a file counts as deleted in a folder without a marker")
 
 
-@contextlib.contextmanager
-def failing(fault: Callable[[], None]) -> Iterator[None]:
-    """While it lasts the log fails at its next line."""
-    kept = os.fdatasync
-
-    def fails(file: int) -> None:
-        os.fdatasync = kept
-        fault()
-
-    os.fdatasync = fails
-    try:
-        yield
-    finally:
-        os.fdatasync = kept
+def interrupts_soon() -> None:
+    """A user's Ctrl-C, while a sync lasts."""
+    os.environ["STORE_DELAY"] = "1000000"  # microseconds
+    threading.Timer(0.3, os.kill, (os.getpid(), signal.SIGINT)).start()
 
 
-def interrupted() -> None:
-    """A user's Ctrl-C."""
-    os.kill(os.getpid(), signal.SIGINT)
-    time.sleep(60)
-
-
-def no_space() -> None:
-    raise OSError("no space left on the device")
-
-
-def check_failing_log(killed: pathlib.Path, work: pathlib.Path) -> None:
-    """If the line of a call that was made is not in the log, the process ends at once. The next one goes on."""
-    for fault in (no_space, interrupted):
-        folder = work / fault.__name__
+def check_no_answer(killed: pathlib.Path, work: pathlib.Path) -> None:
+    """If a call was not committed, or is not answered, the process ends at once. The next one goes on."""
+    for name, fault in (("failing", lambda: os.environ.update(NO_SYNC)), ("interrupted", interrupts_soon)):
+        folder = work / name
 
         def fails() -> None:
             driver = Driver(folder)
-            with contextlib.suppress(BaseException), failing(fault):
+            os.environ["STORE_IN"] = str(folder / "job.db")
+            fault()
+            with contextlib.suppress(BaseException):
                 driver.checkpoint()
             print("the driver goes on", flush=True)
 
         shutil.copytree(killed, folder)
         status, told = ended(fails, folder)
-        assert status == 1 and "the log can't be written" in told and "goes on" not in told, (status, told)
+        assert status == 1 and "a call has no answer" in told and "goes on" not in told, (status, told)
         goes_on(folder)
 
 
@@ -195,11 +183,13 @@ def main() -> None:
     with tempfile.TemporaryDirectory() as name:
         work = pathlib.Path(name)
         killed, other = run_and_kill(work / "killed"), run_and_kill(work / "other")
-        told = damages.check(killed, other, work, start)
-        check_half_a_line(killed, work)
+        shutil.copytree(killed, first := work / "first")
+        run_and_kill(killed)
+        told = damages.check(killed, other, first, work, start)
+        check_half_a_commit(killed, work)
         check_two_drivers(killed, work)
-        check_failing_log(killed, work)
-        check_first_log(work)
+        check_no_answer(killed, work)
+        check_first_writes(work)
         check_unmounted(killed, work)
     print(f"dask: {told}")
 

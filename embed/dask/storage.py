@@ -1,15 +1,15 @@
 """The storage folder: state files, each named by its number. It is held open, so all of them are in the folder that was there at the
 start, even if another one is mounted over it.
 
-The folder has a marker, a file that names the job. The log has that name too. Before a missing file counts as deleted, the marker is
-looked for: in a folder that is not mounted any more every file is missing."""
+The folder has a marker, a file that names the job: that of relkvanu.store, or one that a driver over a service writes. Before a missing file
+counts as deleted, the marker is looked for: in a folder that is not mounted any more every file is missing."""
 import fcntl
 import os
 import pathlib
 import secrets
 from typing import Set
 
-MARKER = ".job"
+MARKER = ".relkvanu-job"
 
 
 class Gone(OSError):
@@ -24,30 +24,17 @@ class Storage:
     def __del__(self) -> None:
         os.close(self.folder)
 
-    def lock(self) -> None:
-        """Keeps other drivers out of the folder until this one ends."""
+    def begin(self) -> None:
+        """Gives the folder to a new job, whose coordinator is a service's, and keeps other drivers out. A folder with files is another job's."""
         try:
             fcntl.flock(self.folder, fcntl.LOCK_EX | fcntl.LOCK_NB)
         except BlockingIOError:
             raise SystemExit(f"another driver has the storage {self.path}") from None
-
-    def begin(self) -> str:
-        """Gives the folder to a new job, and returns the name that the job gets. A folder with files is another job's."""
         if files := self.numbers():
-            raise SystemExit(f"the log is new or empty, and {self.path} has {len(files)} files, such as {min(files)}: no log knows them")
-        job = secrets.token_hex(16)
-        self.write(MARKER + ".new", job)
+            raise SystemExit(f"the job is new, and {self.path} has {len(files)} files, such as {min(files)}")
+        self.write(MARKER + ".new", secrets.token_hex(16))
         os.rename(MARKER + ".new", MARKER, src_dir_fd=self.folder, dst_dir_fd=self.folder)
         self.sync()
-        return job
-
-    def go_on(self, job: str, files_end: int) -> None:
-        """Checks that the folder is this job's, and has no file that the job has not given a number yet."""
-        self.check_marker()
-        if (marked := self.read(MARKER)) != job:
-            raise SystemExit(f"{self.path} is the storage of the job {marked}, and the log is of the job {job}")
-        if unknown := [file for file in self.numbers() if file >= files_end]:
-            raise SystemExit(f"{self.path} has the file {max(unknown)}, and the log gives no number from {files_end} on: it is older")
 
     def check_marker(self) -> None:
         try:

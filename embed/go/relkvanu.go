@@ -19,6 +19,8 @@
 // task deletes a file only if no accepted acknowledgement ever named it. After [AlreadyAcknowledged] and [NameTaken] a file may be
 // in use.
 //
+// With the build tag relkvanu_store there is a Store too, a coordinator whose calls are durable: one SQLite file for each job.
+//
 // pkg-config finds the library and its header. docs/RULES.md says what each call does, and when it is refused.
 package relkvanu
 

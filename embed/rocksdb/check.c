@@ -32,40 +32,38 @@ static void check_record(struct job *job, uint64_t id) {
     }
 }
 
-static bool is_taken(const struct coordinator *c, uint64_t file) {
-    for (size_t place = 0; place < c->taken_len; place++) {
-        if (c->taken[place] == file) {
-            return true;
-        }
-    }
-    return false;
-}
-
 struct folder {
     struct coordinator *coordinator;
-    size_t len;
+    const uint64_t *taken;
+    size_t len, used, taken_len;
 };
 
 static void check_known(void *with, uint64_t file) {
     struct folder *folder = with;
+    bool is_taken = false;
+    for (size_t place = 0; place < folder->taken_len; place++) {
+        is_taken = is_taken || folder->taken[place] == file;
+    }
+    bool is_used = coordinator_count(folder->coordinator, file) != 0;
+    CHECK(is_used || is_taken, "nobody knows file %" PRIu64, file);
+    folder->used += is_used;
     folder->len++;
-    CHECK(coordinator_count(folder->coordinator, file) != 0 || is_taken(folder->coordinator, file), "nobody knows file %" PRIu64, file);
 }
 
 /* Checks that the storage folder has exactly the files that are in use or taken, and returns how many. One that a repeated
  * message has handed out once more may be taken and gone. */
 static size_t check_folder(struct job *job) {
     struct coordinator *c = &job->coordinator;
-    struct folder folder = {c, 0};
-    uint64_t gone = 0;
+    struct folder folder = {.coordinator = c};
+    uint64_t gone = 0, *taken = coordinator_taken(c, &folder.taken_len);
+    folder.taken = taken;
     storage_each(&job->storage, check_known, &folder);
-    for (uint64_t file = 1; file < c->next_file; file++) {
-        CHECK(coordinator_count(c, file) == 0 || storage_has(&job->storage, file), "file %" PRIu64 " is in use and gone", file);
-    }
-    for (size_t place = 0; place < c->taken_len; place++) {
-        gone += !storage_has(&job->storage, c->taken[place]);
+    CHECK(folder.used == coordinator_counts(c).in_use, "%" PRIu64 " files are in use, and %zu of them are there", coordinator_counts(c).in_use, folder.used);
+    for (size_t place = 0; place < folder.taken_len; place++) {
+        gone += !storage_has(&job->storage, taken[place]);
     }
     CHECK(gone <= c->handed_again, "%" PRIu64 " files are taken and gone", gone);
+    free(taken);
     return folder.len;
 }
 
@@ -77,45 +75,49 @@ static void take_all(struct coordinator *c) {
     }
 }
 
-static void check_same(struct coordinator *c, struct coordinator *again) {
-    for (uint64_t id = 1; id <= c->last; id++) {
-        char *one = coordinator_show(c, id), *other = coordinator_show(again, id);
-        CHECK((one == NULL) == (other == NULL) && (one == NULL || strcmp(one, other) == 0), "record %" PRIu64 " is another after a replay", id);
-        free(one);
-        free(other);
-    }
-    for (uint64_t file = 1; file < c->next_file; file++) {
-        CHECK(coordinator_count(c, file) == coordinator_count(again, file), "file %" PRIu64 " is used otherwise after a replay", file);
-    }
-    CHECK(c->taken_len == again->taken_len && memcmp(c->answers, again->answers, sizeof c->answers) == 0,
-          "a replay is answered otherwise");
-}
-
-static void check_replay(struct job *job) {
-    static struct coordinator again;
-    coordinator_replay(&again, job->log);
-    check_same(&job->coordinator, &again);
-    coordinator_close(&again);
-}
-
-void check_end(struct job *job) {
+/* Opens the job once more, with the image before the last one and the calls after it, which the store compares. */
+static void check_recovery(struct job *job, const char *folder) {
     struct coordinator *c = &job->coordinator;
+    uint64_t next_file = c->next_file, handed_again = c->handed_again;
+    char *before = coordinator_image(c);
+    coordinator_close(c);
+    coordinator_open(c, folder, RELKVANU_STORE_EARLIER_IMAGE, (struct death){PLACES, 0});
+    char *after = coordinator_image(c);
+    CHECK(c->report.replayed != 0 && strcmp(before, after) == 0, "a recovery of %" PRIu64 " calls gives another state", c->report.replayed);
+    CHECK(c->next_file > next_file, "a file number is given twice");
+    c->handed_again = handed_again;
+    job->storage.folder = relkvanu_store_folder(c->store);
+    free(before);
+    free(after);
+}
+
+/* The discarder of the recovery deletes all that is taken, and after a cancel all that there is. */
+static void check_deletions(struct job *job, uint64_t savepoint) {
+    struct coordinator *c = &job->coordinator;
+    discarder_start(&job->discarder);
+    discarder_drain(&job->discarder);
+    CHECK(check_folder(job) == coordinator_counts(c).in_use, "files are left that nobody uses");
+    coordinator_dispose(c, savepoint);
+    coordinator_cancel(c);
+    discarder_drain(&job->discarder);
+    CHECK(check_folder(job) == 0, "files are left of a cancelled job");
     discarder_stop(&job->discarder);
+}
+
+void check_end(struct job *job, const char *folder) {
+    struct coordinator *c = &job->coordinator;
     check_counts(job);
     relkvanu_answer answer = coordinator_restore(c, 0, 0);
     CHECK(answer.code == RELKVANU_DONE && answer.what == RELKVANU_RESTORED_CHECKPOINT, "no checkpoint is retained");
     check_record(job, answer.b);
-    uint64_t savepoint = coordinator_progress(c).savepoint;
+    uint64_t savepoint = coordinator_progress(c).savepoint, swept = job->swept;
     check_record(job, savepoint);
     take_all(c);
-    size_t all = check_folder(job), taken = c->taken_len;
-    check_replay(job);
-    discarder_report(c, &job->storage);
-    discarder_drain(c, &job->storage);
-    size_t used = check_folder(job);
-    coordinator_dispose(c, savepoint);
-    coordinator_cancel(c);
-    discarder_drain(c, &job->storage);
-    CHECK(check_folder(job) == 0, "files are left of a cancelled job");
-    printf("rocksdb: the folder had %zu files: %zu in use, %zu for deletion; all deleted after a cancel\n", all, used, taken);
+    size_t all = check_folder(job), used = coordinator_counts(c).in_use;
+    check_recovery(job, folder);
+    coordinator_restore(c, 0, 0);
+    job_sweep(job);
+    CHECK(job->swept == swept && check_folder(job) == all, "a sweep has deleted files of a job that had ended well");
+    check_deletions(job, savepoint);
+    printf("rocksdb: the folder had %zu files: %zu in use, %zu for deletion; all deleted after a cancel\n", all, used, all - used);
 }

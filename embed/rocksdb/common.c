@@ -23,16 +23,10 @@ uint64_t chance_below(struct chance *chance, uint64_t most) {
     return chance->state % most;
 }
 
-static uint64_t began; /* what the clock of the system says at the moment 0 */
-
 uint64_t now(void) {
     struct timespec moment;
     clock_gettime(CLOCK_MONOTONIC, &moment);
-    return (uint64_t)moment.tv_sec * 1000 + (uint64_t)moment.tv_nsec / 1000000 - began;
-}
-
-void clock_begins_at(uint64_t moment) {
-    began += now() - moment;
+    return (uint64_t)moment.tv_sec * 1000 + (uint64_t)moment.tv_nsec / 1000000;
 }
 
 void sleep_ms(uint64_t ms) {

@@ -43,9 +43,6 @@ uint64_t chance_below(struct chance *chance, uint64_t most);
 /* Milliseconds of a clock that never jumps. */
 uint64_t now(void);
 
-/* After a replay: `now` goes on from the greatest moment of the log. */
-void clock_begins_at(uint64_t moment);
-
 void sleep_ms(uint64_t ms);
 
 /* Writes a path into a buffer of PATH bytes. */

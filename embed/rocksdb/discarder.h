@@ -1,28 +1,25 @@
-/* The discarder: a thread that fetches files, deletes them and reports each. The seed decides which of its deletions
- * fail, and these are reported as failed. */
+/* The discarder: a thread that deletes what the store hands it, until the store is stopped. The seed decides which of its deletions fail, and these
+ * files wait again. */
 #ifndef ENGINE_DISCARDER_H
 #define ENGINE_DISCARDER_H
 
 #include "coordinator.h"
-
-#include <stdatomic.h>
+#include "storage.h"
 
 struct discarder {
     pthread_t thread;
     struct coordinator *coordinator;
     const struct storage *storage;
     struct chance chance;
-    atomic_bool is_over;
+    uint64_t deleted, failed; /* by this thread, to be read once it has ended */
 };
 
 void discarder_start(struct discarder *discarder);
 
+/* The store hands out no more file after it. */
 void discarder_stop(struct discarder *discarder);
 
-/* Reports what an earlier process fetched and did not report: a file that is gone was deleted. */
-void discarder_report(struct coordinator *c, const struct storage *storage);
-
-/* Deletes all that waits. */
-void discarder_drain(struct coordinator *c, const struct storage *storage);
+/* Waits until it has deleted all that waits. */
+void discarder_drain(struct discarder *discarder);
 
 #endif

@@ -6,34 +6,47 @@
 #include <string.h>
 #include <sys/stat.h>
 
-enum { TICKS_MS = 20, FAILURES_MS = 1000, GUARD_MS = 300000 };
+enum { TICKS_MS = 20, FAILURES_MS = 1000, GUARD_MS = 300000, LEAST_IMAGES = 2 };
 
-/* Why the tasks stop. */
-enum end { FAILED, ROLLS_BACK, RESCALES, OVER };
+/* Why the tasks are started, or stop. */
+enum end { BEGINS, FAILED, ROLLS_BACK, RESCALES, OVER };
 
-static void delete_unknown(void *with, uint64_t file) {
-    struct job *job = with;
-    if (coordinator_count(&job->coordinator, file) == 0) {
-        storage_delete(&job->storage, file);
-    }
-}
-
-void job_open(struct job *job, const char *folder) {
+void job_open(struct job *job, const char *folder, struct death death) {
     char path[PATH];
     path_of(path, "%.400s/storage", folder);
     path_of(job->local, "%.400s/local", folder);
-    path_of(job->log, "%.400s/log", folder);
-    storage_open(&job->storage, path);
-    coordinator_open(&job->coordinator, job->log, &job->storage, job->death);
-    job->first = job->coordinator.last + 1;
-    discarder_report(&job->coordinator, &job->storage);
-    discarder_drain(&job->coordinator, &job->storage);
-    /* what is left and not used was written by tasks that died before they named it */
-    storage_each(&job->storage, delete_unknown, job);
+    storage_make(path);
+    coordinator_open(&job->coordinator, folder, 0, death);
+    job->storage.folder = relkvanu_store_folder(job->coordinator.store);
     job->discarder = (struct discarder){.coordinator = &job->coordinator, .storage = &job->storage, .chance = {mixed(job->seed + 1)}};
-    discarder_start(&job->discarder);
     job->started = now();
     job->next_failure = job->started + FAILURES_MS;
+}
+
+struct list {
+    uint64_t *files;
+    size_t len, room;
+};
+
+static void add_file(void *with, uint64_t file) {
+    struct list *list = with;
+    if (list->len == list->room) {
+        list->room = 2 * list->room + 64;
+        list->files = realloc(list->files, list->room * sizeof *list->files);
+        CHECK(list->files != NULL, "no memory");
+    }
+    list->files[list->len++] = file;
+}
+
+void job_sweep(struct job *job) {
+    struct list list = {0};
+    storage_each(&job->storage, add_file, &list);
+    coordinator_check(&job->coordinator, "a sweep", relkvanu_store_unknown(job->coordinator.store, list.files, &list.len));
+    for (size_t place = 0; place < list.len; place++) {
+        storage_delete(&job->storage, list.files[place]);
+    }
+    job->swept += list.len;
+    free(list.files);
 }
 
 /* The source: puts each partition's records into the queue of its task. */
@@ -123,7 +136,7 @@ static void load(struct job *job, uint64_t id) {
     }
     for (unsigned partition = 0; partition < PARTITIONS; partition++) {
         job->offsets[partition] = store_offset(&job->tasks[partition % job->parallelism].store, partition);
-        bool is_known = id >= job->first && id + CUTS > job->coordinator.last;
+        bool is_known = id != 0 && job->cut_of[id % CUTS] == id;
         CHECK(!is_known || job->offsets[partition] == job->cuts[id % CUTS][partition], "partition %u is not as it was at the barrier", partition);
     }
 }
@@ -141,27 +154,30 @@ static void settle(struct job *job, struct task *task) {
     task->left.id = 0;
 }
 
-/* Restores the job as its end requires, and starts the source and the tasks. */
-static void start(struct job *job, enum end end) {
+/* Restores the job as its end requires, and returns the record that it begins from; 0: none. A new process chooses how many tasks there are. */
+static uint64_t restore(struct job *job, enum end end) {
     struct coordinator *c = &job->coordinator;
-    relkvanu_answer answer;
-    if (end == ROLLS_BACK) {
-        answer = coordinator_restore(c, coordinator_progress(c).savepoint, 0);
-    } else {
-        /* a new process says how many tasks there are: it may have ended between the note of that and the restore */
-        unsigned tasks = end == RESCALES ? OTHER_TASKS : job->parallelism == 0 ? c->tasks : 0;
-        answer = coordinator_restore(c, 0, tasks);
+    uint64_t savepoint = end == ROLLS_BACK ? coordinator_progress(c).savepoint : 0;
+    unsigned tasks = end == RESCALES ? OTHER_TASKS : 0;
+    if (end == BEGINS) {
+        tasks = chance_below(&job->chance, 2) == 0 ? OTHER_TASKS : TASKS;
     }
+    relkvanu_answer answer = coordinator_restore(c, savepoint, tasks);
     CHECK(answer.code == RELKVANU_DONE, "a restore is refused: %" PRIu32, answer.what);
     for (unsigned index = 0; index < TASKS; index++) {
         settle(job, &job->tasks[index]);
     }
-    job->parallelism = c->tasks != 0 ? c->tasks : TASKS;
+    job->parallelism = tasks != 0 ? tasks : job->parallelism;
+    return answer.b;
+}
+
+/* Starts the source and the tasks, with the state of a record. */
+static void start(struct job *job, uint64_t id) {
     empty_folder(job->local);
     for (unsigned index = 0; index < job->parallelism; index++) {
         prepare(job, index);
     }
-    load(job, answer.b);
+    load(job, id);
     atomic_store(&job->is_failed, false);
     atomic_store(&job->source_stops, false);
     job->victim = TASKS;
@@ -169,6 +185,25 @@ static void start(struct job *job, enum end end) {
         task_start(&job->tasks[index]);
     }
     CHECK(pthread_create(&job->source, NULL, feed, job) == 0, "no thread");
+}
+
+/* Takes the steps that a store has told, or those after an end. */
+static void take_steps(struct job *job, const uint32_t *steps, size_t len, enum end end) {
+    uint64_t id = 0;
+    for (size_t place = 0; place < len; place++) {
+        switch (steps[place]) {
+        case RELKVANU_STORE_END_TASKS: break; /* they were threads of a process that has ended: it had the lock of the job */
+        case RELKVANU_STORE_RESTORE: id = restore(job, end); break;
+        case RELKVANU_STORE_SWEEP: job_sweep(job); break;
+        case RELKVANU_STORE_START_TASKS:
+            if (end == BEGINS) {
+                discarder_start(&job->discarder);
+            }
+            start(job, id);
+            break;
+        default: CHECK(false, "step %" PRIu32 " is none of a job that runs", steps[place]);
+        }
+    }
 }
 
 /* Stops the source, and the tasks: at once, or at the end of their queues. */
@@ -187,6 +222,7 @@ static void stop(struct job *job, bool at_once) {
 
 static void send_barriers(struct job *job, uint64_t id) {
     struct message message = {.barrier = id};
+    job->cut_of[id % CUTS] = id;
     for (unsigned index = 0; index < job->parallelism; index++) {
         queue_put(&job->tasks[index].queue, &message);
     }
@@ -226,8 +262,8 @@ static bool has_failed(struct job *job) {
 /* A tick, and a savepoint if it is time for one. */
 static void drive(struct job *job) {
     struct coordinator *c = &job->coordinator;
-    relkvanu_answer answer = coordinator_tick(c);
-    if (answer.code == RELKVANU_REFUSED) { /* a decline has failed the job since */
+    relkvanu_answer answer = {.what = RELKVANU_TICK_HELD_INTERVAL};
+    if (coordinator_tick(c, TICKS_MS, &answer) && answer.code == RELKVANU_REFUSED) { /* a decline has failed the job since */
         CHECK(answer.what == RELKVANU_NOT_RUNNING, "a tick is refused: %" PRIu32, answer.what);
         atomic_store(&job->is_failed, true);
     } else if (answer.what == RELKVANU_TICK_TRIGGERED) {
@@ -257,22 +293,25 @@ static enum end drive_on(struct job *job) {
             return ROLLS_BACK;
         } else if (has_passed(job, 75) && progress.is_rolled_back && !is_rescaled) {
             return RESCALES;
-        } else if (is_over(job) && is_rescaled && progress.completed != 0 && progress.cuts != 0 && job->victim == TASKS) {
+        } else if (is_over(job) && is_rescaled && progress.completed != 0 && progress.images >= LEAST_IMAGES && job->victim == TASKS) {
             return OVER;
         }
         CHECK(now() - job->started < job->seconds * 1000 + GUARD_MS, "the job comes to no end");
-        sleep_ms(TICKS_MS);
     }
 }
 
 void job_run(struct job *job) {
-    enum end end = FAILED;
-    while (end != OVER) {
-        start(job, end);
-        end = drive_on(job);
-        stop(job, end != OVER);
-        for (unsigned index = 0; end != OVER && index < job->parallelism; index++) {
+    static const uint32_t again[] = {RELKVANU_STORE_RESTORE, RELKVANU_STORE_START_TASKS};
+    const relkvanu_store_report *report = &job->coordinator.report;
+    enum end end = BEGINS;
+    job->parallelism = TASKS;
+    take_steps(job, report->steps, report->steps_len, end);
+    while ((end = drive_on(job)) != OVER) {
+        stop(job, true);
+        for (unsigned index = 0; index < job->parallelism; index++) {
             store_close(&job->tasks[index].store);
         }
+        take_steps(job, again, 2, end);
     }
+    stop(job, false);
 }

@@ -1,6 +1,6 @@
 /* engine FOLDER SEED SECONDS [KILLS]: runs a job of four tasks with a RocksDB each for this many seconds over a folder of
  * its own, and checks its end. With KILLS the process that runs it is first killed this many times, and started again over
- * its log: at places and moments that the seed chooses, in turn each kind of place and a moment. */
+ * its job: at places and moments that the seed chooses, in turn each kind of place and a moment. */
 #define _GNU_SOURCE
 #include "check.h"
 
@@ -9,24 +9,26 @@
 #include <sys/wait.h>
 #include <unistd.h>
 
-enum { MOST_NTH = 150, MOST_CUTS = 3, MOST_MS = 1200, GUARD_MS = 300000 };
+enum { MOST_NTH = 150, MOST_WRITES = 400, MOST_MS = 1200, GUARD_MS = 300000 };
 
 static void print_end(const struct job *job) {
     const struct coordinator *c = &job->coordinator;
+    relkvanu_store_counts counts;
     uint64_t records = 0;
     for (unsigned partition = 0; partition < PARTITIONS; partition++) {
         records += job->offsets[partition];
     }
+    relkvanu_store_count(c->store, &counts);
     printf("rocksdb: %" PRIu64 " records of %d partitions counted exactly, %" PRIu64 " tasks stopped in the last process\n", records, PARTITIONS, job->failures);
-    printf("rocksdb: %" PRIu64 " calls logged, %" PRIu64 " refused, %" PRIu64 " of them for a file that is gone; %" PRIu64 " records completed; %" PRIu64 " restores, of them %" PRIu64 " from nothing\n",
+    printf("rocksdb: in it %" PRIu64 " calls, %" PRIu64 " refused, %" PRIu64 " of them for a file that is gone; %" PRIu64 " records completed; %" PRIu64 " restores, of them %" PRIu64 " from nothing\n",
            c->calls, c->refused, c->gone, c->answers[RELKVANU_ACK_COMPLETED],
            c->answers[RELKVANU_RESTORED_CHECKPOINT] + c->answers[RELKVANU_RESTORED_SAVEPOINT] + c->answers[RELKVANU_RESTORED_FRESH],
            c->answers[RELKVANU_RESTORED_FRESH]);
-    printf("rocksdb: the log was cut %" PRIu64 " times by the last process\n", c->cuts);
-    CHECK(c->cuts != 0, "the log was never cut");
+    printf("rocksdb: %" PRIu64 " commits, the largest of %" PRIu64 " calls; %" PRIu64 " images; %" PRIu64 " calls made again and %" PRIu64 " files swept as it began\n", counts.commits,
+           counts.largest, counts.images, c->report.replayed, job->swept);
     printf("rocksdb: %" PRIu64 " late acknowledgements, %" PRIu64 " declines, %" PRIu64 " files deleted, %" PRIu64 " deletions failed\n",
            c->answers[RELKVANU_ACK_LATE], c->answers[RELKVANU_DECLINE_ABORTED] + c->answers[RELKVANU_DECLINE_FAILED] + c->answers[RELKVANU_DECLINE_LATE],
-           c->answers[RELKVANU_DELETED], c->answers[RELKVANU_UNDELETED]);
+           job->discarder.deleted, job->discarder.failed);
 }
 
 static void run(const char *folder, uint64_t seed, uint64_t choices, uint64_t seconds, struct death death, bool is_endless) {
@@ -35,12 +37,23 @@ static void run(const char *folder, uint64_t seed, uint64_t choices, uint64_t se
     job.seconds = seconds;
     job.is_endless = is_endless;
     job.chance.state = mixed(choices);
-    job.death = death;
-    job_open(&job, folder);
+    job_open(&job, folder, death);
     job_run(&job);
-    check_end(&job);
+    discarder_stop(&job.discarder);
     print_end(&job);
+    check_end(&job, folder);
     coordinator_close(&job.coordinator);
+}
+
+/* Has shim.c end this process at the nth call that writes to the job's files. */
+static void die_in_a_write(struct death death) {
+    char nth[24];
+    CHECK(getenv("STORE_IN") != NULL, "embed/store/tests/shim.c is not loaded");
+    snprintf(nth, sizeof nth, "%" PRIu64, death.nth);
+    setenv("STORE_DIE", nth, 1);
+    if (death.place == AFTER_A_WRITE) {
+        setenv("STORE_DIE_AFTER", "1", 1);
+    }
 }
 
 /* Starts a process that runs the job until it is killed. */
@@ -48,12 +61,15 @@ static void run_and_kill(const char *folder, uint64_t seed, uint64_t nth) {
     struct chance chance = {mixed(seed ^ mixed(nth))};
     bool from_outside = nth % (PLACES + 1) == PLACES;
     enum place place = (enum place)(nth % (PLACES + 1));
-    uint64_t most = place >= HALF_A_LOG ? MOST_CUTS : MOST_NTH;
+    uint64_t most = place <= AFTER_A_WRITE ? MOST_WRITES : MOST_NTH;
     struct death death = {place, from_outside ? 0 : 1 + chance_below(&chance, most)};
     uint64_t ms = from_outside ? 1 + chance_below(&chance, MOST_MS) : GUARD_MS;
     pid_t child = fork();
     CHECK(child >= 0, "no process");
     if (child == 0) {
+        if (place <= AFTER_A_WRITE) {
+            die_in_a_write(death);
+        }
         run(folder, seed, chance.state, 1, death, true);
         _exit(1);
     }

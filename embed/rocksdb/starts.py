@@ -1,9 +1,10 @@
 #!/usr/bin/env python3
-"""embed/rocksdb/starts.py ENGINE ORDER: runs the engine, kills it, and starts it again over a log or a storage folder that is not as it
-was. It has to end with a message, and no file of the folder is touched. ORDER is embed/c/order.c as a library: with it the log fails."""
+"""embed/rocksdb/starts.py ENGINE SHIM: runs the engine, kills it, and starts it again over a job or a storage folder that is not as it
+was. It has to end with a message, and no file of the folder is touched. SHIM is embed/store/tests/shim.c as a library: with it syncs fail."""
 import contextlib
 import os
 import pathlib
+import re
 import shutil
 import signal
 import subprocess
@@ -16,15 +17,16 @@ import damages
 
 ENDLESS = "600"  # seconds
 WAIT = 60  # seconds, on a busy machine
-CALLS = 6  # acknowledgements in the log
+FILES = 150  # that a process writes before it is looked at: some checkpoints, and more calls than an image comes after
+IN_EPOCH = 1 << 32  # the numbers of files that a process may give
 
 
 class Engine:
     """A process of the engine over a folder. It ends with the block."""
 
     def __init__(self, program, folder, **environment):
-        self.log = folder / "log"
-        self.first = self.inode()
+        self.storage = folder / "storage"
+        self.first = self.last_file() // IN_EPOCH
         self.process = subprocess.Popen(
             [program, folder, "1", ENDLESS], stdout=subprocess.DEVNULL, stderr=subprocess.PIPE, env={**os.environ, **environment}, text=True)
 
@@ -35,17 +37,18 @@ class Engine:
         self.process.kill()
         self.process.communicate()
 
-    def inode(self):
-        return self.log.stat().st_ino if self.log.exists() else None
+    def last_file(self):
+        names = os.listdir(self.storage) if self.storage.exists() else []
+        return max((int(name) for name in names if name.isdecimal()), default=0)
 
-    def has_cut(self):
-        """Whether the log begins with an image that this process has written, and has some calls after it."""
-        return self.inode() != self.first and b"# image " in (text := self.log.read_bytes())[:30] and text.count(b"\nack ") >= CALLS
+    def has_gone_on(self):
+        """Whether this process has written some checkpoints."""
+        epoch, file = divmod(self.last_file(), IN_EPOCH)
+        return epoch > self.first and file > FILES
 
     def wait(self):
-        """Waits until there are completed checkpoints, files in use, and calls in the log."""
         end = time.monotonic() + WAIT
-        while not self.has_cut():
+        while not self.has_gone_on():
             assert self.process.poll() is None, self.process.communicate()[1]
             assert time.monotonic() < end, "the engine makes no checkpoints"
             time.sleep(0.005)
@@ -62,13 +65,15 @@ def refusal(program, folder):
         return engine.refusal()
 
 
-def check_half_a_line(program, killed, work):
-    """Half a line at the end is no damage."""
-    for rest in (b"# sum 0123", b"# sum 01234567\n", b"# sum 01234567\nack 5 1"):
-        folder = work / f"half-{len(rest)}"
+def check_half_a_commit(program, killed, work):
+    """Half a commit at the end is no damage: the start of a frame of SQLite's log, and more of it."""
+    frame = (killed / "job.db-wal").read_bytes()[32:]
+    assert len(frame) > 4096
+    for size in (8, 24, 2000):
+        folder = work / f"half-{size}"
         shutil.copytree(killed, folder)
-        with open(folder / "log", "ab") as log:
-            log.write(rest)
+        with open(folder / "job.db-wal", "ab") as log:
+            log.write(frame[:size])
         with Engine(program, folder) as engine:
             engine.wait()
 
@@ -80,18 +85,22 @@ def check_two_processes(program, killed, work):
     with Engine(program, folder) as first:
         first.wait()
         with Engine(program, folder) as second:
-            assert "another process has the" in (told := second.refusal()), told
+            assert f"in use by process {first.process.pid}" in (told := second.refusal()), told
         assert first.process.poll() is None
 
 
-def check_failing_log(program, killed, order, work):
-    """A log that can't be synced, when it is made and after a call was made, ends the process. The next one goes on."""
+def check_failing_syncs(program, killed, shim, work):
+    """A sync of the job's file that fails, as it is made, as it is opened again and after a call was made, ends the process. The next one goes
+    on."""
     begun, folder = work / "begun", work / "failing"
     begun.mkdir()
     shutil.copytree(killed, folder)
-    for at, nth in ((begun, "1"), (folder, "5"), (folder, "40")):
-        with Engine(program, at, LD_PRELOAD=str(order), ORDER_FAIL=nth) as engine:
-            assert "the log can't be synced" in (told := engine.refusal()), told
+    for at, nth in ((begun, "1"), (folder, "1"), (folder, "40")):
+        faults = {"LD_PRELOAD": str(shim), "STORE_IN": f"{at}/job.db", "STORE_FAULT": "sync", "STORE_AT": nth}
+        with Engine(program, at, **faults) as engine:
+            told = engine.refusal()
+            assert ("is not opened" in told) == (nth == "1"), told
+            assert at == begun or re.search("I/O error|Input/output error", told), told
     for at in (begun, folder):
         with Engine(program, at) as engine:
             engine.wait()
@@ -105,13 +114,13 @@ def check_unmounted(program, killed, work):
     gone = set()
     with Engine(program, folder) as engine:
         engine.wait()
-        for name in [".job", *sorted(os.listdir(folder / "storage"))]:
+        for name in [damages.MARKER, *sorted(os.listdir(folder / "storage"))]:
             with contextlib.suppress(FileNotFoundError):  # deleted before
                 (folder / "storage" / name).rename(away / name)
-                gone.add(b"deleted " + name.encode())
+                gone.add("deleted " + name)
         told = engine.refusal()
     assert "has no marker" in told or "can't be opened" in told, told
-    assert len(gone) > 10 and not gone.intersection(damages.lines_of(folder / "log"))
+    assert len(gone) > 10 and not gone.intersection(damages.lines_of(folder))
 
 
 def check_another_folder(program, killed, work):
@@ -120,29 +129,41 @@ def check_another_folder(program, killed, work):
     shutil.copytree(killed, folder)
     with Engine(program, folder) as engine:
         engine.wait()
-        damages.not_mounted(folder, None)
-        engine.first = engine.inode()
-        engine.wait()
-    assert not os.listdir(folder / "storage") and len(os.listdir(folder / "away")) > 10
+        damages.not_mounted(folder)
+        engine.storage, before = folder / "away", len(os.listdir(folder / "away"))
+        last = engine.last_file()
+        while engine.last_file() < last + FILES:
+            assert engine.process.poll() is None, engine.process.communicate()[1]
+            time.sleep(0.005)
+    assert not os.listdir(folder / "storage") and before > 10
 
 
 def killed_engine(program, folder):
-    folder.mkdir()
-    with Engine(program, folder) as engine:
-        engine.wait()
-        engine.process.send_signal(signal.SIGKILL)
-        engine.process.wait()
-    return folder
+    """A job whose process was killed, with some calls behind its last image, among them a tick and an acknowledgement."""
+    folder.mkdir(exist_ok=True)
+    while True:
+        with Engine(program, folder) as engine:
+            engine.wait()
+            engine.process.send_signal(signal.SIGKILL)
+            engine.process.wait()
+        shutil.copytree(folder, work := folder.with_name("looked at"))  # what the look writes is not the engine's
+        with damages.opened(work) as database:
+            found = [line for (line,) in database.execute("SELECT line FROM log WHERE place > (SELECT max(place) FROM image)")]
+        shutil.rmtree(work)
+        if len(found) > 4 and any(it.startswith("ack") and "+" in it for it in found) and any(it.startswith("tick") for it in found):
+            return folder
 
 
-def main(program, order):
+def main(program, shim):
     with tempfile.TemporaryDirectory() as name:
         work = pathlib.Path(name)
         killed, other = killed_engine(program, work / "killed"), killed_engine(program, work / "other")
-        told = damages.check(killed, other, work, lambda folder: refusal(program, folder))
-        check_half_a_line(program, killed, work)
+        shutil.copytree(killed, first := work / "first")
+        killed_engine(program, killed)
+        told = damages.check(killed, other, first, work, lambda folder: refusal(program, folder))
+        check_half_a_commit(program, killed, work)
         check_two_processes(program, killed, work)
-        check_failing_log(program, killed, pathlib.Path(order).resolve(), work)
+        check_failing_syncs(program, killed, pathlib.Path(shim).resolve(), work)
         check_unmounted(program, killed, work)
         check_another_folder(program, killed, work)
     print(f"rocksdb: {told}")

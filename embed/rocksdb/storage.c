@@ -5,11 +5,7 @@
 #include <errno.h>
 #include <fcntl.h>
 #include <string.h>
-#include <sys/file.h>
-#include <sys/random.h>
 #include <sys/stat.h>
-
-static const char MARKER[] = ".job", BESIDE[] = ".job.new";
 
 /* The name of a file in the folder: its number. */
 struct name {
@@ -42,64 +38,12 @@ static void copy_rest(FILE *from, FILE *to) {
     CHECK(!ferror(from), "a file can't be read");
 }
 
-static bool is_there(const struct storage *storage, const char *name) {
-    bool is = faccessat(storage->folder, name, F_OK, 0) == 0;
-    CHECK(is || errno == ENOENT, "%s can't be looked at: %s", storage->path, strerror(errno));
-    return is;
-}
-
-static void check_marker(const struct storage *storage) {
-    CHECK(is_there(storage, MARKER), "%s has no marker: it is not the job's storage, or not mounted", storage->path);
-}
-
-void storage_open(struct storage *storage, const char *path) {
-    path_of(storage->path, "%.400s", path);
+void storage_make(const char *path) {
     if (mkdir(path, 0700) == 0) {
         sync_folder_of(path);
+    } else {
+        CHECK(errno == EEXIST, "%s can't be made: %s", path, strerror(errno));
     }
-    storage->folder = open(path, O_RDONLY | O_DIRECTORY | O_CLOEXEC);
-    CHECK(storage->folder >= 0, "%s can't be opened: %s", path, strerror(errno));
-    CHECK(flock(storage->folder, LOCK_EX | LOCK_NB) == 0, "another process has the storage %s", path);
-}
-
-static void refuse_file(void *with, const char *name) {
-    const struct storage *storage = with;
-    CHECK(false, "the log is new or empty, and %s has files, such as %s: no log knows them", storage->path, name);
-}
-
-void storage_begin(const struct storage *storage, char job[JOB + 1]) {
-    uint64_t words[2];
-    each_name_in(storage->folder, refuse_file, (void *)storage);
-    CHECK(getentropy(words, sizeof words) == 0, "no random words");
-    snprintf(job, JOB + 1, "%016" PRIx64 "%016" PRIx64, words[0], words[1]);
-    FILE *to = stream_of(openat(storage->folder, BESIDE, O_CREAT | O_TRUNC | O_WRONLY | O_CLOEXEC, 0600), "w", "the marker");
-    fprintf(to, "%s\n", job);
-    CHECK(fflush(to) == 0 && fsync(fileno(to)) == 0 && fclose(to) == 0, "the marker can't be written");
-    CHECK(renameat(storage->folder, BESIDE, storage->folder, MARKER) == 0, "the marker can't be renamed: %s", strerror(errno));
-    storage_sync(storage);
-}
-
-struct known {
-    const struct storage *storage;
-    uint64_t files_end;
-};
-
-static void check_number(void *with, uint64_t number) {
-    struct known *known = with;
-    CHECK(number < known->files_end, "%s has the file %" PRIu64 ", and the log gives no number from %" PRIu64 " on: it is older", known->storage->path, number,
-          known->files_end);
-}
-
-void storage_go_on(const struct storage *storage, const char *job, uint64_t files_end) {
-    char marked[JOB + 2] = "";
-    struct known known = {storage, files_end};
-    check_marker(storage);
-    FILE *from = stream_of(openat(storage->folder, MARKER, O_RDONLY | O_CLOEXEC), "r", "the marker");
-    CHECK(fgets(marked, sizeof marked, from) != NULL, "the marker of %s is empty", storage->path);
-    marked[strcspn(marked, "\n")] = '\0';
-    CHECK(strcmp(marked, job) == 0, "%s is the storage of the job %s, and the log is of the job %s", storage->path, marked, job);
-    fclose(from);
-    storage_each(storage, check_number, &known);
 }
 
 void storage_put(const struct storage *storage, uint64_t number, const char *folder, const char *name) {
@@ -115,7 +59,7 @@ void storage_put(const struct storage *storage, uint64_t number, const char *fol
 }
 
 void storage_sync(const struct storage *storage) {
-    CHECK(fsync(storage->folder) == 0, "%s can't be synced: %s", storage->path, strerror(errno));
+    CHECK(fsync(storage->folder) == 0, "the storage can't be synced: %s", strerror(errno));
 }
 
 void storage_get(const struct storage *storage, uint64_t number, const char *folder, char name[NAME]) {
@@ -130,18 +74,20 @@ void storage_get(const struct storage *storage, uint64_t number, const char *fol
     CHECK(fclose(to) == 0, "%s can't be written", path);
 }
 
+static bool is_there(const struct storage *storage, const char *name) {
+    bool is = faccessat(storage->folder, name, F_OK, 0) == 0;
+    CHECK(is || errno == ENOENT, "%s can't be looked at: %s", name, strerror(errno));
+    return is;
+}
+
 bool storage_has(const struct storage *storage, uint64_t number) {
-    bool has = is_there(storage, name_of(number).text);
-    if (!has) {
-        check_marker(storage);
-    }
-    return has;
+    return is_there(storage, name_of(number).text);
 }
 
 void storage_delete(const struct storage *storage, uint64_t number) {
     if (unlinkat(storage->folder, name_of(number).text, 0) != 0) {
         CHECK(errno == ENOENT, "file %" PRIu64 " can't be deleted: %s", number, strerror(errno));
-        check_marker(storage);
+        CHECK(is_there(storage, ".relkvanu-job"), "the storage has no marker: it is not the job's, or not mounted");
     }
 }
 

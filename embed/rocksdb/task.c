@@ -42,7 +42,7 @@ static size_t numbers_of(uint64_t *numbers, const struct files *files) {
 relkvanu_answer task_ack(struct task *task, const struct upload *upload) {
     static _Thread_local uint64_t fresh[MOST_FILES], reused[MOST_FILES];
     size_t fresh_len = numbers_of(fresh, &upload->fresh), reused_len = numbers_of(reused, &upload->reused);
-    storage_sync(task->storage); /* each file is synced: the log must not name one that a loss of power takes */
+    storage_sync(task->storage); /* each file is synced: the coordinator must not know one that a loss of power takes */
     coordinator_step(task->coordinator);
     return coordinator_ack(task->coordinator, upload->id, task->index, fresh, fresh_len, reused, reused_len);
 }

@@ -59,7 +59,7 @@ def test_an_engine_whose_coordinator_is_killed():
         check_made(made, log, set())
         compared = check_log(job.state(), SHAPE, log)
         files = in_use(job)
-        names = {name for name in os.listdir(storage) if name != ".job"}  # the folder's marker
+        names = {name for name in os.listdir(storage) if name != ".relkvanu-job"}  # the folder's marker
         assert names == files, (names, files)
         assert job.state()["files"] == {"in_use": len(files), "waiting": 0, "taken": 0} and files, job.state()
         server.stop()

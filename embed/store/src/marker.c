@@ -1,16 +1,17 @@
-/* The marker of a storage folder: which job its files are of, and that the folder is mounted. */
+/* The marker of a storage folder: which job its files are of, which opening of the job wrote them last, and that the folder is mounted. */
 #include "parts.h"
 
 #include <dirent.h>
 #include <errno.h>
 #include <fcntl.h>
+#include <inttypes.h>
 #include <limits.h>
 #include <stdio.h>
 #include <string.h>
 #include <unistd.h>
 
 static const char MARKER[] = ".relkvanu-job", UNFINISHED[] = ".relkvanu-job.new";
-enum { MARKER_LEN = 64 };
+enum { MARKER_LEN = 96 };
 
 static int storage_fault(relkvanu_store *s, const char *folder, const char *words, const char *more) {
     snprintf(s->fault, sizeof s->fault, "%.300s: %s%.80s", folder, words, more);
@@ -20,10 +21,6 @@ static int storage_fault(relkvanu_store *s, const char *folder, const char *word
 int rks_open_folder(relkvanu_store *s, const char *folder) {
     s->folder = open(folder, O_RDONLY | O_DIRECTORY | O_CLOEXEC);
     return s->folder >= 0 ? RELKVANU_STORE_OK : storage_fault(s, folder, strerror(errno), "");
-}
-
-static void text_of(const relkvanu_store *s, char text[MARKER_LEN]) {
-    snprintf(text, MARKER_LEN, "relkvanu job %s\n", s->identity);
 }
 
 bool rks_has_marker(const relkvanu_store *s) {
@@ -95,9 +92,9 @@ int rks_check_new_folder(relkvanu_store *s, const char *folder) {
     return name[0] == 0 ? RELKVANU_STORE_OK : storage_fault(s, folder, "the job is new, and there are files, such as ", name);
 }
 
-int rks_write_marker(relkvanu_store *s, const char *folder) {
+int rks_write_marker(relkvanu_store *s, const char *folder, uint64_t epoch) {
     char text[MARKER_LEN];
-    text_of(s, text);
+    snprintf(text, sizeof text, "relkvanu job %s\nepoch %" PRIu64 "\n", s->identity, epoch);
     int file = openat(s->folder, UNFINISHED, O_WRONLY | O_CREAT | O_TRUNC | O_CLOEXEC, 0600);
     if (file < 0) {
         return rks_file_fault(s, folder, errno);
@@ -111,17 +108,18 @@ int rks_write_marker(relkvanu_store *s, const char *folder) {
     return RELKVANU_STORE_OK;
 }
 
-int rks_check_marker(relkvanu_store *s, const char *folder) {
-    char text[MARKER_LEN], found[MARKER_LEN] = "";
-    text_of(s, text);
+/* A marker without an epoch is one of an earlier version of the library. */
+int rks_check_marker(relkvanu_store *s, const char *folder, uint64_t epoch) {
+    char found[MARKER_LEN] = "", identity[RKS_IDENTITY + 1] = "";
+    uint64_t marked = 0;
     int file = openat(s->folder, MARKER, O_RDONLY | O_CLOEXEC);
     if (file < 0) {
         return storage_fault(s, folder, errno == ENOENT ? "it has no marker: is the storage mounted?" : strerror(errno), "");
     }
     ssize_t len = read(file, found, sizeof found - 1);
     close(file);
-    if (len < 0 || strcmp(text, found) != 0) {
+    if (len < 0 || sscanf(found, "relkvanu job %32s epoch %" SCNu64, identity, &marked) < 1 || strcmp(s->identity, identity) != 0) {
         return storage_fault(s, folder, "it has the marker of another job than ", s->identity);
     }
-    return RELKVANU_STORE_OK;
+    return marked <= epoch ? RELKVANU_STORE_OK : storage_fault(s, folder, "a later opening of the job has used it, and the job's file is an older copy", "");
 }

@@ -154,7 +154,7 @@ static int check_storage(relkvanu_store *s, const struct job *job, const char *f
     if (job->storage == TO_MARK && !rks_has_marker(s)) {
         return rks_check_new_folder(s, folder);
     }
-    return rks_check_marker(s, folder);
+    return rks_check_marker(s, folder, (uint64_t)job->epoch);
 }
 
 /* An image after the one that was opened is damaged. */
@@ -188,12 +188,17 @@ static int settle(relkvanu_store *s) {
     return status != RELKVANU_STORE_OK ? status : rks_in_place(s) ? RELKVANU_STORE_OK : RELKVANU_STORE_FAILED;
 }
 
+/* Marks the folder with this opening, whose epoch is committed. An older copy of the file is refused then: a sweep of it would delete the files
+ * of the later calls. On a full disk a marker that is there stays as it is, so that a discarder can make room. */
 static int mark(relkvanu_store *s, const struct job *job, const char *folder) {
-    if (folder == NULL || job->storage == MARKED) {
+    if (folder == NULL) {
         return RELKVANU_STORE_OK;
     }
-    int status = rks_has_marker(s) ? RELKVANU_STORE_OK : rks_write_marker(s, folder);
-    return status == RELKVANU_STORE_OK ? rks_run(s, "UPDATE job SET storage = 2") : status;
+    int status = rks_write_marker(s, folder, (uint64_t)job->epoch + 1);
+    if (status == RELKVANU_STORE_FULL && rks_has_marker(s)) {
+        status = RELKVANU_STORE_OK;
+    }
+    return status == RELKVANU_STORE_OK && job->storage != MARKED ? rks_run(s, "UPDATE job SET storage = 2") : status;
 }
 
 static void set_steps(relkvanu_store_report *report) {

@@ -128,8 +128,8 @@ bool rks_write_whole(int file, const void *bytes, size_t len, off_t at);
 /* marker.c */
 int rks_open_folder(relkvanu_store *s, const char *folder);
 int rks_check_new_folder(relkvanu_store *s, const char *folder);
-int rks_write_marker(relkvanu_store *s, const char *folder);
-int rks_check_marker(relkvanu_store *s, const char *folder);
+int rks_write_marker(relkvanu_store *s, const char *folder, uint64_t epoch);
+int rks_check_marker(relkvanu_store *s, const char *folder, uint64_t epoch);
 bool rks_has_marker(const relkvanu_store *s);
 
 /* lite.c */

@@ -97,6 +97,52 @@ static void before_the_marker(void) {
     relkvanu_store_close(opens(&options, RELKVANU_STORE_OK));
 }
 
+static void copy_file(const char *from, const char *to) {
+    char command[2 * PATHS + 8];
+    snprintf(command, sizeof command, "cp '%s' '%s'", in(from), in(to));
+    CHECK(system(command) == 0, "%s", command);
+}
+
+/* A sweep of an older copy would delete the files of the calls that it lacks. */
+static void an_older_copy(void) {
+    relkvanu_store_options options = storage_options(RELKVANU_STORE_CREATE, 0);
+    relkvanu_store_close(opens(&options, RELKVANU_STORE_OK));
+    copy_file("x.db", "first.db");
+    relkvanu_store_close(opens(&options, RELKVANU_STORE_OK));
+    copy_file("x.db", "second.db");
+    copy_file("first.db", "x.db");
+    for (int times = 0; times < 3; times++) { /* a refusal changes nothing */
+        opens(&options, RELKVANU_STORE_STORAGE);
+        CHECK(says("an older copy"), "%s", report.message);
+    }
+    copy_file("second.db", "x.db");
+    relkvanu_store_close(opens(&options, RELKVANU_STORE_OK));
+    CHECK(report.epoch == 3, "epoch %" PRIu64, report.epoch);
+}
+
+/* On a full disk a job is recovered, so that its discarder can make room, and a new one is not made. */
+static void a_full_storage(void) {
+    relkvanu_store_options options = storage_options(RELKVANU_STORE_CREATE, 0);
+    CHECK(symlink("/dev/full", in("storage/.relkvanu-job.new")) == 0, "a link");
+    opens(&options, RELKVANU_STORE_FULL);
+    unlink(in("storage/.relkvanu-job.new"));
+    relkvanu_store_close(opens(&options, RELKVANU_STORE_OK));
+    CHECK(symlink("/dev/full", in("storage/.relkvanu-job.new")) == 0, "a link");
+    uint64_t epoch = report.epoch;
+    relkvanu_store_close(opens(&options, RELKVANU_STORE_OK));
+    CHECK(report.epoch == epoch + 1 && has("storage/.relkvanu-job"), "epoch %" PRIu64, report.epoch);
+}
+
+/* Earlier versions wrote the first line alone. */
+static void a_marker_without_an_epoch(void) {
+    relkvanu_store_options options = storage_options(RELKVANU_STORE_CREATE, 0);
+    relkvanu_store_close(opens(&options, RELKVANU_STORE_OK));
+    FILE *marker = fopen(in("storage/.relkvanu-job"), "w");
+    CHECK(marker != NULL && fprintf(marker, "relkvanu job %016" PRIx64 "%016" PRIx64 "\n", report.job[0], report.job[1]) > 0 && fclose(marker) == 0, "marker");
+    relkvanu_store_close(opens(&options, RELKVANU_STORE_OK));
+    CHECK(report.epoch == 2, "epoch %" PRIu64, report.epoch);
+}
+
 static size_t sweep(relkvanu_store *store, uint64_t *files, size_t len, int status) {
     int got = relkvanu_store_unknown(store, files, &len);
     CHECK(got == status, "status %d, not %d", got, status);
@@ -144,4 +190,5 @@ static void a_sweep(void) {
 }
 
 const struct test storage_cases[] = {{"a_folder_with_files", a_folder_with_files}, {"not_mounted", not_mounted}, {"of_another_job", of_another_job},
-    {"named_or_not", named_or_not}, {"one_folder_for_all", one_folder_for_all}, {"before_the_marker", before_the_marker}, {"a_sweep", a_sweep}, {NULL, NULL}};
+    {"named_or_not", named_or_not}, {"one_folder_for_all", one_folder_for_all}, {"before_the_marker", before_the_marker}, {"an_older_copy", an_older_copy}, {"a_full_storage", a_full_storage},
+    {"a_marker_without_an_epoch", a_marker_without_an_epoch}, {"a_sweep", a_sweep}, {NULL, NULL}};

@@ -14,7 +14,8 @@ from relkvanu import Settings
 from relkvanu.store import Store
 
 TASKS = 3
-MARKER = ".relkvanu-job"
+FILES = 4 * TASKS
+MARKER = (".relkvanu-job", ".relkvanu-job.new")
 
 
 def known(folder):
@@ -33,7 +34,7 @@ def known(folder):
 
 
 def listed(folder):
-    return {int(it) for it in os.listdir(folder / "state") if it != MARKER}
+    return {int(it) for it in os.listdir(folder / "state") if it not in MARKER}
 
 
 def await_opening(folder, process):
@@ -43,20 +44,31 @@ def await_opening(folder, process):
         time.sleep(0.001)
 
 
+def await_checkpoints(folder, process, before):
+    """Waits until the process has made some files, so that a kill comes among checkpoints also on a busy machine. The lower half of a number
+    counts the files of a process."""
+    end = time.monotonic() + 60
+    while process.poll() is None and time.monotonic() < end and max((it % (1 << 32) for it in listed(folder) - before), default=0) < FILES:
+        time.sleep(0.001)
+
+
 def main(kills, *command):
     chance = random.Random(os.environ.get("SEED", time.time()))
     with tempfile.TemporaryDirectory() as name:
         folder = pathlib.Path(name)
         (folder / "state").mkdir()
         reached = []
-        for _ in range(int(kills)):
+        for nth in range(int(kills)):
+            before = listed(folder)
             with subprocess.Popen([*command, folder], stderr=subprocess.PIPE, text=True) as process:
                 await_opening(folder, process)
+                if nth % 2 == 1:
+                    await_checkpoints(folder, process, before)
                 time.sleep(chance.random() * chance.choice((0.02, 0.8)))
                 process.send_signal(signal.SIGKILL)
                 _, told = process.communicate()
             assert process.returncode == -signal.SIGKILL, (process.returncode, told)
-            if (folder / "job.db").exists() and (folder / "state" / MARKER).exists():
+            if (folder / "job.db").exists() and (folder / "state" / MARKER[0]).exists():
                 used, _, last = known(folder)
                 assert used <= listed(folder), used - listed(folder)
                 reached.append(last)

@@ -37,6 +37,7 @@ public final class Coordinator extends Reads implements AutoCloseable, Outbox {
 
     /** Opens it by a native function. */
     private Coordinator(Handle.Call opening) {
+        super(new Handle());
         try {
             handle.call(opening, (what, a, b) -> what);
         } catch (RuntimeException | Error fault) {

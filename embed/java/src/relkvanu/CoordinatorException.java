@@ -1,7 +1,7 @@
 package relkvanu;
 
 /**
- * A call was not made, and nothing has changed, except maybe after {@link Unknown}. Each exception of this package is one of the classes below.
+ * A call was not made, and nothing has changed, except maybe after {@link Unknown} and {@link NotStored}. Each exception of this package is one of the classes below.
  *
  * <p>{@link Refused} and {@link NoMemory} are answers that a job gets every day, so they have no stack trace. With {@code
  * -Drelkvanu.traces=true} they have one.
@@ -133,13 +133,32 @@ public abstract sealed class CoordinatorException extends RuntimeException {
 
     /**
      * The library has answered with a number that this package does not know, as one of a later version may. The call may have been made:
-     * this is the one exception after which something may have changed.
+     * something may have changed.
      */
     public static final class Unknown extends CoordinatorException {
         private static final long serialVersionUID = 1;
 
         Unknown(String kind, long what) {
             super("this package has no " + kind + " " + what, true);
+        }
+    }
+
+    /** A {@link Store} was not opened, or calls of one were not committed. */
+    public static final class NotStored extends CoordinatorException {
+        private static final long serialVersionUID = 1;
+        /** @serial why */
+        private final StoreFault fault;
+
+        NotStored(StoreFault fault, String message) {
+            super(message.isEmpty() ? fault.name() : fault.name() + ": " + message, true);
+            this.fault = fault;
+        }
+
+        /**
+         * {@return why}
+         */
+        public StoreFault fault() {
+            return fault;
         }
     }
 

@@ -28,7 +28,7 @@ final class Library {
     /** This class is always initialized whole, so each call tells the first fault. */
     private static String loaded() {
         try {
-            load();
+            load(NAME, PROPERTY);
             String found = Native.version();
             return fits(found) ? null : "the native library is of version " + found + ", and relkvanu.jar needs version " + Header.VERSION;
         } catch (IOException | RuntimeException | UnsatisfiedLinkError fault) {
@@ -47,26 +47,27 @@ final class Library {
         }
     }
 
-    private static void load() throws IOException {
-        String given = System.getProperty(PROPERTY);
+    /** Loads a library of the jar, or the file that the property names. */
+    static void load(String name, String property) throws IOException {
+        String given = System.getProperty(property);
         if (given != null) {
             System.load(Path.of(given).toAbsolutePath().toString());
             return;
         }
         String system = System.getProperty("os.name").toLowerCase(Locale.ROOT) + "-" + System.getProperty("os.arch");
-        try (InputStream in = Library.class.getResourceAsStream("native/" + system + "/lib" + NAME + ".so")) {
+        try (InputStream in = Library.class.getResourceAsStream("native/" + system + "/lib" + name + ".so")) {
             if (in == null) {
-                System.loadLibrary(NAME);
+                System.loadLibrary(name);
             } else {
-                loadCopy(in);
+                loadCopy(in, name);
             }
         }
     }
 
     /** Nobody else can write to the folder. Linux keeps what is mapped when the file is gone. */
-    private static void loadCopy(InputStream in) throws IOException {
+    private static void loadCopy(InputStream in, String name) throws IOException {
         Path folder = Files.createTempDirectory("relkvanu");
-        Path file = folder.resolve("lib" + NAME + ".so");
+        Path file = folder.resolve("lib" + name + ".so");
         try {
             Files.copy(in, file);
             System.load(file.toString());

@@ -7,8 +7,12 @@ import java.util.OptionalLong;
 import java.util.function.Supplier;
 
 /** The reads of a {@link Coordinator}, and what a timer waits for. */
-abstract sealed class Reads permits Coordinator {
-    final Handle handle = new Handle();
+abstract sealed class Reads permits Coordinator, StoreReads {
+    final Handle handle;
+
+    Reads(Handle handle) {
+        this.handle = handle;
+    }
 
     // The fence: no thread closes a lost coordinator while a call of it goes on.
 

@@ -19,7 +19,8 @@ import org.junit.jupiter.api.function.Executable;
 class ExceptionsTest {
     private static final List<CoordinatorException> ALL = List.of(new CoordinatorException.Refused(Refusal.NOT_RUNNING, 0), new CoordinatorException.Refused(Refusal.NAME_TAKEN, -1),
         new CoordinatorException.NoMemory(), new CoordinatorException.Closed(), new CoordinatorException.BadArgument(Argument.BAD_SHAPE), new CoordinatorException.BadLine(LineFault.MISSING),
-        new CoordinatorException.TooShort(5), new CoordinatorException.OutOfRange("out"), new CoordinatorException.Unknown("reply", 999), new CoordinatorException.NoLibrary("none"));
+        new CoordinatorException.TooShort(5), new CoordinatorException.OutOfRange("out"), new CoordinatorException.Unknown("reply", 999), new CoordinatorException.NotStored(StoreFault.FULL, "job.db: full"),
+        new CoordinatorException.NoLibrary("none"));
 
     @Test
     void aCopySaysTheSame() throws Exception {
@@ -41,7 +42,7 @@ class ExceptionsTest {
     void eachKindIsHere() {
         Class<?>[] kinds = CoordinatorException.class.getPermittedSubclasses();
         assertTrue(Arrays.stream(kinds).allMatch(kind -> ALL.stream().anyMatch(kind::isInstance)));
-        assertEquals(9, kinds.length);
+        assertEquals(10, kinds.length);
     }
 
     /** The names are those of the library, and no number is beyond them. */

@@ -1,0 +1,175 @@
+"""The coordinator as a library in the driver's process, whose calls are durable (relkvanu.store). A driver that opens the job of one that was killed has
+exactly the calls that the other one was answered, and maybe those of the commit that it was in.
+
+The store keeps the log, the lock, the images, the clock and the identity of the job. A file has the number of the driver's opening in its
+upper half, so no two drivers give the same one.
+"""
+import itertools
+import os
+import pathlib
+import signal
+import sys
+import tempfile
+import threading
+import time
+from typing import Any, Callable, Dict, Optional, Sequence, Set, Tuple
+
+import bookkeeping
+from cluster import wait_for
+from relkvanu import Error, OutOfMemory, Refused, Reply, Settings, Taken, Triggered
+from relkvanu.store import Call, Made, Step, Store, StoreError
+from storage import Storage
+
+Subtask = Tuple[int, int]
+IMAGE_CALLS = 400
+
+
+def or_end(call: Callable[..., Any], *arguments: Any) -> Any:
+    """Makes a call, again while there is no memory for it. Ends the process if it has no answer, even for the interrupt of a user: the call may
+    be committed or not, and nobody may act on it."""
+    while True:
+        try:
+            return call(*arguments)
+        except OutOfMemory:
+            time.sleep(0.1)
+        except BaseException as fault:
+            if isinstance(fault, Error) and not (isinstance(fault, StoreError) and fault.name != "Stopped"):
+                raise
+            print(f"a call has no answer: {fault!r}", file=sys.stderr, flush=True)
+            os._exit(1)
+
+
+class Stored:
+    def __init__(self, folder: pathlib.Path, storage: Storage, settings: Dict[str, int], shape: Sequence[int], dies_after: int = 0) -> None:
+        """Opens FOLDER/job.db, or makes it if the storage has no file. Compares the coordinator with what the lines of its calls say. The process is
+        killed after so many calls of its own, once the last of them is committed; 0: it is not."""
+        self.folder, self.dies_after = folder, dies_after
+        with tempfile.TemporaryDirectory() as copy:
+            bookkeeping.copy_job(folder, copy)
+            try:
+                self.job = Store(folder / "job.db", Settings(**settings), shape, storage=storage.path, create=True, image_calls=IMAGE_CALLS)
+            except StoreError as fault:
+                raise SystemExit(f"the job is not opened: {fault}") from None
+            books = bookkeeping.of_job(pathlib.Path(copy))
+        self.first_file = self.job.report.epoch << 32
+        self.calls = itertools.count(1)
+        self.made: Dict[int, Reply] = {}  # replies of this process, by the places of their calls
+        self.discarder: Optional[threading.Thread] = None
+        if books is not None:
+            self.check(books, storage)
+
+    def check(self, books: bookkeeping.Bookkeeping, storage: Storage) -> None:
+        with self.job.read() as reads:
+            bookkeeping.check(books, reads)
+        missing = [file for file in books.uses() if not storage.has(file)]
+        assert not missing, f"files in use are missing: {missing}"
+
+    def call(self, call: Call) -> Reply:
+        made: Made = or_end(self.job.call, call)
+        if next(self.calls) == self.dies_after:
+            os.kill(os.getpid(), signal.SIGKILL)
+        self.made[made.place] = made.reply
+        return made.reply
+
+    def ack(self, id: int, subtask: Subtask, fresh: Sequence[int], reused: Sequence[int]) -> Reply:
+        return self.call(Call.ack(id, *subtask, fresh, reused))
+
+    def decline(self, id: int, subtask: Subtask) -> Reply:
+        return self.call(Call.decline(id, *subtask))
+
+    def restore(self, shape: Optional[Sequence[int]] = None) -> Reply:
+        return self.call(Call.restore(shape=shape))
+
+    def cancel(self) -> None:
+        self.call(Call.cancel())
+
+    def take(self, most: int) -> Taken:
+        taken = self.call(Call.take(most))
+        assert isinstance(taken, Taken)
+        return taken
+
+    def deleted(self, file: int) -> None:
+        self.call(Call.deleted(file))
+
+    # Reads.
+
+    def files(self, id: int) -> Dict[Subtask, Tuple[int, ...]]:
+        """The files of a live record, by subtask."""
+        with self.job.read() as reads:
+            return reads.show(id).files
+
+    def used(self) -> Set[int]:
+        """The files in use."""
+        used: Set[int] = set()
+        with self.job.read() as reads:
+            next = 0
+            while (live := reads.live_from(next)) is not None:
+                used.update(reads.pins_of(live.id), *reads.show(live.id).files.values())
+                next = live.id + 1
+        return used
+
+    def recover(self, storage: Storage) -> None:
+        """Takes the steps that the store has told, up to the start of the tasks."""
+        for step in self.job.report.steps:
+            if step is Step.RESTORE:
+                self.restore()
+            elif step is Step.SWEEP:
+                for file in self.job.unknown(sorted(storage.numbers())):
+                    storage.delete(file)
+            else:  # END_TASKS: kills.py has waited for the workers of the driver before
+                assert step in (Step.END_TASKS, Step.START_TASKS), step
+
+    def settle(self, storage: Storage) -> None:
+        """Waits until the discarder has deleted all that it may, before any task writes. Then the folder has the files in use and no
+        other."""
+        wait_for(self.has_discarded)
+        names, used = storage.numbers(), self.used()
+        assert names == used, (names - used, used - names)
+
+    def has_discarded(self) -> bool:
+        with self.job.read() as reads:
+            counts = reads.file_counts()
+        return counts.waiting + counts.taken == 0
+
+    def start_discarder(self, delete: Callable[[int], None]) -> None:
+        def delete_one(file: int) -> bool:
+            delete(file)
+            return True
+
+        self.discarder = threading.Thread(target=or_end, args=(self.job.discard, delete_one, 16), daemon=True)
+        self.discarder.start()
+
+    def stop(self) -> None:
+        """Ends the discarder, and run()."""
+        self.job.stop()
+        assert self.discarder is not None
+        self.discarder.join()
+
+    def run(self, job: Any) -> None:
+        """Ticks when something can happen, and has barriers sent if a checkpoint is triggered, until the job is over."""
+        while not job.is_over.is_set():
+            with job.lock:  # not between a restore and the start of its tasks
+                channels = job.channels
+                made = self.tick(job) if channels else None
+            if made is None:
+                time.sleep(0.01)
+            elif isinstance(made.reply, Triggered):
+                job.send_barriers(made.reply.id, channels)
+
+    def tick(self, job: Any) -> Optional[Made]:
+        try:
+            made: Optional[Made] = or_end(self.job.await_tick, 0)
+        except (Refused, StoreError):  # a decline has failed the job since, or it is over
+            return None
+        if made is not None:
+            self.made[made.place] = made.reply
+            job.note(made.reply)
+        return made
+
+    def close(self) -> None:
+        """Closes the store, and compares the job, and what this process was answered, with what its lines say."""
+        self.job.close()
+        books = bookkeeping.of_job(self.folder)
+        assert books is not None
+        for place, reply in self.made.items():  # those before were cut off
+            bookkeeping.same(books.answers.get(place, reply), reply, f"the answer of call {place}")

@@ -1,0 +1,204 @@
+//go:build relkvanu_store
+
+package relkvanu
+
+// #include <relkvanu_store.h>
+import "C"
+
+import (
+	"errors"
+	"io/fs"
+	"runtime/cgo"
+	"time"
+	"unsafe"
+)
+
+// Reads are the reads of a coordinator, between two commits: those of Coordinator.
+type Reads interface {
+	Mode() (Mode, error)
+	Moment() (uint64, error)
+	Due() (uint64, error)
+	OldestExpiry() (uint64, bool, error)
+	Choice() (Choice, error)
+	Live(place uint64) (Live, bool, error)
+	LiveFrom(id uint64) (Live, bool, error)
+	Standing(id uint64) (Standing, error)
+	FilesOf(id uint64, subtask Subtask) ([]uint64, bool, error)
+	PinsOf(id uint64) ([]uint64, error)
+	TakenFiles() ([]uint64, error)
+	WaitingFile(place uint64) (uint64, bool, error)
+	Missing(id uint64) (uint64, bool, error)
+	FileCounts() (FileCounts, error)
+	Show(id uint64) (Shown, error)
+	Count(file uint64) (Counted, error)
+	Save() ([]byte, error)
+}
+
+// Read calls f with what is committed. All callers wait meanwhile, so be quick, and make no call of the store in f. What f gets is closed once
+// f has returned.
+func (s *Store) Read(f func(reads Reads) error) error {
+	if err := s.enter(); err != nil {
+		return err
+	}
+	defer s.leave()
+	var handle *C.relkvanu
+	if err := s.check(C.relkvanu_store_read(s.store, &handle)); err != nil {
+		return err
+	}
+	defer C.relkvanu_store_read_end(s.store)
+	reads := &Coordinator{owner: &owner{handle: handle, imageRoom: 256}, isHeld: true}
+	defer func() { reads.owner = nil }()
+	return f(reads)
+}
+
+// Now is the moment of the store's clock, and 0 if the store is closed.
+func (s *Store) Now() uint64 {
+	if s.enter() != nil {
+		return 0
+	}
+	defer s.leave()
+	return uint64(C.relkvanu_store_now(s.store))
+}
+
+// NextTick is after how long the next tick has to come, unless a call is made before. The second value is false if only a call can bring
+// one.
+func (s *Store) NextTick() (time.Duration, bool, error) {
+	if err := s.enter(); err != nil {
+		return 0, false, err
+	}
+	defer s.leave()
+	var wait C.uint64_t
+	err := s.check(C.relkvanu_store_next_tick(s.store, &wait))
+	return time.Duration(wait) * time.Millisecond, err == nil && wait != C.UINT64_MAX, err
+}
+
+// StoreTick is a tick that was due.
+type StoreTick struct {
+	Ticked
+	Choice Choice // after a trigger: the record that its barrier names beside it
+}
+
+// AwaitTick is a timer, in a loop of a goroutine: it sleeps until a tick is due, at most so long, and makes it. The second value is false if
+// none was due. After Stop and Close it returns StoreStopped.
+func (s *Store) AwaitTick(longest time.Duration) (StoreTick, bool, error) {
+	if err := s.enter(); err != nil {
+		return StoreTick{}, false, err
+	}
+	defer s.leave()
+	var tick C.relkvanu_store_call
+	status := C.relkvanu_store_await_tick(s.store, C.uint64_t(milliseconds(longest, 1<<62)), &tick)
+	if status == C.RELKVANU_STORE_TIMED_OUT {
+		return StoreTick{}, false, nil
+	}
+	if err := s.check(status); err != nil {
+		return StoreTick{}, false, err
+	}
+	made := outcomeOf(&tick)
+	if made.Err != nil {
+		return StoreTick{}, false, made.Err
+	}
+	return StoreTick{Ticked: made.Reply.(Ticked), Choice: made.Choice}, true, nil
+}
+
+// Unknown is for the sweep of a recovery: those of the files that the coordinator does not know. The engine deletes exactly these. It returns
+// StoreNotNow unless the job was restored, or is cancelled, and no checkpoint was triggered or acknowledged since: a task may have written a
+// file whose acknowledgement is on its way.
+func (s *Store) Unknown(files []uint64) ([]uint64, error) {
+	if err := s.enter(); err != nil {
+		return nil, err
+	}
+	defer s.leave()
+	left := append(make([]uint64, 0, len(files)+1), files...)
+	length := C.size_t(len(left))
+	err := s.check(C.relkvanu_store_unknown(s.store, (*C.uint64_t)(unsafe.Pointer(&left[:1][0])), &length))
+	if err != nil {
+		return nil, err
+	}
+	return left[:length], nil
+}
+
+// Folder is the descriptor of the storage folder, which stays open until Close: delete in it by unlinkat, so that no deletion reaches a
+// folder that is mounted over it. The second value is false if there is none.
+func (s *Store) Folder() (int, bool) {
+	if s.enter() != nil {
+		return -1, false
+	}
+	defer s.leave()
+	folder := int(C.relkvanu_store_folder(s.store))
+	return folder, folder >= 0
+}
+
+// remover is what a discarder deletes with.
+type remover struct {
+	remove   func(file uint64) error
+	panicked any
+}
+
+// isGone says whether a file is not there any more.
+func (r *remover) isGone(file uint64) (is bool) {
+	defer func() {
+		if it := recover(); it != nil {
+			r.panicked = it
+		}
+	}()
+	err := r.remove(file)
+	return err == nil || errors.Is(err, fs.ErrNotExist)
+}
+
+// Discard is a discarder, in a goroutine of the engine: it takes files, deletes them by remove, batch by batch (1 to 4095; 0: 256), syncs the
+// storage folder, and reports them. It begins with the files that were taken and not reported. A file for which remove returns an error waits
+// again; one that does not exist (fs.ErrNotExist) is deleted. It never gives up, and returns nil after Stop and Close. If remove panics, the
+// store is stopped, and Discard panics.
+func (s *Store) Discard(batch int, remove func(file uint64) error) error {
+	if err := s.enter(); err != nil {
+		return err
+	}
+	defer s.leave()
+	with := &remover{remove: remove}
+	handle := cgo.NewHandle(&storeRemover{store: s, remover: with})
+	defer handle.Delete()
+	status := discard(s.store, C.size_t(batch), unsafe.Pointer(&handle))
+	if with.panicked != nil {
+		panic(with.panicked)
+	}
+	if status == C.RELKVANU_STORE_STOPPED {
+		return nil
+	}
+	return s.check(status)
+}
+
+// storeRemover is what the library hands back.
+type storeRemover struct {
+	store   *Store
+	remover *remover
+}
+
+// Stop lets AwaitTick and Discard return, now and later. What was taken is reported first.
+func (s *Store) Stop() {
+	if s.enter() == nil {
+		defer s.leave()
+		C.relkvanu_store_stop(s.store)
+	}
+}
+
+// StoreCounts are counts since the opening.
+type StoreCounts struct {
+	Commits, Calls, Largest                 uint64 // Largest: the most calls of a commit
+	Images, FailedImages                    uint64
+	Checkpoints, FailedCheckpoints, Retries uint64 // of SQLite's log into the file; of commits
+}
+
+// Counts counts since the opening. They are 0 if the store is closed.
+func (s *Store) Counts() StoreCounts {
+	if s.enter() != nil {
+		return StoreCounts{}
+	}
+	defer s.leave()
+	var found C.relkvanu_store_counts
+	C.relkvanu_store_count(s.store, &found)
+	return StoreCounts{
+		Commits: uint64(found.commits), Calls: uint64(found.calls), Largest: uint64(found.largest), Images: uint64(found.images),
+		FailedImages: uint64(found.failed_images), Checkpoints: uint64(found.checkpoints), FailedCheckpoints: uint64(found.failed_checkpoints),
+		Retries: uint64(found.retries),
+	}
+}

@@ -1,0 +1,328 @@
+//go:build relkvanu_store
+
+package relkvanu_test
+
+import (
+	"errors"
+	"fmt"
+	"io/fs"
+	"os"
+	"os/exec"
+	"path/filepath"
+	"strings"
+	"sync"
+	"testing"
+	"time"
+
+	"relkvanu"
+)
+
+// storeFolder has the paths of a job and of its storage.
+type storeFolder struct{ job, storage string }
+
+func newStoreFolder(t *testing.T) storeFolder {
+	folder := storeFolder{filepath.Join(t.TempDir(), "job.db"), filepath.Join(t.TempDir(), "state")}
+	if err := os.Mkdir(folder.storage, 0o700); err != nil {
+		t.Fatal(err)
+	}
+	return folder
+}
+
+func storeOptions() relkvanu.StoreOptions {
+	settings := relkvanu.Every(10)
+	settings.Timeout = 1 << 30
+	return relkvanu.StoreOptions{Settings: settings, Shape: []uint64{2}, Create: true}
+}
+
+// fails checks that a call fails so, and returns the message.
+func fails(t *testing.T, err error, wanted error) string {
+	t.Helper()
+	if !errors.Is(err, wanted) {
+		t.Errorf("%v, not %v", err, wanted)
+		return ""
+	}
+	return err.Error()
+}
+
+func made(t *testing.T, store *relkvanu.Store, call relkvanu.Call) relkvanu.Outcome {
+	t.Helper()
+	outcome := must(store.Calls(call))[0]
+	if outcome.Err != nil {
+		t.Fatal(outcome.Err)
+	}
+	return outcome
+}
+
+// completes a checkpoint with two files from a number on.
+func completes(t *testing.T, store *relkvanu.Store, file uint64) uint64 {
+	t.Helper()
+	var due uint64
+	must(0, store.Read(func(reads relkvanu.Reads) (err error) { due, err = reads.Due(); return err }))
+	id := made(t, store, relkvanu.Call{Kind: relkvanu.CallTick, Now: due}).Reply.(relkvanu.Ticked).ID
+	for index := uint16(0); index < 2; index++ {
+		made(t, store, relkvanu.Call{Kind: relkvanu.CallAck, Now: due, Number: id, Subtask: relkvanu.Subtask{Index: index}, First: []uint64{file + uint64(index)}})
+	}
+	return id
+}
+
+func storeCounts(store *relkvanu.Store) (found relkvanu.FileCounts) {
+	must(0, store.Read(func(reads relkvanu.Reads) (err error) { found, err = reads.FileCounts(); return err }))
+	return found
+}
+
+func TestStoreMakesAndRecovers(t *testing.T) {
+	folder, options := newStoreFolder(t), storeOptions()
+	recovers := options
+	recovers.Create = false
+	fails(t, errorOf(relkvanu.OpenStore(folder.job, recovers)), relkvanu.StoreAbsent)
+	store := must(relkvanu.OpenStore(folder.job, options))
+	report := store.Report()
+	equal(t, fmt.Sprint(report.Steps, report.Epoch, report.IsRecovered), "[start tasks] 1 false")
+	equal(t, fmt.Sprint(made(t, store, relkvanu.Call{Kind: relkvanu.CallTick, Now: 10})), "{tick expired 0 triggered 1 1 fresh <nil>}")
+	equal(t, must(store.Ack(1, relkvanu.Subtask{}, []uint64{1}, nil)).String(), "ack pending 1")
+	fails(t, errorOf(store.Ack(1, relkvanu.Subtask{}, []uint64{3}, nil)), relkvanu.AlreadyAcknowledged)
+	equal(t, must(store.Ack(1, relkvanu.Subtask{Index: 1}, []uint64{2}, nil)).String(), "ack completed 0 0")
+	equal(t, store.Close(), nil)
+	recovers.Settings.Interval = 11
+	store = must(relkvanu.OpenStore(folder.job, recovers))
+	again := store.Report()
+	equal(t, fmt.Sprint(again.Steps, again.Epoch, again.IsRecovered, again.SettingsDiffer), "[end tasks restore sweep start tasks] 2 true true")
+	equal(t, fmt.Sprint(again.ImagePlace, again.Replayed, again.Taken, again.Mode, again.Choice), "3 0 0 running checkpoint 1")
+	equal(t, again.Job, report.Job)
+	equal(t, len(again.Job), 32)
+	fails(t, errorOf(store.Unknown([]uint64{1})), relkvanu.StoreNotNow)
+	equal(t, must(store.Restore(nil)).String(), "restored checkpoint 1 0")
+	equal(t, fmt.Sprint(must(store.Unknown([]uint64{1, 2, 3, 1 << 63}))), "[3 9223372036854775808]")
+	equal(t, fmt.Sprint(must(store.Unknown(nil))), "[]")
+	equal(t, made(t, store, relkvanu.Call{Kind: relkvanu.CallTick, Now: store.Now() + 20}).Choice.String(), "checkpoint 1")
+	equal(t, must(store.Ack(1, relkvanu.Subtask{}, []uint64{7}, nil)).String(), "ack late 1")
+	equal(t, must(store.Cancel()).String(), "cancelled 2 2")
+	store.Close()
+	options.Create, options.CreateOnly = false, true
+	fails(t, errorOf(relkvanu.OpenStore(folder.job, options)), relkvanu.StorePresent)
+}
+
+func TestStoreLists(t *testing.T) {
+	store := must(relkvanu.OpenStore(newStoreFolder(t).job, storeOptions()))
+	defer store.Close()
+	completes(t, store, 1)
+	completes(t, store, 11)
+	outcomes := must(store.Calls(relkvanu.Call{Kind: relkvanu.CallDispose, Number: 9}, relkvanu.Call{Kind: relkvanu.CallTake, Number: 1}, relkvanu.Call{Kind: relkvanu.CallTake, Number: 1 << 40},
+		relkvanu.Call{Kind: relkvanu.CallSavepoint, Now: relkvanu.StoreNow}, relkvanu.Call{Kind: relkvanu.CallDeleted, Number: 1}, relkvanu.Call{Kind: relkvanu.CallUndeleted, Number: 7}))
+	fails(t, outcomes[0].Err, relkvanu.NoSuchSavepoint)
+	equal(t, fmt.Sprint(outcomes[1].Reply, outcomes[2].Reply, outcomes[3].Reply, outcomes[4].Place), "take 1 take 2 savepoint triggered 3 10")
+	fails(t, outcomes[5].Err, relkvanu.NotTaken)
+	fails(t, errorOf(store.Calls()), relkvanu.StoreBadArgument)
+	fails(t, errorOf(store.Calls(relkvanu.Call{Kind: relkvanu.CallCount})), relkvanu.StoreBadArgument)
+	fails(t, errorOf(store.Restore([]uint64{})), relkvanu.BadShape)
+	fails(t, errorOf(store.Restore([]uint64{0})), relkvanu.StoreBadArgument)
+	fails(t, errorOf(store.RestoreSavepoint(0, nil)), relkvanu.BadSavepoint)
+	equal(t, must(store.Restore([]uint64{1, 3})).String(), "restored checkpoint 2 0")
+	fails(t, errorOf(store.Decline(9, relkvanu.Subtask{})), relkvanu.UnknownCheckpoint)
+	fails(t, errorOf(store.Dispose(1)), relkvanu.NoSuchSavepoint)
+	equal(t, must(store.Savepoint()).ID, 4)
+}
+
+func TestStoreHasOneProcess(t *testing.T) {
+	folder, options := newStoreFolder(t), storeOptions()
+	options.Storage = folder.storage
+	store := must(relkvanu.OpenStore(folder.job, options))
+	within, is := store.Folder()
+	equal(t, is && must(os.Stat(fmt.Sprintf("/proc/self/fd/%d/.relkvanu-job", within))).Size() > 0, true)
+	message := fails(t, errorOf(relkvanu.OpenStore(folder.job, options)), relkvanu.StoreInUse)
+	equal(t, strings.Contains(message, fmt.Sprintf("in use by process %d", os.Getpid())), true)
+	store.Close()
+	fails(t, errorOf(relkvanu.OpenStore(folder.job, storeOptions())), relkvanu.StoreStorage)
+	fails(t, errorOf(relkvanu.OpenStore(folder.job+"2", options)), relkvanu.StoreStorage)
+	os.Remove(filepath.Join(folder.storage, ".relkvanu-job"))
+	fails(t, errorOf(relkvanu.OpenStore(folder.job, options)), relkvanu.StoreStorage)
+	options.Settings.Interval = 1
+	fails(t, errorOf(relkvanu.OpenStore(folder.job+"2", options)), relkvanu.StoreBadArgument)
+}
+
+func TestStoreClosed(t *testing.T) {
+	closed := must(relkvanu.OpenStore(newStoreFolder(t).job, storeOptions()))
+	var kept relkvanu.Reads
+	must(0, closed.Read(func(reads relkvanu.Reads) error { kept = reads; return nil }))
+	fails(t, errorOf(kept.Mode()), relkvanu.ErrClosed)
+	closed.Close()
+	for _, store := range []*relkvanu.Store{closed, nil, {}} {
+		equal(t, store.Close(), nil)
+		fails(t, errorOf(store.Calls(relkvanu.Call{Kind: relkvanu.CallTick})), relkvanu.ErrClosed)
+		fails(t, errorOf(store.Tick()), relkvanu.ErrClosed)
+		fails(t, store.Read(func(relkvanu.Reads) error { return nil }), relkvanu.ErrClosed)
+		fails(t, errorOf(store.Unknown(nil)), relkvanu.ErrClosed)
+		fails(t, store.Discard(0, func(uint64) error { return nil }), relkvanu.ErrClosed)
+		_, _, err := store.AwaitTick(time.Second)
+		fails(t, err, relkvanu.ErrClosed)
+		_, _, err = store.NextTick()
+		fails(t, err, relkvanu.ErrClosed)
+		_, is := store.Folder()
+		equal(t, fmt.Sprint(store.Now(), store.Counts(), is), "0 {0 0 0 0 0 0 0 0} false")
+		store.Stop()
+	}
+}
+
+func TestStoreReads(t *testing.T) {
+	options := storeOptions()
+	options.ImageCalls = relkvanu.NoImages
+	store := must(relkvanu.OpenStore(newStoreFolder(t).job, options))
+	defer store.Close()
+	completes(t, store, 1)
+	var image []byte
+	must(0, store.Read(func(reads relkvanu.Reads) (err error) {
+		files, _, err := reads.FilesOf(1, relkvanu.Subtask{Index: 1})
+		equal(t, fmt.Sprint(files, must(reads.Mode()), must(reads.FileCounts()), must(reads.Count(1))), "[2] running {2 0 0} count 1 1")
+		image = must(reads.Save())
+		return err
+	}))
+	copy := must(relkvanu.OpenSaved(image))
+	defer copy.Close()
+	equal(t, must(copy.Choice()).ID, 1)
+	fails(t, store.Read(func(relkvanu.Reads) error { return fs.ErrInvalid }), fs.ErrInvalid)
+	wait, is, err := store.NextTick()
+	equal(t, is && err == nil && wait <= 20*time.Millisecond, true)
+	equal(t, store.Counts().Calls, 3)
+}
+
+// Callers share commits, so fewer are made than calls; and a close ends what waits.
+func TestStoreCallers(t *testing.T) {
+	folder := newStoreFolder(t)
+	store := must(relkvanu.OpenStore(folder.job, storeOptions()))
+	var callers sync.WaitGroup
+	each := func(count int, run func()) {
+		for ; count > 0; count-- {
+			callers.Add(1)
+			go func() { defer callers.Done(); run() }()
+		}
+	}
+	each(16, func() {
+		for nth := 0; nth < 25; nth++ {
+			must(store.Savepoint())
+		}
+	})
+	callers.Wait()
+	counts := store.Counts()
+	equal(t, counts.Calls == 400 && counts.Commits < 400 && counts.Largest > 1, true)
+	each(4, func() {
+		for {
+			if _, _, err := store.AwaitTick(time.Hour); err != nil {
+				equal(t, errors.Is(err, relkvanu.StoreStopped) || errors.Is(err, relkvanu.ErrClosed), true)
+				return
+			}
+		}
+	})
+	each(8, func() {
+		for {
+			if _, err := store.Dispose(9999); !errors.Is(err, relkvanu.NoSuchSavepoint) {
+				fails(t, err, relkvanu.ErrClosed)
+				return
+			}
+		}
+	})
+	each(2, func() { store.Close() })
+	store.Close()
+	callers.Wait()
+	store = must(relkvanu.OpenStore(folder.job, storeOptions()))
+	defer store.Close()
+	must(0, store.Read(func(reads relkvanu.Reads) error {
+		_, is, err := reads.Live(399)
+		equal(t, is, true)
+		return err
+	}))
+}
+
+func TestStoreDiscarder(t *testing.T) {
+	folder, options := newStoreFolder(t), storeOptions()
+	options.Storage = folder.storage
+	store := must(relkvanu.OpenStore(folder.job, options))
+	defer store.Close()
+	for _, file := range []string{"1", "2", "11", "12"} {
+		must(0, os.WriteFile(filepath.Join(folder.storage, file), nil, 0o600))
+	}
+	tries, ended := 0, make(chan error)
+	go func() {
+		ended <- store.Discard(7, func(file uint64) error {
+			if tries++; file == 2 && tries < 4 {
+				return fs.ErrPermission
+			}
+			return os.Remove(filepath.Join(folder.storage, fmt.Sprint(file)))
+		})
+	}()
+	completes(t, store, 1)
+	completes(t, store, 11)
+	within(t, func() bool { return storeCounts(store) == relkvanu.FileCounts{InUse: 2} })
+	fails(t, store.Discard(0, nil), relkvanu.StoreNotNow)
+	store.Stop()
+	equal(t, <-ended, nil)
+	equal(t, tries >= 4, true)
+	equal(t, len(must(os.ReadDir(folder.storage))), 3) // 11, 12 and the marker
+	fails(t, store.Discard(4096, nil), relkvanu.StoreBadArgument)
+}
+
+// What remove panics with ends the discarder, and no file counts as deleted after it.
+func TestStoreDiscarderPanics(t *testing.T) {
+	folder, options := newStoreFolder(t), storeOptions()
+	options.Storage = folder.storage
+	store := must(relkvanu.OpenStore(folder.job, options))
+	defer store.Close()
+	completes(t, store, 1)
+	completes(t, store, 11)
+	func() {
+		defer func() { equal(t, recover(), any("removed")) }()
+		store.Discard(0, func(uint64) error { panic("removed") })
+	}()
+	equal(t, storeCounts(store), relkvanu.FileCounts{InUse: 2, Waiting: 2})
+	_, _, err := store.AwaitTick(time.Hour)
+	fails(t, err, relkvanu.StoreStopped)
+}
+
+// The numbers of the faults are those of the header; StoreError says whether it closes the store.
+func TestStoreErrors(t *testing.T) {
+	full := error(&relkvanu.StoreError{Fault: relkvanu.StoreFull, Message: "job.db: no space"})
+	equal(t, full.Error(), "relkvanu: the store: Full: job.db: no space")
+	found := (*relkvanu.StoreError)(nil)
+	equal(t, errors.As(full, &found) && found.Closes() && errors.Is(full, relkvanu.StoreFull) && !errors.Is(full, relkvanu.ErrClosed), true)
+	closed := &relkvanu.StoreError{Fault: relkvanu.StoreClosed}
+	equal(t, errors.Is(closed, relkvanu.ErrClosed) && !closed.Closes(), true)
+	equal(t, closed.Error(), "relkvanu: the store: Closed")
+}
+
+// A sync fails, by embed/store/tests/shim.c, in a process of its own. Nobody was answered by that commit, and each call that was answered is
+// there again.
+func TestStoreFailingSync(t *testing.T) {
+	if job := os.Getenv("STORE_IN"); job != "" {
+		failsInACommit(t, job)
+		return
+	}
+	if os.Getenv("STORE_SHIM") == "" {
+		t.Skip("STORE_SHIM names no shim")
+	}
+	command := exec.Command(os.Args[0], "-test.run", "^TestStoreFailingSync$")
+	command.Env = append(os.Environ(), "LD_PRELOAD="+os.Getenv("STORE_SHIM"), "STORE_IN="+newStoreFolder(t).job, "STORE_FAULT=sync", "STORE_AT=40")
+	if told, err := command.CombinedOutput(); err != nil {
+		t.Errorf("%v: %s", err, told)
+	}
+}
+
+func failsInACommit(t *testing.T, job string) {
+	store, last, err := must(relkvanu.OpenStore(job, storeOptions())), uint64(0), error(nil)
+	for err == nil && last < 1000 {
+		var made relkvanu.SavepointTriggered
+		if made, err = store.Savepoint(); err == nil {
+			last = made.ID
+		}
+	}
+	message := fails(t, err, relkvanu.StoreFailed)
+	equal(t, strings.Contains(message, "I/O error") && last > 3, true)
+	fails(t, errorOf(store.Savepoint()), relkvanu.StoreClosed)
+	fails(t, errorOf(store.Savepoint()), relkvanu.ErrClosed)
+	store.Close()
+	store = must(relkvanu.OpenStore(job, storeOptions()))
+	defer store.Close()
+	must(0, store.Read(func(reads relkvanu.Reads) error {
+		equal(t, must(reads.Standing(last)), relkvanu.Pending)
+		equal(t, must(reads.Standing(last+2)), relkvanu.NotYet)
+		return nil
+	}))
+}

@@ -1,0 +1,251 @@
+/* The functions of include/relkvanu_store.h over JNI, for the class StoreNative: calls and their lists as arrays of numbers. Arrays are copied, so
+ * nothing is pinned while a commit lasts. The coordinator itself is that of librelkvanu_jni.so. */
+#include "../../../include/relkvanu_store.h"
+
+#include <jni.h>
+#include <stdlib.h>
+#include <string.h>
+
+/* Numbers of a call: kind, vertex, index, moment, number, and the lengths of its two lists and of its buffer. Of an outcome: the answer, the
+ * choice's what and a, and the place. */
+enum { GIVEN = 8, TOLD = 7, OPTIONS = 4, SETTINGS = 7, REPORT = 12 };
+
+static relkvanu_store *store_at(jlong at) {
+    return (relkvanu_store *)(uintptr_t)at;
+}
+
+/* A copy of an array with a place more; NULL without memory. */
+static uint64_t *longs_of(JNIEnv *env, jlongArray array, size_t *len) {
+    *len = (size_t)(*env)->GetArrayLength(env, array);
+    uint64_t *copy = malloc((*len + 1) * sizeof *copy);
+    if (copy != NULL) {
+        (*env)->GetLongArrayRegion(env, array, 0, (jsize)*len, (jlong *)copy);
+    }
+    return copy;
+}
+
+/* A copy of bytes as a text; NULL without memory, or if there is no array. */
+static char *text_of(JNIEnv *env, jbyteArray array) {
+    size_t len = array == NULL ? 0 : (size_t)(*env)->GetArrayLength(env, array);
+    char *copy = array == NULL ? NULL : calloc(len + 1, 1);
+    if (copy != NULL) {
+        (*env)->GetByteArrayRegion(env, array, 0, (jsize)len, (jbyte *)copy);
+    }
+    return copy;
+}
+
+static void tell(JNIEnv *env, jlongArray to, const jlong *numbers, size_t len) {
+    (*env)->SetLongArrayRegion(env, to, 0, (jsize)len, numbers);
+}
+
+static void tell_report(JNIEnv *env, jlongArray to, const relkvanu_store_report *it) {
+    jlong numbers[REPORT + RELKVANU_STORE_MOST_STEPS] = {it->is_recovered, it->settings_differ, (jlong)it->epoch, (jlong)it->job[0], (jlong)it->job[1],
+        (jlong)it->image_place, (jlong)it->replayed, (jlong)it->taken, (jlong)it->moment, it->mode.what, it->choice.what, (jlong)it->choice.a};
+    for (size_t place = 0; place < it->steps_len; place++) {
+        numbers[REPORT + place] = it->steps[place];
+    }
+    tell(env, to, numbers, REPORT + it->steps_len);
+}
+
+static int opened(JNIEnv *env, const char *path, const char *storage, const jlong *numbers, const jlong *of, const uint64_t *shape, size_t shape_len, jlongArray handle,
+    jlongArray report, jbyteArray message) {
+    relkvanu_store *store;
+    relkvanu_store_report found;
+    relkvanu_store_options options = {.flags = (uint32_t)numbers[0], .patience = (uint32_t)numbers[1], .image_calls = (uint64_t)numbers[2], .most_ahead = (uint64_t)numbers[3],
+        .storage = storage, .settings = {(uint64_t)of[0], (uint64_t)of[1], (uint64_t)of[2], (uint64_t)of[3], (uint64_t)of[4], (uint64_t)of[5], of[6] != 0},
+        .shape = shape, .shape_len = shape_len};
+    int status = relkvanu_store_open(&store, path, &options, &found);
+    tell(env, handle, &(jlong){(jlong)(uintptr_t)store}, 1);
+    (*env)->SetByteArrayRegion(env, message, 0, sizeof found.message, (const jbyte *)found.message);
+    if (status == RELKVANU_STORE_OK) {
+        tell_report(env, report, &found);
+    }
+    return status;
+}
+
+JNIEXPORT jint JNICALL Java_relkvanu_StoreNative_open(JNIEnv *env, jclass of, jbyteArray path, jbyteArray storage, jlongArray options, jlongArray settings, jlongArray shape,
+    jlongArray handle, jlongArray report, jbyteArray message) {
+    (void)of;
+    jlong numbers[OPTIONS], setting[SETTINGS];
+    size_t shape_len;
+    (*env)->GetLongArrayRegion(env, options, 0, OPTIONS, numbers);
+    (*env)->GetLongArrayRegion(env, settings, 0, SETTINGS, setting);
+    uint64_t *shape_copy = longs_of(env, shape, &shape_len);
+    char *path_copy = text_of(env, path), *storage_copy = text_of(env, storage);
+    int status = RELKVANU_STORE_NO_MEMORY;
+    if (shape_copy != NULL && path_copy != NULL && (storage == NULL || storage_copy != NULL)) {
+        status = opened(env, path_copy, storage_copy, numbers, setting, shape_copy, shape_len, handle, report, message);
+    }
+    free(shape_copy);
+    free(path_copy);
+    free(storage_copy);
+    return status;
+}
+
+JNIEXPORT void JNICALL Java_relkvanu_StoreNative_close(JNIEnv *env, jclass of, jlong store) {
+    (void)env;
+    (void)of;
+    relkvanu_store_close(store_at(store));
+}
+
+/* The numbers of calls become calls, with lists and buffers in the words behind them. */
+static void fill(relkvanu_store_call *calls, size_t len, const uint64_t *given, uint64_t *words) {
+    for (size_t place = 0; place < len; place++, given += GIVEN) {
+        calls[place] = (relkvanu_store_call){.call = {(uint32_t)given[0], (uint16_t)given[1], (uint16_t)given[2], given[3], given[4]}, .first = words,
+            .first_len = given[5], .second = words + given[5], .second_len = given[6], .files = words + given[5] + given[6], .files_len = given[7]};
+        words += given[5] + given[6] + given[7];
+    }
+}
+
+static void tell_call(uint64_t *told, const relkvanu_store_call *it) {
+    const uint64_t numbers[TOLD] = {it->answer.code, it->answer.what, it->answer.a, it->answer.b, it->choice.what, it->choice.a, it->place};
+    memcpy(told, numbers, sizeof numbers);
+}
+
+/* Makes calls, and writes their outcomes over their numbers. */
+static int made(relkvanu_store *store, uint64_t *given, size_t len, uint64_t *words) {
+    relkvanu_store_call *calls = malloc((len + 1) * sizeof *calls);
+    if (calls == NULL) {
+        return RELKVANU_STORE_NO_MEMORY;
+    }
+    fill(calls, len, given, words);
+    int status = relkvanu_store_calls(store, calls, len);
+    for (size_t place = 0; place < len; place++) {
+        tell_call(given + place * GIVEN, &calls[place]);
+    }
+    free(calls);
+    return status;
+}
+
+JNIEXPORT jint JNICALL Java_relkvanu_StoreNative_calls(JNIEnv *env, jclass of, jlong store, jlongArray given, jlongArray words) {
+    (void)of;
+    size_t given_len, words_len;
+    uint64_t *given_copy = longs_of(env, given, &given_len), *words_copy = longs_of(env, words, &words_len);
+    int status = RELKVANU_STORE_NO_MEMORY;
+    if (given_copy != NULL && words_copy != NULL) {
+        status = made(store_at(store), given_copy, given_len / GIVEN, words_copy);
+    }
+    if (status == RELKVANU_STORE_OK) {
+        tell(env, given, (const jlong *)given_copy, given_len);
+        tell(env, words, (const jlong *)words_copy, words_len);
+    }
+    free(given_copy);
+    free(words_copy);
+    return status;
+}
+
+JNIEXPORT jint JNICALL Java_relkvanu_StoreNative_awaitTick(JNIEnv *env, jclass of, jlong store, jlong longest, jlongArray told) {
+    (void)of;
+    relkvanu_store_call tick;
+    uint64_t numbers[TOLD];
+    int status = relkvanu_store_await_tick(store_at(store), (uint64_t)longest, &tick);
+    tell_call(numbers, &tick);
+    tell(env, told, (const jlong *)numbers, TOLD);
+    return status;
+}
+
+JNIEXPORT jint JNICALL Java_relkvanu_StoreNative_read(JNIEnv *env, jclass of, jlong store, jlongArray handle) {
+    (void)of;
+    relkvanu *at = NULL;
+    int status = relkvanu_store_read(store_at(store), &at);
+    tell(env, handle, &(jlong){(jlong)(uintptr_t)at}, 1);
+    return status;
+}
+
+JNIEXPORT void JNICALL Java_relkvanu_StoreNative_readEnd(JNIEnv *env, jclass of, jlong store) {
+    (void)env;
+    (void)of;
+    relkvanu_store_read_end(store_at(store));
+}
+
+JNIEXPORT jlong JNICALL Java_relkvanu_StoreNative_now(JNIEnv *env, jclass of, jlong store) {
+    (void)env;
+    (void)of;
+    return (jlong)relkvanu_store_now(store_at(store));
+}
+
+JNIEXPORT jint JNICALL Java_relkvanu_StoreNative_nextTick(JNIEnv *env, jclass of, jlong store, jlongArray told) {
+    (void)of;
+    uint64_t wait = 0;
+    int status = relkvanu_store_next_tick(store_at(store), &wait);
+    tell(env, told, &(jlong){(jlong)wait}, 1);
+    return status;
+}
+
+JNIEXPORT jint JNICALL Java_relkvanu_StoreNative_unknown(JNIEnv *env, jclass of, jlong store, jlongArray files, jlongArray length) {
+    (void)of;
+    size_t len;
+    uint64_t *copy = longs_of(env, files, &len);
+    int status = copy == NULL ? RELKVANU_STORE_NO_MEMORY : relkvanu_store_unknown(store_at(store), copy, &len);
+    if (status == RELKVANU_STORE_OK) {
+        tell(env, files, (const jlong *)copy, len);
+        tell(env, length, &(jlong){(jlong)len}, 1);
+    }
+    free(copy);
+    return status;
+}
+
+JNIEXPORT jint JNICALL Java_relkvanu_StoreNative_folder(JNIEnv *env, jclass of, jlong store) {
+    (void)env;
+    (void)of;
+    return relkvanu_store_folder(store_at(store));
+}
+
+JNIEXPORT void JNICALL Java_relkvanu_StoreNative_stop(JNIEnv *env, jclass of, jlong store) {
+    (void)env;
+    (void)of;
+    relkvanu_store_stop(store_at(store));
+}
+
+JNIEXPORT void JNICALL Java_relkvanu_StoreNative_count(JNIEnv *env, jclass of, jlong store, jlongArray told) {
+    (void)of;
+    relkvanu_store_counts it;
+    relkvanu_store_count(store_at(store), &it);
+    const jlong numbers[] = {(jlong)it.commits, (jlong)it.calls, (jlong)it.largest, (jlong)it.images, (jlong)it.failed_images, (jlong)it.checkpoints,
+        (jlong)it.failed_checkpoints, (jlong)it.retries};
+    tell(env, told, numbers, sizeof numbers / sizeof *numbers);
+}
+
+JNIEXPORT void JNICALL Java_relkvanu_StoreNative_message(JNIEnv *env, jclass of, jlong store, jbyteArray message) {
+    (void)of;
+    char text[RELKVANU_STORE_MESSAGE] = "";
+    relkvanu_store_message(store_at(store), text, sizeof text);
+    (*env)->SetByteArrayRegion(env, message, 0, sizeof text, (const jbyte *)text);
+}
+
+/* What a discarder deletes with. */
+struct remover {
+    JNIEnv *env;
+    relkvanu_store *store;
+    jobject remover;
+    jmethodID is_gone;
+    jthrowable thrown;
+};
+
+/* Remover.isGone throws nothing but an error of the JVM, such as one for a full stack. That ends the discarder. */
+static void delete_files(void *with, const uint64_t *files, size_t files_len, uint8_t *is_gone) {
+    struct remover *it = with;
+    for (size_t place = 0; place < files_len && it->thrown == NULL; place++) {
+        is_gone[place] = (*it->env)->CallBooleanMethod(it->env, it->remover, it->is_gone, (jlong)files[place]) == JNI_TRUE;
+        it->thrown = (*it->env)->ExceptionOccurred(it->env);
+        if (it->thrown != NULL) {
+            (*it->env)->ExceptionClear(it->env);
+            is_gone[place] = 0;
+            relkvanu_store_stop(it->store);
+        }
+    }
+}
+
+JNIEXPORT jint JNICALL Java_relkvanu_StoreNative_discard(JNIEnv *env, jclass of, jlong store, jlong batch, jobject remover) {
+    (void)of;
+    jmethodID is_gone = (*env)->GetMethodID(env, (*env)->GetObjectClass(env, remover), "isGone", "(J)Z");
+    if (is_gone == NULL) {
+        return RELKVANU_STORE_BAD_ARGUMENT; /* and an exception */
+    }
+    struct remover it = {env, store_at(store), remover, is_gone, NULL};
+    int status = relkvanu_store_discard(it.store, (size_t)batch, delete_files, &it);
+    if (it.thrown != NULL) {
+        (*env)->Throw(env, it.thrown);
+    }
+    return status;
+}

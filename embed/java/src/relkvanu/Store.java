@@ -1,0 +1,465 @@
+package relkvanu;
+
+import java.io.File;
+import java.nio.charset.Charset;
+import java.nio.charset.StandardCharsets;
+import java.nio.file.Path;
+import java.time.Duration;
+import java.util.ArrayList;
+import java.util.Arrays;
+import java.util.List;
+import java.util.Objects;
+import java.util.Optional;
+import java.util.function.Function;
+import java.util.function.IntSupplier;
+
+/**
+ * A coordinator whose calls are durable: one SQLite file for each job, so that an engine writes no log, lock, sync or recovery. The native
+ * library in the jar needs SQLite 3.37 or later ({@code libsqlite3.so.0}) and zlib, which Linux has.
+ *
+ * <p>Each call returns once it is committed and synced. <b>Threads</b> may share a store: while one of them commits, the calls of the others
+ * gather, and are committed together.
+ *
+ * <p><b>Faults.</b> A call throws {@code Refused}, {@code BadArgument} and {@code NoMemory} as that of a {@link Coordinator} does, {@code
+ * Closed} after {@link #close}, and {@link CoordinatorException.NotStored} if it was not committed. If that {@linkplain StoreFault#closes closes
+ * the store}, nobody may act on the call: close the store and open it again, or end the process.
+ *
+ * <p><b>Closing.</b> Use it in a {@code try} with resources. {@link #close} waits for the calls of other threads. A store that is lost stays
+ * open until the process ends, which loses nothing.
+ */
+public final class Store implements AutoCloseable {
+    static final int NOT_MADE = 100;
+    private static final long FOREVER = -1;
+    private static final Charset NAMES = Charset.forName(System.getProperty("sun.jnu.encoding", "UTF-8"));
+
+    private final long address;
+    private final StoreReport report;
+    // Guarded by this; no call waits in it.
+    private int users;
+    private boolean isClosing;
+    private boolean isClosed;
+
+    private Store(long address, StoreReport report) {
+        this.address = address;
+        this.report = report;
+    }
+
+    /**
+     * Recovers the job in a file, or makes one if the options say so. The steps of {@link #report} say what comes next.
+     *
+     * @param path the file
+     * @param settings those of a new job; a recovered one keeps its own
+     * @param shape the number of subtasks of each vertex of a new job
+     * @param options how it is opened
+     * @return the store
+     */
+    public static Store open(Path path, Settings settings, long[] shape, StoreOptions options) {
+        StoreLibrary.need();
+        long[] handle = new long[1];
+        long[] report = new long[StoreNative.REPORT + StoreNative.MOST_STEPS];
+        byte[] message = new byte[StoreNative.MESSAGE];
+        byte[] storage = options.storage().map(Store::bytes).orElse(null);
+        int status = StoreNative.open(bytes(path), storage, options.numbers(), settings.numbers(), shape, handle, report, message);
+        if (status != StoreFault.OK) {
+            throw fault(status, text(message));
+        }
+        return new Store(handle[0], StoreReport.of(report));
+    }
+
+    private static byte[] bytes(Path path) {
+        return path.toString().getBytes(NAMES);
+    }
+
+    private static String text(byte[] message) {
+        String text = new String(message, StandardCharsets.UTF_8);
+        return text.substring(0, Math.max(text.indexOf(0), 0));
+    }
+
+    private static CoordinatorException fault(int status, String message) {
+        return status == StoreFault.NO_MEMORY ? new CoordinatorException.NoMemory() : new CoordinatorException.NotStored(StoreFault.of(status), message);
+    }
+
+    private void check(int status) {
+        if (status != StoreFault.OK) {
+            byte[] message = new byte[StoreNative.MESSAGE];
+            StoreNative.message(address, message);
+            throw fault(status, text(message));
+        }
+    }
+
+    /** Keeps the store open until leave. */
+    private synchronized void enter() {
+        if (isClosing) {
+            throw new CoordinatorException.Closed();
+        }
+        users++;
+    }
+
+    private synchronized void leave() {
+        users--;
+        notifyAll();
+    }
+
+    /** The status of a function while the store is open. */
+    private int within(IntSupplier call) {
+        enter();
+        try {
+            return call.getAsInt();
+        } finally {
+            leave();
+        }
+    }
+
+    private void checked(IntSupplier call) {
+        enter();
+        try {
+            check(call.getAsInt());
+        } finally {
+            leave();
+        }
+    }
+
+    /**
+     * {@return what the opening found}
+     */
+    public StoreReport report() {
+        return report;
+    }
+
+    /**
+     * Lets {@link #awaitTick} and {@link #discard(Delete)} return, waits for the calls of other threads, makes an image, so that the next opening replays
+     * nothing, and closes. A closed store stays closed. Do not call it in what {@link #read} and {@link #discard(Delete)} call.
+     */
+    @Override
+    public void close() {
+        if (isLastToClose()) {
+            StoreNative.close(address);
+            synchronized (this) {
+                isClosed = true;
+                notifyAll();
+            }
+        }
+    }
+
+    /** Waits until no call is under way, or until another thread has closed the store. An interrupt is kept for later. */
+    private synchronized boolean isLastToClose() {
+        boolean isFirst = !isClosing;
+        boolean isInterrupted = false;
+        if (isFirst) {
+            isClosing = true;
+            StoreNative.stop(address);
+        }
+        while (isFirst ? users != 0 : !isClosed) {
+            try {
+                wait();
+            } catch (InterruptedException again) {
+                isInterrupted = true;
+            }
+        }
+        if (isInterrupted) {
+            Thread.currentThread().interrupt();
+        }
+        return isFirst;
+    }
+
+    /** The outcome of the numbers from a place on, in the order of store_jni.c, and of the words from another. */
+    private static StoreOutcome outcome(long[] numbers, int at, long[] words, int buffer) {
+        long[] answer = Arrays.copyOfRange(numbers, at, at + 4);
+        if (answer[0] == NOT_MADE) {
+            return new StoreOutcome.NotMade(new CoordinatorException.NoMemory()); // a call before it ran out of memory
+        }
+        try {
+            Answers.check(answer);
+        } catch (CoordinatorException.Unknown other) {
+            throw other;
+        } catch (CoordinatorException why) {
+            return new StoreOutcome.NotMade(why);
+        }
+        int what = (int) answer[1];
+        Reply reply = what == Header.TAKEN ? new Reply.Taken(Arrays.copyOfRange(words, buffer, buffer + (int) answer[2])) : Answers.reply(what, answer[2], answer[3]);
+        return new StoreOutcome.Made(reply, numbers[at + 6], numbers[at + 4] == 0 ? Optional.empty() : Chosen.of((int) numbers[at + 4], numbers[at + 5]));
+    }
+
+    /**
+     * Makes 1 to 4096 calls, in this order and with no other in between, and returns once they are committed. A refused one changes nothing, and
+     * the next ones are made. After one without memory the later ones are not made.
+     *
+     * @param calls the calls
+     * @return what became of each
+     */
+    public List<StoreOutcome> calls(List<StoreCall> calls) {
+        List<StoreCall> own = List.copyOf(calls);
+        long[] numbers = StoreCall.numbers(own);
+        long[] words = StoreCall.words(own);
+        checked(() -> StoreNative.calls(address, numbers, words));
+        List<StoreOutcome> outcomes = new ArrayList<>();
+        int at = 0;
+        for (StoreCall it : own) {
+            outcomes.add(outcome(numbers, outcomes.size() * StoreNative.CALL, words, it.buffer(at)));
+            at = it.after(at);
+        }
+        return outcomes;
+    }
+
+    /**
+     * Makes one call.
+     *
+     * @param call the call
+     * @return the call as it was made
+     */
+    public StoreOutcome.Made call(StoreCall call) {
+        return calls(List.of(call)).get(0).made();
+    }
+
+    /**
+     * Time has passed. A timer calls {@link #awaitTick}.
+     *
+     * @return what happened
+     */
+    public Reply.Tick tick() {
+        return (Reply.Tick) call(StoreCall.tick()).reply();
+    }
+
+    /**
+     * Triggers a savepoint.
+     *
+     * @return its number
+     */
+    public Reply.SavepointTriggered savepoint() {
+        return (Reply.SavepointTriggered) call(StoreCall.savepoint()).reply();
+    }
+
+    /**
+     * A subtask has taken its part of a record, as {@link Coordinator#ack}.
+     *
+     * @param id the record
+     * @param vertex the vertex of the subtask
+     * @param index its place in the vertex
+     * @param fresh the files that it wrote, and has synced
+     * @param reused files of earlier records that it uses again
+     * @return what the record lacks
+     */
+    public Reply.Ack ack(long id, int vertex, int index, long[] fresh, long... reused) {
+        return (Reply.Ack) call(StoreCall.ack(id, vertex, index, fresh, reused)).reply();
+    }
+
+    /**
+     * A subtask could not take its part of a record.
+     *
+     * @param id the record
+     * @param vertex the vertex of the subtask
+     * @param index its place in the vertex
+     * @return what became of the record
+     */
+    public Reply.Decline decline(long id, int vertex, int index) {
+        return (Reply.Decline) call(StoreCall.decline(id, vertex, index)).reply();
+    }
+
+    /**
+     * A user disposes of a completed savepoint.
+     *
+     * @param id the savepoint
+     * @return how many files were released
+     */
+    public Reply.Disposed dispose(long id) {
+        return (Reply.Disposed) call(StoreCall.dispose(id)).reply();
+    }
+
+    /**
+     * The job begins again from the latest record, in its shape.
+     *
+     * @return the record
+     */
+    public Reply.Restore restoreLatest() {
+        return (Reply.Restore) call(StoreCall.restoreLatest()).reply();
+    }
+
+    /**
+     * The job begins again from the latest record, in a new shape.
+     *
+     * @param shape the number of subtasks of each vertex
+     * @return the record
+     */
+    public Reply.Restore restoreLatest(long[] shape) {
+        return (Reply.Restore) call(StoreCall.restoreLatest(shape)).reply();
+    }
+
+    /**
+     * The job begins again from a savepoint, in its shape.
+     *
+     * @param id the savepoint
+     * @return the record
+     */
+    public Reply.Restore restoreSavepoint(long id) {
+        return (Reply.Restore) call(StoreCall.restoreSavepoint(id)).reply();
+    }
+
+    /**
+     * The job ends for good.
+     *
+     * @return how many records were dropped, and how many files released
+     */
+    public Reply.Cancelled cancel() {
+        return (Reply.Cancelled) call(StoreCall.cancel()).reply();
+    }
+
+    /**
+     * Reads what is committed. All callers wait meanwhile, so be quick, and make no call of the store. The reads are closed afterwards.
+     *
+     * @param look makes the reads
+     * @param <T> what it returns
+     * @return what look returns
+     */
+    public <T> T read(Function<StoreReads, T> look) {
+        enter();
+        try {
+            long[] handle = new long[1];
+            check(StoreNative.read(address, handle));
+            try {
+                StoreReads reads = new StoreReads(handle[0]);
+                try {
+                    return look.apply(reads);
+                } finally {
+                    reads.end();
+                }
+            } finally {
+                StoreNative.readEnd(address);
+            }
+        } finally {
+            leave();
+        }
+    }
+
+    /**
+     * {@return the moment of the store's clock, which never jumps}
+     */
+    public long now() {
+        enter();
+        try {
+            return StoreNative.now(address);
+        } finally {
+            leave();
+        }
+    }
+
+    /**
+     * {@return after how long the next tick has to come, unless a call is made before; empty if only a call can bring one}
+     */
+    public Optional<Duration> nextTick() {
+        long[] wait = new long[1];
+        checked(() -> StoreNative.nextTick(address, wait));
+        return wait[0] == FOREVER ? Optional.empty() : Optional.of(Duration.ofMillis(wait[0]));
+    }
+
+    /**
+     * A timer, in a loop of a thread: sleeps until a tick is due, and makes it. Each commit wakes it. After {@link #stop} and {@link #close} it
+     * throws {@code NotStored} with {@code STOPPED}.
+     *
+     * @param longest the longest sleep
+     * @return the tick as it was made; empty if none was due
+     */
+    public Optional<StoreOutcome.Made> awaitTick(Duration longest) {
+        long[] outcome = new long[StoreNative.OUTCOME];
+        long millis = Math.max(longest.toMillis(), 0);
+        enter();
+        try {
+            int status = StoreNative.awaitTick(address, millis, outcome);
+            if (status == StoreFault.TIMED_OUT) {
+                return Optional.empty();
+            }
+            check(status);
+        } finally {
+            leave();
+        }
+        return Optional.of(outcome(outcome, 0, outcome, 0).made());
+    }
+
+    /**
+     * For the sweep of a recovery: those of the files that the coordinator does not know. The engine deletes exactly these.
+     *
+     * <p>Throws {@code NotStored} with {@code NOT_NOW} unless the job was restored, or is cancelled, and no checkpoint was triggered or
+     * acknowledged since: a task may have written a file whose acknowledgement is on its way.
+     *
+     * @param files files of the storage
+     * @return the unknown ones
+     */
+    public long[] unknown(long... files) {
+        long[] left = files.clone();
+        long[] length = new long[1];
+        checked(() -> StoreNative.unknown(address, left, length));
+        return Arrays.copyOf(left, (int) length[0]);
+    }
+
+    /**
+     * {@return a path of the storage folder that leads to the folder which was there at the opening, also if another one is mounted over it; empty
+     * if there is none} It lasts until the close.
+     */
+    public Optional<Path> folder() {
+        int folder = within(() -> StoreNative.folder(address));
+        return folder < 0 ? Optional.empty() : Optional.of(Path.of("/proc/self/fd" + File.separator + folder));
+    }
+
+    /**
+     * A discarder with batches of 256 files: see {@link #discard(Delete, int)}.
+     *
+     * @param delete deletes a file
+     */
+    public void discard(Delete delete) {
+        discard(delete, 0);
+    }
+
+    /**
+     * A discarder, in a thread of the engine: takes files, deletes them, batch by batch, syncs the storage folder, and reports them. It begins
+     * with the files that were taken and not reported. A file that is not deleted ({@link java.io.IOException}) waits again. It never gives up,
+     * and returns after {@link #stop} and {@link #close}. If {@code delete} throws anything else, the store is stopped, and that is thrown.
+     *
+     * @param delete deletes a file
+     * @param batch the most files of a batch, 1 to 4095; 0 is 256
+     */
+    public void discard(Delete delete, int batch) {
+        Remover remover = new Remover(Objects.requireNonNull(delete, "delete"), () -> StoreNative.stop(address));
+        long size = Checks.natural(batch, "a batch");
+        enter();
+        try {
+            int status = StoreNative.discard(address, size, remover);
+            remover.check();
+            check(status == StoreFault.STOPPED.status ? StoreFault.OK : status);
+        } finally {
+            leave();
+        }
+    }
+
+    /** Lets {@link #awaitTick} and {@link #discard(Delete)} return, now and later. What was taken is reported first. */
+    public void stop() {
+        within(() -> {
+            StoreNative.stop(address);
+            return 0;
+        });
+    }
+
+    /**
+     * Counts since the opening.
+     *
+     * @param commits commits
+     * @param calls calls that were committed
+     * @param largest the most calls of a commit
+     * @param images images
+     * @param failedImages images that could not be written
+     * @param checkpoints how often SQLite's log was brought into the file
+     * @param failedCheckpoints how often it could not
+     * @param retries of commits
+     */
+    public record Counts(long commits, long calls, long largest, long images, long failedImages, long checkpoints, long failedCheckpoints, long retries) {}
+
+    /**
+     * {@return counts since the opening}
+     */
+    public Counts counts() {
+        long[] it = new long[StoreNative.COUNTS];
+        within(() -> {
+            StoreNative.count(address, it);
+            return 0;
+        });
+        return new Counts(it[0], it[1], it[2], it[3], it[4], it[5], it[6], it[7]);
+    }
+}

@@ -1,0 +1,29 @@
+package relkvanu;
+
+import java.io.IOException;
+
+/** The native library of {@link Store}, which needs SQLite. It is loaded when the first store is opened, and has no coordinator of its own. */
+final class StoreLibrary {
+    private static final String PROPERTY = "relkvanu.store.library";
+    /** What was wrong when it was loaded. Null: it is there. */
+    private static final String FAULT = loaded();
+
+    private StoreLibrary() {}
+
+    static void need() {
+        Library.need();
+        if (FAULT != null) {
+            throw new CoordinatorException.NoLibrary(FAULT);
+        }
+    }
+
+    private static String loaded() {
+        try {
+            Library.need();
+            Library.load("relkvanu_store_jni", PROPERTY);
+            return null;
+        } catch (IOException | RuntimeException | UnsatisfiedLinkError fault) {
+            return "the native library of the store can't be loaded: " + fault + "; it needs libsqlite3.so.0 and libz.so.1, or give -D" + PROPERTY + "=FILE";
+        }
+    }
+}

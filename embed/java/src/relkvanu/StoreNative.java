@@ -1,0 +1,42 @@
+package relkvanu;
+
+/** The functions of include/relkvanu_store.h, over store_jni.c. Each status is one of that header. Any thread may call until the close. */
+final class StoreNative {
+    /** How many numbers a call has, and its outcome. */
+    static final int CALL = 8;
+    static final int OUTCOME = 7;
+    static final int REPORT = 12;
+    static final int MOST_STEPS = 8;
+    static final int MESSAGE = 512;
+    static final int COUNTS = 8;
+
+    private StoreNative() {}
+
+    static native int open(byte[] path, byte[] storage, long[] options, long[] settings, long[] shape, long[] handle, long[] report, byte[] message);
+
+    static native void close(long store);
+
+    static native int calls(long store, long[] calls, long[] words);
+
+    static native int awaitTick(long store, long longest, long[] outcome);
+
+    static native int read(long store, long[] handle);
+
+    static native void readEnd(long store);
+
+    static native long now(long store);
+
+    static native int nextTick(long store, long[] wait);
+
+    static native int unknown(long store, long[] files, long[] length);
+
+    static native int folder(long store);
+
+    static native int discard(long store, long batch, Remover remover);
+
+    static native void stop(long store);
+
+    static native void count(long store, long[] counts);
+
+    static native void message(long store, byte[] text);
+}

@@ -1,0 +1,100 @@
+package relkvanu;
+
+import java.nio.file.Path;
+import java.time.Duration;
+import java.util.Optional;
+
+/**
+ * How a {@link Store} is opened.
+ *
+ * @param opening whether it may make a job
+ * @param storage the folder of the state files, which has to exist; empty if the engine looks after it
+ * @param adopts whether a new job may have a storage with files, which a later sweep finds to be unknown
+ * @param fromEarlierImage whether to begin with the image before the last one, which is damaged; the log after it is whole
+ * @param patience for how long a commit is tried again if the disk is full, SQLite has no memory or a lock is held
+ * @param imageCalls after how many calls an image is written; 0 is 10,000, and -1 never: then the log is never cut
+ * @param mostAhead how many milliseconds a moment may be ahead; 0 is a day
+ */
+public record StoreOptions(Opening opening, Optional<Path> storage, boolean adopts, boolean fromEarlierImage, Duration patience, long imageCalls, long mostAhead) {
+    /** Whether an opening may make a job. */
+    public enum Opening {
+        /** There has to be a job, so a wrong path makes no new one. */
+        RECOVER,
+        /** Makes a job if there is none. */
+        CREATE,
+        /** Makes a job, and there may be none. */
+        CREATE_ONLY
+    }
+
+    private static final int ADOPT = 4;
+    private static final int EARLIER_IMAGE = 8;
+
+    /**
+     * {@return options without a storage}
+     *
+     * @param opening whether it may make a job
+     */
+    public static StoreOptions of(Opening opening) {
+        return new StoreOptions(opening, Optional.empty(), false, false, Duration.ZERO, 0, 0);
+    }
+
+    /**
+     * {@return these options with a storage}
+     *
+     * @param folder the folder of the state files
+     */
+    public StoreOptions withStorage(Path folder) {
+        return new StoreOptions(opening, Optional.of(folder), adopts, fromEarlierImage, patience, imageCalls, mostAhead);
+    }
+
+    /**
+     * {@return these options, which adopt the files of a storage, or do not}
+     *
+     * @param isAdopted whether they are adopted
+     */
+    public StoreOptions withAdopts(boolean isAdopted) {
+        return new StoreOptions(opening, storage, isAdopted, fromEarlierImage, patience, imageCalls, mostAhead);
+    }
+
+    /**
+     * {@return these options, which begin with the image before the last one, or do not}
+     *
+     * @param isEarlier whether they do
+     */
+    public StoreOptions withFromEarlierImage(boolean isEarlier) {
+        return new StoreOptions(opening, storage, adopts, isEarlier, patience, imageCalls, mostAhead);
+    }
+
+    /**
+     * {@return these options with another patience}
+     *
+     * @param time for how long
+     */
+    public StoreOptions withPatience(Duration time) {
+        return new StoreOptions(opening, storage, adopts, fromEarlierImage, time, imageCalls, mostAhead);
+    }
+
+    /**
+     * {@return these options with another number of calls before an image}
+     *
+     * @param calls how many
+     */
+    public StoreOptions withImageCalls(long calls) {
+        return new StoreOptions(opening, storage, adopts, fromEarlierImage, patience, calls, mostAhead);
+    }
+
+    /**
+     * {@return these options with another time that a moment may be ahead}
+     *
+     * @param millis how many milliseconds
+     */
+    public StoreOptions withMostAhead(long millis) {
+        return new StoreOptions(opening, storage, adopts, fromEarlierImage, patience, imageCalls, millis);
+    }
+
+    /** In the order of store_jni.c. */
+    long[] numbers() {
+        long flags = opening.ordinal() | (adopts ? ADOPT : 0) | (fromEarlierImage ? EARLIER_IMAGE : 0);
+        return new long[] {flags, Math.min(Math.max(patience.toMillis(), 0), 0xffff_ffffL), imageCalls, Checks.natural(mostAhead, "a time")};
+    }
+}
