@@ -27,6 +27,7 @@ enum class store_error : int {
     timed_out = RELKVANU_STORE_TIMED_OUT,
     not_now = RELKVANU_STORE_NOT_NOW,
     stopped = RELKVANU_STORE_STOPPED,
+    not_put = RELKVANU_STORE_NOT_PUT,
     failed = RELKVANU_STORE_FAILED,
     full = RELKVANU_STORE_FULL,
     read_only = RELKVANU_STORE_READ_ONLY,
@@ -55,6 +56,7 @@ public:
         case store_error::timed_out: return "TimedOut";
         case store_error::not_now: return "NotNow";
         case store_error::stopped: return "Stopped";
+        case store_error::not_put: return "NotPut";
         case store_error::failed: return "Failed";
         case store_error::full: return "Full";
         case store_error::read_only: return "ReadOnly";

@@ -1,6 +1,7 @@
 #!/usr/bin/env python3
 """engines.py KILLS COMMAND..: starts the engine `COMMAND FOLDER`, kills it at a random moment, KILLS times, and lets it run to its end. After each kill
-each file that the coordinator names as in use is there. In the end the folder has what the coordinator knows, and nothing else."""
+each file that the coordinator names as in use is there. In the end the folder has what the coordinator knows, and nothing else. TASKS is
+their number in the environment, and MARKER that of a folder which the store does not know."""
 import os
 import pathlib
 import random
@@ -13,13 +14,14 @@ import time
 from relkvanu import Settings
 from relkvanu.store import Store
 
-TASKS = 3
-MARKER = ".relkvanu-job"
+TASKS = int(os.environ.get("TASKS", 3))
+MARKER = os.environ.get("MARKER", ".relkvanu-job")
 
 
 def known(folder):
     """The files in use, those that wait or are taken, and the number of the next record."""
-    with Store(folder / "job.db", Settings(interval=10), [TASKS], storage=folder / "state") as job, job.read() as reads:
+    storage = None if "MARKER" in os.environ else folder / "state"
+    with Store(folder / "job.db", Settings(interval=10), [TASKS], storage=storage) as job, job.read() as reads:
         used, place, last = set(), 0, 0
         while (live := reads.live(place)) is not None:
             place, last = place + 1, live.id
@@ -33,7 +35,8 @@ def known(folder):
 
 
 def listed(folder):
-    return {int(it) for it in os.listdir(folder / "state") if it != MARKER}
+    """A part of a file counts as the file."""
+    return {int(it.partition(".part")[0]) for it in os.listdir(folder / "state") if not it.startswith(MARKER)}
 
 
 def await_opening(folder, process):
