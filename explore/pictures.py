@@ -79,24 +79,33 @@ class Picture:
             self.note("storage", line)
         elif line in ("log synced", "log cut"):
             self.note(self.process, line)
+        elif line.startswith("term "):
+            self.arcs.append(f'--- [label="{line}"];')
         elif not line.startswith(("config ", "job ", "start ")):
             self.draw_call(line)
 
 
+def marks(lines):
+    """What is wrong, by the line at which it is."""
+    found = {}
+    for line in lines:
+        if it := re.fullmatch(r"# line ([0-9]+): (.*)", line):
+            found.setdefault(int(it[1]), []).append(it[2].replace('"', ""))
+    return found
+
+
 def source(trace):
-    """The text that mscgen draws."""
+    """The text that mscgen draws. What is wrong goes across the whole picture."""
     picture = Picture()
     lines = trace.splitlines()
-    for line in lines:
+    wrong = marks(lines)
+    for number, line in enumerate(lines, 1):
         if not line.startswith("#"):
             picture.draw(line)
-    ends = list(picture.who.values())
-    for line in lines:
-        if line.startswith("# line "):
-            what = line.split(": ", 1)[1].replace('"', "")
-            picture.arcs.append(f'{ends[0]} box {ends[-1]} [label="{what}", textbgcolour="#ffb0b0"];')
+        picture.arcs += [f'FIRST box LAST [label="{it}", textbgcolour="#ffb0b0"];' for it in wrong.get(number, [])]
     entities = ", ".join(f'{key} [label="{name}"]' for name, key in picture.who.items())
-    return "msc {\n" + f'hscale="1.3";\n{entities};\n' + "\n".join(picture.arcs) + "\n}\n"
+    arcs = "\n".join(picture.arcs).replace("FIRST box LAST", f"e0 box e{len(picture.who) - 1}")
+    return "msc {\n" + f'hscale="1.3";\n{entities};\n{arcs}\n' + "}\n"
 
 
 def drawn(trace):
@@ -104,7 +113,8 @@ def drawn(trace):
     with tempfile.TemporaryDirectory() as work:
         path = Path(work) / "picture.svg"
         subprocess.run(["mscgen", "-T", "svg", "-i", "-", "-o", path], input=source(trace), text=True, check=True)
-        return path.read_text(encoding="utf-8")
+        # without a ground the lines would be black on black where pages are dark
+        return re.sub(r"(<svg [^>]*>)", r'\1<rect width="100%" height="100%" fill="white"/>', path.read_text(encoding="utf-8"))
 
 
 def differences(kept):

@@ -7,6 +7,7 @@ from dataclasses import dataclass
 
 TOP = pathlib.Path(__file__).resolve().parent.parent
 PYTHON = TOP / "embed/python"
+RESULT = re.compile("# (fault|holds|cut|seen) ")
 # What the reader of traces says of a fault that the explorer names.
 FAULTS = {"lost": "file {} is lost", "overwritten": "file {} is overwritten", "mixed": "record {} is done, and has a part", "left": "file {} is left"}
 
@@ -53,8 +54,8 @@ def explore(program, words, seconds=600):
     if ran.returncode not in (0, 1):
         raise RuntimeError(f"explore {' '.join(words)}: status {ran.returncode}")
     lines = ran.stdout.splitlines()
-    told = "\n".join(line for line in lines if line.startswith("# "))
-    trace = "".join(line + "\n" for line in lines if not line.startswith("# "))
+    told = "\n".join(line for line in lines if RESULT.match(line))
+    trace = "".join(line + "\n" for line in lines if not RESULT.match(line))
     found = re.search(r"^# fault ([a-z]+ [0-9]+)", told, re.M)
     return Explored(ran.returncode, trace, found.group(1) if found else "", told)
 

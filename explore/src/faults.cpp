@@ -22,11 +22,11 @@ static bool are_idle(const State &state) {
     return idle;
 }
 
-// Files that are the coordinator's, and that the discarder leaves. Those that no accepted acknowledgement named wait for the sweep of
-// the next recovery.
+// Files that the discarder leaves. With names a sweeper deletes garbage. Without them only files count that an accepted acknowledgement
+// named: the others wait for the sweep of the next recovery.
 static Files left(const State &state, u8 after) {
     const Drained &all = library.drained(state.current.image, after);
-    return state.visible & ~all.deleted & ~all.in_use & state.accepted;
+    return state.visible & ~all.deleted & ~all.in_use & ~all.garbage & (scope.names ? ~Files(0) : state.accepted);
 }
 
 static std::string leaked(const State &state, const Facts &facts) {

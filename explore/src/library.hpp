@@ -10,11 +10,12 @@
 #include <unordered_map>
 #include <vector>
 
-enum Kind : u8 { TICK = 1, EXPIRE, SAVE, ACK, DECLINE, DISPOSE, RESTORE, CANCEL, TAKE, DELETE, UNDELETE };
+enum Kind : u8 { TICK = 1, EXPIRE, SAVE, ACK, DECLINE, DISPOSE, RESTORE, CANCEL, TAKE, DELETE, UNDELETE, RESERVE, FORFEIT };
 
 struct Call {
     u8 kind, subtask, record, file; // file: a fresh one, or 0; for a report the file that it is about
     Files reused;
+    u8 term = 0; // of the task, if the coordinator has names
 };
 
 struct Answer {
@@ -36,12 +37,15 @@ struct Facts {
     Files base[2];       // its files, by subtask
     u8 pending[MOST_RECORDS], savepoints[MOST_RECORDS]; // numbers, of done savepoints
     u64 due, expiry;
+    // If the coordinator has names: the term, the next name, the names that tasks of the term hold, and what a sweeper may delete.
+    u8 term, next_name;
+    Files held, garbage;
 };
 
 // What is left when a discarder has run to its end.
 struct Drained {
     bool is_known;
-    Files deleted, in_use;
+    Files deleted, in_use, garbage;
 };
 
 class Library {
@@ -50,7 +54,7 @@ public:
     u32 opening();
     std::string opening_lines();
     Answer call(u32 image, const Call &call);
-    // The line of the call for the log.
+    // The line of the call for the log. Calls of a coordinator with names have a line for the reader alone.
     std::string line(u32 image, const Call &call);
     const Facts &facts(u32 image) const { return images[image].facts; }
     const std::string &text(u32 image) const { return images[image].text; }
@@ -68,6 +72,8 @@ private:
     struct Image {
         std::string text;
         Facts facts;
+        u32 from;  // the image and the call that led here first
+        Call call;
         Drained drained[3];
     };
     struct Edge {
@@ -81,7 +87,14 @@ private:
     size_t edges_len = 0;
     u64 calls = 0;
 
-    u32 number_of(relkvanu *handle);
+    // The handle of the last call. A coordinator with names writes no image, so its calls are made again from the opening on.
+    relkvanu handle = {};
+    u32 handle_at = ~u32(0);
+
+    void open_at(u32 image);
+    std::vector<Call> path_to(u32 image) const;
+    std::string text_after(u32 image, const Call &call, const Answer &answer);
+    u32 number_of(const std::string &text, u32 from, const Call &call);
     Edge *place_of(u32 from, u64 call);
     void grow();
     Drained drain(u32 image, u8 after);

@@ -1,10 +1,13 @@
 // Steps of the network: a message arrives, arrives and comes again, arrives at an older process, or is lost.
+#include "names.hpp"
 #include "steps.hpp"
 
 Answer Steps::accept(Process *who, Message message) {
-    const Call made = message.is_decline() ? Call{DECLINE, message.subtask(), message.record(), 0, 0}
-                                           : Call{ACK, message.subtask(), message.record(), message.file(), message.reused()};
-    if (scope.is_on[FENCE] && message.term() != who->term) {
+    // Without the rule the engine does not carry the term.
+    const u8 term = scope.is_on[FENCE] ? message.term() : term_of(*who);
+    const Call made = message.is_decline() ? Call{DECLINE, message.subtask(), message.record(), 0, 0, term}
+                                           : Call{ACK, message.subtask(), message.record(), message.file(), message.reused(), term};
+    if (!scope.names && term != who->term) {
         if (is_telling) {
             tell("dropped %s", library.line(who->image, made).c_str());
         }
@@ -47,7 +50,7 @@ void Steps::deliver(unsigned place, bool is_copy, bool to_old) {
     }
     tell("from 0.%u %u", message.subtask(), message.incarnation());
     const Answer answer = accept(who, message);
-    seen[!answer.is_done()                          ? answer.what == 0 ? DROPPED_MESSAGES : REFUSED_MESSAGES
+    seen[!answer.is_done()                          ? answer.what == 0 || is_old_term(answer) ? DROPPED_MESSAGES : REFUSED_MESSAGES
          : answer.what == RELKVANU_ACK_PENDING     ? PENDING_ACKS
          : answer.what == RELKVANU_ACK_COMPLETED ? COMPLETED_ACKS
                                                  : LATE_ACKS]++;

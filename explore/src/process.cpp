@@ -55,8 +55,11 @@ void Steps::start() {
     }
 }
 
-// A sweep by what the coordinator knows: it deletes all other files.
+// A sweep by what the coordinator knows: it deletes all other files. With names a sweeper asks the coordinator, at any time.
 void Steps::sweep_known() {
+    if (scope.names) {
+        return;
+    }
     seen[SWEEPS]++;
     unlink(next.visible & ~known(library.facts(next.current.image)), "sweeper");
 }
@@ -116,7 +119,7 @@ void Steps::recover() {
     tell("process %u starts", next.current.number);
     report_taken();
     sync_log();
-    if (!scope.is_on[SWEEP_RESTORED]) {
+    if (!scope.is_on[SWEEP_RESTORED] && !scope.names) {
         sweep_known(); // and it restores the job later
     } else if (!library.facts(next.current.image).is_cancelled) {
         restore(0);

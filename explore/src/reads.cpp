@@ -1,6 +1,7 @@
 // Gathers what the reads of the library say of a coordinator.
 #include "reads.hpp"
 
+#include "names.hpp"
 #include "scope.hpp"
 
 constexpr size_t PLACES = 64;
@@ -86,6 +87,9 @@ Facts facts_of(relkvanu *handle) {
     facts.choice = choice.what == RELKVANU_CHOICE_FRESH ? 0 : u8(choice.a);
     for (unsigned subtask = 0; subtask < scope.subtasks && facts.choice; subtask++) {
         facts.base[subtask] = files_of(handle, facts.choice, subtask);
+    }
+    if (scope.names) {
+        read_names(handle, &facts);
     }
     return facts;
 }

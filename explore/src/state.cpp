@@ -34,7 +34,7 @@ void drop_message(State *state, unsigned place) {
 static Task task_of(const State &state, unsigned subtask) {
     Task task = {};
     task.incarnation = state.incarnation;
-    task.term = state.current.term;
+    task.term = scope.names ? library.facts(state.current.image).term : state.current.term;
     task.subtask = u8(subtask);
     return task;
 }

@@ -76,6 +76,10 @@ private:
     void send(unsigned place);
     void give_up(unsigned place);
     void read_answer(unsigned place);
+    // With names a task gives names back by a call.
+    bool may_call() const { return !scope.names || !from->is_down; }
+    u8 new_name(const Task &task);
+    void give_back(const Task &task);
 
     // messages.cpp
     void of_messages();
@@ -92,6 +96,9 @@ private:
     void of_faults();
     void unlink(Files files, const char *who);
 };
+
+// The term of a process: that of its coordinator, or the engine's own.
+inline u8 term_of(const Process &process) { return scope.names ? library.facts(process.image).term : process.term; }
 
 // The files that the coordinator knows: in use, waiting or taken.
 inline Files known(const Facts &facts) { return facts.in_use | facts.waiting | facts.taken; }

@@ -9,19 +9,40 @@ static void take_up(Task *task) {
     task->barrier_base = 0;
 }
 
+// The name of a new file, or 0 if the coordinator gives none.
+u8 Steps::new_name(const Task &task) {
+    const Task &other = next.tasks[0];
+    if (!scope.is_on[OWN_NAME] && task.subtask == 1 && other.incarnation == task.incarnation && other.record && other.file) {
+        return other.file;
+    }
+    if (!scope.names) {
+        return ++next.name;
+    }
+    const Answer answer = call(&next.current, {RESERVE, 0, 0, 0, 0, task.term});
+    sync_log();
+    return answer.is_done() ? u8(answer.a) : 0;
+}
+
+// A name that the task won't acknowledge.
+void Steps::give_back(const Task &task) {
+    if (scope.names && scope.is_on[GIVE_BACK] && task.file != 0) {
+        call(&next.current, {FORFEIT, 0, 0, task.file, 0, task.term});
+        sync_log();
+    }
+}
+
 void Steps::begin_record(unsigned place) {
     const Task &task = from->tasks[place];
     const bool may = task.record == 0 && task.barrier != 0;
-    if (offer(may && (task.file != 0 || from->name < scope.limit[NAMES]))) {
+    const bool has_name = scope.names ? !from->is_down && facts->next_name <= scope.limit[NAMES] : from->name < scope.limit[NAMES];
+    if (offer(may && (task.file != 0 || has_name))) {
         Task &mine = next.tasks[place];
         take_up(&mine);
-        const Task &other = next.tasks[0];
-        if (mine.file == 0 && !scope.is_on[OWN_NAME] && mine.subtask == 1 && other.incarnation == mine.incarnation && other.record && other.file) {
-            mine.file = other.file;
-        } else if (mine.file == 0) {
-            mine.file = ++next.name;
-        }
         tell_task(task, "begins %u", mine.record);
+        mine.file = mine.file != 0 ? mine.file : new_name(mine);
+        if (mine.file == 0) {
+            clear_work(&mine, false);
+        }
         made();
     }
     if (offer(may && scope.may_write_nothing && task.file == 0)) {
@@ -37,8 +58,11 @@ void Steps::begin_record(unsigned place) {
         use(ZOMBIE_BARRIERS);
         mine.barrier = facts->pending[0];
         mine.barrier_base = facts->base[task.subtask];
-        mine.term = scope.is_on[TERM_AT_START] ? mine.term : from->current.term;
+        mine.term = scope.is_on[TERM_AT_START] ? mine.term : term_of(from->current);
         tell("barrier %u to 0.%u %u", mine.barrier, task.subtask, task.incarnation);
+        if (mine.term != task.term) {
+            tell("term %u of 0.%u %u", mine.term, task.subtask, task.incarnation);
+        }
         made();
     }
 }
@@ -98,6 +122,7 @@ void Steps::send(unsigned place) {
         use(DECLINES);
         add_message(&next, Message(task, true));
         tell_task(task, "sends decline %u", task.record);
+        give_back(task);
         clear_work(&next.tasks[place], false);
         made();
     }
@@ -114,9 +139,12 @@ void Steps::send(unsigned place) {
 
 void Steps::read_answer(unsigned place) {
     const Task &task = from->tasks[place];
-    if (offer(task.told != NOTHING)) {
+    if (offer(task.told != NOTHING && may_call())) {
         if (task.told == REFUSED && !scope.is_on[NO_TASK_DELETES]) {
             unlink(only(task.file), ("task 0." + std::to_string(task.subtask) + " " + std::to_string(task.incarnation)).c_str());
+        }
+        if (task.told == REFUSED) {
+            give_back(task);
         }
         clear_work(&next.tasks[place], false);
         made();
@@ -126,13 +154,15 @@ void Steps::read_answer(unsigned place) {
 void Steps::give_up(unsigned place) {
     const Task &task = from->tasks[place];
     // A task that merely dies takes no more steps.
-    if (offer_fault(true)) {
+    if (offer_fault(may_call())) {
         clear_work(&next.tasks[place], false);
         tell_task(task, "gives up %u", task.record);
+        give_back(task);
         made();
     }
     const bool may_keep = scope.may_keep && is_running(place) && task.written > 0 && task.file != 0;
-    if (offer_fault(may_keep && (task.sent == 0 || !scope.is_on[NEW_NAME]))) {
+    // With names a task may send a name again: it is spent, or it is not.
+    if (offer_fault(may_keep && (scope.names || task.sent == 0 || !scope.is_on[NEW_NAME]))) {
         clear_work(&next.tasks[place], true);
         tell_task(task, "gives up %u", task.record);
         made();

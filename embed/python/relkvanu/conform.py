@@ -181,7 +181,7 @@ class Checker:
     def on_begins(self, _: Event) -> None:
         """Nothing is judged by it."""
 
-    on_gives_up = on_sends_decline = on_lists = on_begins
+    on_gives_up = on_sends_decline = on_lists = on_term = on_begins
 
     def on_writes(self, event: Event) -> None:
         assert event.task is not None

@@ -68,6 +68,7 @@ FORMS: Tuple[Tuple[str, str, str], ...] = (
     (rf"sweeper lists{FILES}", "lists", "files"),
     (r"folder synced", "folder synced", ""),
     (r"storage (away|back|loses power)", "storage", "word"),
+    (rf"term {NUMBER} of {TASK}", "term", "number task"),
 )
 COMPILED = tuple((re.compile(form), verb, names.split()) for form, verb, names in FORMS)
 LOGGED = re.compile(r"(config|job|start|tick|savepoint|ack|decline|dispose|restore|cancel|take|deleted|undeleted) .*|cancel")
@@ -179,8 +180,10 @@ class World:
 
     def call(self, line: str) -> Optional[Reply]:
         """Makes a call, as the process did, and appends it to the log. Raises NoTrace if the library refuses it."""
+        if self.speaker not in self.processes:
+            raise NoTrace(f"no process runs that makes this call: {line}")
         self.log.lines.append(line)
-        core = self.processes.get(self.speaker)
+        core = self.processes[self.speaker]
         if core is None:
             self.opening.append(line)
             if len(self.opening) == 3:

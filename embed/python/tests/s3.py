@@ -63,7 +63,7 @@ class Opening(OnAServer):
 
     def test_a_wrong_secret(self):
         with self.assertRaises(StorageError):
-            self.opened(is_new=True, s3=client(aws_secret_access_key="wrong"))
+            self.opened(is_new=True, s3=client(aws_access_key_id=os.environ["AWS_ACCESS_KEY_ID"], aws_secret_access_key="wrong"))
 
 
 class Files(OnAServer):

@@ -23,7 +23,7 @@ def checkpoint(record, file, start=1, reused=""):
 
 DISCARD = ["take 64", "log synced", "discarder unlinks 1", "folder synced", "deleted 1", "log synced"]
 WHOLE = [*OPENING, *checkpoint(1, 1), *checkpoint(2, 2), *DISCARD]
-RESTART = ["process 1 ends", "log cut", "process 2 starts", "restore 20", "log synced", "sweeper lists 2", "task 0.0 2 starts"]
+RESTART = ["process 1 ends", "log cut", "process 2 starts", "restore 20 latest", "log synced", "sweeper lists 2", "task 0.0 2 starts"]
 
 
 def without(lines, line, which=0):
@@ -52,7 +52,7 @@ class Obeying(unittest.TestCase):
         self.assertEqual(check(lines), [])
 
     def test_a_sweep_after_a_restore(self):
-        lines = [*OPENING, "task 0.0 1 writes 9", "process 1 ends", "log cut", "process 2 starts", "restore 0", "log synced", "sweeper unlinks 9",
+        lines = [*OPENING, "task 0.0 1 writes 9", "process 1 ends", "log cut", "process 2 starts", "restore 0 latest", "log synced", "sweeper unlinks 9",
                  "folder synced", "task 0.0 2 starts"]
         self.assertEqual(check(lines), [])
 
@@ -97,7 +97,7 @@ class Breaking(unittest.TestCase):
 
     def test_4_a_start_without_a_restore(self):
         self.breaks([*WHOLE, "task 0.0 1 ends", "task 0.0 2 starts"], 4, len(WHOLE) + 2)
-        self.breaks([*WHOLE, *without(RESTART, "restore 20")], 4, len(WHOLE) + 6)
+        self.breaks([*WHOLE, *without(RESTART, "restore 20 latest")], 4, len(WHOLE) + 6)
 
     def test_5_two_processes(self):
         self.breaks([*WHOLE, "process 2 starts"], 5, len(WHOLE) + 1)
@@ -108,10 +108,10 @@ class Breaking(unittest.TestCase):
         self.breaks([*WHOLE[:at], "task 0.0 1 unlinks 1", *WHOLE[at:]], 6, at + 1)
 
     def test_7_a_name_of_another_file(self):
-        lines = [*OPENING, *checkpoint(1, 1), *checkpoint(2, 1)]
-        self.breaks(lines, 7, len(OPENING) + 18)
+        lines = [*OPENING, *checkpoint(1, 1), *checkpoint(2, 1)[:7]]
+        self.breaks(lines, 7, len(lines))
         lines = [*WHOLE, *RESTART, "task 0.0 2 writes 2"]
-        self.breaks(lines, 7, len(lines), )
+        self.breaks(lines, 7, len(lines))
 
     def test_8_a_sweep_while_tasks_run(self):
         lines = [*OPENING, "task 0.0 1 writes 9", "sweeper unlinks 9"]
