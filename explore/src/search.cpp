@@ -74,8 +74,9 @@ private:
     void expand();
     // The steps that led to the last node.
     std::vector<u16> path() const;
+    // Makes the steps again, and each call of the library anew.
     void print_trace() const;
-    void print_result(double seconds) const;
+    std::string result(double seconds) const;
 };
 
 void Search::visit(u32 parent, unsigned step) {
@@ -104,6 +105,7 @@ std::vector<u16> Search::path() const {
 }
 
 void Search::print_trace() const {
+    library.clear();
     State state = first_state();
     Steps telling;
     telling.is_telling = true;
@@ -114,15 +116,19 @@ void Search::print_trace() const {
         state = telling.next;
     }
     telling.print();
+    if (fault_of(state) != fault) {
+        die("the same steps lead to another state");
+    }
 }
 
-void Search::print_result(double seconds) const {
+std::string Search::result(double seconds) const {
     const double states = double(found.nodes.size());
-    const char *result = !fault.empty() ? "fault" : is_over() ? "cut" : "holds";
     const unsigned whole = depth - (is_over() && fault.empty() ? 1 : 0);
-    printf("# %s %s depth %u states %.0f steps %llu seconds %.1f states/s %.0f images %zu calls %llu\n", result, fault.c_str(), whole, states,
-           static_cast<unsigned long long>(made), seconds, states / seconds, library.size(), static_cast<unsigned long long>(library.made()));
-    print_seen();
+    char text[256];
+    snprintf(text, sizeof text, "# %s %s depth %u states %.0f steps %llu seconds %.1f states/s %.0f images %zu calls %llu",
+             !fault.empty() ? "fault" : is_over() ? "cut" : "holds", fault.c_str(), whole, states, static_cast<unsigned long long>(made), seconds,
+             states / seconds, library.size(), static_cast<unsigned long long>(library.made()));
+    return text;
 }
 
 int Search::run() {
@@ -137,10 +143,12 @@ int Search::run() {
         std::swap(level, following);
         depth += !level.states.empty();
     }
+    const std::string told = result(std::chrono::duration<double>(std::chrono::steady_clock::now() - start).count());
     if (!fault.empty()) {
         print_trace();
     }
-    print_result(std::chrono::duration<double>(std::chrono::steady_clock::now() - start).count());
+    puts(told.c_str());
+    print_seen();
     return fault.empty() ? 0 : 1;
 }
 
