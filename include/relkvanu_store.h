@@ -44,6 +44,7 @@ typedef struct relkvanu_store relkvanu_store;
 #define RELKVANU_STORE_TIMED_OUT 12   /* await: the time is up */
 #define RELKVANU_STORE_NOT_NOW 13     /* unknown: no sweep is safe now; discard: another thread discards */
 #define RELKVANU_STORE_STOPPED 14     /* await, discard: relkvanu_store_stop was called */
+#define RELKVANU_STORE_NOT_PUT 15     /* put: the file was not made, and errno says why */
 /* What failed at an opening, or in a commit, which closes the store. */
 #define RELKVANU_STORE_FAILED 16        /* a read, write or sync */
 #define RELKVANU_STORE_FULL 17          /* the disk is full */
@@ -190,6 +191,27 @@ typedef void (*relkvanu_store_delete)(void *with, const uint64_t *files, size_t 
  * again. After a batch of which none is gone it waits longer each time, up to a minute, and never gives up. Without the marker in the
  * folder no file counts as gone. Runs until relkvanu_store_stop, or until the store is closed by a failed commit. */
 int relkvanu_store_discard(relkvanu_store *store, size_t batch, relkvanu_store_delete delete_files, void *with);
+
+/* State files in the folder options.storage, by their numbers: file 7 has the name 7, and 7.part while it is not whole. An engine may name
+ * its files otherwise, and then makes and deletes them itself. Several threads may put, delete and commit at once. Without a folder:
+ * RELKVANU_STORE_BAD_ARGUMENT, and no file counts as gone. */
+
+/* Makes a file: writes it beside its name, syncs it, gives it the name, and syncs the folder. After RELKVANU_STORE_OK a loss of power does not
+ * take it, and a task may acknowledge it. After any other status the task declines. The number is not given again: a sweep deletes what is left.
+ *
+ * RELKVANU_STORE_PRESENT: there is a file of this number, or a part of one; RELKVANU_STORE_STORAGE: the folder lacks its marker;
+ * RELKVANU_STORE_NOT_PUT. */
+int relkvanu_store_put(relkvanu_store *store, uint64_t file, const void *contents, size_t len);
+
+/* Deletes files of the folder, also what is there in part. It is for relkvanu_store_discard: relkvanu_store_discard(store, 0,
+ * relkvanu_store_delete_files, store). That syncs the folder, and looks for the marker. */
+void relkvanu_store_delete_files(void *store, const uint64_t *files, size_t files_len, uint8_t *is_gone);
+
+/* The sweep of a recovery: deletes the files of the folder that relkvanu_store_unknown returns, also what is there in part, and syncs the
+ * folder. Writes how many it could not delete: the next recovery tries them again.
+ *
+ * RELKVANU_STORE_NOT_NOW as relkvanu_store_unknown; RELKVANU_STORE_STORAGE: the folder lacks its marker, or can't be read or synced. */
+int relkvanu_store_sweep(relkvanu_store *store, size_t *left);
 
 /* Lets relkvanu_store_await_tick and relkvanu_store_discard return RELKVANU_STORE_STOPPED, now and later. What was taken is reported first. */
 void relkvanu_store_stop(relkvanu_store *store);

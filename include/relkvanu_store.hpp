@@ -27,6 +27,7 @@ enum class store_error : int {
     timed_out = RELKVANU_STORE_TIMED_OUT,
     not_now = RELKVANU_STORE_NOT_NOW,
     stopped = RELKVANU_STORE_STOPPED,
+    not_put = RELKVANU_STORE_NOT_PUT,
     failed = RELKVANU_STORE_FAILED,
     full = RELKVANU_STORE_FULL,
     read_only = RELKVANU_STORE_READ_ONLY,
@@ -55,6 +56,7 @@ public:
         case store_error::timed_out: return "TimedOut";
         case store_error::not_now: return "NotNow";
         case store_error::stopped: return "Stopped";
+        case store_error::not_put: return "NotPut";
         case store_error::failed: return "Failed";
         case store_error::full: return "Full";
         case store_error::read_only: return "ReadOnly";
@@ -214,6 +216,15 @@ public:
             }
         };
         return store_code(relkvanu_store_discard(store_, batch, delete_files, &gone));
+    }
+
+    /* State files in the storage folder, by their numbers: relkvanu_store.h has the conditions. `left`: files that a sweep could not delete. */
+    [[nodiscard]] std::error_code put(std::uint64_t file, std::string_view contents) noexcept {
+        return store_code(relkvanu_store_put(store_, file, contents.data(), contents.size()));
+    }
+    [[nodiscard]] std::error_code sweep(std::size_t &left) noexcept { return store_code(relkvanu_store_sweep(store_, &left)); }
+    [[nodiscard]] std::error_code discard_files(std::size_t batch = 0) noexcept {
+        return store_code(relkvanu_store_discard(store_, batch, relkvanu_store_delete_files, store_));
     }
 
     void stop() noexcept { relkvanu_store_stop(store_); }

@@ -16,6 +16,7 @@ from typing import Any, Dict
 HERE = pathlib.Path(__file__).resolve().parent
 LIBRARY = "librelkvanu.so.0"
 STORE = "librelkvanu-store.so.0"
+SCRIPTS = "[console_scripts]\nrelkvanu-conform = relkvanu.conform:main\n"
 
 
 def version() -> str:
@@ -45,6 +46,7 @@ def contents() -> Dict[str, bytes]:
     told = f"Metadata-Version: 2.1\nName: relkvanu\nVersion: {version()}\nRequires-Python: >=3.8\n"
     told += "Summary: The checkpoint coordinator of a stream processor\n"
     files[f"{info}/METADATA"] = told.encode()
+    files[f"{info}/entry_points.txt"] = SCRIPTS.encode()
     files[f"{info}/WHEEL"] = f"Wheel-Version: 1.0\nGenerator: relkvanu\nRoot-Is-Purelib: false\nTag: {tag}\n".encode()
     return files
 

@@ -34,6 +34,7 @@ STATUSES: Dict[int, str] = {
     TIMED_OUT: "TimedOut",
     13: "NotNow",
     STOPPED: "Stopped",
+    15: "NotPut",
     FAILED: "Failed",
     17: "Full",
     18: "ReadOnly",

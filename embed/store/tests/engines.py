@@ -1,6 +1,7 @@
 #!/usr/bin/env python3
 """engines.py KILLS COMMAND..: starts the engine `COMMAND FOLDER`, kills it at a random moment, KILLS times, and lets it run to its end. After each kill
-each file that the coordinator names as in use is there. In the end the folder has what the coordinator knows, and nothing else."""
+each file that the coordinator names as in use is there. In the end the folder has what the coordinator knows, and nothing else. TASKS is
+their number in the environment, and MARKER that of a folder which the store does not know."""
 import os
 import pathlib
 import random
@@ -11,16 +12,17 @@ import tempfile
 import time
 
 from relkvanu import Settings
-from relkvanu.store import Store
+from relkvanu.store import Store, StoreError
 
-TASKS = 3
+TASKS = int(os.environ.get("TASKS", 3))
 FILES = 4 * TASKS
-MARKER = (".relkvanu-job", ".relkvanu-job.new")
+MARKER = os.environ.get("MARKER", ".relkvanu-job")
 
 
 def known(folder):
-    """The files in use, those that wait or are taken, and the number of the next record."""
-    with Store(folder / "job.db", Settings(interval=10), [TASKS], storage=folder / "state") as job, job.read() as reads:
+    """The files in use, those that wait, those that are taken, and the number of the last record."""
+    storage = None if "MARKER" in os.environ else folder / "state"
+    with Store(folder / "job.db", Settings(interval=10), [TASKS], storage=storage) as job, job.read() as reads:
         used, place, last = set(), 0, 0
         while (live := reads.live(place)) is not None:
             place, last = place + 1, live.id
@@ -29,12 +31,26 @@ def known(folder):
                 used.update(reads.files_of(live.id, 0, index) or ())
         counts = reads.file_counts()
         assert counts.in_use == len(used), (counts, used)
-        released = {reads.waiting_file(it) for it in range(counts.waiting)} | set(reads.taken_files())
-    return used, released, last
+        waiting, taken = {reads.waiting_file(it) for it in range(counts.waiting)}, set(reads.taken_files())
+    return used, waiting, taken, last
+
+
+def has_job(folder):
+    """Whether a killed process has made the job. Its file comes first, and may be empty."""
+    if not (folder / "job.db").exists() or not (folder / "state" / MARKER).exists():
+        return False
+    try:
+        known(folder)
+    except StoreError as error:
+        if error.name == "Absent":
+            return False
+        raise
+    return True
 
 
 def listed(folder):
-    return {int(it) for it in os.listdir(folder / "state") if it not in MARKER}
+    """A part of a file counts as the file."""
+    return {int(it.partition(".part")[0]) for it in os.listdir(folder / "state") if not it.startswith(MARKER)}
 
 
 def await_opening(folder, process):
@@ -68,17 +84,18 @@ def main(kills, *command):
                 process.send_signal(signal.SIGKILL)
                 _, told = process.communicate()
             assert process.returncode == -signal.SIGKILL, (process.returncode, told)
-            if (folder / "job.db").exists() and (folder / "state" / MARKER[0]).exists():
-                used, _, last = known(folder)
+            if has_job(folder):
+                used, _, _, last = known(folder)
                 assert used <= listed(folder), used - listed(folder)
                 reached.append(last)
         last = max(reached, default=0) + 20
         ran = subprocess.run([*command, folder, str(last)], stderr=subprocess.PIPE, text=True, timeout=120)
         assert ran.returncode == 0, ran.stderr
-        used, released, _ = known(folder)
-        assert listed(folder) == used | released and len(used) >= TASKS, (listed(folder), used, released)
+        used, waiting, taken, _ = known(folder)
+        assert not taken, f"nobody deletes {taken}"  # what a process took that was killed, too
+        assert listed(folder) == used | waiting and len(used) >= TASKS, (listed(folder), used, waiting)
         assert reached and max(reached) > 3, f"no checkpoint was completed: {reached}"
-        print(f"{kills} kills, {last} checkpoints, {len(used)} files in use, {len(released)} released")
+        print(f"{kills} kills, {last} checkpoints, {len(used)} files in use, {len(waiting)} waiting")
 
 
 if __name__ == "__main__":

@@ -1,0 +1,314 @@
+"""relkvanu-conform TRACE: reads the trace of a job (docs/PROTOCOL.md), and says which rule was broken at which line, and which file the job lost,
+or that the trace obeys the rules. `-` reads the standard input. Its status is 0 (it obeys), 1 (a rule is broken, or a file is lost) or 2 (no trace)."""
+import sys
+from dataclasses import dataclass, field
+from typing import Callable, Dict, Iterable, List, Optional, Set, Tuple
+
+from relkvanu.coordinator import Coordinator, Error
+from relkvanu.replies import AckLate, DeclineLate, Reply, RestoredCheckpoint, RestoredFresh, RestoredSavepoint, SavepointTriggered, Taken, Triggered
+from relkvanu.storage import unknown
+from relkvanu.trace import Event, NoTrace, Task, World, drained, live_files, read
+
+# As docs/PROTOCOL.md says them: explore/run compares.
+RULES = {
+    1: "sync the log before anybody acts on the answer of a call",
+    2: "a task syncs a file and its folder before it acknowledges the file",
+    3: "accept no message of a task that was replaced",
+    4: "start a task anew only with a restore",
+    5: "one process at a time appends to the log",
+    6: "a task deletes no file that it has acknowledged",
+    7: "give a file's name to no other file",
+    8: "sweep after a restore and before tasks start",
+    9: "report a file as deleted when that is durable, in a storage that is there",
+    10: "write only into the storage of the job",
+}
+
+
+@dataclass(frozen=True)
+class Finding:
+    """What is wrong at a line. Without a rule it is what came of it."""
+
+    line: int
+    rule: Optional[int]
+    what: str
+
+    def __str__(self) -> str:
+        return f"line {self.line}: " + (f"rule {self.rule}: {RULES[self.rule]}: {self.what}" if self.rule else self.what)
+
+
+@dataclass
+class Durable:
+    """What the log's lines say: so far, and of those that are synced."""
+
+    logged: Set[Tuple[str, object]] = field(default_factory=set)
+    synced: Set[Tuple[str, object]] = field(default_factory=set)
+
+    def sync(self) -> None:
+        self.synced |= self.logged
+        self.logged = set()
+
+
+class Checker:
+    """Reads the events of a trace one by one."""
+
+    def __init__(self) -> None:
+        self.world = World()
+        self.findings: List[Finding] = []
+        self.line = 0
+        self.durable = Durable()
+        self.clean: Set[Tuple[Task, int]] = set()  # files that their task has synced since it wrote them
+        self.writers: Dict[int, Task] = {}
+        self.named: Dict[int, Tuple[Task, int]] = {}  # the first message that named a file as fresh: its task and record
+        self.under_way: Dict[Tuple[Task, int], int] = {}  # messages with a file that have no answer
+        self.restored_since: Dict[str, bool] = {}  # by subtask: since its task started
+        self.may_sweep = False
+        self.mixed: Set[int] = set()  # pending or done records with a part of a task that was replaced
+        self.told: Set[str] = set()  # what came of it, each once
+
+    def broken(self, rule: int, what: str) -> None:
+        self.findings.append(Finding(self.line, rule, what))
+
+    def rests_on(self, kind: str, it: object, what: str) -> None:
+        """Rule 1: somebody acts on what a call said."""
+        if (kind, it) not in self.durable.synced:
+            self.broken(1, what)
+
+    def take(self, event: Event) -> None:
+        name = "on_" + event.verb.replace(" ", "_")
+        method: Callable[[Event], None] = getattr(self, name)
+        method(event)
+        if event.verb in ("call", "unlinks", "storage", "log cut", "process starts"):
+            self.look()
+
+    # The process and its log.
+
+    def on_process_starts(self, event: Event) -> None:
+        others = [it for it in self.world.processes if it != event.number]
+        if others:
+            self.broken(5, f"process {event.number} starts, and process {others[-1]} has not ended")
+        try:
+            self.world.start_process(event.number)
+        except Error as fault:
+            raise NoTrace(f"the log can't be replayed: {fault}") from fault
+        self.may_sweep = False
+
+    def on_process_ends(self, event: Event) -> None:
+        self.world.processes.pop(event.number, None)
+
+    def on_process_goes_on(self, event: Event) -> None:
+        if event.number not in self.world.processes:
+            raise NoTrace(f"process {event.number} has ended")
+        self.world.speaker = event.number
+
+    def on_log_synced(self, _: Event) -> None:
+        self.world.log.synced = len(self.world.log.lines)
+        self.durable.sync()
+
+    def on_log_cut(self, _: Event) -> None:
+        del self.world.log.lines[self.world.log.synced:]
+        self.durable.logged = set()
+
+    def on_call(self, event: Event) -> None:
+        sender, self.world.sender = self.world.sender, None
+        word, *rest = event.line.split()
+        if word == "deleted":
+            self.reported(int(rest[0]))
+        reply = self.world.call(event.line)
+        if sender is not None and self.world.running.get(sender.subtask) != sender:
+            self.broken(3, f"{event.line} came from {sender}, which was replaced")
+        if word == "start":
+            self.durable.logged.add(("restore", 0))
+        self.note(reply, sender, rest)
+
+    def note(self, reply: Optional[Reply], sender: Optional[Task], words: List[str]) -> None:
+        """What the answer of a call entitles others to."""
+        if isinstance(reply, (Triggered, SavepointTriggered)):
+            self.durable.logged.add(("record", reply.id))
+            self.mixed.discard(reply.id)
+        elif isinstance(reply, Taken):
+            self.durable.logged |= {("taken", file) for file in reply.files}
+        elif isinstance(reply, (RestoredCheckpoint, RestoredSavepoint, RestoredFresh)):
+            self.durable.logged.add(("restore", 0))
+            self.durable.synced.discard(("restore", 0))
+            self.may_sweep = True
+            self.restored_since = dict.fromkeys(self.restored_since, True)
+        elif sender is not None and len(words) >= 3 and not isinstance(reply, DeclineLate):
+            self.durable.logged.add(("message", sender))
+            self.durable.synced.discard(("message", sender))
+            self.accept(sender, int(words[1]), [int(it[1:]) for it in words[3:] if it[0] == "+"], isinstance(reply, AckLate))
+
+    def accept(self, sender: Task, record: int, fresh: Iterable[int], is_late: bool) -> None:
+        for file in fresh:
+            self.world.accepted.setdefault(file, sender)
+        if not is_late and self.world.running.get(sender.subtask) != sender:
+            self.mixed.add(record)
+
+    def on_from(self, event: Event) -> None:
+        self.world.sender = event.task
+
+    def on_dropped(self, _: Event) -> None:
+        self.world.sender = None
+
+    def on_refused(self, event: Event) -> None:
+        self.world.sender = None
+        self.world.refuse(event.line)
+
+    def on_barrier(self, event: Event) -> None:
+        self.rests_on("record", event.number, f"the barrier of record {event.number} is sent")
+
+    def on_answer(self, event: Event) -> None:
+        assert event.task is not None
+        if event.word != "refused":
+            self.rests_on("message", event.task, f"{event.task} is told")
+        for key in [it for it in self.under_way if it[0] == event.task]:
+            self.under_way[key] -= 1
+
+    # Tasks.
+
+    def on_starts(self, event: Event) -> None:
+        assert event.task is not None
+        subtask = event.task.subtask
+        if not self.restored_since.get(subtask, True):
+            self.broken(4, f"{event.task} starts without a restore")
+        else:
+            self.rests_on("restore", 0, f"{event.task} starts")
+        self.restored_since[subtask] = False
+        self.world.running[subtask] = event.task
+        self.may_sweep = False
+
+    def on_ends(self, _: Event) -> None:
+        """It does nothing more. Only what it sent may still arrive."""
+
+    def on_begins(self, _: Event) -> None:
+        """Nothing is judged by it."""
+
+    on_gives_up = on_sends_decline = on_lists = on_term = on_begins
+
+    def on_writes(self, event: Event) -> None:
+        assert event.task is not None
+        (file,) = event.files
+        if self.world.storage.is_away:
+            self.broken(10, f"{event.task} writes file {file}, and the storage is away")
+        if self.writers.setdefault(file, event.task) != event.task:
+            self.broken(7, f"{event.task} writes file {file}, which {self.writers[file]} wrote")
+        self.clean.discard((event.task, file))
+        self.world.storage.write(event.task, file)
+
+    def on_syncs(self, event: Event) -> None:
+        assert event.task is not None
+        (file,) = event.files
+        self.clean.add((event.task, file))
+        self.world.storage.sync(file)
+
+    def on_sends_ack(self, event: Event) -> None:
+        assert event.task is not None
+        for file in event.files:
+            if (event.task, file) not in self.clean:
+                self.broken(2, f"{event.task} acknowledges file {file}, which it has not synced")
+            if self.named.setdefault(file, (event.task, event.number)) != (event.task, event.number):
+                self.broken(7, f"{event.task} names file {file} as fresh in record {event.number}, and %s named it in record %d" % self.named[file])
+            self.under_way[event.task, file] = self.under_way.get((event.task, file), 0) + 1
+
+    # Deletions, and the storage.
+
+    def on_unlinks(self, event: Event) -> None:
+        if event.task is not None:
+            self.deleted_by_task(event.task, event.files)
+        elif event.word == "discarder":
+            for file in event.files:
+                self.rests_on("taken", file, f"a discarder deletes file {file}")
+        elif not self.may_sweep:
+            self.broken(8, "a sweeper deletes" + "".join(f" {file}" for file in event.files))
+        self.world.storage.unlink(event.files)
+
+    def deleted_by_task(self, task: Task, files: Iterable[int]) -> None:
+        for file in files:
+            if file in self.world.accepted or self.under_way.get((task, file), 0) > 0:
+                self.broken(6, f"{task} deletes file {file}")
+
+    def on_folder_synced(self, _: Event) -> None:
+        self.world.storage.sync_folder()
+
+    def on_storage(self, event: Event) -> None:
+        if event.word == "loses power":
+            self.world.storage.lose_power()
+        else:
+            self.world.storage.is_away = event.word == "away"
+
+    def reported(self, file: int) -> None:
+        storage = self.world.storage
+        if file in storage.shown:
+            self.broken(9, f"file {file} is in the storage")
+        elif file in storage.kept:
+            self.broken(9, f"file {file} comes back with a loss of power")
+
+    # What came of it.
+
+    def came(self, what: str) -> None:
+        if what not in self.told:
+            self.told.add(what)
+            self.findings.append(Finding(self.line, None, what))
+
+    def look(self) -> None:
+        """Files that are lost, and records that mix tasks."""
+        if self.world.processes.get(self.world.newest) is None:
+            return
+        storage = self.world.storage
+        for record, files in live_files(self.world.core(), self.world.running):
+            for file in sorted(files):
+                if file not in storage.shown or file not in storage.kept:
+                    self.came(f"file {file} is lost: record {record} uses it")
+                elif storage.shown[file] != self.world.accepted.get(file):
+                    self.came(f"file {file} is overwritten: record {record} uses it")
+            if record in self.mixed:
+                self.came(f"record {record} is done, and has a part of a task that was replaced")
+
+    def look_at_end(self) -> None:
+        """Files that stay although no record uses them, and that no discarder will ever be given."""
+        if self.world.processes.get(self.world.newest) is None:
+            return
+        endings: Tuple[Callable[[Coordinator], Reply], ...] = (lambda core: core.restore(core.moment()), lambda core: core.cancel(core.moment()))
+        for ending in endings:
+            with Coordinator.open_saved(self.world.core().save()) as core:
+                try:
+                    ending(core)
+                except Error:
+                    continue
+                gone = drained(core)
+                owned = set(self.world.storage.shown) & set(self.world.accepted)
+                for file in sorted(unknown(core, owned - gone)):
+                    self.came(f"file {file} is left: no record uses it, and nobody deletes it")
+
+
+def check(trace: Iterable[str]) -> List[Finding]:
+    """What is wrong with a trace, line by line. Raises NoTrace, with the line's number."""
+    checker = Checker()
+    for number, text in enumerate(trace, 1):
+        checker.line = number
+        try:
+            event = read(text.rstrip("\n"))
+            if event is not None:
+                checker.take(event)
+        except NoTrace as fault:
+            raise NoTrace(f"line {number}: {fault}") from fault
+    checker.look_at_end()
+    return checker.findings
+
+
+def main(arguments: Optional[List[str]] = None) -> int:
+    given = sys.argv[1:] if arguments is None else arguments
+    if len(given) != 1 or given[0] in ("-h", "--help"):
+        print(__doc__)
+        return 2
+    try:
+        with (sys.stdin if given[0] == "-" else open(given[0], encoding="utf-8")) as trace:
+            findings = check(trace)
+    except (NoTrace, OSError, UnicodeDecodeError) as fault:
+        print(f"relkvanu-conform: {fault}", file=sys.stderr)
+        return 2
+    print("\n".join(map(str, findings)) if findings else "the trace obeys the rules")
+    return 1 if findings else 0
+
+
+if __name__ == "__main__":
+    sys.exit(main())

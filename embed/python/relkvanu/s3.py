@@ -1,0 +1,139 @@
+"""State files in a bucket of S3, or of a server that speaks its protocol. It needs boto3 (Debian's python3-boto3), which finds keys and region
+as it does everywhere: in the environment, ~/.aws, or the role of the machine."""
+import errno
+from typing import Any, Callable, Dict, Iterable, Iterator, List, Optional
+
+import boto3  # type: ignore[import]
+from botocore.config import Config  # type: ignore[import]
+from botocore.exceptions import BotoCoreError, ClientError  # type: ignore[import]
+
+from relkvanu.storage import PAGE, Exists, Names, NotThere, StorageError, check_marker, marker_text
+
+MOST_KEYS = 1000  # in a DeleteObjects, and on a page of a listing
+GONE = ("NoSuchBucket",)  # not NoSuchKey: that is an object that is not there
+ABSENT = ("NoSuchKey", "404", "NotFound")
+
+
+class KeepsVersions(StorageError):
+    """The bucket keeps versions of what is deleted, so no file would ever be gone."""
+
+
+def client(endpoint: Optional[str] = None, region: Optional[str] = None) -> Any:
+    """A client that tries each request three times, and waits at most a minute for an answer. All requests here may come twice."""
+    how = Config(retries={"mode": "standard", "max_attempts": 3}, connect_timeout=10, read_timeout=60)
+    return boto3.client("s3", endpoint_url=endpoint, region_name=region, config=how)
+
+
+class Bucket:
+    """The objects of a bucket with this prefix. `is_new` makes the marker, where there is no state file. A bucket that has versions is refused
+    (KeepsVersions), unless `keeps_versions` says that its lifecycle rules delete old versions."""
+
+    def __init__(self, bucket: str, job: str, is_new: bool = False, prefix: str = "", suffix: str = "", s3: Any = None,
+                 keeps_versions: bool = False) -> None:
+        self.bucket, self.job, self.names = bucket, job, Names(prefix, suffix)
+        self._s3 = client() if s3 is None else s3
+        self._keeps_versions = keeps_versions
+        if not keeps_versions and self._ask(self._s3.get_bucket_versioning).get("Status"):
+            raise KeepsVersions(errno.EINVAL, "the bucket keeps versions", bucket)
+        if is_new:
+            self._begin()
+        self.check()
+
+    def _begin(self) -> None:
+        """The marker, where there is no state file: beside files there was a job, and its log is missing."""
+        if next(self.pages(1), None):
+            raise StorageError(errno.ENOTEMPTY, "a new job needs a place without state files", f"{self.bucket}/{self.names.prefix}")
+        if self._read(self.names.marker()) is None:
+            self._ask(self._s3.put_object, Key=self.names.marker(), Body=marker_text(self.job))
+
+    def check(self) -> None:
+        check_marker(self._read(self.names.marker()), self.job, f"{self.bucket}/{self.names.prefix}")
+
+    def put(self, file: int, contents: bytes) -> None:
+        """One request, so the object is whole or not there. It has at most 5 GiB. After a time-out the object may come later, so its number
+        is never given again. A server is not asked to refuse an object that is there: not all heed that."""
+        name = self.names.of(file)
+        if self._is_there(name):
+            raise Exists(errno.EEXIST, "there is such an object", f"{self.bucket}/{name}")
+        self._ask(self._s3.put_object, Key=name, Body=contents)
+
+    def get(self, file: int) -> bytes:
+        found = self._read(self.names.of(file))
+        if found is None:
+            raise StorageError(errno.ENOENT, "no such object", f"{self.bucket}/{self.names.of(file)}")
+        return found
+
+    def delete(self, files: Iterable[int]) -> Dict[int, str]:
+        """An object counts as deleted if the server says so of its key, and has the marker afterwards. An error says nothing of what was
+        deleted, nor does a time-out."""
+        some = list(files)
+        failed: Dict[int, str] = {}
+        for start in range(0, len(some), MOST_KEYS):
+            failed.update(self._delete_some(some[start:start + MOST_KEYS]))
+        try:
+            self.check()
+        except StorageError as error:
+            return dict.fromkeys(some, str(error))
+        return failed
+
+    def _delete_some(self, files: List[int]) -> Dict[int, str]:
+        keys = {self.names.of(file): file for file in files}
+        try:
+            told = self._ask(self._s3.delete_objects, Delete={"Objects": [{"Key": key} for key in keys]})
+        except StorageError as error:
+            return dict.fromkeys(files, str(error))
+        failed = {file: "the server does not say that it was deleted" for file in files}
+        for it in told.get("Deleted", []):
+            if self._keeps_versions or not it.get("DeleteMarker"):  # versions may have been switched on since
+                failed.pop(keys.get(it.get("Key"), -1), None)
+        for it in told.get("Errors", []):  # in an answer with the status 200
+            if it.get("Key") in keys:
+                failed[keys[it["Key"]]] = f"{it.get('Code')}: {it.get('Message', '')}"
+        return failed
+
+    def pages(self, most: int = PAGE) -> Iterator[List[int]]:
+        after: Dict[str, str] = {}
+        while True:
+            told = self._ask(self._s3.list_objects_v2, Prefix=self.names.prefix, MaxKeys=min(most, MOST_KEYS), **after)
+            found = (self.names.file(it["Key"]) for it in told.get("Contents", []))
+            page = [file for file in found if file is not None]
+            if page:
+                yield page
+            if not told.get("IsTruncated"):
+                return
+            after = {"ContinuationToken": told["NextContinuationToken"]}
+
+    def _is_there(self, name: str) -> bool:
+        try:
+            self._ask(self._s3.head_object, Key=name)
+        except StorageError as error:
+            if error.errno != errno.ENOENT or isinstance(error, NotThere):
+                raise
+            return False
+        return True
+
+    def _read(self, name: str) -> Optional[bytes]:
+        try:
+            told = self._ask(self._s3.get_object, Key=name)
+        except StorageError as error:
+            if error.errno != errno.ENOENT or isinstance(error, NotThere):
+                raise
+            return None
+        try:
+            contents: bytes = told["Body"].read()
+        except (BotoCoreError, OSError) as error:
+            raise StorageError(errno.EIO, str(error), f"{self.bucket}/{name}") from error
+        return contents
+
+    def _ask(self, request: Callable[..., Any], **words: Any) -> Any:
+        """Makes a request. Raises NotThere if there is no bucket, and StorageError with ENOENT if there is no object."""
+        where = f"{self.bucket}/{words.get('Key', self.names.prefix)}"
+        try:
+            return request(Bucket=self.bucket, **words)
+        except ClientError as error:
+            code = str(error.response.get("Error", {}).get("Code", ""))
+            if code in GONE:
+                raise NotThere(errno.ENOENT, str(error), where) from error
+            raise StorageError(errno.ENOENT if code in ABSENT else errno.EIO, str(error), where) from error
+        except (BotoCoreError, OSError) as error:
+            raise StorageError(errno.EIO, str(error), where) from error

@@ -1,0 +1,267 @@
+"""Where a job's state files are: a folder, or with relkvanu.s3 a bucket. A file is whole or not there, and is durable before a task acknowledges
+it; a file counts as deleted only in a storage that is there, and that is the job's. docs/EMBEDDING.md has a worked example."""
+import errno
+import itertools
+import os
+import re
+from typing import Callable, Dict, Iterable, Iterator, List, Optional, Protocol, Sequence, Set, Tuple, Union
+
+from relkvanu.coordinator import Coordinator, Error
+from relkvanu.discarder import Outbox
+from relkvanu.replies import Counted
+
+MARKER = ".relkvanu-storage"
+PAGE = 1000
+
+
+class StorageError(Error, OSError):
+    """A file was not put, deleted or listed. It may be there, or not."""
+
+
+class NotThere(StorageError):
+    """The storage is not there, or it has no marker: a wrong path, or one that is not mounted. No file of it counts as deleted."""
+
+
+class OtherJob(StorageError):
+    """The storage is that of another job."""
+
+
+class Exists(StorageError):
+    """A file has this number already. No number is given to two files."""
+
+
+class Storage(Protocol):
+    """State files by their numbers. A method may be called by several threads at once."""
+
+    def check(self) -> None:
+        """Raises NotThere or OtherJob, unless the storage is there and has the job's marker."""
+
+    def put(self, file: int, contents: bytes) -> None:
+        """Makes a file. When it returns, a loss of power does not take the file. If it raises StorageError, the file may be there: so the task
+        declines, and leaves the number to a sweep. Raises Exists if the number is taken."""
+
+    def get(self, file: int) -> bytes: ...
+
+    def delete(self, files: Iterable[int]) -> Dict[int, str]:
+        """Deletes files for good. Returns those that may be there still, each with the reason. A file that is not there counts as deleted, if
+        the storage is there and is the job's."""
+
+    def pages(self, most: int = PAGE) -> Iterator[List[int]]:
+        """The numbers of all files, also of those that were put in part. Raises StorageError: then the list is not whole."""
+
+
+class Names:
+    """The names of files: a number between a prefix and a suffix."""
+
+    def __init__(self, prefix: str, suffix: str) -> None:
+        self.prefix, self.suffix = prefix, suffix
+        self._form = re.compile(re.escape(prefix) + r"(0|[1-9][0-9]{0,19})" + re.escape(suffix))
+
+    def of(self, file: int) -> str:
+        return f"{self.prefix}{file}{self.suffix}"
+
+    def file(self, name: str) -> Optional[int]:
+        """The number of a name, or None if it is no file of the job."""
+        found = self._form.fullmatch(name)
+        return int(found.group(1)) if found and int(found.group(1)) < 1 << 64 else None
+
+    def marker(self) -> str:
+        return self.prefix + MARKER
+
+
+def marker_text(job: str) -> bytes:
+    if not job or "\n" in job:
+        raise ValueError("the name of a job has one line")
+    return f"relkvanu: state files of the job {job}\n".encode()
+
+
+def check_marker(found: Optional[bytes], job: str, where: str) -> None:
+    """Whether a marker is the job's. `found` is None if there is none."""
+    if found is None:
+        raise NotThere(errno.ENOENT, "no marker of a job: a wrong place, or it is not mounted", where)
+    if found != marker_text(job):
+        raise OtherJob(errno.EEXIST, f"not the storage of the job {job}", where)
+
+
+PART = ".part"
+FILE_FLAGS = os.O_NOFOLLOW | os.O_CLOEXEC
+
+
+def _write_all(to: int, contents: bytes) -> None:
+    left = memoryview(contents)
+    while left:
+        left = left[os.write(to, left):]
+
+
+class Folder:
+    """A folder. It stays open, so no call reaches a folder that is mounted or renamed to its path later. No symbolic link in it is
+    followed. `is_new` makes the marker, in a folder that has no state file; without it a folder without the marker is refused."""
+
+    def __init__(self, path: Union[str, "os.PathLike[str]"], job: str, is_new: bool = False, prefix: str = "", suffix: str = "") -> None:
+        self.path, self.job, self.names = os.fspath(path), job, Names(prefix, suffix)
+        self._part = Names(prefix, suffix + PART)
+        try:
+            self._folder = os.open(self.path, os.O_RDONLY | os.O_DIRECTORY | os.O_CLOEXEC)
+        except OSError as error:
+            raise NotThere(error.errno, error.strerror, self.path) from error
+        try:
+            if is_new:
+                self._begin()
+            self.check()
+        except BaseException:
+            self.close()
+            raise
+
+    def close(self) -> None:
+        folder, self._folder = self._folder, -1
+        if folder >= 0:
+            os.close(folder)
+
+    def __enter__(self) -> "Folder":
+        return self
+
+    def __exit__(self, *_: object) -> None:
+        self.close()
+
+    def _begin(self) -> None:
+        """The marker, in a folder without state files: beside files there was a job, and its log is missing. A process that was killed here
+        finds its own marker."""
+        if next(self.pages(1), None):
+            raise StorageError(errno.ENOTEMPTY, "a new job needs a folder without state files", self.path)
+        if self._read(self.names.marker()) is None:
+            part = self.names.marker() + PART
+            self._unlink(part)
+            self._make(part, self.names.marker(), marker_text(self.job))
+
+    def check(self) -> None:
+        check_marker(self._read(self.names.marker()), self.job, self.path)
+
+    def put(self, file: int, contents: bytes) -> None:
+        self.check()
+        self._make(self._part.of(file), self.names.of(file), contents)
+
+    def get(self, file: int) -> bytes:
+        found = self._read(self.names.of(file))
+        if found is None:
+            raise StorageError(errno.ENOENT, "no such file", f"{self.path}/{self.names.of(file)}")
+        return found
+
+    def delete(self, files: Iterable[int]) -> Dict[int, str]:
+        failed: Dict[int, str] = {}
+        some = list(files)
+        for file in some:
+            reason = self._unlink(self.names.of(file)) or self._unlink(self._part.of(file))
+            if reason:
+                failed[file] = reason
+        try:
+            self.check()
+            self._sync()
+        except StorageError as error:
+            return dict.fromkeys(some, str(error))
+        return failed
+
+    def pages(self, most: int = PAGE) -> Iterator[List[int]]:
+        try:
+            with os.scandir(self._folder) as entries:
+                found = self._numbers(entries)
+                while page := list(itertools.islice(found, most)):
+                    yield page
+        except OSError as error:
+            raise StorageError(error.errno, error.strerror, self.path) from error
+
+    def _numbers(self, entries: Iterable["os.DirEntry[str]"]) -> Iterator[int]:
+        for entry in entries:
+            file = self.names.file(entry.name)
+            file = self._part.file(entry.name) if file is None else file
+            if file is not None and entry.is_file(follow_symlinks=False):
+                yield file
+
+    def _read(self, name: str) -> Optional[bytes]:
+        try:
+            with open(os.open(name, os.O_RDONLY | FILE_FLAGS, dir_fd=self._folder), "rb") as file:
+                return file.read()
+        except FileNotFoundError:
+            return None
+        except OSError as error:
+            raise StorageError(error.errno, error.strerror, f"{self.path}/{name}") from error
+
+    def _make(self, part: str, name: str, contents: bytes) -> None:
+        """Writes beside the name, syncs, and gives the file its name: so it is whole or not there. Who has the part has the name."""
+        try:
+            to = os.open(part, os.O_WRONLY | os.O_CREAT | os.O_EXCL | FILE_FLAGS, 0o666, dir_fd=self._folder)
+        except FileExistsError as error:
+            raise Exists(error.errno, error.strerror, f"{self.path}/{part}") from error
+        except OSError as error:
+            raise StorageError(error.errno, error.strerror, f"{self.path}/{part}") from error
+        made = part
+        try:
+            try:
+                _write_all(to, contents)
+                os.fsync(to)
+            finally:
+                os.close(to)
+            if self._is_there(name):
+                raise Exists(errno.EEXIST, os.strerror(errno.EEXIST), f"{self.path}/{name}")
+            os.rename(part, name, src_dir_fd=self._folder, dst_dir_fd=self._folder)
+            made = name
+            self._sync()
+        except StorageError:
+            self._unlink(made)
+            raise
+        except OSError as error:
+            self._unlink(made)
+            raise StorageError(error.errno, error.strerror, f"{self.path}/{name}") from error
+
+    def _is_there(self, name: str) -> bool:
+        try:
+            os.stat(name, dir_fd=self._folder, follow_symlinks=False)
+        except FileNotFoundError:
+            return False
+        return True
+
+    def _unlink(self, name: str) -> str:
+        """Why a name may be there still, or nothing."""
+        try:
+            os.unlink(name, dir_fd=self._folder)
+        except FileNotFoundError:
+            pass
+        except OSError as error:
+            return f"{self.path}/{name}: {error.strerror}"
+        return ""
+
+    def _sync(self) -> None:
+        """A file system that can't sync a folder, as FUSE's, says EINVAL."""
+        try:
+            os.fsync(self._folder)
+        except OSError as error:
+            if error.errno != errno.EINVAL:
+                raise StorageError(error.errno, error.strerror, self.path) from error
+
+
+def unknown(core: Coordinator, files: Iterable[int]) -> Set[int]:
+    """Those of the files that the coordinator does not know: no record uses them, they don't wait and are not taken."""
+    waiting = set(itertools.takewhile(lambda it: it is not None, map(core.waiting_file, itertools.count())))
+    taken = set(core.taken_files())
+    return {file for file in files if file not in waiting and file not in taken and core.count(file) == Counted(file, 0)}
+
+
+def discard(outbox: Outbox, storage: Storage, most: int = 64) -> Tuple[int, Dict[int, str]]:
+    """Takes files, deletes them and reports each. Returns how many were taken, and those that wait again, each with the reason."""
+    files = outbox.take(most).files
+    failed = storage.delete(files) if files else {}
+    for file in files:
+        if file in failed:
+            outbox.undeleted(file)
+        else:
+            outbox.deleted(file)
+    return len(files), failed
+
+
+def sweep(storage: Storage, unknown_of: Callable[[Sequence[int]], Iterable[int]]) -> Dict[int, str]:
+    """Deletes the files that nobody knows: `unknown_of` returns those of a page. It is safe only after a restore, before tasks start, and
+    when all earlier tasks have ended. Returns the files that may be there still, each with the reason."""
+    storage.check()
+    failed: Dict[int, str] = {}
+    for page in storage.pages():
+        failed.update(storage.delete(unknown_of(page)))
+    return failed

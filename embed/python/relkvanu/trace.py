@@ -1,0 +1,232 @@
+"""A trace of a job: what its processes, tasks, discarders and storage did, one line each, in the order in which it happened.
+docs/PROTOCOL.md has the lines. World replays them: it makes the calls of the log again, and keeps what the storage holds."""
+import re
+from dataclasses import dataclass, field
+from typing import Dict, FrozenSet, Iterable, Iterator, List, Optional, Set, Tuple
+
+from relkvanu import lines
+from relkvanu.coordinator import Coordinator, Error, Refused, Settings
+from relkvanu.replies import Reply, Taken
+
+Files = Tuple[int, ...]
+
+
+class NoTrace(Exception):
+    """A line is not one of a trace, or the library answers its call in another way."""
+
+
+@dataclass(frozen=True)
+class Task:
+    """Task("0.0", 2) has replaced Task("0.0", 1)."""
+
+    subtask: str
+    start: int
+
+    def __str__(self) -> str:
+        return f"task {self.subtask} {self.start}"
+
+
+@dataclass(frozen=True)
+class Event:
+    """A line. `verb` says what it is, and the fields that it needs are set."""
+
+    verb: str
+    task: Optional[Task] = None
+    number: int = 0  # of a process or a record
+    files: Files = ()  # of a message, the fresh ones
+    reused: Files = ()
+    word: str = ""  # how an answer was, or who deletes
+    line: str = ""  # of the log
+
+
+NUMBER = r"([0-9]{1,19})"
+TASK = r"([0-9]+\.[0-9]+) " + NUMBER
+FILES = r"((?: [0-9]{1,19})*)"
+SIGNED = r"((?: [+=][0-9]{1,19})*)"
+# Each line's form, its verb, and what its groups are.
+FORMS: Tuple[Tuple[str, str, str], ...] = (
+    (rf"process {NUMBER} starts", "process starts", "number"),
+    (rf"process {NUMBER} ends", "process ends", "number"),
+    (rf"process {NUMBER} goes on", "process goes on", "number"),
+    (r"log synced", "log synced", ""),
+    (r"log cut", "log cut", ""),
+    (rf"barrier {NUMBER} to {TASK}", "barrier", "number task"),
+    (rf"answer to {TASK} (accepted|late|refused)", "answer", "task word"),
+    (rf"from {TASK}", "from", "task"),
+    (r"dropped (.+)", "dropped", "line"),
+    (r"refused (.+)", "refused", "line"),
+    (rf"task {TASK} starts", "starts", "task"),
+    (rf"task {TASK} ends", "ends", "task"),
+    (rf"task {TASK} begins {NUMBER}", "begins", "task number"),
+    (rf"task {TASK} gives up {NUMBER}", "gives up", "task number"),
+    (rf"task {TASK} writes {NUMBER}", "writes", "task files"),
+    (rf"task {TASK} syncs {NUMBER}", "syncs", "task files"),
+    (rf"task {TASK} unlinks{FILES}", "unlinks", "task files"),
+    (rf"task {TASK} sends ack {NUMBER}{SIGNED}", "sends ack", "task number signed"),
+    (rf"task {TASK} sends decline {NUMBER}", "sends decline", "task number"),
+    (rf"(discarder|sweeper) unlinks{FILES}", "unlinks", "word files"),
+    (rf"sweeper lists{FILES}", "lists", "files"),
+    (r"folder synced", "folder synced", ""),
+    (r"storage (away|back|loses power)", "storage", "word"),
+    (rf"term {NUMBER} of {TASK}", "term", "number task"),
+)
+COMPILED = tuple((re.compile(form), verb, names.split()) for form, verb, names in FORMS)
+LOGGED = re.compile(r"(config|job|start|tick|savepoint|ack|decline|dispose|restore|cancel|take|deleted|undeleted) .*|cancel")
+
+
+def _event(verb: str, names: List[str], groups: Iterator[str]) -> Event:
+    task, number, files, reused, word, line = None, 0, (), (), "", ""  # type: Optional[Task], int, Files, Files, str, str
+    for name in names:
+        group = next(groups)
+        if name == "task":
+            task = Task(group, int(next(groups)))
+        elif name == "number":
+            number = int(group)
+        elif name == "files":
+            files = tuple(map(int, group.split()))
+        elif name == "signed":
+            files = tuple(int(it[1:]) for it in group.split() if it[0] == "+")
+            reused = tuple(int(it[1:]) for it in group.split() if it[0] == "=")
+        elif name == "word":
+            word = group
+        else:
+            line = group
+    return Event(verb, task, number, files, reused, word, line)
+
+
+def read(text: str) -> Optional[Event]:
+    """The event of a line; None for a comment or an empty line. Raises NoTrace."""
+    if text.strip() == "" or text.startswith("#"):
+        return None
+    for form, verb, names in COMPILED:
+        found = form.fullmatch(text)
+        if found:
+            return _event(verb, names, iter(found.groups()))
+    if LOGGED.fullmatch(text):
+        return Event("call", line=text)
+    raise NoTrace(f"not a line of a trace: {text}")
+
+
+@dataclass
+class Storage:
+    """What the storage shows, and what a loss of power leaves of it: each file with the task that wrote it last."""
+
+    shown: Dict[int, Task] = field(default_factory=dict)
+    kept: Dict[int, Task] = field(default_factory=dict)
+    is_away: bool = False
+
+    def write(self, task: Task, file: int) -> None:
+        if not self.is_away:
+            self.shown[file] = task
+
+    def sync(self, file: int) -> None:
+        if file in self.shown and not self.is_away:
+            self.kept[file] = self.shown[file]
+
+    def unlink(self, files: Iterable[int]) -> None:
+        for file in files:
+            if not self.is_away:
+                self.shown.pop(file, None)
+
+    def sync_folder(self) -> None:
+        self.kept = {file: task for file, task in self.kept.items() if file in self.shown}
+
+    def lose_power(self) -> None:
+        self.shown = dict(self.kept)
+
+
+@dataclass
+class Log:
+    lines: List[str] = field(default_factory=list)
+    synced: int = 0
+
+
+class World:
+    """The job at a line of the trace."""
+
+    def __init__(self) -> None:
+        self.log = Log()
+        self.storage = Storage()
+        self.processes: Dict[int, Optional[Coordinator]] = {}  # those that have not ended; None until its opening
+        self.newest = self.speaker = 0  # the process that started last, and the one whose calls come
+        self.opening: List[str] = []
+        self.sender: Optional[Task] = None  # whose message the next call is made for
+        self.accepted: Dict[int, Task] = {}  # the files of accepted acknowledgements, and whose each was first
+        self.running: Dict[str, Task] = {}
+
+    def core(self) -> Coordinator:
+        """That of the newest process."""
+        core = self.processes.get(self.newest)
+        if core is None:
+            raise NoTrace("no process has opened the job")
+        return core
+
+    def start_process(self, number: int) -> None:
+        self.processes[number] = self._replayed() if self.log.lines else None
+        self.newest = self.speaker = number
+
+    def _replayed(self) -> Coordinator:
+        core = self._opened(self.log.lines[:3])
+        for line in self.log.lines[3:]:
+            core.line(line.encode())
+        return core
+
+    @staticmethod
+    def _opened(opening: List[str]) -> Coordinator:
+        settings, shape, start = (lines.line_says(line.encode()) for line in opening)
+        if not (isinstance(settings, Settings) and isinstance(shape, lines.Job) and isinstance(start, lines.Start)):
+            raise NoTrace("a log begins with the lines config, job and start")
+        return Coordinator(settings, shape.shape, start.now)
+
+    def call(self, line: str) -> Optional[Reply]:
+        """Makes a call, as the process did, and appends it to the log. Raises NoTrace if the library refuses it."""
+        if self.speaker not in self.processes:
+            raise NoTrace(f"no process runs that makes this call: {line}")
+        self.log.lines.append(line)
+        core = self.processes[self.speaker]
+        if core is None:
+            self.opening.append(line)
+            if len(self.opening) == 3:
+                self.processes[self.speaker] = self._opened(self.opening)
+            return None
+        try:
+            return core.line(line.encode())
+        except Error as fault:
+            raise NoTrace(f"the library does not take this call: {line}: {fault}") from fault
+
+    def refuse(self, line: str) -> None:
+        """Makes a call that the library refused. Raises NoTrace if it takes it now."""
+        core = self.processes.get(self.speaker)
+        try:
+            reply = core.line(line.encode()) if core else None
+        except Refused:
+            return
+        raise NoTrace(f"the library does not refuse this call: {line}: {reply}")
+
+
+def live_files(core: Coordinator, subtasks: Iterable[str]) -> Iterator[Tuple[int, FrozenSet[int]]]:
+    """The done records and their files."""
+    place, record = 0, core.live_from(0)
+    while record is not None:
+        if record.done:
+            files: Set[int] = set()
+            for subtask in subtasks:
+                vertex, index = map(int, subtask.split("."))
+                files |= set(core.files_of(record.id, vertex, index) or ())
+            yield record.id, frozenset(files)
+        place = record.id + 1
+        record = core.live_from(place)
+
+
+def drained(core: Coordinator) -> Set[int]:
+    """The files that a discarder deletes which runs to its end."""
+    gone = set(core.taken_files())
+    for file in gone:
+        core.deleted(file)
+    while True:
+        taken = core.take(64)
+        if not isinstance(taken, Taken) or not taken.files:
+            return gone
+        for file in taken.files:
+            gone.add(file)
+            core.deleted(file)

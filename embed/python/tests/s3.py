@@ -1,0 +1,184 @@
+"""State files in a bucket of the server that the environment names (embed/s3/start): what is put, deleted and listed, and what counts as deleted
+when the server fails. embed/s3/run runs it."""
+import json
+import os
+import signal
+import unittest
+import uuid
+from unittest import mock
+
+import boto3
+from botocore.config import Config
+
+from relkvanu import Coordinator, FileCounts, Settings
+from relkvanu.s3 import Bucket, KeepsVersions
+from relkvanu.storage import Exists, NotThere, OtherJob, StorageError, discard, sweep, unknown
+
+
+def client(**words):
+    how = Config(retries={"max_attempts": 0}, connect_timeout=2, read_timeout=words.pop("patience", 30), s3={"addressing_style": "path"})
+    return boto3.client("s3", **{"endpoint_url": os.environ["S3_ENDPOINT"], "region_name": os.environ["S3_REGION"], "config": how, **words})
+
+
+class OnAServer(unittest.TestCase):
+    def setUp(self):
+        self.s3 = client()
+        self.bucket = f"b{uuid.uuid4().hex}"
+        self.s3.create_bucket(Bucket=self.bucket)
+
+    def opened(self, job="orders", is_new=False, s3=None, **words):
+        return Bucket(self.bucket, job, is_new, s3=s3 or self.s3, **words)
+
+    def keys(self):
+        return sorted(it["Key"] for it in self.s3.list_objects_v2(Bucket=self.bucket).get("Contents", []) if ".relkvanu" not in it["Key"])
+
+
+class Opening(OnAServer):
+    def test_marker(self):
+        with self.assertRaises(NotThere):
+            self.opened()
+        self.opened(is_new=True)
+        self.opened(is_new=True)
+        with self.assertRaises(OtherJob):
+            self.opened("payments", is_new=True)
+
+    def test_a_new_job_needs_a_place_without_files(self):
+        self.s3.put_object(Bucket=self.bucket, Key="7", Body=b"")
+        with self.assertRaises(StorageError):
+            self.opened(is_new=True)
+        self.opened(is_new=True, prefix="b/")
+
+    def test_no_bucket(self):
+        self.s3.delete_bucket(Bucket=self.bucket)
+        for is_new in (False, True):
+            with self.assertRaises(NotThere):
+                self.opened(is_new=is_new)
+
+    def test_a_bucket_with_versions_is_refused(self):
+        self.s3.put_bucket_versioning(Bucket=self.bucket, VersioningConfiguration={"Status": "Enabled"})
+        with self.assertRaises(KeepsVersions):
+            self.opened(is_new=True)
+        self.assertEqual(self.s3.list_objects_v2(Bucket=self.bucket)["KeyCount"], 0)
+        self.opened(is_new=True, keeps_versions=True)
+
+    def test_a_wrong_secret(self):
+        with self.assertRaises(StorageError):
+            self.opened(is_new=True, s3=client(aws_access_key_id=os.environ["AWS_ACCESS_KEY_ID"], aws_secret_access_key="wrong"))
+
+
+class Files(OnAServer):
+    def setUp(self):
+        super().setUp()
+        self.files = self.opened(is_new=True, prefix="jobs/orders/", suffix=".sst")
+
+    def test_put_and_get(self):
+        for file, contents in ((0, b""), (18446744073709551615, bytes(range(256)) * 1000)):
+            self.files.put(file, contents)
+            self.assertEqual(self.files.get(file), contents)
+        self.assertEqual(self.keys(), ["jobs/orders/0.sst", "jobs/orders/18446744073709551615.sst"])
+        with self.assertRaises(Exists):
+            self.files.put(0, b"another")
+        self.assertEqual(self.files.get(0), b"")
+        with self.assertRaises(StorageError):
+            self.files.get(1)
+
+    def test_pages(self):
+        for file in range(25):
+            self.files.put(file, b"")
+        for name in ("jobs/orders/x.sst", "jobs/orders/01.sst", "jobs/orders/1.sst.old", "jobs/orders/1/2.sst", "jobs/others/99.sst"):
+            self.s3.put_object(Bucket=self.bucket, Key=name, Body=b"")
+        pages = list(self.files.pages(10))
+        self.assertEqual(sorted(sum(pages, [])), list(range(25)))
+        self.assertTrue(all(len(page) <= 10 for page in pages))
+
+    def test_present_and_missing(self):
+        for file in range(5):
+            self.files.put(file, b"")
+        self.assertEqual(self.files.delete([1, 3, 77, *range(1000, 2500)]), {})
+        self.assertEqual(sorted(sum(self.files.pages(), [])), [0, 2, 4])
+
+    def test_an_error_within_an_answer_that_succeeds(self):
+        for file in range(4):
+            self.files.put(file, b"")
+        denied = {"Effect": "Deny", "Principal": "*", "Action": "s3:DeleteObject", "Resource": f"arn:aws:s3:::{self.bucket}/jobs/orders/2.sst"}
+        self.s3.put_bucket_policy(Bucket=self.bucket, Policy=json.dumps({"Version": "2012-10-17", "Statement": [denied]}))
+        told = self.s3.delete_objects(Bucket=self.bucket, Delete={"Objects": [{"Key": "jobs/orders/2.sst"}]})
+        self.assertEqual((told["ResponseMetadata"]["HTTPStatusCode"], len(told["Errors"])), (200, 1), "the server is as the test needs it")
+        failed = self.files.delete([1, 2, 3])
+        self.assertEqual(list(failed), [2])
+        self.assertIn("AccessDenied", failed[2])
+        self.assertEqual(sorted(sum(self.files.pages(), [])), [0, 2])
+
+    def test_no_bucket_is_not_deleted(self):
+        self.files.put(1, b"")
+        for key in ("jobs/orders/1.sst", "jobs/orders/.relkvanu-storage"):
+            self.s3.delete_object(Bucket=self.bucket, Key=key)
+        self.s3.delete_bucket(Bucket=self.bucket)
+        self.assertEqual(set(self.files.delete([1, 2])), {1, 2})
+        with self.assertRaises(NotThere):
+            self.files.put(3, b"")
+        with self.assertRaises(NotThere):
+            list(self.files.pages())
+
+    def test_a_bucket_without_the_marker_is_not_the_job_s(self):
+        self.files.put(1, b"")
+        self.s3.delete_object(Bucket=self.bucket, Key="jobs/orders/.relkvanu-storage")
+        self.assertEqual(set(self.files.delete([1, 2])), {1, 2})
+
+    def test_versions_that_are_switched_on_later(self):
+        self.files.put(1, b"")
+        self.s3.put_bucket_versioning(Bucket=self.bucket, VersioningConfiguration={"Status": "Enabled"})
+        self.assertEqual(list(self.files.delete([1])), [1], "its contents are still there")
+
+
+class Failing(OnAServer):
+    def setUp(self):
+        super().setUp()
+        self.opened(is_new=True).put(1, b"")
+
+    def test_a_time_out_is_not_deleted(self):
+        osd = int(os.environ["S3_OSD"])
+        files = self.opened(s3=client(patience=1))
+        os.kill(osd, signal.SIGSTOP)
+        try:
+            self.assertEqual(set(files.delete([1, 2])), {1, 2})
+            with self.assertRaises(StorageError):
+                files.put(3, b"")
+            with self.assertRaises(StorageError):
+                list(files.pages())
+        finally:
+            os.kill(osd, signal.SIGCONT)
+        self.assertEqual(self.opened().delete([1, 2]), {})
+
+    def test_nobody_listens(self):
+        files = self.opened()
+        with mock.patch.object(files, "_s3", client(endpoint_url="http://127.0.0.1:9")):
+            self.assertEqual(set(files.delete([1, 2])), {1, 2})
+            for call in (files.check, lambda: files.put(3, b""), lambda: files.get(1), lambda: list(files.pages())):
+                with self.assertRaises(StorageError):
+                    call()
+
+    def test_a_key_that_the_server_does_not_name(self):
+        files = self.opened()
+        with mock.patch.object(self.s3, "delete_objects", return_value={"Deleted": [{"Key": "1"}]}):
+            self.assertEqual(list(files.delete([1, 2])), [2])
+
+
+class WithACoordinator(OnAServer):
+    def test_discard_and_sweep(self):
+        files = self.opened(is_new=True)
+        with Coordinator(Settings(interval=10), [1], 0) as core:
+            for file in (1, 2):
+                files.put(file, b"state")
+                core.tick(10 * file)
+                core.ack(10 * file, file, 0, 0, [file])
+            files.put(9, b"nobody's")
+            self.assertEqual(discard(core, files), (1, {}))
+            self.assertEqual((self.keys(), core.file_counts()), (["2", "9"], FileCounts(1, 0, 0)))
+            core.restore(20)
+            self.assertEqual(sweep(files, lambda some: unknown(core, some)), {})
+            self.assertEqual(self.keys(), ["2"])
+
+
+if __name__ == "__main__":
+    unittest.main()

@@ -1,0 +1,257 @@
+"""Traces that obey the rules, and those that break one: which line, and what comes of it."""
+import contextlib
+import io
+import pathlib
+import tempfile
+import unittest
+
+from relkvanu import Coordinator, Settings, lines
+from relkvanu.conform import RULES, check, main
+from relkvanu.storage import Folder
+from relkvanu.trace import NoTrace
+
+OPENING = ["process 1 starts", "config 10 0 1 1000 0 1 delete", "job 1", "start 0", "log synced", "task 0.0 1 starts"]
+
+
+def checkpoint(record, file, start=1, reused=""):
+    """A checkpoint of one task, from the tick to the answer."""
+    task, now = f"0.0 {start}", 10 * record
+    return [
+        f"tick {now}", "log synced", f"barrier {record} to {task}", f"task {task} begins {record}", f"task {task} writes {file}",
+        f"task {task} syncs {file}", f"task {task} sends ack {record} +{file}{reused}", f"from {task}",
+        f"ack {now} {record} 0.0 +{file}{reused}", "log synced", f"answer to {task} accepted",
+    ]
+
+
+DISCARD = ["take 64", "log synced", "discarder unlinks 1", "folder synced", "deleted 1", "log synced"]
+WHOLE = [*OPENING, *checkpoint(1, 1), *checkpoint(2, 2), *DISCARD]
+RESTART = ["process 1 ends", "log cut", "process 2 starts", "restore 20 latest", "log synced", "sweeper lists 2", "task 0.0 2 starts"]
+
+
+def without(lines, line, which=0):
+    """The lines without one of them, and its place."""
+    places = [place for place, it in enumerate(lines) if it == line]
+    return lines[: places[which]] + lines[places[which] + 1 :]
+
+
+def found(lines):
+    """Line and rule of each finding that breaks a rule, and what came of it."""
+    findings = check(lines)
+    return [(it.line, it.rule) for it in findings if it.rule], [it.what for it in findings if not it.rule]
+
+
+class Obeying(unittest.TestCase):
+    def test_a_whole_job(self):
+        self.assertEqual(check(WHOLE), [])
+        self.assertEqual(check([*WHOLE, *RESTART, *checkpoint(3, 3, start=2, reused=" =2")]), [])
+
+    def test_comments_and_empty_lines(self):
+        self.assertEqual(check(["# a job", "", *WHOLE]), [])
+
+    def test_a_message_that_was_dropped_or_refused(self):
+        lines = [*OPENING, "tick 10", "log synced", "barrier 1 to 0.0 1", "from 0.0 1", "dropped decline 10 1 0.0",
+                 "from 0.0 1", "refused ack 10 7 0.0 +1"]
+        self.assertEqual(check(lines), [])
+
+    def test_a_sweep_after_a_restore(self):
+        lines = [*OPENING, "task 0.0 1 writes 9", "process 1 ends", "log cut", "process 2 starts", "restore 0 latest", "log synced", "sweeper unlinks 9",
+                 "folder synced", "task 0.0 2 starts"]
+        self.assertEqual(check(lines), [])
+
+    def test_a_task_deletes_a_file_that_it_never_acknowledged(self):
+        self.assertEqual(check([*OPENING, "task 0.0 1 writes 9", "task 0.0 1 unlinks 9"]), [])
+
+
+class Breaking(unittest.TestCase):
+    """Each changes the job that obeys the rules in one place."""
+
+    def breaks(self, lines, rule, line, *came):
+        """The first broken rule is this one, at this line (from 1)."""
+        rules, what = found(lines)
+        self.assertEqual(rules[:1], [(line, rule)], lines)
+        for it in came:
+            self.assertTrue(any(it in one for one in what), (it, what))
+
+    def test_each_rule_has_a_sentence(self):
+        self.assertEqual(sorted(RULES), list(range(1, 11)))
+
+    def test_1_a_barrier_an_answer_a_deletion_and_a_start_rest_on_the_log(self):
+        at = WHOLE.index("barrier 1 to 0.0 1")
+        self.breaks(without(WHOLE, "log synced", 1), 1, at)
+        at = WHOLE.index("answer to 0.0 1 accepted")
+        self.breaks(without(WHOLE, "log synced", 2), 1, at)
+        at = WHOLE.index("discarder unlinks 1")
+        self.breaks(without(WHOLE, "log synced", 5), 1, at)
+        self.breaks(without(WHOLE, "log synced"), 1, 5)
+        self.breaks(without([*WHOLE, *RESTART], "log synced", 7), 1, len(WHOLE) + 6)
+
+    def test_2_a_file_is_synced(self):
+        at = WHOLE.index("task 0.0 1 sends ack 1 +1")
+        self.breaks(without(WHOLE, "task 0.0 1 syncs 1"), 2, at, "file 1 is lost: record 1")
+        rewritten = list(WHOLE)
+        rewritten.insert(at, "task 0.0 1 writes 1")
+        self.breaks(rewritten, 2, at + 2)
+
+    def test_3_a_message_of_a_replaced_task(self):
+        lines = [*WHOLE, *RESTART, "tick 30", "log synced", "barrier 3 to 0.0 2", "from 0.0 1", "ack 30 3 0.0 =2"]
+        self.breaks(lines, 3, len(lines), "record 3 is done, and has a part of a task that was replaced")
+        self.breaks([*lines[:-1], "decline 30 3 0.0"], 3, len(lines))
+
+    def test_4_a_start_without_a_restore(self):
+        self.breaks([*WHOLE, "task 0.0 1 ends", "task 0.0 2 starts"], 4, len(WHOLE) + 2)
+        self.breaks([*WHOLE, *without(RESTART, "restore 20 latest")], 4, len(WHOLE) + 6)
+
+    def test_5_two_processes(self):
+        self.breaks([*WHOLE, "process 2 starts"], 5, len(WHOLE) + 1)
+
+    def test_6_a_task_deletes_what_is_accepted_or_under_way(self):
+        self.breaks([*WHOLE, "task 0.0 1 unlinks 2"], 6, len(WHOLE) + 1, "file 2 is lost: record 2")
+        at = WHOLE.index("task 0.0 1 sends ack 1 +1") + 1
+        self.breaks([*WHOLE[:at], "task 0.0 1 unlinks 1", *WHOLE[at:]], 6, at + 1)
+
+    def test_7_a_name_of_another_file(self):
+        lines = [*OPENING, *checkpoint(1, 1), *checkpoint(2, 1)[:7]]
+        self.breaks(lines, 7, len(lines))
+        lines = [*WHOLE, *RESTART, "task 0.0 2 writes 2"]
+        self.breaks(lines, 7, len(lines))
+
+    def test_8_a_sweep_while_tasks_run(self):
+        lines = [*OPENING, "task 0.0 1 writes 9", "sweeper unlinks 9"]
+        self.breaks(lines, 8, len(lines))
+        lines = [*WHOLE, "process 1 ends", "process 2 starts", "sweeper unlinks 9"]
+        self.breaks(lines, 8, len(lines))
+
+    def test_9_a_file_that_is_there_or_comes_back(self):
+        at = WHOLE.index("deleted 1")
+        self.breaks(without(WHOLE, "discarder unlinks 1"), 9, at, "file 1 is left")
+        self.breaks(without(WHOLE, "folder synced"), 9, at)
+        lines = [*without(WHOLE, "folder synced"), "storage loses power"]
+        self.breaks(lines, 9, at, "file 1 is left")
+        away = list(WHOLE)
+        away.insert(WHOLE.index("discarder unlinks 1"), "storage away")
+        self.breaks(away, 9, at + 2)
+
+    def test_10_a_storage_that_is_away(self):
+        lines = list(WHOLE)
+        at = WHOLE.index("task 0.0 1 writes 1")
+        lines.insert(at, "storage away")
+        self.breaks(lines, 10, at + 2, "file 1 is lost")
+
+
+class Damaged(unittest.TestCase):
+    def refuses(self, lines, line):
+        with self.assertRaises(NoTrace) as told:
+            check(lines)
+        self.assertIn(f"line {line}:", str(told.exception))
+
+    def test_lines_that_are_none(self):
+        for line in ("task 0.0 starts", "process one starts", "tick", "write 1", "task 0.0 1 writes 1 2", "barrier 1", "log", "restore", "TICK 10",
+                     "task 0.0 1 sends ack 1 1", "answer to 0.0 1 maybe"):
+            with self.subTest(line=line):
+                self.refuses([*OPENING, line], 7)
+
+    def test_a_call_that_the_library_does_not_take(self):
+        self.refuses([*OPENING, "ack 10 1 0.0 +1"], 7)
+        self.refuses([*OPENING, "tick 10 10"], 7)
+
+    def test_a_call_that_the_library_does_not_refuse(self):
+        self.refuses([*OPENING, "refused tick 10"], 7)
+
+    def test_an_opening_that_is_none(self):
+        self.refuses(["process 1 starts", "tick 10", "job 1", "start 0"], 4)
+        self.refuses(["tick 10"], 1)
+
+    def test_a_process_that_has_ended(self):
+        self.refuses([*OPENING, "process 1 ends", "tick 10"], 8)
+        self.refuses([*OPENING, "process 1 ends", "process 1 goes on"], 8)
+
+
+class AnEngine(unittest.TestCase):
+    """A job of two tasks over a folder, which is restored once, tells what it does. So a test of an engine can."""
+
+    def setUp(self):
+        temporary = tempfile.TemporaryDirectory()
+        self.addCleanup(temporary.cleanup)
+        self.trace = []
+        self.files = Folder(temporary.name, "job", is_new=True)
+        self.addCleanup(self.files.close)
+        self.core = Coordinator(Settings(interval=10), [2], 0)
+        self.addCleanup(self.core.close)
+        self.tell("process 1 starts", *lines.opening_lines(Settings(interval=10), [2], 0).splitlines(), "log synced")
+        self.starts, self.last = 0, 0
+
+    def tell(self, *told):
+        self.trace += told
+
+    def call(self, line):
+        reply = self.core.line(line.encode())
+        self.tell(line, "log synced")  # here the log is the trace
+        return reply
+
+    def start(self):
+        self.starts += 1
+        self.tell(*(f"task 0.{index} {self.starts} starts" for index in range(2)))
+
+    def take_part(self, index, record, syncs):
+        task, self.last = f"0.{index} {self.starts}", self.last + 1
+        self.tell(f"barrier {record} to {task}")
+        self.files.put(self.last, b"state")
+        self.tell(f"task {task} writes {self.last}", *[f"task {task} syncs {self.last}"] * syncs, f"task {task} sends ack {record} +{self.last}",
+                  f"from {task}")
+        self.call(lines.ack_line(10 * record, record, 0, index, [self.last]))
+        self.tell(f"answer to {task} accepted")
+
+    def discard(self):
+        taken = self.call(lines.take_line(64)).files
+        self.assertEqual(self.files.delete(taken), {})
+        self.tell("discarder unlinks" + "".join(f" {file}" for file in taken), "folder synced")
+        for file in taken:
+            self.call(lines.deleted_line(file))
+
+    def run_job(self, syncs=True):
+        self.start()
+        for record in range(1, 6):
+            self.call(lines.tick_line(10 * record))
+            for index in range(2):
+                self.take_part(index, record, syncs)
+            self.discard()
+            if record == 3:
+                self.call(lines.restore_line(10 * record))
+                self.start()
+        return check(self.trace)
+
+    def test_it_obeys(self):
+        self.assertEqual(self.run_job(), [])
+        self.assertEqual(sorted(sum(self.files.pages(), [])), [9, 10])
+        self.assertEqual(sum(line.startswith("ack ") for line in self.trace), 10)
+
+    def test_it_acknowledges_before_it_syncs(self):
+        findings = self.run_job(syncs=False)
+        self.assertEqual({it.rule for it in findings if it.rule}, {2})
+        self.assertEqual(len([it for it in findings if it.rule]), 10)
+
+
+class Command(unittest.TestCase):
+    def said(self, text):
+        with tempfile.TemporaryDirectory() as folder:
+            path = pathlib.Path(folder) / "trace"
+            path.write_text(text, encoding="utf-8")
+            out, errors = io.StringIO(), io.StringIO()
+            with contextlib.redirect_stdout(out), contextlib.redirect_stderr(errors):
+                status = main([str(path)])
+            return status, out.getvalue(), errors.getvalue()
+
+    def test_status_and_words(self):
+        whole = "".join(line + "\n" for line in WHOLE)
+        self.assertEqual(self.said(whole), (0, "the trace obeys the rules\n", ""))
+        status, out, _ = self.said(whole + "process 2 starts\n")
+        self.assertEqual(status, 1)
+        self.assertEqual(out, f"line {len(WHOLE) + 1}: rule 5: {RULES[5]}: process 2 starts, and process 1 has not ended\n")
+        status, out, errors = self.said("what\n")
+        self.assertEqual((status, out, errors), (2, "", "relkvanu-conform: line 1: not a line of a trace: what\n"))
+        with contextlib.redirect_stderr(io.StringIO()), contextlib.redirect_stdout(io.StringIO()):
+            self.assertEqual((main([]), main(["/no/such/trace"])), (2, 2))
+
+
+if __name__ == "__main__":
+    unittest.main()

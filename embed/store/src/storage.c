@@ -1,0 +1,145 @@
+/* State files in the folder of the storage, by their numbers: made whole and durable, deleted for good, and swept. */
+#include "parts.h"
+
+#include <dirent.h>
+#include <errno.h>
+#include <fcntl.h>
+#include <inttypes.h>
+#include <stdio.h>
+#include <stdlib.h>
+#include <string.h>
+#include <unistd.h>
+
+static const char PART[] = ".part"; /* of a file that is not whole yet */
+enum { NAME = 32, PAGE = 256 };
+
+static void name_of(uint64_t file, const char *end, char name[NAME]) {
+    snprintf(name, NAME, "%" PRIu64 "%s", file, end);
+}
+
+/* Returns 0, or what is wrong as errno. Who has made the part has the name too: nobody else makes either. */
+static int write_part(const relkvanu_store *s, const char *part, const void *contents, size_t len) {
+    int file = openat(s->folder, part, O_WRONLY | O_CREAT | O_EXCL | O_NOFOLLOW | O_CLOEXEC, 0600);
+    if (file < 0) {
+        return errno;
+    }
+    int error = rks_write_whole(file, contents, len, 0) && fsync(file) == 0 ? 0 : errno;
+    if (close(file) != 0 && error == 0) {
+        error = errno;
+    }
+    if (error != 0) {
+        unlinkat(s->folder, part, 0);
+    }
+    return error;
+}
+
+/* Gives the part its name, unless there is such a file. */
+static int name_part(const relkvanu_store *s, const char *part, const char *name) {
+    struct stat found;
+    int error = fstatat(s->folder, name, &found, AT_SYMLINK_NOFOLLOW) == 0 ? EEXIST : errno;
+    if (error != ENOENT || renameat(s->folder, part, s->folder, name) != 0) {
+        error = error == ENOENT ? errno : error;
+        unlinkat(s->folder, part, 0);
+        return error;
+    }
+    if (fsync(s->folder) != 0) {
+        error = errno;
+        unlinkat(s->folder, name, 0);
+        return error;
+    }
+    return 0;
+}
+
+int relkvanu_store_put(relkvanu_store *s, uint64_t file, const void *contents, size_t len) {
+    char part[NAME], name[NAME];
+    if (rks_is_forked(s)) {
+        return RELKVANU_STORE_FORKED;
+    }
+    if (s->folder < 0) {
+        return RELKVANU_STORE_BAD_ARGUMENT;
+    }
+    if (!rks_has_marker(s)) {
+        return RELKVANU_STORE_STORAGE;
+    }
+    name_of(file, PART, part);
+    name_of(file, "", name);
+    int error = write_part(s, part, contents, len);
+    if (error == 0) {
+        error = name_part(s, part, name);
+    }
+    errno = error;
+    return error == 0 ? RELKVANU_STORE_OK : error == EEXIST ? RELKVANU_STORE_PRESENT : RELKVANU_STORE_NOT_PUT;
+}
+
+/* Whether the folder has no file of this number, whole or in part. */
+static bool is_unlinked(const relkvanu_store *s, uint64_t file) {
+    char part[NAME], name[NAME];
+    name_of(file, PART, part);
+    name_of(file, "", name);
+    return (unlinkat(s->folder, name, 0) == 0 || errno == ENOENT) && (unlinkat(s->folder, part, 0) == 0 || errno == ENOENT);
+}
+
+void relkvanu_store_delete_files(void *store, const uint64_t *files, size_t files_len, uint8_t *is_gone) {
+    const relkvanu_store *s = store;
+    for (size_t place = 0; place < files_len; place++) {
+        is_gone[place] = s->folder >= 0 && is_unlinked(s, files[place]);
+    }
+}
+
+/* Whether a name is that of a file, whole or in part. */
+static bool is_file(const char *name, uint64_t *file) {
+    char *end = NULL, whole[NAME], part[NAME];
+    errno = 0;
+    *file = strtoull(name, &end, 10);
+    name_of(*file, "", whole);
+    name_of(*file, PART, part);
+    return errno == 0 && (strcmp(name, whole) == 0 || strcmp(name, part) == 0);
+}
+
+/* Deletes those of the files that nobody knows. */
+static int sweep_page(relkvanu_store *s, uint64_t *files, size_t len, size_t *left) {
+    int status = relkvanu_store_unknown(s, files, &len);
+    for (size_t place = 0; status == RELKVANU_STORE_OK && place < len; place++) {
+        *left += !is_unlinked(s, files[place]);
+    }
+    return status;
+}
+
+static int sweep_folder(relkvanu_store *s, DIR *listing, size_t *left) {
+    uint64_t files[PAGE];
+    size_t len = 0;
+    int status = RELKVANU_STORE_OK;
+    struct dirent *entry;
+    while (status == RELKVANU_STORE_OK && (errno = 0, entry = readdir(listing)) != NULL) {
+        len += is_file(entry->d_name, &files[len]);
+        if (len == PAGE) {
+            status = sweep_page(s, files, len, left);
+            len = 0;
+        }
+    }
+    if (status == RELKVANU_STORE_OK && errno != 0) {
+        return RELKVANU_STORE_STORAGE;
+    }
+    return status == RELKVANU_STORE_OK ? sweep_page(s, files, len, left) : status;
+}
+
+int relkvanu_store_sweep(relkvanu_store *s, size_t *left) {
+    *left = 0;
+    if (rks_is_forked(s)) {
+        return RELKVANU_STORE_FORKED;
+    }
+    if (s->folder < 0) {
+        return RELKVANU_STORE_BAD_ARGUMENT;
+    }
+    int copy = rks_has_marker(s) ? openat(s->folder, ".", O_RDONLY | O_DIRECTORY | O_CLOEXEC) : -1;
+    DIR *listing = copy < 0 ? NULL : fdopendir(copy);
+    if (listing == NULL) {
+        if (copy >= 0) {
+            close(copy);
+        }
+        return RELKVANU_STORE_STORAGE;
+    }
+    int status = sweep_folder(s, listing, left);
+    closedir(listing);
+    return status == RELKVANU_STORE_OK && fsync(s->folder) != 0 ? RELKVANU_STORE_STORAGE : status;
+}

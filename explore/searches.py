@@ -1,0 +1,79 @@
+"""Runs the explorer and the reader of traces, each as a process of its own."""
+import ast
+import pathlib
+import re
+import subprocess
+import sys
+from dataclasses import dataclass
+
+TOP = pathlib.Path(__file__).resolve().parent.parent
+PYTHON = TOP / "embed/python"
+RESULT = re.compile("# (fault|holds|cut|seen) ")
+# What the reader of traces says of a fault that the explorer names.
+FAULTS = {"lost": "file {} is lost", "overwritten": "file {} is overwritten", "mixed": "record {} is done, and has a part", "left": "file {} is left"}
+
+
+@dataclass(frozen=True)
+class Switch:
+    """A rule that is switched off: the rule's number, the switch, and the words of the scope."""
+
+    rule: int
+    name: str
+    scope: tuple
+
+    def file(self):
+        return f"{self.rule:02}-{self.name}"
+
+
+@dataclass(frozen=True)
+class Explored:
+    """What a search said: its status, the lines of the trace, and its last words."""
+
+    status: int
+    trace: str
+    fault: str  # such as "lost 1", or empty
+    told: str
+
+
+def table(name):
+    for line in (TOP / "explore" / name).read_text(encoding="utf-8").splitlines():
+        if line and not line.startswith("#"):
+            yield line.split()
+
+
+def switches():
+    return [Switch(int(rule), name, tuple(scope)) for rule, name, *scope in table("RULES")]
+
+
+def has_names():
+    """Whether the library has terms and names."""
+    return "relkvanu_reserve(" in (TOP / "include/relkvanu.h").read_text(encoding="utf-8")
+
+
+def scopes(kind):
+    return [words for found, *words in table("SCOPES") if found == kind]
+
+
+def explore(program, words, seconds=600):
+    """Runs the explorer. Its own faults and a time-out raise."""
+    ran = subprocess.run([program, *words], stdout=subprocess.PIPE, text=True, timeout=seconds, check=False)
+    if ran.returncode not in (0, 1):
+        raise RuntimeError(f"explore {' '.join(words)}: status {ran.returncode}")
+    lines = ran.stdout.splitlines()
+    told = "\n".join(line for line in lines if RESULT.match(line))
+    trace = "".join(line + "\n" for line in lines if not RESULT.match(line))
+    found = re.search(r"^# fault ([a-z]+ [0-9]+)", told, re.M)
+    return Explored(ran.returncode, trace, found.group(1) if found else "", told)
+
+
+def rules():
+    """The rules as relkvanu-conform says them."""
+    words = "import relkvanu.conform; print(relkvanu.conform.RULES)"
+    return ast.literal_eval(subprocess.run([sys.executable, "-c", words], cwd=PYTHON, stdout=subprocess.PIPE, text=True, check=True).stdout)
+
+
+def conform(trace):
+    """The status of relkvanu-conform over a trace, and what it says."""
+    ran = subprocess.run([sys.executable, "-m", "relkvanu.conform", "-"], input=trace, stdout=subprocess.PIPE, stderr=subprocess.STDOUT, text=True,
+                         cwd=PYTHON, timeout=600, check=False)
+    return ran.returncode, ran.stdout

@@ -1,0 +1,274 @@
+// Images and the calls between them, over the C interface of the library.
+#include "library.hpp"
+
+#include "names.hpp"
+#include "reads.hpp"
+#include "scope.hpp"
+
+Library library;
+
+static const relkvanu_settings &settings() {
+    static const relkvanu_settings all = {10, 0, scope.at_once, 1000000, scope.tolerable, scope.retained, false};
+    return all;
+}
+
+static std::vector<u64> shape() { return {scope.subtasks}; }
+
+static std::vector<u64> list_of(Files files) {
+    std::vector<u64> list;
+    for (unsigned file = 1; file <= LAST_FILE; file++) {
+        if (files & only(file)) {
+            list.push_back(file);
+        }
+    }
+    return list;
+}
+
+// Calls other than ticks take place at the greatest moment so far, which an earlier one counts as.
+static u64 moment_of(const Facts &facts, u8 kind) { return kind == TICK ? facts.due : kind == EXPIRE ? facts.expiry : 0; }
+
+static relkvanu_answer make_plain(relkvanu *handle, const Facts &facts, const Call &call, u64 *taken) {
+    const u64 now = moment_of(facts, call.kind), fresh[] = {call.file};
+    const std::vector<u64> reused = list_of(call.reused);
+    switch (call.kind) {
+    case TICK:
+    case EXPIRE: return relkvanu_tick(handle, now);
+    case SAVE: return relkvanu_savepoint(handle, now);
+    case ACK: return relkvanu_ack(handle, now, call.record, 0, call.subtask, fresh, call.file ? 1 : 0, reused.data(), reused.size());
+    case DECLINE: return relkvanu_decline(handle, now, call.record, 0, call.subtask);
+    case DISPOSE: return relkvanu_dispose(handle, call.record);
+    case RESTORE: return relkvanu_restore(handle, now, call.record, nullptr, 0);
+    case CANCEL: return relkvanu_cancel(handle, now);
+    case TAKE: return relkvanu_take(handle, taken, 1);
+    case DELETE: return relkvanu_deleted(handle, call.file);
+    case UNDELETE: return relkvanu_undeleted(handle, call.file);
+    default: die("an unknown call");
+    }
+}
+
+static relkvanu_answer make(relkvanu *handle, const Facts &facts, const Call &call, u64 *taken) {
+    return scope.names && has_term(call) ? make_named(handle, call, list_of(call.reused)) : make_plain(handle, facts, call, taken);
+}
+
+std::string Library::line(u32 image, const Call &call) {
+    static const u32 kinds[] = {0, RELKVANU_CALL_TICK, RELKVANU_CALL_TICK, RELKVANU_CALL_SAVEPOINT, RELKVANU_CALL_ACK, RELKVANU_CALL_DECLINE,
+                                RELKVANU_CALL_DISPOSE, RELKVANU_CALL_RESTORE, RELKVANU_CALL_CANCEL, RELKVANU_CALL_TAKE, RELKVANU_CALL_DELETED,
+                                RELKVANU_CALL_UNDELETED};
+    if (scope.names && has_term(call)) {
+        return named_line(call);
+    }
+    const bool is_report = call.kind == DELETE || call.kind == UNDELETE;
+    const u64 fresh[] = {call.file}, number = call.kind == TAKE ? 1 : is_report ? call.file : call.record;
+    const std::vector<u64> reused = list_of(call.reused);
+    const relkvanu_call said = {kinds[call.kind], 0, call.subtask, moment_of(facts(image), call.kind), number};
+    u8 text[512];
+    const bool has_files = call.kind == ACK;
+    const relkvanu_answer written = relkvanu_call_line(&said, fresh, has_files && call.file ? 1 : 0, reused.data(), has_files ? reused.size() : 0,
+                                                       text, sizeof text);
+    if (written.code != RELKVANU_DONE) {
+        die("the library writes no line");
+    }
+    return std::string(text, text + written.a);
+}
+
+std::string Library::opening_lines() {
+    const std::vector<u64> vertices = shape();
+    u8 text[512];
+    const relkvanu_answer written = relkvanu_opening_lines(&settings(), vertices.data(), vertices.size(), 0, text, sizeof text);
+    if (written.code != RELKVANU_DONE) {
+        die("the library writes no opening");
+    }
+    return std::string(text, text + written.a);
+}
+
+static void open_new(relkvanu *handle, u64 word) {
+    const std::vector<u64> vertices = shape();
+    const relkvanu_answer opened = scope.names ? open_named(handle, settings(), vertices) :
+                                                 relkvanu_open(handle, &settings(), vertices.data(), vertices.size(), 0, 1, word, word + 1);
+    if (opened.code != RELKVANU_DONE) {
+        die("the library opens no coordinator");
+    }
+}
+
+static void open_saved(relkvanu *handle, const std::string &text) {
+    if (relkvanu_open_saved(handle, reinterpret_cast<const u8 *>(text.data()), text.size(), 3, 4).code != RELKVANU_DONE) {
+        die("the library does not open its own image");
+    }
+}
+
+static std::string saved(relkvanu *handle) {
+    static u8 buffer[1 << 16];
+    const relkvanu_answer answer = relkvanu_save(handle, buffer, sizeof buffer);
+    if (answer.code != RELKVANU_DONE) {
+        die("the library writes no image");
+    }
+    return std::string(buffer, buffer + answer.a);
+}
+
+// An image of the coordinator without names, and behind it what the names are. Only the first line is an image.
+static std::string without_names(const std::string &text) { return text.substr(0, text.find('\n')); }
+
+// The image of a coordinator without names that makes the call too.
+static std::string text_of_core(const std::string &text, const Facts &facts, const Call &call) {
+    relkvanu core = {};
+    u64 taken[1];
+    open_saved(&core, text);
+    if (make_plain(&core, facts, call, taken).code != RELKVANU_DONE) {
+        die("a call is accepted with names only");
+    }
+    std::string after = saved(&core);
+    relkvanu_close(&core);
+    return after;
+}
+
+std::string Library::text_after(u32 image, const Call &call, const Answer &answer) {
+    if (!scope.names) {
+        return saved(&handle);
+    }
+    const std::string core = without_names(text(image));
+    const bool changes = answer.is_done() && call.kind != RESERVE && call.kind != FORFEIT;
+    return (changes ? text_of_core(core, facts(image), call) : core) + names_text(&handle);
+}
+
+u32 Library::number_of(const std::string &text, u32 from, const Call &call) {
+    const auto [found, is_new] = numbers.emplace(text, u32(images.size()));
+    if (is_new) {
+        images.push_back({text, facts_of(&handle), from, call, {}});
+    }
+    return found->second;
+}
+
+u32 Library::opening() {
+    relkvanu core = {};
+    const std::vector<u64> vertices = shape();
+    relkvanu_close(&handle);
+    open_new(&handle, 1);
+    if (relkvanu_open(&core, &settings(), vertices.data(), vertices.size(), 0, 1, 1, 2).code != RELKVANU_DONE) {
+        die("the library opens no coordinator");
+    }
+    const u32 number = number_of(saved(&core) + names_text(&handle), 0, {});
+    relkvanu_close(&core);
+    handle_at = number;
+    return number;
+}
+
+std::string Library::replayed(const std::vector<std::string> &lines, u64 word) {
+    relkvanu again = {};
+    open_new(&again, word);
+    for (const std::string &line : lines) {
+        u64 files[64];
+        if (relkvanu_line(&again, reinterpret_cast<const u8 *>(line.data()), line.size(), files, 64).code != RELKVANU_DONE) {
+            die("a line of the log is not accepted again: " + line);
+        }
+    }
+    std::string text = saved(&again);
+    relkvanu_close(&again);
+    return text;
+}
+
+void Library::clear() {
+    images.clear();
+    numbers.clear();
+    edges.assign(1 << 12, Edge());
+    edges_len = 0;
+    handle_at = ~u32(0);
+}
+
+std::vector<Call> Library::path_to(u32 image) const {
+    std::vector<Call> path;
+    for (; image != 0; image = images[image].from) {
+        path.push_back(images[image].call);
+    }
+    return {path.rbegin(), path.rend()};
+}
+
+// Brings the handle to an image.
+void Library::open_at(u32 image) {
+    if (handle_at == image) {
+        return;
+    }
+    relkvanu_close(&handle);
+    handle_at = image;
+    if (!scope.names) {
+        open_saved(&handle, text(image));
+        return;
+    }
+    open_new(&handle, 1);
+    u32 at = 0;
+    for (const Call &call : path_to(image)) {
+        u64 taken[1];
+        make(&handle, facts(at), call, taken);
+        at = this->call(at, call).image;
+    }
+}
+
+Library::Edge *Library::place_of(u32 from, u64 call) {
+    size_t at = mixed(call * 31 + from) & (edges.size() - 1);
+    while (edges[at].from != 0 && (edges[at].from != from || edges[at].call != call)) {
+        at = (at + 1) & (edges.size() - 1);
+    }
+    return &edges[at];
+}
+
+void Library::grow() {
+    std::vector<Edge> old(edges.size() * 2);
+    old.swap(edges);
+    for (const Edge &edge : old) {
+        if (edge.from) {
+            *place_of(edge.from, edge.call) = edge;
+        }
+    }
+}
+
+// The call in one word: 4, 1, 8, 6, 32 and 13 bits.
+static u64 code_of(const Call &call) {
+    const u64 numbers = call.kind | u64(call.subtask) << 4 | u64(call.record) << 5 | u64(call.file) << 13;
+    return numbers | u64(call.reused) << 19 | u64(call.term) << 51;
+}
+
+Answer Library::call(u32 image, const Call &call) {
+    const u64 code = code_of(call);
+    if (Edge *edge = place_of(image + 1, code); edge->from != 0) {
+        return edge->answer;
+    }
+    u64 taken[1] = {0};
+    open_at(image);
+    const relkvanu_answer told = make(&handle, facts(image), call, taken);
+    if (told.code != RELKVANU_DONE && told.code != RELKVANU_REFUSED && !is_fenced(told)) {
+        die("a call is neither made nor refused");
+    }
+    Answer answer = {0, told.code, told.what, u16(call.kind == TAKE ? taken[0] : told.a), u16(told.b)};
+    answer.image = number_of(text_after(image, call, answer), image, call);
+    handle_at = answer.image;
+    if (!answer.is_done() && answer.image != image) {
+        die("a refused call changed the coordinator");
+    }
+    calls++;
+    *place_of(image + 1, code) = {code, image + 1, answer};
+    if (++edges_len * 2 > edges.size()) {
+        grow();
+    }
+    return answer;
+}
+
+Drained Library::drain(u32 image, u8 after) {
+    Drained all = {true, 0, 0, 0};
+    u32 at = after == 0 ? image : call(image, {after, 0, 0, 0, 0}).image;
+    while (facts(at).waiting | facts(at).taken) {
+        const Facts &now = facts(at);
+        const u8 file = now.taken ? u8(least(now.taken)) : 0;
+        all.deleted |= only(file);
+        at = call(at, file ? Call{DELETE, 0, 0, file, 0} : Call{TAKE, 0, 0, 0, 0}).image;
+    }
+    all.in_use = facts(at).in_use;
+    all.garbage = facts(at).garbage;
+    return all;
+}
+
+const Drained &Library::drained(u32 image, u8 after) {
+    const int way = after == RESTORE ? 0 : after == CANCEL ? 1 : 2;
+    if (!images[image].drained[way].is_known) {
+        images[image].drained[way] = drain(image, after);
+    }
+    return images[image].drained[way];
+}

@@ -1,0 +1,163 @@
+// Steps of the coordinator's process: ticks, savepoints, restores, and its end and start.
+#include "steps.hpp"
+
+void Steps::send_barriers(u8 record) {
+    next.mixed &= ~(u32(1) << record);
+    const Facts &now = library.facts(next.current.image);
+    for (unsigned place = 0; place < scope.subtasks; place++) {
+        Task &task = next.tasks[place];
+        task.barrier = record;
+        task.barrier_base = now.base[task.subtask];
+        tell("barrier %u to 0.%u %u", record, task.subtask, task.incarnation);
+    }
+}
+
+void Steps::of_triggers() {
+    if (offer(!from->is_down && facts->is_running && may_use(TRIGGERS) && !facts->pending[scope.at_once - 1])) {
+        const Answer answer = call(&next.current, {TICK, 0, 0, 0, 0});
+        sync_log();
+        if (answer.what == RELKVANU_TICK_TRIGGERED) {
+            use(TRIGGERS);
+            send_barriers(u8(answer.b));
+            made();
+        }
+    }
+    if (offer_fault(!from->is_down && facts->is_running && facts->pending[0] && may_use(DECLINES))) {
+        use(DECLINES);
+        const Answer answer = call(&next.current, {EXPIRE, 0, 0, 0, 0});
+        sync_log();
+        if (answer.what == RELKVANU_TICK_TRIGGERED) {
+            use(TRIGGERS);
+            send_barriers(u8(answer.b));
+        }
+        made();
+    }
+    if (offer(!from->is_down && facts->is_running && may_use(SAVEPOINTS) && !facts->pending[1])) {
+        use(SAVEPOINTS);
+        const Answer answer = call(&next.current, {SAVE, 0, 0, 0, 0});
+        sync_log();
+        send_barriers(u8(answer.a));
+        made();
+    }
+}
+
+Answer Steps::restore(u8 savepoint) {
+    const Answer answer = call(&next.current, {RESTORE, 0, savepoint, 0, 0});
+    next.current.term += answer.is_done();
+    sync_log();
+    return answer;
+}
+
+void Steps::start() {
+    start_tasks(&next);
+    for (unsigned place = 0; place < scope.subtasks; place++) {
+        tell_task(next.tasks[place], "starts");
+    }
+}
+
+// A sweep by what the coordinator knows: it deletes all other files. With names a sweeper asks the coordinator, at any time.
+void Steps::sweep_known() {
+    if (scope.names) {
+        return;
+    }
+    seen[SWEEPS]++;
+    unlink(next.visible & ~known(library.facts(next.current.image)), "sweeper");
+}
+
+void Steps::of_restores() {
+    const bool may = !from->is_down && !facts->is_cancelled && may_use(RESTORES);
+    for (unsigned place = 0; place <= MOST_RECORDS && (place == 0 || facts->savepoints[place - 1]); place++) {
+        if (offer_fault(may)) {
+            use(RESTORES);
+            restore(place == 0 ? 0 : facts->savepoints[place - 1]);
+            if (scope.is_on[SWEEP_RESTORED]) {
+                sweep_known();
+            }
+            start();
+            made();
+        }
+    }
+    if (offer_fault(may && !scope.is_on[RESTART_RESTORES])) {
+        use(RESTORES);
+        start();
+        made();
+    }
+}
+
+void Steps::of_endings() {
+    for (unsigned place = 0; place < MOST_RECORDS && facts->savepoints[place]; place++) {
+        if (offer_fault(!from->is_down && may_use(DISPOSALS))) {
+            use(DISPOSALS);
+            call(&next.current, {DISPOSE, 0, facts->savepoints[place], 0, 0});
+            sync_log();
+            made();
+        }
+    }
+    if (offer_fault(!from->is_down && !facts->is_cancelled && may_use(CANCELS))) {
+        use(CANCELS);
+        call(&next.current, {CANCEL, 0, 0, 0, 0});
+        sync_log();
+        made();
+    }
+}
+
+// The files that a process that has ended took. A file that is not there was deleted.
+void Steps::report_taken() {
+    for (unsigned file = 1; file <= LAST_FILE; file++) {
+        if (facts->taken & only(file)) {
+            const bool is_gone = next.is_away ? !scope.is_on[MOUNTED_DELETE] : !(next.visible & only(file));
+            call(&next.current, {is_gone ? DELETE : UNDELETE, 0, 0, u8(file), 0});
+        }
+    }
+}
+
+// The new process has replayed the log.
+void Steps::recover() {
+    next.is_down = 0;
+    seen[RECOVERIES]++;
+    next.current.number = ++next.processes;
+    tell("process %u starts", next.current.number);
+    report_taken();
+    sync_log();
+    if (!scope.is_on[SWEEP_RESTORED] && !scope.names) {
+        sweep_known(); // and it restores the job later
+    } else if (!library.facts(next.current.image).is_cancelled) {
+        restore(0);
+        sweep_known();
+        start();
+    }
+}
+
+void Steps::of_crashes() {
+    if (offer(memcmp(&from->current, &from->durable, sizeof(Process)) != 0 && !from->is_down && scope.is_on[ONE_LOG])) {
+        sync_now();
+        made();
+    }
+    if (offer_fault(!from->is_down && may_use(CRASHES))) {
+        use(CRASHES);
+        if (scope.is_on[ONE_LOG]) {
+            tell("process %u ends", next.current.number);
+            tell("log cut");
+        } else {
+            next.old = from->current;
+            next.has_old = 1;
+        }
+        next.current = from->durable;
+        next.is_down = 1;
+        if (log) {
+            log->lines.resize(log->durable);
+        }
+        made();
+    }
+    if (offer(from->is_down)) {
+        recover();
+        made();
+    }
+}
+
+void Steps::of_process() {
+    of_triggers();
+    of_restores();
+    of_endings();
+    of_crashes();
+}

@@ -1,0 +1,41 @@
+// What a search explores: the rules that are on, how often each fault may happen, and the settings of the job.
+#ifndef EXPLORE_SCOPE_HPP
+#define EXPLORE_SCOPE_HPP
+
+#include "sets.hpp"
+
+// The rules of an engine, each of which can be switched off. scope.cpp says what they demand.
+enum Rule {
+    SYNC, FSYNC, FENCE, TERM_AT_START, RESTART_RESTORES, ONE_LOG, NO_TASK_DELETES, NEW_NAME, OWN_NAME, SWEEP_STOPPED, SWEEP_RESTORED,
+    SYNCED_FOLDER, MOUNTED_DELETE, MOUNTED_WRITE, GIVE_BACK, RULES
+};
+
+// How often a search lets something happen.
+enum Budget {
+    TRIGGERS, SAVEPOINTS, DISPOSALS, RESTORES, CRASHES, DUPLICATES, POWER_LOSSES, DECLINES, ZOMBIE_BARRIERS, UNMOUNTS, CANCELS, UNDELETED,
+    NAMES, MESSAGES, BUDGETS
+};
+
+struct Scope {
+    bool is_on[RULES];
+    unsigned limit[BUDGETS] = {3, 0, 0, 1, 0, 1, 0, 0, 1, 0, 0, 0, 4, 3};
+    bool names = false;        // the coordinator has terms and gives the names
+    bool checks_leaks = true;  // else only lost files and mixed records are looked for
+    bool may_write_nothing = true, may_keep = true;
+    unsigned subtasks = 1, at_once = 1, retained = 1, tolerable = 1000;
+    u64 most_states = 40000000;
+    u64 runs = 0, seed = 1; // random runs instead of a search
+    unsigned length = 400;
+    bool prints_trace = false; // a random run that finds nothing prints its trace too
+    Scope();
+};
+
+extern Scope scope;
+
+// Reads the command line into the scope. Ends the program, with status 2, if it is wrong.
+void read_scope(int argc, char **argv);
+
+// Ends the program with status 2: the explorer itself is at fault, or its caller.
+[[noreturn]] void die(const std::string &why);
+
+#endif
