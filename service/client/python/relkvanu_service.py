@@ -15,6 +15,7 @@ what is here.
 import copy
 import email.utils
 import math
+import os
 import random
 import secrets
 import threading
@@ -239,6 +240,20 @@ def _body(told):
     return body
 
 
+def _make_whole(folder, name, text):
+    """Makes a file that is whole or not there, whenever the power is lost."""
+    with open(f"{folder}/{name}.claim", "w", encoding="utf-8") as it:
+        it.write(text)
+        it.flush()
+        os.fsync(it.fileno())
+    os.rename(f"{folder}/{name}.claim", f"{folder}/{name}")
+    at = os.open(folder, os.O_RDONLY | os.O_DIRECTORY)
+    try:
+        os.fsync(at)
+    finally:
+        os.close(at)
+
+
 def _made(answer):
     """An answer of a call that was made."""
     if "refused" in answer:
@@ -273,6 +288,22 @@ class Job:
     def call(self, call, key=None):
         """Makes one call. Raises `Refused` if the coordinator refuses it."""
         return _made(self.calls([call], key)[0])
+
+    def claim(self, folder):
+        """Makes sure that a folder's files are this job's: the file `.relkvanu-NAME` there names the job and when it was opened, as
+        `relkvanu discard` has it. It is made in a folder that has no files yet. Otherwise this raises `Failed`: the folder is of another
+        job, or the service has lost this one and opened it anew, and a sweep would delete all files."""
+        text = f"relkvanu discard deletes files of the job {self.name}, opened at {self.state()['opened']}, from this folder.\n"
+        name = f".relkvanu-{self.name}"
+        try:
+            with open(f"{folder}/{name}", encoding="utf-8") as it:
+                found = it.read()
+        except FileNotFoundError:
+            if any(not other.startswith(".") for other in os.listdir(folder)):
+                raise Failed(409, f"{folder} has files, and no file {name}: it is not known whose they are") from None
+            return _make_whole(folder, name, text)
+        if found != text:
+            raise Failed(409, f"{folder}/{name} names another job, or this one as another database has it")
 
     def begin(self, start="latest", shape=None, key=None):
         """Begins the job again, from the latest record or from a savepoint, once all its tasks have ended: makes the call `restore`, and
