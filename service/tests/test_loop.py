@@ -124,9 +124,21 @@ def test_the_loop_of_the_page():
             assert not os.path.exists(f"{files}/state-6")
             job.call(cancel())
         assert engine.ended is None and not engine.running, engine.ended
+        starts = len(engine.starts)
         there, wanted = engine.numbers_of_files(), known(job)
         assert there == wanted and job.state()["mode"] == "cancelled", (there - wanted, wanted - there)
-        return f"{len(engine.starts)} starts, {len(engine.told)} records, {len(there)} files at the end"
+        # an engine of a job that was cancelled deletes what its last process left, and starts no task
+        engine.write(7)
+        with engine_of(server, files, settings) as engine:
+            pass
+        assert engine.ended is None and not engine.starts and engine.numbers_of_files() == there, engine.ended
+        # a mount point without its disk is not the job's folder
+        os.mkdir(f"{at}/empty")
+        try:
+            raise AssertionError(job.claim(f"{at}/empty"))
+        except Failed as failed:
+            assert "is its disk not mounted" in str(failed) and not os.listdir(f"{at}/empty"), failed
+        return f"{starts} starts, {len(there)} files at the end"
 
 
 def test_the_loop_ends_if_a_backup_was_restored():

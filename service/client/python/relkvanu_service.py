@@ -291,16 +291,18 @@ class Job:
 
     def claim(self, folder):
         """Makes sure that a folder's files are this job's: the file `.relkvanu-NAME` there names the job and when it was opened, as
-        `relkvanu discard` has it. It is made in a folder that has no files yet. Otherwise this raises `Failed`: the folder is of another
-        job, or the service has lost this one and opened it anew, and a sweep would delete all files."""
-        text = f"relkvanu discard deletes files of the job {self.name}, opened at {self.state()['opened']}, from this folder.\n"
-        name = f".relkvanu-{self.name}"
+        `relkvanu discard` has it. It is made in a folder without files for a job without files. Otherwise this raises `Failed`: the
+        folder is of another job, its disk is not mounted, or the service has lost this job and opened it anew."""
+        state, name = self.state(), f".relkvanu-{self.name}"
+        text = f"relkvanu discard deletes files of the job {self.name}, opened at {state['opened']}, from this folder.\n"
         try:
             with open(f"{folder}/{name}", encoding="utf-8") as it:
                 found = it.read()
         except FileNotFoundError:
             if any(not other.startswith(".") for other in os.listdir(folder)):
                 raise Failed(409, f"{folder} has files, and no file {name}: it is not known whose they are") from None
+            if any(state["files"][of] for of in ("in_use", "waiting", "taken")):
+                raise Failed(409, f"{folder} has no file {name}, and the job has files: is its disk not mounted?") from None
             return _make_whole(folder, name, text)
         if found != text:
             raise Failed(409, f"{folder}/{name} names another job, or this one as another database has it")

@@ -149,15 +149,27 @@ mod tests {
     fn a_name_has_one_number() {
         let names = Names { prefix: "state-".to_string(), suffix: ".bin".to_string() };
         assert_eq!(names.number(&names.of(u64::MAX)), Some(u64::MAX));
-        for name in ["state-.bin", "state-07.bin", "state-+7.bin", "state-7", "7.bin", "state-18446744073709551616.bin", "state-7.bin~"] {
+        for name in [
+            "state-.bin",
+            "state-07.bin",
+            "state-+7.bin",
+            "state-7",
+            "7.bin",
+            "state-18446744073709551616.bin",
+            "state-7.bin~",
+        ] {
             assert_eq!(names.number(name), None, "{name}");
         }
     }
 
     #[test]
     fn an_engine_is_at_work_if_a_pending_record_is_acknowledged() {
-        let state = |missing: u64, done: bool| json!({"shape": [1, 2], "live": [{"id": 4, "done": done, "missing": missing}]});
-        assert_eq!([state(3, false), state(2, false), state(0, true)].map(|state| at_work(&state)), [None, Some(4), None]);
+        let state =
+            |missing: u64, done: bool| json!({"shape": [1, 2], "live": [{"id": 4, "done": done, "missing": missing}]});
+        assert_eq!(
+            [state(3, false), state(2, false), state(0, true)].map(|state| at_work(&state)),
+            [None, Some(4), None]
+        );
     }
 
     #[test]

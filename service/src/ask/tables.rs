@@ -123,7 +123,11 @@ pub fn savepoints(records: &Value) -> String {
             count => format!("{count}: {named}"),
         });
         let (id, kind, files) = (cell(&record["id"]), cell(&record["kind"]), cell(&record["files"]));
-        rows.push(format!("{id}\t{kind}{latest}\t{}\t{files}\t{}", at(&record["triggered"]), absent.unwrap_or_default()));
+        rows.push(format!(
+            "{id}\t{kind}{latest}\t{}\t{files}\t{}",
+            at(&record["triggered"]),
+            absent.unwrap_or_default()
+        ));
     }
     table(&rows)
 }

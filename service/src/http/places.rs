@@ -6,7 +6,8 @@ use crate::model::length_in;
 use serde_json::json;
 
 /// What an engine is told whose place the log never had.
-const OTHER_LOG: &str = "is no place of this log: a backup was restored, or another service answers. End the engine and its tasks, and \
+const OTHER_LOG: &str =
+    "is no place of this log: a backup was restored, or another service answers. End the engine and its tasks, and \
     restore the job to a record whose files are all there, which relkvanu savepoints finds";
 
 /// The parameter `after`; its default stands for no place.

@@ -47,11 +47,7 @@ async fn round(job: &Job, wanted: u64, numbers: &mut impl Iterator<Item = u64>) 
 }
 
 /// Each subtask acknowledges with a new file.
-async fn acknowledge(
-    job: &Job,
-    event: &Value,
-    numbers: &mut impl Iterator<Item = u64>,
-) -> Result<(), Box<dyn Error>> {
+async fn acknowledge(job: &Job, event: &Value, numbers: &mut impl Iterator<Item = u64>) -> Result<(), Box<dyn Error>> {
     let id = event["id"].as_u64().ok_or("an event has no id")?;
     let acks = SUBTASKS.into_iter().zip(numbers);
     let calls: Vec<Call> =

@@ -24,7 +24,8 @@ impl Start {
             Answer::Refused { name, .. } => return Err(Error::Refused(name)),
             other => return Err(Error::Answer(format!("to restore is {other:?}"))),
         };
-        let kind = reply["restore"].as_str().ok_or_else(|| Error::Answer("to restore is none".to_string()))?.to_string();
+        let kind =
+            reply["restore"].as_str().ok_or_else(|| Error::Answer("to restore is none".to_string()))?.to_string();
         let (id, seq, log) = (reply["id"].as_u64(), reply["seq"].as_u64(), told["log"].as_str());
         let files = match id {
             Some(id) => held(&job.record(id).await?, id)?,
@@ -67,7 +68,10 @@ mod tests {
     fn numbers_of_two_tasks_differ() {
         let begins = || file_numbers().next().unwrap_or_default();
         let (first, second) = (begins(), begins());
-        assert!(first != second && first % (1 << COUNT_BITS) == 0 && second % (1 << COUNT_BITS) == 0, "{first} {second}");
+        assert!(
+            first != second && first % (1 << COUNT_BITS) == 0 && second % (1 << COUNT_BITS) == 0,
+            "{first} {second}"
+        );
         let numbers: Vec<u64> = file_numbers().take(3).collect();
         assert_eq!((numbers[1], numbers[2]), (numbers[0] + 1, numbers[0] + 2));
         let turn = file_numbers().nth(1 << COUNT_BITS).unwrap_or_default();
