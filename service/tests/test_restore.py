@@ -40,11 +40,12 @@ def test_records_that_have_all_their_files():
         write(files, 1, 2, 3)
         rows = ask.json(*words)
         # of two checkpoints only the latest is one to restore to; its file is not there
-        assert [(row["id"], row["kind"], row["latest"], row["files"], row["absent"]) for row in rows] == [
-            (first, "savepoint", False, 2, []), (latest, "checkpoint", True, 1, ["4"]),
-        ], rows
-        text = ask(*words).splitlines()
-        assert text[1].split()[-2:] == ["2", "none"] and text[2].endswith("1: 4") and "checkpoint, the latest" in text[2], text
+        assert {row["id"]: (row["kind"], row["latest"], row["files"], row["absent"]) for row in rows} == {
+            first: ("savepoint", False, 2, []), latest: ("checkpoint", True, 1, ["4"]),
+        }, rows
+        text = {line.split()[0]: line for line in ask(*words).splitlines()}
+        assert text[str(first)].split()[-2:] == ["2", "none"], text
+        assert text[str(latest)].endswith("1: 4") and "checkpoint, the latest" in text[str(latest)], text
         os.remove(f"{files}/s-3.bin")
         assert "1: 3" in ask(*words, status=1)
         assert "No such file" in ask("savepoints", "orders", "--folder", f"{files}/none", status=78)
