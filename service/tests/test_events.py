@@ -280,7 +280,8 @@ def test_the_dask_engine_over_a_restored_backup():
             # somebody restores the job: the driver begins again
             job.call(restore())
             until(lambda: len(driver.failures) == 1)
-            driver.coordinator.restore((1,))
+            with driver.lock:  # as its job does: the events of its own restore are known as such
+                driver.coordinator.restore((1,))
             count = len(driver.barriers)
             until(lambda: len(driver.barriers) > count + 5)
             copy.make()

@@ -42,7 +42,7 @@ def booted(at):
     binds += [f"--bind-ro={at}/try.service:/etc/systemd/system/try.service", "--bind-ro=/dev/null:/etc/systemd/system/systemd-firstboot.service"]
     words = ["--quiet", "--console=pipe", "--directory=/", "--volatile=yes", "--private-network", "--register=no", "--keep-unit", f"--machine=relkvanu-test-{os.getpid()}"]
     # the program is installed where /usr of this machine can't be written
-    words += [*binds, "--tmpfs=/usr/local/bin", "--boot", "--", "--unit=try.service"]
+    words += [*binds, "--tmpfs=/usr/local/bin", "--tmpfs=/usr/local/share", "--boot", "--", "--unit=try.service"]
     return subprocess.run(["timeout", "-k", "5", "180", "systemd-nspawn", *words], stdout=subprocess.PIPE, stderr=subprocess.STDOUT, text=True, errors="replace", check=False)
 
 

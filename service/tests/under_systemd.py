@@ -145,7 +145,7 @@ def check_a_backup_is_restored():
     shutil.rmtree(f"/var/lib/relkvanu/{aside}")
     assert run("systemctl", "is-enabled", "relkvanu") == "enabled"
     assert run("systemctl", "is-enabled", "relkvanu-discard@orders", check=False) == "disabled"
-    rows = [line.split()[:2] + line.split()[4:] for line in as_the_page_says("savepoints").splitlines()[1:]]
+    rows = [line.split()[:2] + line.split()[3:] for line in as_the_page_says("savepoints").splitlines()[1:]]
     assert rows == [[str(lost), "savepoint", "1", "1:", "31"], [str(kept), "savepoint", "1", "none"]], rows
     run("relkvanu", "restore", "orders", "--savepoint", str(kept), "--token-file", "write-token")
     assert as_the_page_says("orphans").splitlines() == ["/srv/orders/state-41.bin"]

@@ -25,7 +25,7 @@ pub async fn savepoints(job: &Job, given: &Savepoints) -> Result<(), Ended> {
         let files = files_of(&told);
         let absent = there.as_ref().map(|there| files.difference(there).map(u64::to_string).collect::<Vec<_>>());
         rows.push(json!({
-            "id": id, "kind": record["kind"], "latest": Some(id) == latest, "triggered": told["history"]["started"],
+            "id": id, "kind": record["kind"], "latest": Some(id) == latest, "triggered": told["live"]["started"],
             "files": files.len(), "absent": absent,
         }));
     }
