@@ -24,7 +24,7 @@ pub enum Ask {
     Dispose(Dispose),
     /// Begin a job again from its latest record, or from a savepoint
     Restore(Restore),
-    /// Cancel a job for good
+    /// Cancel a job for good: its checkpoints are dropped, unless it has `keep_on_cancel`
     Cancel(Cancel),
 }
 
