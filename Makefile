@@ -29,6 +29,9 @@ filled = sed -e 's|@PREFIX@|$(PREFIX)|g' -e 's|@LIBDIR@|$(patsubst $(PREFIX)/%,$
 # The programs that are built: in a release in build/bin.
 BUILT = $(wildcard $(PROGRAMS:%=build/bin/%) $(foreach it,$(PROGRAMS),crates/$(it)/out/$(it)))
 
+# The manual page of the service, which a release may have.
+MANUAL = $(firstword $(wildcard service/deploy/man/relkvanu.1 service/deploy/relkvanu.1))
+
 .PHONY: library install uninstall dist first job demo programs check clean
 
 library: $(LIBRARY) $(STORE)
@@ -81,7 +84,7 @@ install: $(LIBRARY) $(STORE) $(PAGES)/docs
 	    $(INSTALL) -m 755 $$it $(into)/bin && $(INSTALL) -m 644 packaging/man/$${it##*/}.1 $(into)/share/man/man1 || exit 1; \
 	done
 	if [ -x build/bin/relkvanu ]; then \
-	    $(INSTALL) -m 755 build/bin/relkvanu $(into)/bin && $(INSTALL) -m 644 service/deploy/relkvanu.1 $(into)/share/man/man1 && \
+	    $(INSTALL) -m 755 build/bin/relkvanu $(into)/bin && $(INSTALL) -m 644 $(MANUAL) $(into)/share/man/man1 && \
 	    $(INSTALL) -d $(into)/share/doc/relkvanu/deploy && \
 	    $(INSTALL) -m 644 service/deploy/*.service service/deploy/*.timer service/deploy/*.toml service/deploy/*.yml $(into)/share/doc/relkvanu/deploy || exit 1; \
 	fi
