@@ -22,6 +22,10 @@ pub async fn savepoints(job: &Job, given: &Savepoints) -> Result<(), Ended> {
     for record in done(&state).filter(|record| record["kind"] == "savepoint" || record["id"].as_u64() == latest) {
         let id = record["id"].as_u64().unwrap_or_default();
         let told = job.record(id).await?;
+        // one that has ended meanwhile is none to restore to
+        if told["live"].is_null() {
+            continue;
+        }
         let files = files_of(&told);
         let absent = there.as_ref().map(|there| files.difference(there).map(u64::to_string).collect::<Vec<_>>());
         rows.push(json!({
