@@ -30,6 +30,9 @@ filled = sed -e 's|@PREFIX@|$(PREFIX)|g' -e 's|@LIBDIR@|$(patsubst $(PREFIX)/%,$
 # The programs that are built: in a release in build/bin.
 BUILT = $(wildcard $(PROGRAMS:%=build/bin/%) $(foreach it,$(PROGRAMS),crates/$(it)/out/$(it)))
 
+# The manual page of the service, which a release may have.
+MANUAL = $(firstword $(wildcard service/deploy/man/relkvanu.1 service/deploy/relkvanu.1))
+
 .PHONY: library install uninstall dist first job demo programs check note clean
 
 library: $(LIBRARY) $(STORE)
@@ -82,6 +85,11 @@ install: $(LIBRARY) $(STORE) $(PAGES)/docs
 	for it in $(BUILT); do \
 	    $(INSTALL) -m 755 $$it $(into)/bin && $(INSTALL) -m 644 packaging/man/$${it##*/}.1 $(into)/share/man/man1 || exit 1; \
 	done
+	if [ -x build/bin/relkvanu ]; then \
+	    $(INSTALL) -m 755 build/bin/relkvanu $(into)/bin && $(INSTALL) -m 644 $(MANUAL) $(into)/share/man/man1 && \
+	    $(INSTALL) -d $(into)/share/doc/relkvanu/deploy && \
+	    $(INSTALL) -m 644 service/deploy/*.service service/deploy/*.timer service/deploy/*.toml service/deploy/*.yml $(into)/share/doc/relkvanu/deploy || exit 1; \
+	fi
 	@[ -n "$(DESTDIR)" ] || echo "If programs are to find librelkvanu.so.0 in $(LIBDIR), run ldconfig as root, or set LD_LIBRARY_PATH."
 
 # Takes away what install puts there, and the folders that are then its own and empty. Give it the PREFIX and the LIBDIR of the install.
@@ -90,7 +98,7 @@ uninstall:
 	rm -f $(libraries)/librelkvanu.a $(libraries)/librelkvanu.so $(libraries)/librelkvanu.so.0 $(libraries)/pkgconfig/relkvanu.pc
 	rm -f $(libraries)/librelkvanu-store.* $(libraries)/pkgconfig/relkvanu-store.pc $(into)/include/relkvanu_store.h $(into)/include/relkvanu_store.hpp
 	rm -f $(into)/share/man/man3/relkvanu.3 $(into)/share/man/man3/relkvanu_*.3
-	rm -f $(PROGRAMS:%=$(into)/bin/%) $(PROGRAMS:%=$(into)/share/man/man1/%.1)
+	rm -f $(patsubst %,$(into)/bin/%,$(PROGRAMS) relkvanu) $(patsubst %,$(into)/share/man/man1/%.1,$(PROGRAMS) relkvanu)
 	rm -rf $(libraries)/cmake/relkvanu $(into)/share/doc/relkvanu
 	@[ -n "$(DESTDIR)" ] || echo "If ldconfig was run after the install, run it again."
 

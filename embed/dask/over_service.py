@@ -22,7 +22,7 @@ REPLIES = {
 
 class OverService:
     """Each call has a key of its own, so it is made once even if its answer is lost. If the service's log does not have the events
-    after the last one any more, the job goes on from the state that the service has."""
+    after the last one any more, the job begins again. If a backup of the service was restored, `OtherLog` ends the process."""
 
     def __init__(self, url: str, name: str, settings: Dict[str, int], shape: Sequence[int]) -> None:
         self.remote = service.Service(url).open(name, settings, list(shape))
@@ -112,15 +112,12 @@ class OverService:
     def follow(self, job: Any, event: Dict[str, Any]) -> None:
         with job.lock:  # not between a restore and the start of its tasks
             channels = job.channels
-            if event["event"] == "missed" and event["reason"] == "other_log":
-                # a backup was restored: the last restore may be no more in the log, and numbers of records may be given again
-                self.begun = 0
-                with job.stream:
-                    job.cuts.clear()
             if event["seq"] < self.begun:
                 return
             if event["event"] == "failed" and "id" not in event:  # by a tick; a decline names its record, and was answered
                 job.note(Failed(len(event["ended"])))
+            if event["event"] in ("missed", "restored", "cancelled") and event["seq"] > self.begun:  # by somebody else
+                job.note(Failed(0))
         if event["event"] == "triggered" and event["id"] not in job.cuts:
             job.send_barriers(event["id"], channels)
 

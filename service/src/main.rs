@@ -17,6 +17,7 @@ mod model;
 mod process;
 mod remote;
 mod serve;
+mod starting;
 mod stop;
 mod store;
 mod upkeep;

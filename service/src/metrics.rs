@@ -34,6 +34,7 @@ pub struct Metrics {
 struct Gauges {
     mode: IntGaugeVec,
     interval: GaugeVec,
+    timeout: GaugeVec,
     completed: GaugeVec,
     opened: GaugeVec,
     files: IntGaugeVec,
@@ -186,6 +187,7 @@ impl Gauges {
         Ok(Gauges {
             mode: gauge("relkvanu_mode", "What the job is doing: 1 running, 2 failed, 3 cancelled.", &["job_name"])?,
             interval: seconds("relkvanu_interval_seconds", "From one trigger to the next, the pause if it is longer.")?,
+            timeout: seconds("relkvanu_timeout_seconds", "How long a record may wait for acknowledgements.")?,
             completed: seconds(
                 "relkvanu_last_completed_timestamp_seconds",
                 "When the last checkpoint completed, in Unix time; before the first, when the job was opened.",
@@ -230,8 +232,8 @@ impl Gauges {
         for gauge in [mode, files, pending, log_calls, kept_calls, image_bytes, since_image, history] {
             registry.register(Box::new(gauge.clone()))?;
         }
-        let Gauges { interval, completed, opened, image_at, .. } = self;
-        [interval, completed, opened, image_at]
+        let Gauges { interval, timeout, completed, opened, image_at, .. } = self;
+        [interval, timeout, completed, opened, image_at]
             .into_iter()
             .try_for_each(|gauge| registry.register(Box::new(gauge.clone())))
     }
@@ -247,6 +249,7 @@ impl Gauges {
         set(&self.mode, &[name], mode);
         let settings = &job.opening.settings;
         set_seconds(&self.interval, name, settings.interval.max(settings.pause));
+        set_seconds(&self.timeout, name, settings.timeout);
         set_seconds(&self.completed, name, job.last_completed.unwrap_or(job.opening.started));
         set_seconds(&self.opened, name, job.opening.started);
         set(&self.files, &[name, "in_use"], job.files.in_use);

@@ -10,6 +10,7 @@ use crate::log;
 use crate::metrics::Metrics;
 use crate::model::wall;
 use crate::process;
+use crate::starting::Starting;
 use crate::stop::Stop;
 use crate::store::{DbError, Lite, LiteReader, Pg, PgReader, Reader, Store, Unusable};
 use crate::writer::{Board, Message};
@@ -48,7 +49,9 @@ fn serve(mut config: Config) -> Result<(), Stop> {
     let tokens = config.token_file.as_deref().map(Tokens::read).transpose()?;
     // before the lease is taken, so a second process at this address never leads
     let listener = listening(&config)?;
+    let starting = Starting::begin();
     let store = open_store(&config)?;
+    drop(starting);
     let (shared, messages) = Shared::new(&config)?;
     shared.metrics.upkeep.tokens(tokens.as_ref());
     let app = shared.app(&config, tokens)?;

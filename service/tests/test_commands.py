@@ -271,7 +271,7 @@ def test_completions_and_the_manual_page():
     def completed(*words):
         return subprocess.run(["bash", "-c", ask, "completed", *words], input=script, stdout=subprocess.PIPE, text=True, check=True).stdout.split()
 
-    assert completed("sav") == ["savepoint"] and completed("sho") == ["show"], (completed("sav"), completed("sho"))
+    assert sorted(completed("sav")) == ["savepoint", "savepoints"] and completed("sho") == ["show"], (completed("sav"), completed("sho"))
     assert completed("savepoint", "--wa") == ["--wait"] and "--image-calls" in completed("serve", "--i")
     for shell in ("zsh", "fish"):
         assert "savepoint" in ran("completions", shell)

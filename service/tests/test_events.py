@@ -11,7 +11,7 @@ import time
 
 from harness import PROGRAM, TOP, Server, configured, folder, served, until
 from postgres import postgres
-from relkvanu_service import Gone, Service, ack, cancel, deleted, dispose, savepoint
+from relkvanu_service import Gone, OtherLog, Service, ack, cancel, deleted, dispose, restore, savepoint
 from run import Skipped
 
 SETTINGS = {"interval": 1 << 40}
@@ -95,6 +95,14 @@ class Copy:
         server.start()
 
 
+def ends(follower):
+    """The engine hears that it must not go on."""
+    try:
+        raise AssertionError(follower.next(5))
+    except OtherLog as told:
+        assert (told.status, told.reason) == (410, "other_log") and "restore the job to a record whose files are all there" in str(told), told
+
+
 def restored(server, database):
     """An engine, over a start that changes nothing and a restore that loses what it knows."""
     job, copy = Service(server.url).open("a", SETTINGS, [1]), Copy(server, database)
@@ -119,14 +127,13 @@ def restored(server, database):
     copy.restore()
     # the log is shorter than the place
     assert job.state()["seq"] == 7
-    told = follower.next(20)
-    assert [event["event"] for event in told] == ["missed", "failed"] and told[0]["reason"] == "other_log", told
-    assert follower.after == 7 and told[0]["state"]["live"][-1] == {"id": 4, "kind": "savepoint", "done": False, "missing": 1}
+    for _ in range(2):
+        ends(follower)
+    assert follower.after == 16
     # the log has grown beyond the place again, by other calls
     for number in range(20):
         job.calls([savepoint(), ack(5 + number, "0.0", [100 + number])])
-    assert len(follower.next(5)) == 40
-    assert [event["event"] for event in other.next(5)] == ["missed", "failed"]
+    ends(other)
     # a place from before the backup is one of this log
     assert [event["seq"] for event in job.follower(early, log).next(5)] == list(range(early + 1, 48))
     status, _, body = server.get("/v1/jobs/a/events?after=5&log=nobody")
@@ -180,10 +187,34 @@ def test_an_engine_in_rust_over_a_restored_backup():
         until(lambda: job.state()["seq"] > far)
         copy.restore()
         told = run.communicate(timeout=60)[0]
-        assert run.returncode == 0 and " checkpoints completed, " in told, told
-        restores = [entry for entry in job.log() if entry["line"].startswith("restore ")]
-        assert len(restores) == 1, restores
-        return told.strip()
+        assert run.returncode == 1 and "End the engine and its tasks, and restore the job to a record" in told, told
+        assert job.state()["seq"] < far and len(restores_of(job)) == 1, job.state()
+        told = subprocess.run([ENGINE, server.url, "rust", "5"], stdout=subprocess.PIPE, stderr=subprocess.STDOUT, text=True, timeout=60, check=False)
+        assert told.returncode == 0 and "5 checkpoints completed, " in told.stdout, told
+        return "it ends, and goes on after somebody has looked"
+
+
+def restores_of(job):
+    return [entry for entry in job.log() if entry["line"].startswith("restore ")]
+
+
+def test_an_engine_in_rust_hears_of_others():
+    """Somebody restores its job, and later cancels it."""
+    if not os.path.exists(ENGINE):
+        raise Skipped(f"{ENGINE} is not built")
+    with served() as server:
+        run = subprocess.Popen([ENGINE, server.url, "rust", "100000"], stdout=subprocess.PIPE, stderr=subprocess.STDOUT, text=True)
+        job = Service(server.url).job("rust")
+        until(lambda: (server.get("/v1/jobs/rust")[2] or {}).get("seq", 0) > 40)
+        job.call(restore())
+        until(lambda: len(restores_of(job)) == 3)
+        far = job.state()["seq"] + 40
+        until(lambda: job.state()["seq"] > far)
+        assert len(restores_of(job)) == 3
+        job.call(cancel())
+        told = run.communicate(timeout=60)[0]
+        assert run.returncode == 1 and "cancelled" in told, told
+        return "it begins again after a restore, and ends after a cancel"
 
 
 def test_the_dask_engine_over_a_cut():
@@ -233,21 +264,33 @@ def test_the_dask_engine_over_a_restored_backup():
 
     with served() as server:
         driver = Driver(OverService(server.url, "dask", {"interval": 50, "retained": 2}, [1]))
-        copy, running = Copy(server, None), threading.Thread(target=lambda: driver.coordinator.run(driver))
+        copy, job, ended = Copy(server, None), Service(server.url).job("dask"), []
+
+        def run():
+            try:
+                driver.coordinator.run(driver)
+            except OtherLog as why:
+                ended.append(why)
+
+        running = threading.Thread(target=run)
         driver.coordinator.restore((1,))
         running.start()
         try:
             until(lambda: len(driver.barriers) > 5)
-            copy.make()
-            until(lambda: len(driver.barriers) > 20)
-            copy.restore()
-            until(lambda: driver.failures)
-            driver.coordinator.restore((1,))
-            count, last = len(driver.barriers), Service(server.url).job("dask").state()["choice"]["id"]
+            # somebody restores the job: the driver begins again
+            job.call(restore())
+            until(lambda: len(driver.failures) == 1)
+            with driver.lock:  # as its job does: the events of its own restore are known as such
+                driver.coordinator.restore((1,))
+            count = len(driver.barriers)
             until(lambda: len(driver.barriers) > count + 5)
+            copy.make()
+            until(lambda: len(driver.barriers) > count + 20)
+            copy.restore()
+            running.join(20)
         finally:
             driver.is_over.set()
-            running.join(20)
-        assert len(driver.failures) == 1 and min(driver.barriers[count:]) > last, (driver.barriers, last)
-        assert set(driver.barriers[count:]) & set(driver.barriers[:count]), driver.barriers
-        return f"one failure; the records from {driver.barriers[count]} on are taken anew"
+        # its process ends by this: no barrier is sent, and nothing restores the job
+        assert len(ended) == 1 and len(driver.failures) == 1, (ended, driver.failures)
+        assert len(restores_of(job)) == 3, restores_of(job)
+        return "one failure, by somebody's restore; then it ends"

@@ -38,6 +38,7 @@ def test_metrics_say_what_was_done():
             'relkvanu_pending_records{job_name="orders",kind="savepoint"}': 1,
             'relkvanu_pending_records{job_name="orders",kind="checkpoint"}': 0,
             'relkvanu_interval_seconds{job_name="orders"}': 3600,
+            'relkvanu_timeout_seconds{job_name="orders"}': 600,
             'relkvanu_mode{job_name="orders"}': 1,
             'relkvanu_log_calls{job_name="orders"}': 2,
             'relkvanu_log_kept_calls{job_name="orders"}': 2,

@@ -5,7 +5,9 @@ import os
 import re
 import shutil
 import signal
+import sqlite3
 import subprocess
+import threading
 import time
 
 WRITE = "w" * 20
@@ -53,6 +55,7 @@ def as_the_page_says(name):
     with open("/try/commands", encoding="utf-8") as it:
         told = subprocess.run(["bash", "-euc", json.load(it)[name]], stdout=subprocess.PIPE, stderr=subprocess.STDOUT, text=True, check=False)
     assert told.returncode == 0, (name, told.stdout)
+    return told.stdout
 
 
 def install():
@@ -61,12 +64,14 @@ def install():
     os.chdir("repository")
     os.mkdir("service")
     shutil.copytree("/deploy", "service/deploy")
+    os.symlink("/docs", "docs")
     with open("service/build", "w", encoding="utf-8") as it:
         it.write("#!/bin/sh\necho /relkvanu\n")
     os.chmod("service/build", 0o755)
     with open("tokens", "w", encoding="utf-8") as it:
         it.write(f"read {'r' * 20}\nwrite {WRITE}\n")
     as_the_page_says("install")
+    assert os.path.getsize("/usr/local/share/doc/relkvanu/SERVICE.md") > 10_000
 
 
 def check_it_runs():
@@ -91,16 +96,85 @@ def after(number):
     return took
 
 
+def calls(key, *made):
+    told = request("POST", "/v1/jobs/orders/calls", {"calls": list(made)}, key)
+    assert told[0] == 200 and not any("refused" in answer for answer in told[1]["answers"]), told
+    return told[1]["answers"]
+
+
+def state_file(number):
+    path = f"/srv/orders/state-{number}.bin"
+    with open(path, "w", encoding="utf-8") as it:
+        it.write("state")
+    return path
+
+
+def savepoint_of(number):
+    """A savepoint with one file."""
+    state_file(number)
+    record = calls(f"savepoint of {number}", {"call": "savepoint"})[0]["id"]
+    calls(f"file {number}", {"call": "ack", "id": record, "subtask": "0.0", "fresh": [str(number)]})
+    return record
+
+
+def words():
+    with open(f"/proc/{property_of('MainPID')}/cmdline", encoding="utf-8") as it:
+        return it.read().split("\0")[:-1]
+
+
 def check_a_backup_is_restored():
+    """Nothing is overwritten, and nothing starts by itself meanwhile. Then a record is found that has all its files, and what nobody needs."""
+    lost, kept = savepoint_of(31), savepoint_of(32)
     as_the_page_says("backup")
     before = request("GET", "/v1/jobs/orders")[1]
-    assert request("POST", "/v1/jobs/orders/calls", {"calls": [{"call": "cancel"}]}, "later")[0] == 200
+    os.remove("/srv/orders/state-31.bin")
+    assert savepoint_of(41) > kept
+    calls("later", {"call": "cancel"})
+    os.mkdir("/var/lib/relkvanu/relkvanu.db.history.bad")
     as_the_page_says("restore")
     until(is_ready)
     after = request("GET", "/v1/jobs/orders")[1]
     assert after["mode"] == "running" and after["seq"] == before["seq"] and after["live"] == before["live"], (before, after)
-    told = request("POST", "/v1/jobs/orders/calls", {"calls": [{"call": "ack", "id": 1, "subtask": "0.0"}]}, "again")
-    assert told[1]["answers"][0]["ack"] == "completed", told
+    assert words()[-1] == "--accept-clock" and not os.path.exists("/run/relkvanu.options")
+    [aside] = [name for name in os.listdir("/var/lib/relkvanu") if name.startswith("aside-")]
+    found = set(os.listdir(f"/var/lib/relkvanu/{aside}"))
+    assert {"relkvanu.db", "relkvanu.db-wal", "relkvanu.db.history", "relkvanu.db.history.bad"} <= found, found
+    with sqlite3.connect(f"/var/lib/relkvanu/{aside}/relkvanu.db") as base:
+        assert base.execute("select count(*) from call where line like 'cancel%'").fetchone() == (1,)
+    base.close()
+    shutil.rmtree(f"/var/lib/relkvanu/{aside}")
+    assert run("systemctl", "is-enabled", "relkvanu") == "enabled"
+    assert run("systemctl", "is-enabled", "relkvanu-discard@orders", check=False) == "disabled"
+    rows = [line.split()[:2] + line.split()[3:] for line in as_the_page_says("savepoints").splitlines()[1:]]
+    assert rows == [[str(lost), "savepoint", "1", "1:", "31"], [str(kept), "savepoint", "1", "none"]], rows
+    run("relkvanu", "restore", "orders", "--savepoint", str(kept), "--token-file", "write-token")
+    assert as_the_page_says("orphans").splitlines() == ["/srv/orders/state-41.bin"]
+
+
+def check_an_upgrade_and_its_way_back():
+    """By the same program."""
+    shutil.copy("/relkvanu", "relkvanu-new")
+    seq = request("GET", "/v1/jobs/orders")[1]["seq"]
+    as_the_page_says("upgrade")
+    until(is_ready)
+    assert request("GET", "/v1/jobs/orders")[1]["seq"] == seq and os.path.exists("/usr/local/bin/relkvanu-before")
+    calls("after the upgrade", {"call": "savepoint"})
+    as_the_page_says("way back")
+    until(is_ready)
+    assert request("GET", "/v1/jobs/orders")[1]["seq"] == seq and not os.path.exists("/usr/local/bin/relkvanu-before")
+    assert run("systemctl", "is-enabled", "relkvanu") == "enabled"
+
+
+def check_backups_of_each_night():
+    as_the_page_says("timer")
+    for day in range(10, 25):
+        with open(f"/var/backups/relkvanu/202001{day}T000000Z.db", "w", encoding="utf-8") as it:
+            it.write("old")
+    run("systemctl", "start", "relkvanu-backup.service")
+    names = sorted(os.listdir("/var/backups/relkvanu"))
+    assert len(names) == 14 and names[0] == "20200112T000000Z.db" and names[-1] > "2026", names
+    assert run("relkvanu", "check", "--database", f"/var/backups/relkvanu/{names[-1]}").startswith("job orders: ")
+    assert run("systemctl", "is-active", "relkvanu-backup.timer") == "active"
 
 
 def check_the_discarder():
@@ -114,13 +188,10 @@ def check_the_discarder():
     as_the_page_says("discard")
     until(lambda: os.path.exists(marker))
     for number in (7, 8):
-        path = f"/srv/orders/state-{number}.bin"
-        with open(path, "w", encoding="utf-8") as it:
-            it.write("state")
+        path = state_file(number)
         told = request("POST", "/v1/jobs/orders/calls", {"calls": [{"call": "savepoint"}]}, f"savepoint {number}")
         record = told[1]["answers"][0]["id"]
-        calls = [{"call": "ack", "id": record, "subtask": "0.0", "fresh": [str(number)]}, {"call": "dispose", "id": record}]
-        assert request("POST", "/v1/jobs/orders/calls", {"calls": calls}, f"dispose {number}")[0] == 200
+        calls(f"dispose {number}", {"call": "ack", "id": record, "subtask": "0.0", "fresh": [str(number)]}, {"call": "dispose", "id": record})
         until(lambda: not os.path.exists(path))
         os.kill(int(property_of("MainPID", unit)), signal.SIGKILL)
         until(lambda: int(property_of("NRestarts", unit)) == number - 6 and property_of("ActiveState", unit) == "active")
@@ -128,6 +199,13 @@ def check_the_discarder():
     run("systemctl", "restart", unit, check=False)
     until(lambda: property_of("ActiveState", unit) == "failed")
     assert property_of("ExecMainStatus", unit) == "78" and property_of("NRestarts", unit) == "0", run("systemctl", "status", unit, check=False)
+    # the marker is made again by the user of the unit, with its token, and the option is for one start
+    as_the_page_says("init")
+    until(lambda: os.path.exists(marker))
+    assert os.stat(marker).st_uid == os.stat("/srv/orders").st_uid
+    run("systemctl", "restart", unit)
+    with open(f"/proc/{property_of('MainPID', unit)}/cmdline", encoding="utf-8") as it:
+        assert "--init" not in it.read().split("\0")
     return exposure_of(unit)
 
 
@@ -139,20 +217,50 @@ def exposure_of(unit):
 def check_an_option_for_one_start():
     with open("/run/relkvanu.options", "w", encoding="utf-8") as it:
         it.write("RELKVANU_OPTIONS=--accept-clock\n")
-    for words in (["--accept-clock"], []):
+    for more in (["--accept-clock"], []):
         run("systemctl", "restart", "relkvanu")
         until(is_ready)
-        with open(f"/proc/{property_of('MainPID')}/cmdline", encoding="utf-8") as it:
-            assert it.read().split("\0")[:-1][-len(words) - 1 :] == ["/run/credentials/relkvanu.service/token", *words]
-        if words:
+        assert words()[-len(more) - 1 :] == ["/run/credentials/relkvanu.service/token", *more]
+        if more:
             os.remove("/run/relkvanu.options")
 
 
-def with_watchdog(seconds):
-    os.mkdir("/run/systemd/system/relkvanu.service.d")
-    with open("/run/systemd/system/relkvanu.service.d/watchdog.conf", "w", encoding="utf-8") as it:
-        it.write(f"[Service]\nWatchdogSec={seconds}\n")
+def check_a_wrong_option_ends_it():
+    with open("/run/relkvanu.options", "w", encoding="utf-8") as it:
+        it.write("RELKVANU_OPTIONS=--accept-clok\n")
+    run("systemctl", "restart", "relkvanu", check=False)
+    until(lambda: property_of("ActiveState") == "failed")
+    assert property_of("ExecMainStatus") == "2" and property_of("NRestarts") == "0", run("systemctl", "status", "relkvanu", check=False)
+    os.remove("/run/relkvanu.options")
+    run("systemctl", "start", "relkvanu")
+    until(is_ready)
+
+
+def check_a_long_start():
+    """A reader of the database keeps the start from being ready for longer than the unit allows. The process asks for more time."""
+    with_setting("start", "TimeoutStartSec=2")
+    run("systemctl", "stop", "relkvanu")
+    reader = sqlite3.connect("/var/lib/relkvanu/relkvanu.db", isolation_level=None, check_same_thread=False)
+    reader.execute("begin")
+    reader.execute("select count(*) from call").fetchone()
+    threading.Timer(5, reader.close).start()
+    started = time.monotonic()
+    run("systemctl", "start", "relkvanu")
+    took = time.monotonic() - started
+    until(is_ready)
+    assert took > 4 and property_of("NRestarts") == "0", took
+    return took
+
+
+def with_setting(name, text):
+    os.makedirs("/run/systemd/system/relkvanu.service.d", exist_ok=True)
+    with open(f"/run/systemd/system/relkvanu.service.d/{name}.conf", "w", encoding="utf-8") as it:
+        it.write(f"[Service]\n{text}\n")
     run("systemctl", "daemon-reload")
+
+
+def with_watchdog(seconds):
+    with_setting("watchdog", f"WatchdogSec={seconds}")
     run("systemctl", "restart", "relkvanu")
     until(is_ready)
 
@@ -174,14 +282,18 @@ def main():
     with_watchdog(2)
     after_stop = after(signal.SIGSTOP)
     check_a_backup_is_restored()
+    check_an_upgrade_and_its_way_back()
+    check_backups_of_each_night()
     check_an_option_for_one_start()
+    check_a_wrong_option_ends_it()
+    long_start = check_a_long_start()
     run("systemctl", "stop", "relkvanu")
     assert property_of("Result") == "success" and property_of("ExecMainStatus") == "0"
     exposure = exposure_of("relkvanu.service")
     check_a_bad_setting_ends_it()
     journal = run("journalctl", "--unit=relkvanu", "--no-pager")
     assert "serves on" in journal and WRITE not in journal, journal[-1000:]
-    print(json.dumps({"exposure": exposure, "discard_exposure": discard_exposure, "after_kill": after_kill, "after_stop": after_stop}))
+    print(json.dumps({"exposure": exposure, "discard_exposure": discard_exposure, "after_kill": after_kill, "after_stop": after_stop, "long_start": long_start}))
 
 
 main()

@@ -1,21 +1,23 @@
 """A client of the service: jobs, their calls and their events, over `requests`.
 
-    from relkvanu_service import Service, ack
+    from relkvanu_service import Service, ack, file_numbers
 
-    service = Service("http://127.0.0.1:7780")
-    job = service.open("orders", {"interval": 60_000}, [2, 1])
-    for event in job.follow():
+    job = Service("http://127.0.0.1:7780").open("orders", {"interval": 60_000}, [1])
+    numbers = file_numbers()
+    for event in job.begin().events():
         if event["event"] == "triggered":
-            job.call(ack(event["id"], "0.0", fresh=[31]))
+            job.call(ack(event["id"], "0.0", fresh=[next(numbers)]))  # once the file is synced
 
-If a request is not answered, the client makes it again, by default for a minute, at the service's next address. Calls have an
+docs/SERVICE.md has the whole loop of an engine. If a request is not answered, the client makes it again, by default for a minute, at the service's next address. Calls have an
 Idempotency-Key, so the service makes them once. File numbers are integers here, and strings in the API. Threads may share
 what is here.
 """
 import copy
 import email.utils
 import math
+import os
 import random
+import secrets
 import threading
 import time
 import uuid
@@ -23,14 +25,16 @@ import uuid
 import requests
 
 __all__ = [
-    "Failed", "Gone", "Refused", "Service", "Job", "Follower", "ack", "decline", "restore", "savepoint", "take", "cancel", "dispose",
-    "deleted", "undeleted",
+    "Failed", "Gone", "OtherLog", "Refused", "Service", "Job", "Start", "Follower", "file_numbers", "ack", "decline", "restore",
+    "savepoint", "take", "cancel", "dispose", "deleted", "undeleted",
 ]
 
 _CONNECT = 2.0  # seconds in which a machine that is there takes a connection
 _ONE_TRY = 10.0  # seconds in which an address has to answer, besides the wait of a poll
 _FIRST_PAUSE, _LONGEST_PAUSE = 0.05, 1.0  # between two tries at an address
 _LONGEST_LATER = 60.0  # the longest Retry-After that is believed
+_COUNT_BITS = 24  # of a file's number; random ones are above them
+_ONE_LOOK, _HISTORY_PATIENCE = 0.1, 60.0  # seconds between two looks at how far the history is, and until they end
 # A proxy, a standby or a service that starts answers so; another try may be answered otherwise.
 _PASSING = {429, 502, 503, 504}
 _LOST = (requests.ConnectionError, requests.Timeout, requests.exceptions.ChunkedEncodingError)
@@ -52,12 +56,26 @@ class Gone(Failed):
         self.reason, self.first, self.log = body.get("reason"), body.get("first"), body.get("log")
 
 
+class OtherLog(Gone):
+    """The log never had the place: a backup of the service was restored, or another service answers. The job must not go on by
+    itself, since files of the records that the service has may be deleted. The engine ends, and somebody restores the job to a
+    record whose files are all there."""
+
+
 class Refused(Exception):
     """The coordinator refused a call, which changed nothing: its `name`, and the `file` that it names."""
 
     def __init__(self, name, file=None):
         super().__init__(name if file is None else f"{name} {file}")
         self.name, self.file = name, file
+
+
+def file_numbers():
+    """Yields numbers for new files: 40 random bits, and a count in the 24 bits below. So no two tasks give the same, and none comes
+    twice after a backup of the service was restored, as numbers of records do then."""
+    while True:
+        begin = secrets.randbits(64 - _COUNT_BITS) << _COUNT_BITS
+        yield from range(begin, begin + (1 << _COUNT_BITS))
 
 
 def ack(record, subtask, fresh=(), reused=()):
@@ -217,9 +235,33 @@ def _body(told):
     if told.status_code >= 300 or not isinstance(body, dict):
         said = body if isinstance(body, dict) else {}
         if told.status_code == 410:
-            raise Gone(said)
+            raise (OtherLog if said.get("reason") == "other_log" else Gone)(said)
         raise Failed(told.status_code, said.get("error", told.text), said.get("field"))
     return body
+
+
+def _make_whole(folder, name, text):
+    """Makes a file that is whole or not there, whenever the power is lost."""
+    with open(f"{folder}/{name}.claim", "w", encoding="utf-8") as it:
+        it.write(text)
+        it.flush()
+        os.fsync(it.fileno())
+    os.rename(f"{folder}/{name}.claim", f"{folder}/{name}")
+    at = os.open(folder, os.O_RDONLY | os.O_DIRECTORY)
+    try:
+        os.fsync(at)
+    finally:
+        os.close(at)
+
+
+def _made(answer):
+    """An answer of a call that was made."""
+    if "refused" in answer:
+        file = answer.get("file")
+        raise Refused(answer["refused"], None if file is None else int(file))
+    if answer.get("no_memory"):
+        raise Failed(507, "memory ran out")
+    return answer
 
 
 class Job:
@@ -237,18 +279,67 @@ class Job:
     def calls(self, calls, key=None):
         """Makes calls in order and returns the answer of each, a refusal too. They are no transaction. The service makes them once
         under a key, which is new if none is given. A caller that gave up and comes back gives the same key again."""
+        return self._make(calls, key)["answers"]
+
+    def _make(self, calls, key):
         key = uuid.uuid4().hex if key is None else key
-        return self._service.request("POST", f"{self._path}/calls", {"calls": calls}, key)["answers"]
+        return self._service.request("POST", f"{self._path}/calls", {"calls": calls}, key)
 
     def call(self, call, key=None):
         """Makes one call. Raises `Refused` if the coordinator refuses it."""
-        answer = self.calls([call], key)[0]
-        if "refused" in answer:
-            file = answer.get("file")
-            raise Refused(answer["refused"], None if file is None else int(file))
-        if answer.get("no_memory"):
-            raise Failed(507, "memory ran out")
-        return answer
+        return _made(self.calls([call], key)[0])
+
+    def claim(self, folder):
+        """Makes sure that a folder's files are this job's: the file `.relkvanu-NAME` there names the job and when it was opened, as
+        `relkvanu discard` has it. It is made in a folder without files for a job without files. Otherwise this raises `Failed`: the
+        folder is of another job, its disk is not mounted, or the service has lost this job and opened it anew."""
+        state, name = self.state(), f".relkvanu-{self.name}"
+        text = f"relkvanu discard deletes files of the job {self.name}, opened at {state['opened']}, from this folder.\n"
+        try:
+            with open(f"{folder}/{name}", encoding="utf-8") as it:
+                found = it.read()
+        except FileNotFoundError:
+            if any(not other.startswith(".") for other in os.listdir(folder)):
+                raise Failed(409, f"{folder} has files, and no file {name}: it is not known whose they are") from None
+            if any(state["files"][of] for of in ("in_use", "waiting", "taken")):
+                raise Failed(409, f"{folder} has no file {name}, and the job has files: is its disk not mounted?") from None
+            return _make_whole(folder, name, text)
+        if found != text:
+            raise Failed(409, f"{folder}/{name} names another job, or this one as another database has it")
+
+    def begin(self, start="latest", shape=None, key=None):
+        """Begins the job again, from the latest record or from a savepoint, once all its tasks have ended: makes the call `restore`, and
+        returns a `Start`. Pending records end. Raises `Refused` if the job is cancelled."""
+        told = self._make([restore(start, shape)], key)
+        return Start(self, _made(told["answers"][0]), told.get("log"))
+
+    def orphans(self, files):
+        """Those of these files that the job does not know: no record uses them, and they don't wait for deletion and are not taken. An
+        engine deletes them if it listed them after all its tasks had ended, has made `begin` since, and starts no task before it has
+        deleted them. At any other time a file may be one whose acknowledgement is on its way."""
+        state, until = self.state(), time.monotonic() + _HISTORY_PATIENCE
+        while self.files(1)["upto"] < state["seq"]:
+            if time.monotonic() > until:
+                raise Failed(503, "the history is behind, so it is not known which files wait for deletion")
+            time.sleep(_ONE_LOOK)
+        rest = set(files)
+        for record in state["live"]:
+            rest.difference_update(*(self._held(record["id"]) or {}).values())
+        return {file for file in rest if self._is_orphan(file)}
+
+    def _is_orphan(self, number):
+        told = self.file(number)
+        return told["uses"] == 0 and (told["history"] is None or told["history"]["deleted"] is not None)
+
+    def _held(self, record):
+        """The files of each subtask of a record, or None if it is not live."""
+        try:
+            live = self.record(record)["live"]
+        except Failed as failed:
+            if failed.status != 404:
+                raise
+            return None
+        return live and {it["subtask"]: [int(file) for file in it["files"]] for it in live["acks"]}
 
     def state(self):
         """The state of the job."""
@@ -305,13 +396,32 @@ class Job:
         return self._service.request("GET", self._path + path + (f"?{text}" if text else ""), wait=query.get("wait", 0))
 
 
+class Start:
+    """What a job begins from: the `kind` of a record, which is `checkpoint` or `savepoint`, its number `id`, and the `files` that each
+    subtask loads. Or the kind is `fresh`, and there is no record. `follower` has the events after it."""
+
+    def __init__(self, job, answer, log):
+        self.kind, self.id = answer["restore"], answer.get("id")
+        self.files = {} if self.id is None else job._held(self.id)
+        if self.files is None:
+            raise Failed(404, f"{self.kind} {self.id} has ended meanwhile: somebody else has restored or cancelled the job")
+        self.follower = Follower(job, answer["seq"], log)
+
+    def events(self):
+        """Yields the events after it, for ever."""
+        while True:
+            yield from self.follower.next()
+
+
 class Follower:
     """The events of a job from a place on.
 
-    If the log does not have them any more, it goes on from the job's state. Then an event `missed` comes, with its `reason` and the
-    `state`, and after it events that bring an engine up to date. If the log was cut: `completed` for the record that a restore would
-    begin from, `triggered` for each pending record, and `failed` or `cancelled` if the job is. The engine may have heard of some
-    before. If a backup was restored: `failed`, because records that the engine knows may be no more, so the job has to begin again.
+    If calls after the place were cut from the log, it goes on from the job's state. Then an event `missed` comes, with its `reason` and
+    the `state`, and after it events that stand for the state: `completed` for the record that a restore would begin from, `triggered`
+    for each pending record, and `failed` or `cancelled` if the job is. The engine may have heard of some before. The state does not say
+    whether somebody restored the job meanwhile, so an engine begins the job again.
+
+    If a backup of the service was restored, it raises `OtherLog`, now and each time: the engine ends.
     """
 
     def __init__(self, job, after=None, log=None):
@@ -325,6 +435,8 @@ class Follower:
         """The next events, once there is one or the seconds are over."""
         try:
             told = self._job.poll(self.after, wait, self.log)
+        except OtherLog:
+            raise
         except Gone as gone:
             state = self._job.state()
             self.after, self.log = state["seq"], state.get("log")
@@ -339,9 +451,6 @@ def _instead(state, reason):
         return {"seq": state["last_event"], "at": state["now"], "event": word, "ended": [], **more}
 
     ends = [event(state["mode"])] if state["mode"] != "running" else []
-    if reason == "other_log":
-        ends = ends or [event("failed")]
-        return [event("missed", reason=reason, state=state), *ends]
     choice = state["choice"]
     completed = [event("completed", id=choice["id"])] if "id" in choice else []
     triggered = [event("triggered", id=it["id"], kind=it["kind"]) for it in state["live"] if not it["done"]]

@@ -1,8 +1,10 @@
 //! Why a command that asks a service did not do what it was told, and its exit status.
+use crate::discard::no_marker;
 use crate::exit::{NOT_TO_START, START_AGAIN};
 use crate::remote::NoService;
 use relkvanu_client::Error as Asked;
 use std::io;
+use std::path::PathBuf;
 use thiserror::Error;
 
 /// The exit status if the service answered, and the answer is no.
@@ -24,6 +26,18 @@ pub enum Ended {
     Incomplete(u64),
     #[error("savepoint {0} is not complete yet")]
     Late(u64),
+    #[error("{}: {why}", .path.display())]
+    Folder { path: PathBuf, why: io::Error },
+    #[error("no such record has all its files in the folder")]
+    NoneWhole,
+    #[error("{}", no_marker(.0, .1))]
+    Unmarked(PathBuf, String),
+    #[error("none of {count} files in use is in {}, as {name}: is it the wrong folder, --prefix or --suffix?", .path.display())]
+    Elsewhere { count: usize, path: PathBuf, name: String },
+    #[error("record {0} is pending and has acknowledgements: end the engine with all its tasks, and restore the job")]
+    AtWork(u64),
+    #[error("the history has not read all calls yet, so it is not known which files wait for deletion")]
+    Behind,
     #[error(transparent)]
     Output(#[from] io::Error),
 }
@@ -33,9 +47,12 @@ impl Ended {
     pub fn status(&self) -> u8 {
         match self {
             Ended::Refused(_) | Ended::Incomplete(_) | Ended::Asked(Asked::Status { status: NOT_FOUND, .. }) => NO,
+            Ended::NoneWhole | Ended::AtWork(_) => NO,
             Ended::NoMemory | Ended::Late(_) | Ended::Asked(Asked::Status { status: NO_MEMORY, .. }) => START_AGAIN,
+            Ended::Behind => START_AGAIN,
             Ended::Asked(error) if error.may_pass() => START_AGAIN,
             Ended::NoService(_) | Ended::Asked(_) | Ended::Output(_) => NOT_TO_START,
+            Ended::Folder { .. } | Ended::Unmarked(..) | Ended::Elsewhere { .. } => NOT_TO_START,
         }
     }
 }

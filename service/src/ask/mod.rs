@@ -1,5 +1,6 @@
 //! Commands that ask a service: what its jobs are, and a few calls that a user makes.
 mod ended;
+mod folder;
 mod tables;
 mod words;
 
@@ -43,6 +44,8 @@ async fn asked(given: &Ask) -> Result<(), Ended> {
         Ask::Show(given) => show(&service.job(&given.job), given).await,
         Ask::Log(given) => print_log(&service.job(&given.job), given).await,
         Ask::Files(given) => files(&service.job(&given.job), given).await,
+        Ask::Savepoints(given) => folder::savepoints(&service.job(&given.job), given).await,
+        Ask::Orphans(given) => folder::orphans(&service.job(&given.job), given).await,
         Ask::Savepoint(given) => savepoint(&service.job(&given.job), given).await,
         Ask::Dispose(given) => {
             call(&service.job(&given.job), at.json, Call::Dispose { id: given.id }).await.map(|_| ())

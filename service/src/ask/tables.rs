@@ -5,6 +5,9 @@ use std::fmt::Write as _;
 use std::io::Write as _;
 use tabwriter::TabWriter;
 
+/// How many absent files are named.
+const MOST_NAMED: usize = 8;
+
 /// Rows, whose cells have tabs between them, as a table.
 pub fn table(rows: &[String]) -> String {
     let mut writer = TabWriter::new(Vec::new()).padding(2);
@@ -106,6 +109,32 @@ pub fn files(files: &Value) -> String {
         }
     }
     table(&rows)
+}
+
+/// The records that a restore may begin from, and which of their files a folder lacks.
+pub fn savepoints(records: &Value) -> String {
+    let mut rows = vec!["RECORD\tKIND\tTRIGGERED\tFILES\tABSENT".to_string()];
+    for record in items(records) {
+        let latest = if record["latest"] == true { ", the latest" } else { "" };
+        let named = items(&record["absent"]).iter().take(MOST_NAMED).map(cell).collect::<Vec<_>>().join(" ");
+        let absent = record["absent"].as_array().map(|absent| match absent.len() {
+            0 => "none".to_string(),
+            count if count > MOST_NAMED => format!("{count}: {named} .."),
+            count => format!("{count}: {named}"),
+        });
+        let (id, kind, files) = (cell(&record["id"]), cell(&record["kind"]), cell(&record["files"]));
+        rows.push(format!(
+            "{id}\t{kind}{latest}\t{}\t{files}\t{}",
+            at(&record["triggered"]),
+            absent.unwrap_or_default()
+        ));
+    }
+    table(&rows)
+}
+
+/// A line for each text.
+pub fn lines(texts: &Value) -> String {
+    items(texts).iter().map(|text| cell(text) + "\n").collect()
 }
 
 /// Who uses a file, and what became of it.

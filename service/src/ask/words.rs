@@ -14,13 +14,17 @@ pub enum Ask {
     Log(Log),
     /// List files that were taken and not reported, and those deleted last; or show one file
     Files(Files),
+    /// List the records that a restore may begin from, and how many of their files a folder lacks
+    Savepoints(Savepoints),
+    /// List the files of a folder that the job does not know
+    Orphans(Orphans),
     /// Trigger a savepoint
     Savepoint(Savepoint),
     /// Dispose of a savepoint
     Dispose(Dispose),
     /// Begin a job again from its latest record, or from a savepoint
     Restore(Restore),
-    /// Cancel a job for good
+    /// Cancel a job for good: its checkpoints are dropped, unless it has `keep_on_cancel`
     Cancel(Cancel),
 }
 
@@ -87,6 +91,45 @@ pub struct Files {
     pub at: At,
 }
 
+/// How a folder's files are named.
+#[derive(Args)]
+pub struct Names {
+    /// The part of a file's name before its number
+    #[arg(long, default_value = "")]
+    pub prefix: String,
+    /// The part of a file's name after its number
+    #[arg(long, default_value = "")]
+    pub suffix: String,
+}
+
+#[derive(Args)]
+pub struct Savepoints {
+    /// The job
+    #[arg(value_parser = job_name)]
+    pub job: String,
+    /// Look for the files in this folder
+    #[arg(long, value_name = "DIR")]
+    pub folder: Option<PathBuf>,
+    #[command(flatten)]
+    pub names: Names,
+    #[command(flatten)]
+    pub at: At,
+}
+
+#[derive(Args)]
+pub struct Orphans {
+    /// The job
+    #[arg(value_parser = job_name)]
+    pub job: String,
+    /// The folder of the job's files, in which `relkvanu discard` has marked that it is
+    #[arg(long, value_name = "DIR")]
+    pub folder: PathBuf,
+    #[command(flatten)]
+    pub names: Names,
+    #[command(flatten)]
+    pub at: At,
+}
+
 #[derive(Args)]
 pub struct Savepoint {
     /// The job
@@ -141,6 +184,8 @@ impl Ask {
             Ask::Show(given) => &given.at,
             Ask::Log(given) => &given.at,
             Ask::Files(given) => &given.at,
+            Ask::Savepoints(given) => &given.at,
+            Ask::Orphans(given) => &given.at,
             Ask::Savepoint(given) => &given.at,
             Ask::Dispose(given) => &given.at,
             Ask::Restore(given) => &given.at,

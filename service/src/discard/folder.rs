@@ -31,6 +31,20 @@ pub struct Owner {
 }
 
 impl Owner {
+    /// The marker's name.
+    pub fn marker(&self) -> String {
+        format!(".relkvanu-{}", self.job)
+    }
+
+    /// Whether the folder has the marker, and it names this job.
+    pub fn has(&self, path: &Path) -> std::io::Result<bool> {
+        match open_marker(&File::open(path)?, &self.marker()) {
+            Ok(marker) => Ok(says(&marker, self)),
+            Err(Errno::NOENT) => Ok(false),
+            Err(error) => Err(error.into()),
+        }
+    }
+
     /// What the marker says.
     fn text(&self) -> String {
         format!(
@@ -67,7 +81,7 @@ impl Folder {
         let path = given.folder.clone();
         let failed = |error: std::io::Error| Stop::Again(format!("{}: {error}", path.display()));
         let folder = File::open(&path).map_err(failed)?;
-        let name = format!(".relkvanu-{}", owner.job);
+        let name = owner.marker();
         let found = open_marker(&folder, &name);
         let is_ours = found.as_ref().is_ok_and(|marker| says(marker, owner));
         let marker = match found {
@@ -181,11 +195,12 @@ impl Folder {
     }
 }
 
-fn no_marker(path: &Path, name: &str) -> String {
+/// What is said of a folder that is not marked.
+pub fn no_marker(path: &Path, name: &str) -> String {
     let path = path.display();
     format!(
-        "{path} has no file {name}: it may be the wrong folder, or its disk is not mounted. If it is the job's, run it \
-         once with --init"
+        "{path} has no file {name}: it may be the wrong folder, or its disk is not mounted. If it is the job's, run \
+         relkvanu discard once with --init"
     )
 }
 

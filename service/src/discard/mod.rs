@@ -2,11 +2,13 @@
 mod folder;
 mod metrics;
 
+pub use folder::{no_marker, Owner};
+
 use crate::cli;
 use crate::exit::NOT_TO_START;
 use crate::log;
 use crate::remote;
-use folder::{Folder, Outcome, Owner, Stop};
+use folder::{Folder, Outcome, Stop};
 use metrics::Metrics;
 use relkvanu_client::{new_key, Answer, Call, Error, Job, Service};
 use serde_json::Value;

@@ -5,6 +5,11 @@ use super::{no_job, App};
 use crate::model::length_in;
 use serde_json::json;
 
+/// What an engine is told whose place the log never had.
+const OTHER_LOG: &str =
+    "is no place of this log: a backup was restored, or another service answers. End the engine and its tasks, and \
+    restore the job to a record whose files are all there, which relkvanu savepoints finds";
+
 /// The parameter `after`; its default stands for no place.
 pub const AFTER: Parameter = Parameter { name: "after", most: u64::MAX - 1, default: u64::MAX };
 
@@ -33,8 +38,7 @@ impl Place<'_> {
             }
         };
         if after > length {
-            let why = "is no place of this log: a backup was restored, or another service answers";
-            return Err(self.gone(app, "other_log", why).into());
+            return Err(self.gone(app, "other_log", OTHER_LOG).into());
         }
         Ok(())
     }
@@ -46,7 +50,7 @@ impl Place<'_> {
         match self.after {
             // if there is no event after the place, none was cut
             Some(after) if after + 1 < first && after < last => {
-                let why = format!("is before the log's calls, which begin with {first}");
+                let why = format!("is before the log's calls, which begin with {first}; go on from the job's state");
                 Err(self.gone(app, "cut", &why).into())
             }
             _ => Ok(first),
@@ -55,7 +59,7 @@ impl Place<'_> {
 
     fn gone(&self, app: &App, reason: &str, why: &str) -> Reply {
         let first = app.board.first(self.job);
-        let error = format!("after {why}; go on from the job's state");
+        let error = format!("after {why}");
         refusal(
             410,
             json!({"error": error, "field": "after", "reason": reason, "first": first, "log": app.board.log()}),

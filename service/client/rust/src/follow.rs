@@ -5,14 +5,18 @@ use serde_json::{json, Value};
 use std::time::Duration;
 
 const GONE: u16 = 410;
+/// The reason if the log never had the place.
+const OTHER_LOG: &str = "other_log";
 
 /// The events of a job from a place on.
 ///
-/// If the log does not have them any more, it goes on from the job's state. Then an event `missed` comes, with its
-/// `reason` and the `state`, and after it events that bring an engine up to date. If the log was cut: `completed` for
-/// the record that a restore would begin from, `triggered` for each pending record, and `failed` or `cancelled` if the
-/// job is. The engine may have heard of some before. If a backup was restored: `failed`, because records that the
-/// engine knows may be no more, so the job has to begin again.
+/// If calls after the place were cut from the log, it goes on from the job's state. Then an event `missed` comes, with
+/// its `reason` and the `state`, and after it events that stand for the state: `completed` for the record that a restore
+/// would begin from, `triggered` for each pending record, and `failed` or `cancelled` if the job is. The engine may have
+/// heard of some before. The state does not say whether somebody restored the job meanwhile, so an engine begins the job
+/// again.
+///
+/// If a backup of the service was restored, it fails with [`Error::OtherLog`], now and each time: the engine ends.
 pub struct Follower {
     job: Job,
     after: Option<u64>,
@@ -41,10 +45,13 @@ impl Follower {
         let path = format!("{}/events?after={after}&wait={wait}{log}", self.job.path);
         let told = self.job.ask(Asked::poll(path, Duration::from_secs(wait))).await?;
         if told.status == GONE {
-            let reason = told.value()?["reason"].as_str().unwrap_or("cut").to_string();
+            let gone = told.value()?;
+            if gone["reason"] == OTHER_LOG {
+                return Err(Error::OtherLog(gone["error"].as_str().unwrap_or_default().to_string()));
+            }
             let state = self.job.state().await?;
             self.go_on(&state)?;
-            return Ok(instead(&state, &reason));
+            return Ok(instead(&state));
         }
         let mut told = told.body()?;
         self.after = Some(told["upto"].as_u64().ok_or(Error::Answer("has no upto".to_string()))?);
@@ -68,8 +75,8 @@ pub(crate) fn events_of(told: &mut Value) -> Result<Vec<Value>, Error> {
     }
 }
 
-/// The events that a job's state stands for.
-fn instead(state: &Value, reason: &str) -> Vec<Value> {
+/// The events that a job's state stands for, if calls were cut.
+fn instead(state: &Value) -> Vec<Value> {
     let event = |word: &str| json!({"seq": state["last_event"], "at": state["now"], "event": word, "ended": []});
     let with = |word: &str, more: &[(&str, &Value)]| {
         let mut event = event(word);
@@ -78,13 +85,9 @@ fn instead(state: &Value, reason: &str) -> Vec<Value> {
         }
         event
     };
-    let mut events = vec![with("missed", &[("reason", &json!(reason)), ("state", state)])];
+    let mut events = vec![with("missed", &[("reason", &json!("cut")), ("state", state)])];
     let mode = state["mode"].as_str().unwrap_or("failed");
     let is_running = mode == "running";
-    if reason == "other_log" {
-        events.push(event(if is_running { "failed" } else { mode }));
-        return events;
-    }
     let choice = &state["choice"]["id"];
     events.extend((!choice.is_null()).then(|| with("completed", &[("id", choice)])));
     let live = state["live"].as_array().map(Vec::as_slice).unwrap_or_default();
@@ -107,13 +110,12 @@ mod tests {
         let live =
             json!([{"id": 3, "kind": "checkpoint", "done": true}, {"id": 4, "kind": "savepoint", "done": false}]);
         let mut state = json!({"last_event": 9, "now": 1, "mode": "running", "choice": {"kind": "checkpoint", "id": 3}, "live": live});
-        let events = instead(&state, "cut");
+        let events = instead(&state);
         assert_eq!(words(&events), ["missed null", "completed 3", "triggered 4"]);
         assert_eq!((&events[2]["kind"], &events[2]["seq"]), (&json!("savepoint"), &json!(9)));
-        assert_eq!(words(&instead(&state, "other_log")), ["missed null", "failed null"]);
-        state["mode"] = json!("cancelled");
-        assert_eq!(words(&instead(&state, "other_log")), ["missed null", "cancelled null"]);
         state = json!({"last_event": 0, "now": 1, "mode": "failed", "choice": {"kind": "fresh"}, "live": []});
-        assert_eq!(words(&instead(&state, "cut")), ["missed null", "failed null"]);
+        assert_eq!(words(&instead(&state)), ["missed null", "failed null"]);
+        state["mode"] = json!("cancelled");
+        assert_eq!(words(&instead(&state)), ["missed null", "cancelled null"]);
     }
 }

@@ -41,6 +41,14 @@ pub enum Error {
     /// The answer is not as the API says.
     #[error("the service's answer {0}")]
     Answer(String),
+    /// The coordinator refused a call, which changed nothing.
+    #[error("the coordinator refuses it: {0}")]
+    Refused(String),
+    /// The log never had the place that an engine knows: a backup of the service was restored, or another service answers. The job must not
+    /// go on by itself, since files of the records that the service has may be deleted. The engine ends, and somebody restores the job to
+    /// a record whose files are all there.
+    #[error("{0}")]
+    OtherLog(String),
 }
 
 impl Error {
@@ -51,7 +59,7 @@ impl Error {
         match self {
             Error::Unreached(_) => true,
             Error::Status { status, .. } => is_passing(*status),
-            Error::Address(_) | Error::Answer(_) => false,
+            Error::Address(_) | Error::Answer(_) | Error::Refused(_) | Error::OtherLog(_) => false,
         }
     }
 }

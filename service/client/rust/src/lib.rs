@@ -17,10 +17,12 @@ mod addresses;
 mod call;
 mod follow;
 mod http;
+mod start;
 
 pub use call::{Answer, Call};
 pub use follow::Follower;
 pub use http::{new_key, Error};
+pub use start::{file_numbers, Start};
 
 use follow::events_of;
 use http::{Asked, Manner, Requests, Told};
@@ -98,11 +100,22 @@ impl Job {
 
     /// The same under a key of the caller's, who can give it again if the request was not answered.
     pub async fn calls_with_key(&self, calls: &[Call], key: &str) -> Result<Vec<Answer>, Error> {
-        let body = json!({"calls": calls.iter().map(Call::json).collect::<Vec<_>>()});
-        let asked = Asked::post(format!("{}/calls", self.path), &body, Some(key));
-        let told = self.requests.body(&self.manner, asked).await?;
+        let told = self.made(calls, key).await?;
         let answers = told["answers"].as_array().ok_or(Error::Answer("has no answers".to_string()))?;
         Ok(answers.iter().map(Answer::of).collect())
+    }
+
+    /// The body that answers calls.
+    async fn made(&self, calls: &[Call], key: &str) -> Result<Value, Error> {
+        let body = json!({"calls": calls.iter().map(Call::json).collect::<Vec<_>>()});
+        self.requests.body(&self.manner, Asked::post(format!("{}/calls", self.path), &body, Some(key))).await
+    }
+
+    /// Begins the job again, from the latest record or from a savepoint, in a new shape if one is given, once all its tasks
+    /// have ended: makes the call `restore`. Pending records end. Fails with [`Error::Refused`] if the job is cancelled.
+    pub async fn begin(&self, savepoint: Option<u64>, shape: Option<Vec<u64>>) -> Result<Start, Error> {
+        let told = self.made(&[Call::Restore { savepoint, shape }], &new_key()).await?;
+        Start::of(self, &told).await
     }
 
     /// Fetches at most this many files for deletion.

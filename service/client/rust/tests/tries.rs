@@ -165,7 +165,7 @@ async fn a_mute_machine_does_not_use_up_the_time() {
 #[tokio::test]
 async fn a_follower_goes_on_from_the_state() {
     let events = json!({"upto": 9, "log": "one", "first": 1, "events": [{"seq": 8, "event": "completed", "id": 3}]});
-    let gone = said(410, "", &json!({"error": "gone", "reason": "other_log", "first": 1, "log": "two"}));
+    let gone = said(410, "", &json!({"error": "gone", "reason": "cut", "first": 1, "log": "two"}));
     let state =
         json!({"seq": 5, "last_event": 4, "now": 1, "log": "two", "mode": "running", "choice": {"kind": "fresh"}});
     let stub = Stub::new(vec![said(200, "", &events), gone, said(200, "", &state), said(200, "", &events)]).await;
@@ -174,7 +174,7 @@ async fn a_follower_goes_on_from_the_state() {
     assert_eq!(follower.place(), (Some(9), Some("one")));
     let told = follower.next(0).await.expect("events");
     let words: Vec<&str> = told.iter().filter_map(|event| event["event"].as_str()).collect();
-    assert_eq!((words, follower.place()), (vec!["missed", "failed"], (Some(5), Some("two"))));
+    assert_eq!((words, follower.place()), (vec!["missed"], (Some(5), Some("two"))));
     follower.next(0).await.expect("events");
     let asked: Vec<String> = stub
         .came
@@ -187,6 +187,40 @@ async fn a_follower_goes_on_from_the_state() {
         ["/events?after=7&wait=0&log=one", "/events?after=9&wait=0&log=one", "", "/events?after=5&wait=0&log=two"];
     let wanted = wanted.map(|rest| format!("GET /v1/jobs/a{rest} HTTP/1.1"));
     assert_eq!(asked, wanted);
+}
+
+/// It does not ask for the state, and stays where it is.
+#[tokio::test]
+async fn a_follower_ends_over_another_log() {
+    let gone = || said(410, "", &json!({"error": "a backup", "reason": "other_log", "first": 1, "log": "two"}));
+    let stub = Stub::new(vec![gone(), gone()]).await;
+    let mut follower = service(&[&stub.url]).job("a").follower_at(7, "one");
+    for count in [1, 2] {
+        assert!(matches!(follower.next(0).await, Err(Error::OtherLog(why)) if why == "a backup"));
+        assert_eq!((follower.place(), stub.count()), ((Some(7), Some("one")), count));
+    }
+}
+
+#[tokio::test]
+async fn a_job_begins_with_the_files_of_its_record() {
+    let answered = |answer: serde_json::Value| said(200, "", &json!({"answers": [answer], "epoch": 1, "log": "one"}));
+    let restored = answered(json!({"restore": "savepoint", "id": 3, "released": 0, "seq": 9}));
+    let record = |live: serde_json::Value| said(200, "", &json!({"id": 3, "live": live}));
+    let live = record(json!({"acks": [{"subtask": "0.0", "files": ["31", "32"]}]}));
+    let fresh = answered(json!({"restore": "fresh", "released": 0, "seq": 9}));
+    let refused = answered(json!({"refused": "NotRunning"}));
+    let stub = Stub::new(vec![restored.clone(), live, restored, record(json!(null)), fresh, refused]).await;
+    let job = service(&[&stub.url]).job("a");
+    let start = job.begin(Some(3), None).await.expect("a start");
+    assert_eq!((start.kind.as_str(), start.id), ("savepoint", Some(3)));
+    assert_eq!(
+        (start.files, start.follower.place()),
+        (vec![("0.0".to_string(), vec![31, 32])], (Some(9), Some("one")))
+    );
+    assert!(matches!(job.begin(None, None).await, Err(Error::Answer(why)) if why.contains("has ended meanwhile")));
+    let start = job.begin(None, None).await.expect("a start");
+    assert_eq!((start.kind.as_str(), start.id, start.files.len()), ("fresh", None, 0));
+    assert!(matches!(job.begin(None, None).await, Err(Error::Refused(name)) if name == "NotRunning"));
 }
 
 /// Hours pass at once where all tasks sleep.

@@ -1,0 +1,89 @@
+//! What a job begins from, and the numbers that its new files get.
+use crate::{new_key, Answer, Error, Follower, Job};
+use serde_json::Value;
+
+/// How many bits of a file's number count. Random ones are above them.
+const COUNT_BITS: u32 = 24;
+
+/// What a job begins from.
+pub struct Start {
+    /// `checkpoint` or `savepoint`; `fresh` if there is no record.
+    pub kind: String,
+    pub id: Option<u64>,
+    /// The files that each subtask loads.
+    pub files: Vec<(String, Vec<u64>)>,
+    /// The events after it.
+    pub follower: Follower,
+}
+
+impl Start {
+    /// By the body that answers a restore.
+    pub(crate) async fn of(job: &Job, told: &Value) -> Result<Start, Error> {
+        let reply = match Answer::of(&told["answers"][0]) {
+            Answer::Made { reply, .. } => reply,
+            Answer::Refused { name, .. } => return Err(Error::Refused(name)),
+            other => return Err(Error::Answer(format!("to restore is {other:?}"))),
+        };
+        let kind =
+            reply["restore"].as_str().ok_or_else(|| Error::Answer("to restore is none".to_string()))?.to_string();
+        let (id, seq, log) = (reply["id"].as_u64(), reply["seq"].as_u64(), told["log"].as_str());
+        let files = match id {
+            Some(id) => held(&job.record(id).await?, id)?,
+            None => Vec::new(),
+        };
+        let follower = Follower::new(job.clone(), seq, log.map(str::to_string));
+        Ok(Start { kind, id, files, follower })
+    }
+}
+
+/// The files of each subtask of a record, which has to be live.
+fn held(record: &Value, id: u64) -> Result<Vec<(String, Vec<u64>)>, Error> {
+    let why = || format!("says that record {id} has ended meanwhile: somebody else has restored or cancelled the job");
+    let acks = record["live"]["acks"].as_array().ok_or_else(|| Error::Answer(why()))?;
+    let files = |ack: &Value| -> Option<(String, Vec<u64>)> {
+        let files = ack["files"].as_array()?.iter().map(|file| file.as_str()?.parse().ok());
+        Some((ack["subtask"].as_str()?.to_string(), files.collect::<Option<_>>()?))
+    };
+    acks.iter().map(files).collect::<Option<_>>().ok_or_else(|| Error::Answer(format!("has no files of record {id}")))
+}
+
+/// Numbers for new files: 40 random bits, and a count in the 24 bits below. So no two tasks give the same, and none comes
+/// twice after a backup of the service was restored, as numbers of records do then.
+pub fn file_numbers() -> impl Iterator<Item = u64> {
+    std::iter::repeat_with(random).flat_map(|begin| begin..=begin | ((1 << COUNT_BITS) - 1))
+}
+
+/// Random bits above those that count.
+fn random() -> u64 {
+    let bits = u64::from_str_radix(&new_key()[..16], 16).unwrap_or_default();
+    bits >> COUNT_BITS << COUNT_BITS
+}
+
+#[cfg(test)]
+mod tests {
+    use super::*;
+    use serde_json::json;
+
+    #[test]
+    fn numbers_of_two_tasks_differ() {
+        let begins = || file_numbers().next().unwrap_or_default();
+        let (first, second) = (begins(), begins());
+        assert!(
+            first != second && first % (1 << COUNT_BITS) == 0 && second % (1 << COUNT_BITS) == 0,
+            "{first} {second}"
+        );
+        let numbers: Vec<u64> = file_numbers().take(3).collect();
+        assert_eq!((numbers[1], numbers[2]), (numbers[0] + 1, numbers[0] + 2));
+        let turn = file_numbers().nth(1 << COUNT_BITS).unwrap_or_default();
+        assert_eq!(turn % (1 << COUNT_BITS), 0);
+    }
+
+    #[test]
+    fn a_record_that_has_ended_holds_no_files() {
+        let record = json!({"live": {"acks": [{"subtask": "0.1", "files": ["7", "18446744073709551615"]}]}});
+        assert_eq!(held(&record, 3).ok(), Some(vec![("0.1".to_string(), vec![7, u64::MAX])]));
+        for ended in [json!({"live": null}), json!({"live": {"acks": [{"subtask": "0.1", "files": [7]}]}})] {
+            assert!(matches!(held(&ended, 3), Err(Error::Answer(_))), "{ended}");
+        }
+    }
+}

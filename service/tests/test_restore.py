@@ -1,0 +1,124 @@
+"""A backup that is restored: which records have all their files, which files nobody knows, and the page's commands for PostgreSQL."""
+import os
+import re
+import subprocess
+
+from harness import PROGRAM, TOP, Server, folder, served, until
+from postgres import postgres
+from relkvanu_service import Service, ack, dispose, restore, savepoint
+from test_commands import SETTINGS, Asked
+
+
+def write(folder, *files):
+    for file in files:
+        with open(f"{folder}/s-{file}.bin", "wb") as it:
+            it.write(b"state")
+
+
+def discard(server, folder, *more):
+    words = [PROGRAM, "discard", "--once", "--job", "orders", "--url", server.url, "--folder", folder, "--prefix", "s-", "--suffix", ".bin", *more]
+    told = subprocess.run(words, stderr=subprocess.PIPE, text=True, timeout=60, check=False)
+    assert told.returncode == 0, told.stderr
+
+
+def test_records_that_have_all_their_files():
+    with served() as server:
+        files = f"{server.folder}/files"
+        os.mkdir(files)
+        job = Service(server.url).open("orders", {"interval": 40, "retained": 2, "timeout": 1 << 40}, [1])
+        ask, words = Asked(server), ["savepoints", "orders", "--folder", files, "--prefix", "s-", "--suffix", ".bin"]
+        assert ask("savepoints", "orders").split() == "RECORD KIND TRIGGERED FILES ABSENT".split()
+        assert "no such record has all its files" in ask(*words, status=1)
+        pending = until(lambda: next((it["id"] for it in job.state()["live"] if not it["done"]), None))
+        job.call(ack(pending, "0.0", [1, 2]))
+        first = job.call(savepoint())["id"]
+        job.calls([ack(first, "0.0", [3], [1])])
+        pending = until(lambda: next((it["id"] for it in job.state()["live"] if not it["done"]), None))
+        job.call(ack(pending, "0.0", [4]))
+        latest = job.state()["choice"]["id"]
+        assert latest == pending
+        write(files, 1, 2, 3)
+        rows = ask.json(*words)
+        # of two checkpoints only the latest is one to restore to; its file is not there
+        assert {row["id"]: (row["kind"], row["latest"], row["files"], row["absent"]) for row in rows} == {
+            first: ("savepoint", False, 2, []), latest: ("checkpoint", True, 1, ["4"]),
+        }, rows
+        text = {line.split()[0]: line for line in ask(*words).splitlines()}
+        assert text[str(first)].split()[-2:] == ["2", "none"], text
+        assert text[str(latest)].endswith("1: 4") and "checkpoint, the latest" in text[str(latest)], text
+        os.remove(f"{files}/s-3.bin")
+        assert "1: 3" in ask(*words, status=1)
+        assert "No such file" in ask("savepoints", "orders", "--folder", f"{files}/none", status=78)
+        return "a savepoint and a checkpoint"
+
+
+def test_files_that_nobody_knows():
+    with served() as server:
+        files = f"{server.folder}/files"
+        os.mkdir(files)
+        job = Service(server.url).open("orders", SETTINGS, [1, 1])
+        ask, words = Asked(server), ["orphans", "orders", "--folder", files, "--prefix", "s-", "--suffix", ".bin"]
+        write(files, *range(1, 10))
+        assert ".relkvanu-orders" in ask(*words, status=78)
+        discard(server, files)
+        job.calls([savepoint(), ack(1, "0.0", [1]), ack(1, "1.0", [2]), savepoint(), ack(2, "0.0", [3])])
+        # an engine is at work: a file may be acknowledged in a moment
+        assert "record 2 is pending and has acknowledgements" in ask(*words, status=1)
+        assert job.call(ack(2, "1.0", [4]))["ack"] == "completed"
+        job.calls([savepoint(), ack(3, "0.0", [5]), ack(3, "1.0", [6]), dispose(3), restore()])
+        # the others are in use (1 to 4), taken (5), or wait for deletion (6)
+        assert job.take(1) == [5]
+        wanted = [f"{files}/s-{file}.bin" for file in (7, 8, 9)]
+        write(files, "07", "x", "")
+        assert ask(*words).splitlines() == wanted and ask.json(*words) == wanted
+        # one that was deleted and is there again is known to nobody
+        discard(server, files)
+        assert not os.path.exists(f"{files}/s-5.bin") and not os.path.exists(f"{files}/s-6.bin")
+        write(files, 5)
+        assert ask.json(*words) == [f"{files}/s-5.bin", *wanted]
+        # a wrong suffix, and a folder of another job
+        assert "none of 4 files in use is in" in ask(*words[:-1], ".bak", status=78)
+        with open(f"{files}/.relkvanu-orders", "w", encoding="utf-8") as it:
+            it.write("relkvanu discard deletes files of the job orders, opened at 1, from this folder.\n")
+        assert ".relkvanu-orders" in ask(*words, status=78)
+        return "three files, and five refusals"
+
+
+def page_commands(after, port):
+    """A block of docs/SERVICE.md, over the PostgreSQL of the tests."""
+    with open(f"{TOP}/docs/SERVICE.md", encoding="utf-8") as it:
+        block = it.read().partition(after)[2].split("```")[1]
+    return re.sub(r"@db\.example/(\w+)\?passfile=pgpass", rf"@127.0.0.1:{port}/\1", block)
+
+
+def test_the_page_restores_a_dump():
+    with postgres() as database, folder() as at:
+        database.sql("create role relkvanu login")
+        database.sql("create database relkvanu owner relkvanu")
+        os.symlink(PROGRAM, f"{at}/relkvanu")
+        environment = {
+            **os.environ, "PGHOST": "127.0.0.1", "PGPORT": str(database.port), "PGUSER": "postgres", "PATH": f"{at}:{database.bin}:{os.environ['PATH']}",
+        }
+
+        def run(text):
+            told = subprocess.run(["bash", "-euc", text], cwd=at, env=environment, stdout=subprocess.PIPE, stderr=subprocess.STDOUT, text=True, check=False)
+            assert told.returncode == 0, told.stdout
+
+        server = Server(at, f"postgres://relkvanu@127.0.0.1:{database.port}/relkvanu").start()
+        job = Service(server.url).open("orders", SETTINGS, [1])
+        job.call(savepoint())
+        run("pg_dump --format=custom --file=copy.dump relkvanu")
+        before = job.state()
+        job.call(ack(1, "0.0", [1]))
+        server.stop()
+        for name in (name for name in os.listdir(at) if name.startswith("history")):
+            os.rename(f"{at}/{name}", f"{at}/aside-{name}")
+        run(page_commands("With PostgreSQL the copy gets a database of its own first.", database.port))
+        server.args.append("--accept-clock")
+        server.start()
+        after = job.state()
+        assert (after["seq"], after["live"]) == (before["seq"], before["live"]), after
+        aside = f"postgres://postgres@127.0.0.1:{database.port}/relkvanu_aside"
+        assert database.run("psql", "-XAtq", aside, "-c", "select count(*) from call").strip() == "2"
+        server.stop()
+        return "the damaged database is set aside"
