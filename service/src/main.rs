@@ -19,7 +19,6 @@ mod remote;
 mod serve;
 mod stop;
 mod store;
-mod upkeep;
 mod writer;
 
 use clap::{CommandFactory, Parser};

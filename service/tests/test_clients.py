@@ -47,7 +47,7 @@ def test_answers_fit_the_description():
         job = "/v1/jobs/{job}"
         fits("POST", "/v1/jobs", "/v1/jobs", {"name": "a", "settings": {"interval": 10_000}, "shape": [2]})
         calls = [
-            {"call": "savepoint"}, {"call": "ack", "id": 1, "subtask": "0.0", "fresh": ["1", "2"]}, {"call": "ack", "id": 1, "subtask": "0.1"},
+            {"call": "savepoint"}, {"call": "ack", "id": 1, "subtask": "0.0", "fresh": ["1", "2"], "bytes": [10, 20]}, {"call": "ack", "id": 1, "subtask": "0.1"},
             {"call": "tick"}, {"call": "savepoint"}, {"call": "decline", "id": 2, "subtask": "0.0"}, {"call": "decline", "id": 2, "subtask": "0.0"},
             {"call": "ack", "id": 2, "subtask": "0.0", "fresh": ["9"]}, {"call": "restore", "from": 1}, {"call": "restore", "from": "latest", "shape": [1]},
             {"call": "take", "most": 9}, {"call": "deleted", "file": "9"}, {"call": "undeleted", "file": "9"}, {"call": "dispose", "id": 1},

@@ -223,7 +223,7 @@ def test_postgresql_of_other_versions():
         server.start()
         until(lambda: job.state()["image"])
         server.stop()
-        assert database.sql("select number from schema_version") == "2" and database.sql("select count(*) from image") == "1"
+        assert database.sql("select number from schema_version") == "3" and database.sql("select count(*) from image") == "1"
         return "one without images, and a newer one"
 
 

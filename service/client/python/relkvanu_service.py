@@ -60,9 +60,11 @@ class Refused(Exception):
         self.name, self.file = name, file
 
 
-def ack(record, subtask, fresh=(), reused=()):
-    """A subtask has taken its part of a record: its new files, and those of live records that it uses again."""
-    return {"call": "ack", "id": record, "subtask": subtask, "fresh": _texts(fresh), "reused": _texts(reused)}
+def ack(record, subtask, fresh=(), reused=(), sizes=None):
+    """A subtask has taken its part of a record: its new files, and those of live records that it uses again. `sizes` are the bytes of
+    each new file, which the service shows; one of an earlier version refuses them."""
+    said = {} if sizes is None else {"bytes": list(sizes)}
+    return {"call": "ack", "id": record, "subtask": subtask, "fresh": _texts(fresh), "reused": _texts(reused), **said}
 
 
 def decline(record, subtask):

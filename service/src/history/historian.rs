@@ -123,10 +123,16 @@ impl Historian {
         if page.first().is_none_or(|entry| entry.seq != follower.upto + 1) {
             return self.bridge(tables, follower);
         }
-        let ended = follower.follow(tables, &page)?;
+        let last = page.last().map_or(follower.upto, |entry| entry.seq);
+        let said = self.reader.said(follower.job, follower.upto, last)?;
+        let ended = follower.follow(tables, &page, &said)?;
         for (at, one) in ended.iter().filter(|(at, _)| *at >= self.since) {
             debug_assert!(*at >= self.since);
-            self.metrics.record(&follower.name, &one.kind.to_string(), one.how, one.took as f64 / 1000.0);
+            let kind = one.kind.to_string();
+            self.metrics.record(&follower.name, &kind, one.how, one.took as f64 / 1000.0);
+            if let (Some(bytes), true) = (one.bytes, one.how == "completed") {
+                self.metrics.sizes.record(&follower.name, &kind, bytes);
+            }
         }
         self.tell(follower);
         if next.is_some_and(|next| follower.upto >= next) {

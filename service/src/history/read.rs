@@ -10,8 +10,8 @@ use std::path::Path;
 use std::time::Duration;
 
 pub const RECORD: &str =
-    "id, kind, shape, started, finished, how, gone, why, first_ack, last_ack, slowest, acks, missing";
-const FILE: &str = "file, born, released, taken, deleted";
+    "id, kind, shape, started, finished, how, gone, why, first_ack, last_ack, slowest, acks, missing, fresh_bytes, full_bytes";
+const FILE: &str = "file, born, released, taken, deleted, bytes";
 
 /// The history of a record. Moments are milliseconds of Unix time.
 #[derive(Serialize, Deserialize, Debug)]
@@ -35,6 +35,11 @@ pub struct RecordRow {
     pub missing: Vec<String>,
     /// How many more were missing.
     pub more_missing: u64,
+    /// The bytes of its new files, and of all files that its acknowledgements name. Summaries of earlier versions have none.
+    #[serde(default)]
+    pub fresh_bytes: Option<i64>,
+    #[serde(default)]
+    pub full_bytes: Option<i64>,
 }
 
 /// The history of a file, as places in the log.
@@ -45,6 +50,7 @@ pub struct FileRow {
     pub released: Option<u64>,
     pub taken: Option<u64>,
     pub deleted: Option<u64>,
+    pub bytes: Option<u64>,
 }
 
 #[derive(Serialize, Debug)]
@@ -67,7 +73,7 @@ impl RecordRow {
 
 impl FileRow {
     fn unknown(file: u64) -> FileRow {
-        FileRow { file: file.to_string(), born: None, released: None, taken: None, deleted: None }
+        FileRow { file: file.to_string(), born: None, released: None, taken: None, deleted: None, bytes: None }
     }
 
     /// The places of the calls that it names.
@@ -178,6 +184,8 @@ pub fn record_of(row: &Row) -> rusqlite::Result<RecordRow> {
         acks: row.get(11)?,
         missing,
         more_missing: more.first().and_then(|text| text[1..].parse().ok()).unwrap_or(0),
+        fresh_bytes: row.get(13)?,
+        full_bytes: row.get(14)?,
     })
 }
 
@@ -191,6 +199,7 @@ fn file_of(row: &Row) -> rusqlite::Result<FileRow> {
         released: place(2)?,
         taken: place(3)?,
         deleted: place(4)?,
+        bytes: place(5)?,
     })
 }
 

@@ -156,22 +156,23 @@ async fn taken_by_all(app: &App, job: &str, number: i64, most: u64) -> Result<Ve
 async fn one_file(app: &App, job: String, file: u64, query: &str) -> Result<Reply, Box<Reply>> {
     numbers(query, [])?;
     let number = app.number(&job)?;
-    let ReadDone::File { uses, live } = app.read(Read::File { job: job.clone(), file }).await? else {
+    let ReadDone::File { uses, bytes, live } = app.read(Read::File { job: job.clone(), file }).await? else {
         return Err(no_job(&job).into());
     };
     let live = if uses == Some(0) { Vec::new() } else { live };
     let by = used_by(app, &job, file, live).await?;
     let pins = uses.map(|uses| uses.saturating_sub(by.len() as u64));
-    let history = app
+    let (bytes, history) = app
         .read_history(move |history| {
             let row = history.file(number, file)?;
-            row.map(|row| Ok(render::file_history(&row, &history.places(number, &row.places())?))).transpose()
+            let bytes = bytes.or(row.as_ref().and_then(|row| row.bytes));
+            let told = row.map(|row| Ok(render::file_history(&row, &history.places(number, &row.places())?)));
+            Ok((bytes, told.transpose()?))
         })
         .await?;
-    Ok(json_reply(
-        200,
-        &json!({"file": file.to_string(), "uses": uses, "pins": pins, "used_by": by, "history": history}),
-    ))
+    let file = file.to_string();
+    let told = json!({"file": file, "bytes": bytes, "uses": uses, "pins": pins, "used_by": by, "history": history});
+    Ok(json_reply(200, &told))
 }
 
 /// The acknowledgements of these live records that name a file. Reads one record at a time, so none keeps the writer

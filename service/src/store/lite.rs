@@ -3,9 +3,12 @@ use super::cells::Row;
 use super::error::{DbError, Failure, Unusable};
 use super::files::{self, Opened};
 use super::rows::{steps_after, Group, Keyed, Lead, Store, Written, MOST_STARTS, VERSION};
-use crate::model::{config_line, shape_words, Cut, Entry, Image, Opening, PastRecord, SummaryPart};
+use crate::model::{
+    config_line, shape_words, sizes_text, AckBytes, Cut, Entry, Image, Opening, PastRecord, SummaryPart,
+};
 use rusqlite::config::DbConfig;
 use rusqlite::{ffi, params, Connection, ErrorCode, OptionalExtension};
+use std::collections::BTreeMap;
 use std::fs::File;
 use std::path::Path;
 use std::time::{Duration, Instant};
@@ -19,6 +22,7 @@ const STEPS: [&str; VERSION] = [
         "; ",
         include_str!("../../sql/lite_history.sql")
     ),
+    include_str!("../../sql/lite_3.sql"),
 ];
 pub(super) const BUSY: Duration = Duration::from_secs(2);
 /// How long a start waits for readers of another program.
@@ -176,6 +180,8 @@ fn write(connection: &mut Connection, group: &Group) -> rusqlite::Result<()> {
     write_summaries(&transaction, &group.summaries)?;
     write_past(&transaction, &group.past)?;
     drop_summaries(&transaction, &group.dropped_summaries)?;
+    write_sizes(&transaction, &group.sizes)?;
+    write_said(&transaction, &group.said)?;
     transaction.commit()
 }
 
@@ -224,7 +230,11 @@ fn drop_images(within: &Connection, places: &[(i64, u64)]) -> rusqlite::Result<(
 
 fn cut(within: &Connection, cuts: &[Cut]) -> rusqlite::Result<()> {
     let mut delete = within.prepare_cached("delete from call where job = ? and seq > ? and seq <= ?")?;
-    cuts.iter().try_for_each(|cut| delete.execute(params![cut.job, signed(cut.after), signed(cut.upto)]).map(|_| ()))
+    let mut forget = within.prepare_cached("delete from ack_size where job = ? and seq <= ?")?;
+    cuts.iter().try_for_each(|cut| {
+        delete.execute(params![cut.job, signed(cut.after), signed(cut.upto)])?;
+        forget.execute(params![cut.job, signed(cut.upto)]).map(|_| ())
+    })
 }
 
 fn write_summaries(within: &Connection, parts: &[SummaryPart]) -> rusqlite::Result<()> {
@@ -243,6 +253,22 @@ fn write_past(within: &Connection, records: &[PastRecord]) -> rusqlite::Result<(
 fn drop_summaries(within: &Connection, places: &[(i64, u64)]) -> rusqlite::Result<()> {
     let mut delete = within.prepare_cached("delete from summary where job = ? and seq = ?")?;
     places.iter().try_for_each(|(job, seq)| delete.execute(params![job, signed(*seq)]).map(|_| ()))
+}
+
+fn write_sizes(within: &Connection, sizes: &BTreeMap<(i64, u64), Option<u64>>) -> rusqlite::Result<()> {
+    let mut insert = within.prepare_cached("insert or replace into size values(?, ?, ?)")?;
+    let mut delete = within.prepare_cached("delete from size where job = ? and file = ?")?;
+    sizes.iter().try_for_each(|((job, file), size)| match size {
+        Some(bytes) => insert.execute(params![job, *file as i64, signed(*bytes)]).map(|_| ()),
+        None => delete.execute(params![job, *file as i64]).map(|_| ()),
+    })
+}
+
+fn write_said(within: &Connection, said: &[AckBytes]) -> rusqlite::Result<()> {
+    let mut insert = within.prepare_cached("insert or replace into ack_size values(?, ?, ?, ?)")?;
+    said.iter().try_for_each(|it| {
+        insert.execute(params![it.job, signed(it.seq), sizes_text(&it.fresh), signed(it.full)]).map(|_| ())
+    })
 }
 
 /// A number as SQLite keeps it. Moments, places and numbers of records are below 2^62.

@@ -19,6 +19,7 @@ const STEPS: [&str; VERSION] = [
         "; ",
         include_str!("../../sql/pg_history.sql")
     ),
+    include_str!("../../sql/pg_3.sql"),
 ];
 const COMMIT: &str = include_str!("../../sql/pg_commit.sql");
 const COMMIT_NAME: &CStr = c"commit_group";

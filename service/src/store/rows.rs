@@ -1,6 +1,9 @@
 //! What a database of the service does: commits groups, and reads the log.
 use super::error::{DbError, Failure};
-use crate::model::{Cut, Entry, Image, KeptImage, KeptSummary, Opening, PastRecord, SummaryPart};
+use crate::model::{
+    AckBytes, Cut, Entry, FileBytes, Image, KeptImage, KeptSummary, Logged, Opening, PastRecord, SummaryPart,
+};
+use std::collections::BTreeMap;
 use std::time::Duration;
 
 /// What one transaction commits, in this order.
@@ -17,9 +20,21 @@ pub struct Group {
     pub past: Vec<PastRecord>,
     /// Summaries to delete: their jobs and places.
     pub dropped_summaries: Vec<(i64, u64)>,
+    /// The bytes of files of jobs as they are after all calls; none of a file that is deleted.
+    pub sizes: BTreeMap<(i64, u64), Option<u64>>,
+    /// What acknowledgements said of sizes.
+    pub said: Vec<AckBytes>,
 }
 
 impl Group {
+    /// Adds a call.
+    pub fn log(&mut self, logged: Logged) {
+        let Logged { entry, sizes } = logged;
+        self.sizes.extend(sizes.files.into_iter().map(|(file, bytes)| ((entry.job, file), bytes)));
+        self.said.extend(sizes.said);
+        self.entries.push(entry);
+    }
+
     pub fn is_empty(&self) -> bool {
         let has_calls = !(self.jobs.is_empty() && self.entries.is_empty() && self.requests.is_empty());
         let has_history = !(self.summaries.is_empty() && self.past.is_empty() && self.dropped_summaries.is_empty());
@@ -50,7 +65,7 @@ pub struct SavedImage {
 pub const MOST_STARTS: i64 = 64;
 
 /// The version of the tables. Each database has a step of SQL for each: only a start over tables of an earlier version runs it.
-pub const VERSION: usize = 2;
+pub const VERSION: usize = 3;
 
 /// The steps after a version, each of which makes or changes tables. They can be run again.
 pub fn steps_after(found: i64, steps: [&'static str; VERSION]) -> impl Iterator<Item = &'static str> {
@@ -169,6 +184,12 @@ pub trait Reader: Send {
 
     /// The records after a number that ended, at most `most`.
     fn past(&mut self, job: i64, after: u64, most: u32) -> Result<Vec<PastRecord>, DbError>;
+
+    /// What acknowledgements said of sizes, of the calls after `after` up to `upto`, in order.
+    fn said(&mut self, job: i64, after: u64, upto: u64) -> Result<Vec<AckBytes>, DbError>;
+
+    /// The bytes of files of jobs, after the file `after` of a job, at most `most`, in order.
+    fn sizes(&mut self, after: Option<(i64, u64)>, most: u32) -> Result<Vec<(i64, FileBytes)>, DbError>;
 
     /// How much room the database takes, and has.
     fn room(&mut self) -> Result<Room, DbError>;

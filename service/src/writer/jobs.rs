@@ -1,6 +1,6 @@
 //! All jobs of the service, brought up to date with the log.
 use super::replay::{missing, repeat, resume, StartError};
-use crate::model::{Entry, Job, Keeping, Kept, KeptImage, KeptSummary, NoJob, Opening};
+use crate::model::{Entry, FileBytes, Job, Keeping, Kept, KeptImage, KeptSummary, NoJob, Opening};
 use crate::store::Reader;
 use std::collections::{BTreeMap, HashMap};
 
@@ -225,6 +225,29 @@ impl Jobs {
             let images = images.remove(&number).unwrap_or_default();
             let summaries = summaries.remove(&number).unwrap_or_default();
             job.kept = Kept::of(images, &summaries, firsts.get(&number).copied(), keeping);
+        }
+        self.take_sizes(reader, beat)
+    }
+
+    /// Reads the bytes of files that the database has.
+    fn take_sizes(&mut self, reader: &mut dyn Reader, beat: Beat) -> Result<(), StartError> {
+        let (mut sizes, mut after) = (HashMap::<i64, Vec<FileBytes>>::new(), None);
+        loop {
+            beat()?;
+            let page = reader.sizes(after, PAGE)?;
+            after = page.last().map(|(job, (file, _))| (*job, *file));
+            if after.is_none() {
+                break;
+            }
+            page.into_iter().for_each(|(job, size)| sizes.entry(job).or_default().push(size));
+        }
+        for (job, sizes) in sizes {
+            beat()?;
+            if let Some(place) = self.place_of(job) {
+                let job = &mut self.jobs[place];
+                let (name, seq) = (job.opening.name.clone(), job.seq);
+                job.take_sizes(&sizes).ok_or(StartError::NoMemory { job: name, seq })?;
+            }
         }
         Ok(())
     }

@@ -77,9 +77,10 @@ pub enum ReadDone {
     Job(Box<JobState>),
     /// A live record, or `None` if none has the number.
     Record(Option<RecordState>),
-    /// How many uses the file has, and which records are live.
+    /// How many uses the file has, its bytes if they are known, and which records are live.
     File {
         uses: Option<u64>,
+        bytes: Option<u64>,
         live: Vec<u64>,
     },
     /// Ascending; `None` if memory ran out.

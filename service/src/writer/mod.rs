@@ -213,9 +213,9 @@ impl Writer {
 
     fn call(&mut self, round: &mut Round, place: usize, call: &Call) -> Outcome {
         let job = self.jobs.at(place);
-        let (outcome, entry) = job.call(call, self.clock.now());
+        let (outcome, logged) = job.call(call, self.clock.now());
         self.metrics.call(&job.opening.name, call.name(), &outcome);
-        round.group.entries.extend(entry);
+        logged.into_iter().for_each(|logged| round.group.log(logged));
         round.touched.insert(place);
         outcome
     }
