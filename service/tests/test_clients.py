@@ -65,7 +65,9 @@ def test_answers_fit_the_description():
             ("/v1/jobs/a/records/2", f"{job}/records/{{id}}"), ("/v1/jobs/a/records/77", f"{job}/records/{{id}}"), ("/v1/jobs/a/files", f"{job}/files"),
             ("/v1/jobs/a/files/1", f"{job}/files/{{file}}"), ("/v1/jobs/a/files/9", f"{job}/files/{{file}}"), ("/v1/jobs/a/files/5", f"{job}/files/{{file}}"),
             ("/v1/jobs/a/log", f"{job}/log"), ("/v1/jobs/a/log?limit=x", f"{job}/log"), ("/v1/jobs/a/events", f"{job}/events"),
-            ("/v1/jobs/a/samples", f"{job}/samples"), ("/v1/jobs/b", job), ("/healthz", "/healthz"), ("/readyz", "/readyz"), ("/metrics", "/metrics"),
+            ("/v1/jobs/a/samples", f"{job}/samples"), ("/v1/jobs/b", job), ("/v1/jobs/a/records/1/acks", f"{job}/records/{{id}}/acks"),
+            ("/v1/jobs/a/records/77/acks", f"{job}/records/{{id}}/acks"), ("/v1/jobs/a/records?how=expired", f"{job}/records"),
+            ("/v1/jobs/a/stream?after=99", f"{job}/stream"), ("/v1/jobs/b/stream", f"{job}/stream"), ("/healthz", "/healthz"), ("/readyz", "/readyz"), ("/metrics", "/metrics"),
             ("/openapi.json", "/openapi.json"),
         ]:
             told = fits("GET", path, route)

@@ -62,6 +62,19 @@ pub struct Sample {
     pub pending: i64,
 }
 
+/// Which records are looked for: all, or those that ended in one way, or of one kind.
+#[derive(Clone, Copy, Default)]
+pub struct Search {
+    pub how: Option<&'static str>,
+    pub kind: Option<&'static str>,
+}
+
+impl Search {
+    pub const HOWS: [&'static str; 8] =
+        ["pending", "completed", "expired", "declined", "subsumed", "failed over", "restored", "cancelled"];
+    pub const KINDS: [&'static str; 2] = ["checkpoint", "savepoint"];
+}
+
 impl RecordRow {
     /// The missing subtasks as the tables have them.
     pub fn missing_words(&self) -> Option<String> {
@@ -100,9 +113,13 @@ impl HistoryReader {
     }
 
     /// At most this many records below a number, the greatest number first.
-    pub fn records(&self, job: i64, before: u64, most: u64) -> Result<Vec<RecordRow>, Error> {
-        let sql = format!("select {RECORD} from record where job = ? and id < ? order by id desc limit ?");
-        self.all(&sql, params![job, i64::try_from(before).unwrap_or(i64::MAX), bits(most)], record_of)
+    pub fn records(&self, job: i64, before: u64, most: u64, search: Search) -> Result<Vec<RecordRow>, Error> {
+        let sql = format!(
+            "select {RECORD} from record where job = ?1 and id < ?2 and (?3 is null or how = ?3) and (?4 is null or kind = ?4)
+            order by id desc limit ?5"
+        );
+        let before = i64::try_from(before).unwrap_or(i64::MAX);
+        self.all(&sql, params![job, before, search.how, search.kind, bits(most)], record_of)
     }
 
     pub fn record(&self, job: i64, id: u64) -> Result<Option<RecordRow>, Error> {

@@ -2,7 +2,7 @@
 use super::reply::{as_problem, error, text, wants_problems, with_header, Reply};
 use super::route::{NoRoute, Route};
 use super::seats::{Kind, Seat};
-use super::{page, reads, room, writes, App};
+use super::{page, reads, room, stream, writes, App};
 use crate::auth::Access;
 use hyper::header::{HeaderMap, HeaderName, ALLOW, CONNECTION, CONTENT_TYPE, HOST, RETRY_AFTER, WWW_AUTHENTICATE};
 use hyper::{Body, Request};
@@ -58,11 +58,11 @@ fn crowded() -> Reply {
     with_header(busy("too many connections do this"), CONNECTION, "close")
 }
 
-async fn dispatched(app: &App, route: Route, request: Request<Body>) -> Reply {
+async fn dispatched(app: &Arc<App>, route: Route, request: Request<Body>) -> Reply {
     dispatch(app, route, request).await.unwrap_or_else(|refused| *refused)
 }
 
-async fn dispatch(app: &App, route: Route, request: Request<Body>) -> Result<Reply, Box<Reply>> {
+async fn dispatch(app: &Arc<App>, route: Route, request: Request<Body>) -> Result<Reply, Box<Reply>> {
     if route.needs_leader() && !app.board.is_ready() {
         return Err(standby(app).await.into());
     }
@@ -72,6 +72,7 @@ async fn dispatch(app: &App, route: Route, request: Request<Body>) -> Result<Rep
         Route::Ready => Ok(ready(app).await),
         Route::NewJob => writes::new_job(app, request).await,
         Route::Calls(job) => writes::calls(app, job, request).await,
+        Route::Stream(job) => stream::answer(app, job, &request).await,
         read => reads::answer(app, read, request.uri().query().unwrap_or("")).await,
     }
 }

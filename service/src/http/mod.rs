@@ -1,4 +1,5 @@
 //! The HTTP side: connections and their limits, and the path of every request to its answer.
+mod acks;
 mod connection;
 mod gate;
 mod members;
@@ -12,6 +13,7 @@ mod room;
 mod route;
 mod seats;
 mod server;
+mod stream;
 mod view;
 mod wire;
 mod writes;

@@ -2,10 +2,10 @@
 use super::places::{self, Place};
 use super::query::{self, numbers, Parameter};
 use super::render::{self, Metadata};
-use super::reply::{body, error, json_reply, with_type, Reply};
+use super::reply::{bad_field, body, error, json_reply, with_type, Reply};
 use super::route::Route;
-use super::{no_job, view, App};
-use crate::history::FileRow;
+use super::{acks, no_job, view, App};
+use crate::history::{FileRow, HistoryReader, Search};
 use crate::store::Reader;
 use crate::writer::{JobState, Read, ReadDone, RecordState};
 use serde_json::{json, Value};
@@ -29,13 +29,14 @@ pub async fn answer(app: &App, route: Route, query: &str) -> Result<Reply, Box<R
         Route::Job(job) => one_job(app, job, query).await,
         Route::Records(job) => records(app, &job, query).await,
         Route::Record(job, id) => record(app, job, id, query).await,
+        Route::Acks(job, id) => acks::answer(app, job, id, query).await,
         Route::Files(job) => files(app, &job, query).await,
         Route::File(job, file) => one_file(app, job, file, query).await,
         Route::Log(job) => log(app, &job, query).await,
         Route::Events(job) => events(app, &job, query).await,
         Route::Samples(job) => samples(app, &job, query).await,
         Route::View(job) => view::answer(app, job, query).await,
-        Route::Asset(_) | Route::Health | Route::Ready | Route::NewJob | Route::Calls(_) => {
+        Route::Asset(_) | Route::Health | Route::Ready | Route::NewJob | Route::Calls(_) | Route::Stream(_) => {
             Err(error(404, "is no read").into())
         }
     }
@@ -88,11 +89,25 @@ async fn one_job(app: &App, job: String, query: &str) -> Result<Reply, Box<Reply
 
 async fn records(app: &App, job: &str, query: &str) -> Result<Reply, Box<Reply>> {
     let before = Parameter { name: "before", most: u64::MAX, default: u64::MAX };
-    let [before, most] = numbers(query, [before, limit(MOST_ROWS, 100)])?;
+    let (how, query) = query::text(query, "how");
+    let (kind, query) = query::text(&query, "kind");
+    let search = Search { how: word("how", how, &Search::HOWS)?, kind: word("kind", kind, &Search::KINDS)? };
+    let [before, most] = numbers(&query, [before, limit(MOST_ROWS, 100)])?;
     let number = app.number(job)?;
-    let (records, upto) =
-        app.read_history(move |history| Ok((history.records(number, before, most)?, history.upto(number)?))).await?;
+    let read =
+        move |history: &HistoryReader| Ok((history.records(number, before, most, search)?, history.upto(number)?));
+    let (records, upto) = app.read_history(read).await?;
     Ok(json_reply(200, &json!({"upto": upto, "records": records})))
+}
+
+/// One of these words, in which a '+' or '%20' stands for a space.
+fn word(name: &str, given: Option<&str>, words: &[&'static str]) -> Result<Option<&'static str>, Box<Reply>> {
+    let Some(given) = given else {
+        return Ok(None);
+    };
+    let said = given.replace('+', " ").replace("%20", " ");
+    let found = words.iter().find(|word| **word == said);
+    found.map(|word| Some(*word)).ok_or_else(|| bad_field(name, &format!("is none of {}", words.join(", "))).into())
 }
 
 async fn record(app: &App, job: String, id: u64, query: &str) -> Result<Reply, Box<Reply>> {

@@ -18,10 +18,14 @@ pub enum Route {
     Calls(String),
     Records(String),
     Record(String, u64),
+    /// When each subtask acknowledged a record.
+    Acks(String, u64),
     Files(String),
     File(String, u64),
     Log(String),
     Events(String),
+    /// The events as one answer that does not end.
+    Stream(String),
     Samples(String),
     /// All that the page shows of a job, or of the first one.
     View(Option<String>),
@@ -40,7 +44,7 @@ pub enum NoRoute {
 
 /// All routes of the API. The description must have each.
 #[cfg(test)]
-pub const API: [(&str, &str); 17] = [
+pub const API: [(&str, &str); 19] = [
     ("get", "/healthz"),
     ("get", "/readyz"),
     ("get", "/metrics"),
@@ -51,10 +55,12 @@ pub const API: [(&str, &str); 17] = [
     ("post", "/v1/jobs/{job}/calls"),
     ("get", "/v1/jobs/{job}/records"),
     ("get", "/v1/jobs/{job}/records/{id}"),
+    ("get", "/v1/jobs/{job}/records/{id}/acks"),
     ("get", "/v1/jobs/{job}/files"),
     ("get", "/v1/jobs/{job}/files/{file}"),
     ("get", "/v1/jobs/{job}/log"),
     ("get", "/v1/jobs/{job}/events"),
+    ("get", "/v1/jobs/{job}/stream"),
     ("get", "/v1/jobs/{job}/samples"),
     ("get", "/v1/view"),
     ("get", "/v1/view/{job}"),
@@ -95,10 +101,12 @@ impl Route {
             [] => Route::Job(name),
             ["records"] => Route::Records(name),
             ["records", id] => Route::Record(name, id.parse().map_err(|_| NoRoute::Part("id"))?),
+            ["records", id, "acks"] => Route::Acks(name, id.parse().map_err(|_| NoRoute::Part("id"))?),
             ["files"] => Route::Files(name),
             ["files", file] => Route::File(name, parse_file(file).ok_or(NoRoute::Part("file"))?),
             ["log"] => Route::Log(name),
             ["events"] => Route::Events(name),
+            ["stream"] => Route::Stream(name),
             ["samples"] => Route::Samples(name),
             _ => return Err(NoRoute::Path),
         };
@@ -123,7 +131,7 @@ impl Route {
         match self {
             Route::Asset(_) => Kind::Stranger,
             Route::Health | Route::Ready => Kind::Health,
-            Route::Events(_) => Kind::Poll,
+            Route::Events(_) | Route::Stream(_) => Kind::Poll,
             _ => Kind::Client,
         }
     }
@@ -146,10 +154,12 @@ impl Route {
             Route::Calls(_) => "calls",
             Route::Records(_) => "records",
             Route::Record(..) => "record",
+            Route::Acks(..) => "acks",
             Route::Files(_) => "files",
             Route::File(..) => "file",
             Route::Log(_) => "log",
             Route::Events(_) => "events",
+            Route::Stream(_) => "stream",
             Route::Samples(_) => "samples",
             Route::View(_) => "view",
         }

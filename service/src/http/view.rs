@@ -5,7 +5,7 @@ use super::reads::{files_of, metadata, FilesRead};
 use super::render;
 use super::reply::{error, json_reply, Reply};
 use super::App;
-use crate::history::{self, HistoryReader};
+use crate::history::{self, HistoryReader, Search};
 use crate::model::Kind;
 use crate::writer::{JobState, Read, ReadDone};
 use serde_json::{json, Value};
@@ -74,7 +74,7 @@ async fn history(app: &App, job: &JobState, wanted: Wanted) -> Result<serde_json
     app.read_history(move |history| {
         let told = json!({
             "upto": upto,
-            "records": history.records(number, u64::MAX, wanted.records)?,
+            "records": history.records(number, u64::MAX, wanted.records, Search::default())?,
             "samples": history.samples(number, 0, wanted.samples)?,
             "savepoints": kept(history, number, &savepoints)?,
             "taken": taken,
