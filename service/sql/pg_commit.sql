@@ -1,7 +1,7 @@
 -- One group in one statement, with the lease and the fence: $1 seconds of the lease, $2 the epoch, then the columns of
 -- `job`, `call`, `request` and `image` as arrays, images that go, and calls that go with what their acknowledgements said, then those of
--- `summary` and `past`, summaries that go, those of `size`, sizes that go, and those of `ack_size`. Answers how many rows of the first
--- four were written; none where another leads.
+-- `summary` and `past`, summaries that go, those of `size`, sizes that go, those of `ack_size`, and jobs that go. Answers how many rows of
+-- the first four were written; none where another leads.
 with l as (
     update leader set until = clock_timestamp() + $1::float8 * interval '1 s' where epoch = $2::bigint returning 1
 ), j as (
@@ -51,6 +51,10 @@ with l as (
 ), y as (
     delete from ack_size using l, unnest($33::bigint[], $35::bigint[]) u(job, upto)
     where ack_size.job = u.job and ack_size.seq <= u.upto
+), q as (
+    delete from job using l, unnest($55::bigint[]) u(job) where job.job = u.job
+), w as (
+    insert into gone_job select u.job, u.name, u.at, 0 from l, unnest($55::bigint[], $56::text[], $57::bigint[]) u(job, name, at)
 )
 select (select count(*) from l), (select count(*) from j), (select count(*) from c), (select count(*) from r),
     (select count(*) from i)

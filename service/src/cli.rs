@@ -56,6 +56,9 @@ pub struct Serve {
     /// How many calls before its last image a job's log keeps [default: 1000000]
     #[arg(long, value_name = "CALLS")]
     pub keep_calls: Option<u64>,
+    /// How many bytes the logs of all jobs keep together; 0 sets no such limit [default: 0]
+    #[arg(long, value_name = "BYTES")]
+    pub keep_bytes: Option<u64>,
     /// The address that a standby names to clients [default: http://LISTEN]
     #[arg(long, value_name = "URL")]
     pub advertise: Option<String>,

@@ -58,6 +58,7 @@ struct FileConfig {
     lease_seconds: Option<u64>,
     image_calls: Option<u64>,
     keep_calls: Option<u64>,
+    keep_bytes: Option<u64>,
     limits: Limits,
 }
 
@@ -166,6 +167,7 @@ impl Config {
             keeping: Keeping {
                 image_calls: given.image_calls.or(file.image_calls).unwrap_or(IMAGE_CALLS),
                 keep_calls: given.keep_calls.or(file.keep_calls).unwrap_or(KEEP_CALLS),
+                keep_bytes: given.keep_bytes.or(file.keep_bytes).unwrap_or(0),
             },
             limits: file.limits,
             accept_clock: given.accept_clock,
@@ -191,6 +193,7 @@ impl Config {
             ("lease_seconds", self.lease.as_secs(), 1, 600),
             ("image_calls", self.keeping.image_calls, 0, 1_000_000_000),
             ("keep_calls", self.keeping.keep_calls, 0, 1_000_000_000_000),
+            ("keep_bytes", self.keeping.keep_bytes, 0, 1 << 50),
         ];
         for (name, value, least, most) in numbers {
             if !(least..=most).contains(&value) {

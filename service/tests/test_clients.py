@@ -83,6 +83,8 @@ def test_answers_fit_the_description():
         assert "location" not in fits("POST", "/v1/jobs", "/v1/jobs", {"name": "b", "settings": {"interval": 10_000}, "shape": [2]})[1]
         texts = {entry["answer"] for entry in server.get("/v1/jobs/a/log")[2]["calls"]}
         check_log(server.get("/v1/jobs/a")[2], [2], server.get("/v1/jobs/a/log")[2]["calls"])
+        for path, status in ("/v1/jobs/b", 409), ("/v1/jobs/a", 409), ("/v1/jobs/a?abandon=1", 200), ("/v1/jobs/a", 404):
+            assert fits("DELETE", path, job)[0] == status, path
         return f"20 requests, {len(texts)} kinds of answers"
 
 

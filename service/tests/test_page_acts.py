@@ -145,9 +145,23 @@ def acted(page, server):
     until(lambda: not is_asking(page), 5)
     until(lambda: job.state()["mode"] == "cancelled", 5)
     until(lambda: page.execute_script("return document.getElementById('do-savepoint').disabled"), 10)
-    wrong = [entry["message"] for entry in page.get_log("browser") if entry["level"] == "SEVERE" and "401" not in entry["message"]]
+    # the job goes, though its files are left
+    opened(page, "#do-delete")
+    assert said(page) == "DELETE /v1/jobs/orders", said(page)
+    page.execute_script("document.getElementById('ask-yes').focus()")
+    keys(page, Keys.ENTER)
+    until(lambda: "files of the job are left" in test_page.texts(page, "#ask-wrong")[0], 5)
+    page.execute_script("document.getElementById('delete-abandon').focus()")
+    keys(page, Keys.SPACE)
+    assert said(page) == "DELETE /v1/jobs/orders?abandon=1", said(page)
+    calls = job.state()["seq"]
+    page.execute_script("document.getElementById('ask-yes').focus()")
+    keys(page, Keys.ENTER)
+    until(lambda: not is_asking(page) and test_page.texts(page, "#done") == ["Job orders is deleted."], 5)
+    until(lambda: not page.execute_script("return document.getElementById('no-jobs').hidden"), 10)
+    wrong = [entry["message"] for entry in page.get_log("browser") if entry["level"] == "SEVERE" and "status of 40" not in entry["message"]]
     assert not wrong, wrong
-    return f"{job.state()['seq']} calls, {first!r}"
+    return f"{calls} calls, {first!r}"
 
 
 def test_a_record_and_older_ones():

@@ -60,10 +60,10 @@ def test_tables_of_an_earlier_version_are_upgraded():
             before = job.state()["seq"]
             server.stop()
             if url:
-                database.sql("drop table size, ack_size; drop table clock; drop index call_at, image_at; alter table leader drop column lease; update schema_version set number = 1")
+                database.sql("drop table size, ack_size, gone_job; drop table clock; drop index call_at, image_at; alter table leader drop column lease; update schema_version set number = 1")
             else:
                 base = sqlite3.connect(server.database)
-                base.executescript("drop table size; drop table ack_size; drop table clock; pragma user_version = 1")
+                base.executescript("drop table size; drop table ack_size; drop table gone_job; drop table clock; pragma user_version = 1")
                 base.close()
             server.start()
             assert job.state()["seq"] == before and tick(server)

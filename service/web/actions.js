@@ -40,6 +40,19 @@ export function cancel(job) {
   };
 }
 
+export function remove(job) {
+  const abandon = element("input", { id: "delete-abandon", type: "checkbox" });
+  return {
+    title: `Delete ${job.name}`,
+    question: `The job is deleted with its log and its history. The service refuses it while files of the job are left. ${FINAL}`,
+    button: `Delete ${job.name}`,
+    isFinal: true,
+    fields: [element("p", {}, abandon, element("label", { for: "delete-abandon" }, " though files are left, which nobody deletes then"))],
+    request: () => ({ method: "DELETE", path: `/jobs/${job.name}${abandon.checked ? "?abandon=1" : ""}`, body: null }),
+    outcome: (told) => [`Job ${told.deleted} is deleted.`, true],
+  };
+}
+
 // The numbers of a shape, as `2 3`; nothing if the field is empty.
 function shape(text) {
   const words = text.split(/[\s,·]+/).filter((word) => word !== "");

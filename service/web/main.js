@@ -63,6 +63,7 @@ async function showJob(told) {
   showTimes();
   at("do-savepoint").disabled = job.mode !== "running";
   at("do-restore").disabled = at("do-cancel").disabled = job.mode === "cancelled";
+  at("do-delete").disabled = job.mode === "running";
   list("savepoints", told.savepoints.map((one) => views.savepoint(one, job.choice, (id) => act(actions.dispose(job, id)))), "no-savepoints");
   const rows = await records.rows(job, told.records);
   views.fill(at("records"), rows.map((record) => views.recordRow(record, told.pending, job.now, (id) => records.showRecord(job.name, id))));
@@ -86,7 +87,7 @@ async function show() {
   at("no-jobs").hidden = told.jobs.length > 0;
   views.fill(at("jobs"), told.jobs.map((one) => views.jobLink(one, job !== null && one.name === job.name)));
   if (job) {
-    if (shown.job !== job.name) for (const id of ["file", "record", "done"]) at(id).replaceChildren();
+    if (shown.job !== job.name) for (const id of ["file", "record"]) at(id).replaceChildren();
     shown.job = job.name;
     shown.first = job.first;
     await showJob(told);
@@ -179,6 +180,7 @@ at("file-form").addEventListener("submit", (event) => {
 at("do-savepoint").addEventListener("click", () => act(actions.savepoint(shown.told.job)));
 at("do-restore").addEventListener("click", () => act(actions.restore(shown.told.job, shown.told.savepoints)));
 at("do-cancel").addEventListener("click", () => act(actions.cancel(shown.told.job)));
+at("do-delete").addEventListener("click", () => act(actions.remove(shown.told.job)));
 addEventListener("hashchange", look);
 matchMedia("(prefers-color-scheme: dark)").addEventListener("change", () => location.reload());
 setInterval(() => {

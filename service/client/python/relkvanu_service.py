@@ -158,6 +158,17 @@ class Service:
         """A job that exists."""
         return Job(self, name)
 
+    def delete(self, name, abandon=False):
+        """Deletes a job that was cancelled or has failed, with its log and its history. Raises `Failed` with status 409 if files of the
+        job are left, unless it is to `abandon` them: nobody deletes them then. Returns whether there was such a job."""
+        try:
+            self.request("DELETE", f"/v1/jobs/{name}?abandon={int(abandon)}")
+        except Failed as failed:
+            if failed.status != 404:
+                raise
+            return False
+        return True
+
     def jobs(self):
         """The state of each job."""
         return self.request("GET", "/v1/jobs")["jobs"]

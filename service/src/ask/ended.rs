@@ -8,6 +8,7 @@ use thiserror::Error;
 /// The exit status if the service answered, and the answer is no.
 const NO: u8 = 1;
 const NOT_FOUND: u16 = 404;
+const CONFLICT: u16 = 409;
 const NO_MEMORY: u16 = 507;
 
 #[derive(Debug, Error)]
@@ -18,6 +19,8 @@ pub enum Ended {
     Asked(#[from] Asked),
     #[error("the coordinator refuses it: {0}")]
     Refused(String),
+    #[error("there is no job {0}")]
+    NoJob(String),
     #[error("the service has no memory for it now")]
     NoMemory,
     #[error("savepoint {0} ended before it was complete")]
@@ -32,7 +35,8 @@ impl Ended {
     /// 1 if the answer is no, 75 if another try may be answered otherwise, and 78 if somebody has to look first.
     pub fn status(&self) -> u8 {
         match self {
-            Ended::Refused(_) | Ended::Incomplete(_) | Ended::Asked(Asked::Status { status: NOT_FOUND, .. }) => NO,
+            Ended::Refused(_) | Ended::Incomplete(_) | Ended::NoJob(_) => NO,
+            Ended::Asked(Asked::Status { status: NOT_FOUND | CONFLICT, .. }) => NO,
             Ended::NoMemory | Ended::Late(_) | Ended::Asked(Asked::Status { status: NO_MEMORY, .. }) => START_AGAIN,
             Ended::Asked(error) if error.may_pass() => START_AGAIN,
             Ended::NoService(_) | Ended::Asked(_) | Ended::Output(_) => NOT_TO_START,

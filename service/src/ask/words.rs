@@ -22,6 +22,8 @@ pub enum Ask {
     Restore(Restore),
     /// Cancel a job for good
     Cancel(Cancel),
+    /// Delete a job that was cancelled or has failed, with its log and its history
+    Delete(Delete),
 }
 
 /// Where the service is, and how the answer is printed.
@@ -134,6 +136,18 @@ pub struct Cancel {
     pub at: At,
 }
 
+#[derive(Args)]
+pub struct Delete {
+    /// The job
+    #[arg(value_parser = job_name)]
+    pub job: String,
+    /// Though files of it are left, which nobody deletes then
+    #[arg(long)]
+    pub abandon: bool,
+    #[command(flatten)]
+    pub at: At,
+}
+
 impl Ask {
     pub fn at(&self) -> &At {
         match self {
@@ -145,6 +159,7 @@ impl Ask {
             Ask::Dispose(given) => &given.at,
             Ask::Restore(given) => &given.at,
             Ask::Cancel(given) => &given.at,
+            Ask::Delete(given) => &given.at,
         }
     }
 }

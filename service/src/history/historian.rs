@@ -77,6 +77,7 @@ impl Historian {
         let mut samples = Samples::default();
         loop {
             let lengths = self.board.lengths();
+            self.forget_deleted(tables, &mut followers)?;
             self.add_followers(tables, &mut followers, &lengths)?;
             for (number, last) in lengths {
                 let Some(follower) = followers.get_mut(&number) else {
@@ -91,6 +92,25 @@ impl Historian {
             self.measure();
             std::thread::sleep(LOOK);
         }
+    }
+
+    /// Forgets the jobs that were deleted, those of an earlier process too.
+    fn forget_deleted(&self, tables: &Tables, followers: &mut HashMap<i64, Follower>) -> Result<(), Error> {
+        // before it leads it does not know the jobs
+        if !self.board.is_ready() {
+            return Ok(());
+        }
+        // a job that the tables have has been on the board, unless it was deleted
+        let (known, lengths) = (tables.jobs()?, self.board.lengths());
+        let is_there = |number: i64| lengths.iter().any(|(job, _)| *job == number);
+        for job in known.into_iter().filter(|number| !is_there(*number)) {
+            while tables.within(|| Ok(tables.forget_piece(job)?))? {}
+            if let Some(follower) = followers.remove(&job) {
+                self.metrics.forget(&follower.name);
+            }
+        }
+        followers.retain(|number, _| is_there(*number));
+        Ok(())
     }
 
     /// Adds the jobs that are new.

@@ -88,6 +88,31 @@ impl Tables {
             .try_for_each(|table| self.0.execute(&format!("delete from {table} where job = ?"), [job]).map(|_| ()))
     }
 
+    /// The jobs that the tables have something of.
+    pub fn jobs(&self) -> rusqlite::Result<Vec<i64>> {
+        self.all("select job from progress", [], |row| row.get(0))
+    }
+
+    /// Deletes a piece of all that the tables have of a job. Returns whether there may be more.
+    pub fn forget_piece(&self, job: i64) -> rusqlite::Result<bool> {
+        let tables = [
+            ("place", "job, seq"),
+            ("file", "job, file"),
+            ("queue", "job, place"),
+            ("record", "job, id"),
+            ("sample", "job, at"),
+            ("progress", "job"),
+        ];
+        for (table, columns) in tables {
+            let rows = format!("select {columns} from {table} where job = ?1 limit ?2");
+            let sql = format!("delete from {table} where ({columns}) in ({rows})");
+            if self.0.prepare_cached(&sql)?.execute(params![job, signed(PIECE)])? as u64 == PIECE {
+                return Ok(true);
+            }
+        }
+        Ok(false)
+    }
+
     /// Forgets the files and live records of a job.
     pub fn forget_live(&self, job: i64) -> rusqlite::Result<()> {
         ["file where", "queue where", "place where", "record where gone is null and"]

@@ -3,7 +3,6 @@ use super::reply::{as_problem, error, text, wants_problems, with_header, Reply};
 use super::route::{NoRoute, Route};
 use super::seats::{Kind, Seat};
 use super::{page, reads, room, stream, writes, App};
-use crate::auth::Access;
 use hyper::header::{HeaderMap, HeaderName, ALLOW, CONNECTION, CONTENT_TYPE, HOST, RETRY_AFTER, WWW_AUTHENTICATE};
 use hyper::{Body, Request};
 use std::net::IpAddr;
@@ -71,6 +70,7 @@ async fn dispatch(app: &Arc<App>, route: Route, request: Request<Body>) -> Resul
         Route::Health => Ok(health(app)),
         Route::Ready => Ok(ready(app).await),
         Route::NewJob => writes::new_job(app, request).await,
+        Route::DeleteJob(job) => writes::delete_job(app, job, request.uri().query().unwrap_or("")).await,
         Route::Calls(job) => writes::calls(app, job, request).await,
         Route::Stream(job) => stream::answer(app, job, &request).await,
         read => reads::answer(app, read, request.uri().query().unwrap_or("")).await,
@@ -102,10 +102,10 @@ fn admitted(app: &App, route: &Route, headers: &HeaderMap) -> Result<(), Box<Rep
         }
         _ => {}
     }
-    match access {
-        Access::Write if !is_json(headers) => Err(error(415, "Content-Type: is not application/json").into()),
-        _ => Ok(()),
+    if route.has_body() && !is_json(headers) {
+        return Err(error(415, "Content-Type: is not application/json").into());
     }
+    Ok(())
 }
 
 fn is_json(headers: &HeaderMap) -> bool {

@@ -36,9 +36,13 @@ pub async fn answer(app: &App, route: Route, query: &str) -> Result<Reply, Box<R
         Route::Events(job) => events(app, &job, query).await,
         Route::Samples(job) => samples(app, &job, query).await,
         Route::View(job) => view::answer(app, job, query).await,
-        Route::Asset(_) | Route::Health | Route::Ready | Route::NewJob | Route::Calls(_) | Route::Stream(_) => {
-            Err(error(404, "is no read").into())
-        }
+        Route::Asset(_)
+        | Route::Health
+        | Route::Ready
+        | Route::NewJob
+        | Route::DeleteJob(_)
+        | Route::Calls(_)
+        | Route::Stream(_) => Err(error(404, "is no read").into()),
     }
 }
 

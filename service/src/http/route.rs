@@ -15,6 +15,7 @@ pub enum Route {
     Jobs,
     NewJob,
     Job(String),
+    DeleteJob(String),
     Calls(String),
     Records(String),
     Record(String, u64),
@@ -44,7 +45,7 @@ pub enum NoRoute {
 
 /// All routes of the API. The description must have each.
 #[cfg(test)]
-pub const API: [(&str, &str); 19] = [
+pub const API: [(&str, &str); 20] = [
     ("get", "/healthz"),
     ("get", "/readyz"),
     ("get", "/metrics"),
@@ -52,6 +53,7 @@ pub const API: [(&str, &str); 19] = [
     ("get", "/v1/jobs"),
     ("post", "/v1/jobs"),
     ("get", "/v1/jobs/{job}"),
+    ("delete", "/v1/jobs/{job}"),
     ("post", "/v1/jobs/{job}/calls"),
     ("get", "/v1/jobs/{job}/records"),
     ("get", "/v1/jobs/{job}/records/{id}"),
@@ -97,6 +99,10 @@ impl Route {
         if rest == ["calls"] {
             return if method == Method::POST { Ok(Route::Calls(name)) } else { Err(NoRoute::Method("POST")) };
         }
+        if rest.is_empty() && !is_get {
+            let is_delete = method == Method::DELETE;
+            return if is_delete { Ok(Route::DeleteJob(name)) } else { Err(NoRoute::Method("GET, DELETE")) };
+        }
         let route = match rest {
             [] => Route::Job(name),
             ["records"] => Route::Records(name),
@@ -121,9 +127,14 @@ impl Route {
     pub fn access(&self) -> Option<Access> {
         match self {
             Route::Asset(_) | Route::Health | Route::Ready => None,
-            Route::NewJob | Route::Calls(_) => Some(Access::Write),
+            Route::NewJob | Route::Calls(_) | Route::DeleteJob(_) => Some(Access::Write),
             _ => Some(Access::Read),
         }
+    }
+
+    /// Whether it has a body of JSON. A page of another site can't send that type, nor a DELETE.
+    pub fn has_body(&self) -> bool {
+        matches!(self, Route::NewJob | Route::Calls(_))
     }
 
     /// The kind of place that its connection takes.
@@ -151,6 +162,7 @@ impl Route {
             Route::Jobs => "jobs",
             Route::NewJob => "new_job",
             Route::Job(_) => "job",
+            Route::DeleteJob(_) => "delete_job",
             Route::Calls(_) => "calls",
             Route::Records(_) => "records",
             Route::Record(..) => "record",
@@ -174,7 +186,7 @@ mod tests {
     fn each_route_of_the_api_is_found() {
         for (method, path) in API {
             let path = path.replace("{job}", "orders").replace("{id}", "12").replace("{file}", "31");
-            let method = if method == "post" { Method::POST } else { Method::GET };
+            let method = Method::from_bytes(method.to_uppercase().as_bytes()).unwrap_or(Method::GET);
             assert!(Route::of(&method, &path).is_ok(), "{method} {path}");
         }
     }
@@ -227,7 +239,8 @@ mod tests {
         assert_eq!(Route::of(&Method::GET, "/v1/jobs/a/records/x"), Err(NoRoute::Part("id")));
         assert_eq!(Route::of(&Method::GET, "/v1/jobs/a/files/+1"), Err(NoRoute::Part("file")));
         assert_eq!(Route::of(&Method::PUT, "/v1/jobs"), Err(NoRoute::Method("GET, POST")));
-        assert_eq!(Route::of(&Method::DELETE, "/v1/jobs/a"), Err(NoRoute::Method("GET")));
+        assert_eq!(Route::of(&Method::PUT, "/v1/jobs/a"), Err(NoRoute::Method("GET, DELETE")));
+        assert_eq!(Route::of(&Method::DELETE, "/v1/jobs/a/log"), Err(NoRoute::Method("GET")));
         assert_eq!(Route::of(&Method::GET, "/v1/jobs/a/calls"), Err(NoRoute::Method("POST")));
     }
 }

@@ -1,8 +1,9 @@
 //! Requests that change something: a new job, and calls.
+use super::query::{numbers, Parameter};
 use super::reply::{bad_field, body, error, invalid, json_reply, refusal, with_header, Reply};
 use super::{gate, no_job, units, wire, App};
 use crate::model::{settings_json, sha256, Call};
-use crate::writer::{CallsDone, Created, Key, Message};
+use crate::writer::{CallsDone, Created, Delete, Deletion, Key, Message};
 use hyper::body::HttpBody;
 use hyper::header::{HeaderMap, LOCATION};
 use hyper::{Body, Request};
@@ -13,6 +14,8 @@ use tokio::sync::OwnedSemaphorePermit;
 
 const KEY: &str = "idempotency-key";
 const LONGEST_KEY: usize = 255;
+/// 1: though files of the job are left.
+const ABANDON: Parameter = Parameter { name: "abandon", most: 1, default: 0 };
 /// How long a body may still take when the service stops.
 const STOP_BODIES: Duration = Duration::from_secs(5);
 
@@ -33,6 +36,19 @@ pub async fn new_job(app: &App, request: Request<Body>) -> Result<Reply, Box<Rep
 fn bad_name_taken() -> Reply {
     let why = "name is that of a job with other settings or another shape";
     refusal(409, json!({"error": why, "field": "name"}))
+}
+
+/// Deletes a job with its log and its history.
+pub async fn delete_job(app: &App, job: String, query: &str) -> Result<Reply, Box<Reply>> {
+    let [abandon] = numbers(query, [ABANDON])?;
+    let name = job.clone();
+    let told = app.ask(|reply| Message::Delete(Delete { job, abandon: abandon == 1, reply })).await?;
+    Ok(match told {
+        Deletion::Done => json_reply(200, &json!({"deleted": name})),
+        Deletion::NoJob => no_job(&name),
+        Deletion::Refused(why) => refusal(409, json!({"error": why.to_string(), "reason": why.word()})),
+        Deletion::Busy => gate::busy("the database does not take it now"),
+    })
 }
 
 pub async fn calls(app: &App, job: String, request: Request<Body>) -> Result<Reply, Box<Reply>> {

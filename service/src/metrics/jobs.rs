@@ -1,5 +1,5 @@
 //! The gauges of jobs, which each scrape sets anew.
-use super::{gauge, seconds, set, set_seconds};
+use super::{forget, gauge, seconds, set, set_seconds};
 use crate::model::Mode;
 use crate::writer::JobState;
 use prometheus::{GaugeVec, IntGaugeVec, Registry};
@@ -98,6 +98,16 @@ impl Gauges {
     /// How far the history is in a job's log.
     pub fn history(&self, job: &str, upto: u64) {
         set(&self.history, &[job], upto);
+    }
+
+    /// A job was deleted.
+    pub fn forget(&self, job: &str) {
+        let Gauges { mode, files, pending, log_calls, kept_calls, image_bytes, since_image, history, .. } = self;
+        for gauge in [mode, files, pending, log_calls, kept_calls, image_bytes, since_image, history] {
+            forget(gauge, job);
+        }
+        let Gauges { interval, completed, opened, image_at, .. } = self;
+        [interval, completed, opened, image_at].into_iter().for_each(|gauge| forget(gauge, job));
     }
 
     fn set_log(&self, job: &JobState, name: &str) {

@@ -6,11 +6,13 @@ mod upkeep;
 use crate::model::Outcome;
 use crate::writer::JobState;
 use jobs::Gauges;
+use prometheus::core::{Collector, MetricVec, MetricVecBuilder};
 use prometheus::{
     Encoder, Gauge, GaugeVec, Histogram, HistogramOpts, HistogramVec, IntCounterVec, IntGauge, IntGaugeVec, Opts,
     Registry, TextEncoder,
 };
 use sizes::SizeMetrics;
+use std::collections::HashMap;
 use std::time::Duration;
 use upkeep::Upkeep;
 
@@ -157,6 +159,18 @@ impl Metrics {
         self.gauges.history(job, upto);
     }
 
+    /// A job was deleted: its values go.
+    pub fn forget(&self, job: &str) {
+        for counter in [&self.calls, &self.records] {
+            forget(counter, job);
+        }
+        forget(&self.images_fail, job);
+        forget(&self.durations, job);
+        self.gauges.forget(job);
+        self.upkeep.forget(job);
+        self.sizes.forget(job);
+    }
+
     pub fn lead(&self, leads: bool) {
         self.leader.set(i64::from(leads));
     }
@@ -172,6 +186,23 @@ impl Metrics {
         let mut text = Vec::new();
         TextEncoder::new().encode(&self.registry.gather(), &mut text)?;
         Ok(text)
+    }
+}
+
+/// Removes the values of a job.
+fn forget<T: MetricVecBuilder>(values: &MetricVec<T>, job: &str)
+where
+    MetricVec<T>: Collector,
+{
+    for family in values.collect() {
+        for metric in family.get_metric() {
+            let labels: HashMap<&str, &str> =
+                metric.get_label().iter().map(|label| (label.get_name(), label.get_value())).collect();
+            if labels.get("job_name") == Some(&job) {
+                // it may be removed by now
+                let _ = values.remove(&labels);
+            }
+        }
     }
 }
 

@@ -1,4 +1,5 @@
 //! Metrics of sizes: the bytes of a job's files, and of its last records.
+use super::forget;
 use crate::model::Bytes;
 use prometheus::{IntGaugeVec, Opts, Registry};
 
@@ -35,6 +36,11 @@ impl SizeMetrics {
             set(&self.files, &[job, state], number);
         }
         set(&self.sized, &[job], bytes.files);
+    }
+
+    /// A job was deleted.
+    pub fn forget(&self, job: &str) {
+        [&self.files, &self.sized, &self.records].into_iter().for_each(|gauge| forget(gauge, job));
     }
 
     /// A record completed, with these bytes of its new files and of all.

@@ -73,6 +73,7 @@ pub struct Job {
     pub kept: Kept,
     /// The bytes of files, if this process leads.
     pub sizes: Sizes,
+    pub is_deleted: bool,
     engine: Engine,
     live: Live,
 }
@@ -82,7 +83,8 @@ impl Job {
         let engine = Engine::open(&opening.settings, &opening.shape, opening.started)?;
         let (shape, at, kept) = (opening.shape.clone(), opening.started, Kept::default());
         let (live, sizes) = (Live::new(), Sizes::default());
-        Ok(Job { opening, shape, seq: 0, at, last_completed: None, last_event: 0, kept, sizes, engine, live })
+        let (seq, last_completed, last_event, is_deleted) = (0, None, 0, false);
+        Ok(Job { opening, shape, seq, at, last_completed, last_event, kept, sizes, is_deleted, engine, live })
     }
 
     /// Goes on from an image.
@@ -93,6 +95,15 @@ impl Job {
         (self.seq, self.at) = (image.seq, image.at);
         (self.last_completed, self.last_event) = (image.last_completed, image.last_event);
         Ok(())
+    }
+
+    /// The job was deleted: frees what it takes, as far as memory allows.
+    pub fn close(&mut self) {
+        self.is_deleted = true;
+        (self.kept, self.sizes, self.live) = (Kept::default(), Sizes::default(), Live::new());
+        if let Ok(engine) = Engine::open(&self.opening.settings, &self.opening.shape, self.opening.started) {
+            self.engine = engine;
+        }
     }
 
     /// The image of the job as it is now; `None` if memory ran out.
@@ -119,13 +130,15 @@ impl Job {
         }
         let (record, ended) = self.take_in(call, now, &reply);
         let sizes = self.resize(call, &reply, waiting);
+        let answer = reply.text();
+        self.kept.note((line.len() + answer.len()) as u64);
         let entry = Entry {
             job: self.opening.number,
             seq: self.seq,
             at: self.at,
             record,
             line,
-            answer: reply.text(),
+            answer,
             ended,
             waiting: self.engine.counts().waiting.saturating_sub(waiting),
         };
@@ -218,7 +231,7 @@ impl Job {
 
     /// The moment at which the timer has to tick: a checkpoint is due and may be triggered, or a record expires.
     pub fn wake(&mut self) -> Option<u64> {
-        if self.engine.mode() != Mode::Running {
+        if self.is_deleted || self.engine.mode() != Mode::Running {
             return None;
         }
         let expiry = self.engine.oldest_expiry();

@@ -2,8 +2,9 @@
 use super::cells::{FromRow, Row};
 use super::error::DbError;
 use super::lite::{signed, BUSY};
+use super::reader::Reader;
 use super::room::room_of;
-use super::rows::{whole, LogPage, Reader, Room, SavedImage, COLUMNS, IMAGE_COLUMNS, IS_EVENT, PAGE_BYTES};
+use super::rows::{whole, LogPage, Room, SavedImage, COLUMNS, IMAGE_COLUMNS, IS_EVENT, PAGE_BYTES};
 use crate::model::{AckBytes, Entry, FileBytes, KeptImage, KeptSummary, Opening, PastRecord};
 use rusqlite::{params, Connection, OpenFlags, OptionalExtension, Params};
 use std::path::Path;
@@ -116,6 +117,17 @@ impl Reader for LiteReader {
         let sql = "select job, file, bytes from size where (job, file) > (?, ?) order by job, file limit ?";
         let (job, file) = after.map_or((i64::MIN, i64::MIN), |(job, file)| (job, file as i64));
         self.all(sql, params![job, file, most])
+    }
+
+    fn gone(&mut self) -> Result<Vec<(i64, u64)>, DbError> {
+        self.all("select job, is_empty from gone_job", [])
+    }
+
+    fn call_bytes(&mut self, jobs: &[i64]) -> Result<Vec<(i64, u64)>, DbError> {
+        let sql = "select job, cast(avg(length(line) + length(answer)) as integer) from
+            (select job, line, answer from call where job = ? order by seq desc limit 100) group by job";
+        let of = |job: &i64| self.one(sql, [job]);
+        jobs.iter().filter_map(|job| of(job).transpose()).collect()
     }
 
     fn room(&mut self) -> Result<Room, DbError> {

@@ -1,6 +1,6 @@
 //! The columns of a group, as the parameters of the statement that writes it to PostgreSQL.
 use super::parameter::Parameter;
-use super::rows::{Group, Keyed};
+use super::rows::{GoneJob, Group, Keyed};
 use crate::model::{
     config_line, shape_words, sizes_text, AckBytes, Cut, Entry, Image, Opening, PastRecord, SummaryPart,
 };
@@ -20,6 +20,7 @@ pub fn columns(group: &Group) -> Vec<Parameter> {
     given.extend(dropped_columns(&group.dropped_summaries));
     given.extend(size_columns(&group.sizes));
     given.extend(said_columns(&group.said));
+    given.extend(gone_columns(&group.gone));
     given
 }
 
@@ -127,5 +128,13 @@ fn said_columns(said: &[AckBytes]) -> [Parameter; 4] {
         Parameter::numbers(said.iter().map(|it| Some(number(it.seq)))),
         Parameter::texts(said.iter().map(|it| Some(sizes_text(&it.fresh)))),
         Parameter::numbers(said.iter().map(|it| Some(number(it.full)))),
+    ]
+}
+
+fn gone_columns(jobs: &[GoneJob]) -> [Parameter; 3] {
+    [
+        Parameter::numbers(jobs.iter().map(|it| Some(it.job))),
+        Parameter::texts(jobs.iter().map(|it| Some(it.name.clone()))),
+        Parameter::numbers(jobs.iter().map(|it| Some(number(it.at)))),
     ]
 }

@@ -2,7 +2,8 @@
 use super::cells::{FromRow, Row};
 use super::error::DbError;
 use super::pq::{Connection, Failed, Rows};
-use super::rows::{whole, LogPage, Reader, Room, SavedImage, COLUMNS, IMAGE_COLUMNS, IS_EVENT, PAGE_BYTES};
+use super::reader::Reader;
+use super::rows::{whole, LogPage, Room, SavedImage, COLUMNS, IMAGE_COLUMNS, IS_EVENT, PAGE_BYTES};
 use crate::model::{AckBytes, Entry, FileBytes, KeptImage, KeptSummary, Opening, PastRecord};
 use std::time::Duration;
 
@@ -140,6 +141,17 @@ impl Reader for PgReader {
             where (job, file) > ($1::bigint, $2::bigint) order by job, file limit $3::bigint";
         let (job, file) = after.map_or((i64::MIN, i64::MIN), |(job, file)| (job, file as i64));
         self.all(sql, &[&job.to_string(), &file.to_string(), &most.to_string()])
+    }
+
+    fn gone(&mut self) -> Result<Vec<(i64, u64)>, DbError> {
+        self.all("select job, is_empty from gone_job", &[])
+    }
+
+    fn call_bytes(&mut self, jobs: &[i64]) -> Result<Vec<(i64, u64)>, DbError> {
+        let sql = "select u.job, avg(octet_length(line) + octet_length(answer))::bigint
+            from unnest($1::bigint[]) u(job) cross join lateral (
+            select line, answer from call where call.job = u.job order by seq desc limit 100) last group by u.job";
+        self.all(sql, &[&array(jobs.iter())])
     }
 
     fn room(&mut self) -> Result<Room, DbError> {
