@@ -6,6 +6,7 @@ mod backup;
 mod check;
 mod cli;
 mod config;
+mod database;
 mod discard;
 mod exit;
 mod history;

@@ -163,13 +163,3 @@ impl Ask {
         }
     }
 }
-
-#[cfg(test)]
-impl Ask {
-    /// Whether this is a command that asks a service.
-    pub fn has(name: &str) -> bool {
-        let all = Ask::augment_subcommands(clap::Command::new(""));
-        let found = all.get_subcommands().any(|command| command.get_name() == name);
-        found
-    }
-}

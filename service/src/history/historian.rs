@@ -9,10 +9,10 @@ use crate::log;
 use crate::metrics::Metrics;
 use crate::model::{Keeping, KeptSummary};
 use crate::store::{room_of, Reader};
-use crate::writer::{Board, ForKeeping, Message, Read, ReadDone};
+use crate::writer::{Board, ForKeeping, Inbox, Message, Read, ReadDone};
 use std::collections::hash_map::Entry;
 use std::collections::HashMap;
-use std::sync::mpsc::{channel, Sender, SyncSender};
+use std::sync::mpsc::{channel, Sender};
 use std::sync::Arc;
 use std::time::{Duration, Instant};
 use tokio::sync::oneshot;
@@ -36,7 +36,7 @@ pub struct Historian {
     pub reader: Box<dyn Reader>,
     pub board: Arc<Board>,
     pub metrics: Arc<Metrics>,
-    pub inbox: SyncSender<Message>,
+    pub inbox: Inbox,
     pub keeping: Keeping,
     /// Records that ended before this moment are not counted: an earlier process has counted them.
     pub since: u64,

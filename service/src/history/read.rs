@@ -127,11 +127,12 @@ impl HistoryReader {
         Ok(self.all(&sql, params![job, bits(id)], record_of)?.pop())
     }
 
-    /// The files that were deleted last.
-    pub fn deleted(&self, job: i64, most: u64) -> Result<Vec<FileRow>, Error> {
-        let sql =
-            format!("select {FILE} from file where job = ? and deleted is not null order by deleted desc limit ?");
-        self.all(&sql, params![job, bits(most)], file_of)
+    /// The files that were deleted last before a call.
+    pub fn deleted(&self, job: i64, before: u64, most: u64) -> Result<Vec<FileRow>, Error> {
+        let sql = format!(
+            "select {FILE} from file where job = ? and deleted is not null and deleted < ? order by deleted desc limit ?"
+        );
+        self.all(&sql, params![job, i64::try_from(before).unwrap_or(i64::MAX), bits(most)], file_of)
     }
 
     /// The files that were taken and not reported, in the order in which they were taken.

@@ -132,6 +132,17 @@ impl Route {
         }
     }
 
+    /// The job that the path names.
+    pub fn job(&self) -> Option<&str> {
+        match self {
+            Route::Job(job) | Route::DeleteJob(job) | Route::Calls(job) | Route::Records(job) => Some(job),
+            Route::Record(job, _) | Route::Acks(job, _) | Route::Files(job) | Route::File(job, _) => Some(job),
+            Route::Log(job) | Route::Events(job) | Route::Stream(job) | Route::Samples(job) => Some(job),
+            Route::View(job) => job.as_deref(),
+            Route::Asset(_) | Route::Health | Route::Ready | Route::Metrics | Route::Jobs | Route::NewJob => None,
+        }
+    }
+
     /// Whether it has a body of JSON. A page of another site can't send that type, nor a DELETE.
     pub fn has_body(&self) -> bool {
         matches!(self, Route::NewJob | Route::Calls(_))

@@ -4,13 +4,14 @@ use super::query::{self, numbers};
 use super::render;
 use super::reply::{bad_field, with_type, Reply};
 use super::{no_job, App};
+use crate::auth::Caller;
 use hyper::body::Sender;
 use hyper::header::{HeaderMap, HeaderValue, CACHE_CONTROL};
 use hyper::{Body, Request};
 use serde_json::json;
 use std::fmt::Write;
 use std::sync::Arc;
-use std::time::{Duration, Instant};
+use std::time::{Duration, Instant, SystemTime};
 use tokio::sync::watch;
 
 const KIND: &str = "text/event-stream";
@@ -24,7 +25,12 @@ const ALIVE_EACH: Duration = Duration::from_secs(10);
 const LAST_ID: &str = "last-event-id";
 
 /// Answers with the events after a place, and then with each that comes.
-pub async fn answer(app: &Arc<App>, job: String, request: &Request<Body>) -> Result<Reply, Box<Reply>> {
+pub async fn answer(
+    app: &Arc<App>,
+    job: String,
+    caller: &Caller,
+    request: &Request<Body>,
+) -> Result<Reply, Box<Reply>> {
     let (known, query) = query::text(request.uri().query().unwrap_or(""), "log");
     let [after] = numbers(&query, [places::AFTER])?;
     let (after, known) = match last_id(request.headers())? {
@@ -39,7 +45,8 @@ pub async fn answer(app: &Arc<App>, job: String, request: &Request<Body>) -> Res
     let after = after.unwrap_or(first - 1).max(first - 1);
     let (sender, body) = Body::channel();
     let (calls, upto) = (app.board.length(&job), app.board.history(&job));
-    let stream = Stream { app: Arc::clone(app), job, number, after, said: (calls, upto), last, sender };
+    let (keys, until) = (app.keys.generation(), caller.until);
+    let stream = Stream { app: Arc::clone(app), job, number, after, said: (calls, upto), last, keys, until, sender };
     tokio::spawn(stream.feed());
     let mut reply = with_type(200, KIND, body);
     reply.headers_mut().insert(CACHE_CONTROL, HeaderValue::from_static("no-store"));
@@ -67,6 +74,9 @@ struct Stream {
     /// How many calls there were, and how many of them the history had read, when that was told last.
     said: (u64, u64),
     last: watch::Receiver<u64>,
+    /// Which tokens it was admitted by, and when its own ends.
+    keys: u64,
+    until: Option<SystemTime>,
     sender: Sender,
 }
 
@@ -89,7 +99,7 @@ impl Stream {
                     return;
                 }
             }
-            if ends || !self.waits().await {
+            if ends || !self.waits().await || !self.is_admitted() {
                 return;
             }
         }
@@ -118,6 +128,12 @@ impl Stream {
             text += &message("calls", None, &json!({"seq": now.0, "upto": now.1}));
         }
         Ok((text, false))
+    }
+
+    /// A client whose token may have changed comes back, and is looked at again.
+    fn is_admitted(&self) -> bool {
+        let is_over = self.until.is_some_and(|until| SystemTime::now() >= until);
+        !is_over && self.app.keys.generation() == self.keys
     }
 
     /// An idle connection is closed, so something is sent before.

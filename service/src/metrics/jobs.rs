@@ -107,7 +107,9 @@ impl Gauges {
             forget(gauge, job);
         }
         let Gauges { interval, completed, opened, image_at, .. } = self;
-        [interval, completed, opened, image_at].into_iter().for_each(|gauge| forget(gauge, job));
+        for gauge in [interval, completed, opened, image_at] {
+            forget(gauge, job);
+        }
     }
 
     fn set_log(&self, job: &JobState, name: &str) {

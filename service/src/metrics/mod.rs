@@ -1,16 +1,20 @@
 //! The metrics for Prometheus: the writer sets counters and times, and reads set gauges.
 mod jobs;
+mod process;
+mod queue;
 mod sizes;
 mod upkeep;
 
 use crate::model::Outcome;
 use crate::writer::JobState;
 use jobs::Gauges;
+use process::Process;
 use prometheus::core::{Collector, MetricVec, MetricVecBuilder};
 use prometheus::{
     Encoder, Gauge, GaugeVec, Histogram, HistogramOpts, HistogramVec, IntCounterVec, IntGauge, IntGaugeVec, Opts,
     Registry, TextEncoder,
 };
+use queue::Queue;
 use sizes::SizeMetrics;
 use std::collections::HashMap;
 use std::time::Duration;
@@ -37,6 +41,8 @@ pub struct Metrics {
     gauges: Gauges,
     pub upkeep: Upkeep,
     pub sizes: SizeMetrics,
+    pub queue: Queue,
+    pub process: Process,
 }
 
 impl Metrics {
@@ -84,6 +90,8 @@ impl Metrics {
             gauges: Gauges::new()?,
             upkeep: Upkeep::new()?,
             sizes: SizeMetrics::new()?,
+            queue: Queue::new()?,
+            process: Process::new()?,
         };
         metrics.register()?;
         Ok(metrics)
@@ -105,6 +113,8 @@ impl Metrics {
         registry.register(Box::new(self.durations.clone()))?;
         self.upkeep.register(registry)?;
         self.sizes.register(registry)?;
+        self.queue.register(registry)?;
+        self.process.register(registry)?;
         self.gauges.register(registry)
     }
 

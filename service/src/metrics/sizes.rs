@@ -40,7 +40,9 @@ impl SizeMetrics {
 
     /// A job was deleted.
     pub fn forget(&self, job: &str) {
-        [&self.files, &self.sized, &self.records].into_iter().for_each(|gauge| forget(gauge, job));
+        for gauge in [&self.files, &self.sized, &self.records] {
+            forget(gauge, job);
+        }
     }
 
     /// A record completed, with these bytes of its new files and of all.

@@ -167,7 +167,7 @@ impl Job {
         let place = |file: u64| match self.engine.uses(file) {
             _ if taken.binary_search(&file).is_ok() => Some(Use::Taken),
             _ if waiting.contains(&file) => Some(Use::Waiting),
-            Some(1..) => Some(Use::InUse),
+            Some(1..) => Some(Use::Needed),
             _ => None,
         };
         self.sizes = Sizes::of(sizes, place);

@@ -114,7 +114,7 @@ mod tests {
 
     #[test]
     fn files_ascend_in_a_line() {
-        let call = Call::Ack { id: 1, subtask: SUBTASK, fresh: vec![31, 11], reused: vec![9, 8] };
+        let call = Call::Ack { id: 1, subtask: SUBTASK, fresh: vec![31, 11], reused: vec![9, 8], bytes: vec![] };
         assert_eq!(call.line(5).as_deref(), Ok("ack 5 1 1.7 +11 +31 =8 =9"));
     }
 

@@ -25,6 +25,6 @@ pub use lines::parse_line;
 pub use outcome::{Outcome, Reply};
 pub use relkvanu::{Answer, Choice, FileCounts, Kind, Live as LiveRecord, Mode, Settings};
 pub use settings::{check_shape, config_line, parse_config, settings_json, settings_of, shape_words, FIELDS};
-pub use sizes::{parse_sizes, sizes_text, AckBytes, Bytes, FileBytes, SizeChange, Sizes, Use};
+pub use sizes::{parse_sizes, sizes_text, AckBytes, Bytes, FileBytes};
 pub use starts::{length_in, lengths_text};
 pub use summary::{KeptSummary, PastRecord, SummaryPart};

@@ -11,7 +11,8 @@ pub type FileBytes = (u64, u64);
 /// What a file is for its job.
 #[derive(Clone, Copy, Debug, PartialEq, Eq)]
 pub enum Use {
-    InUse,
+    /// In use.
+    Needed,
     Waiting,
     Taken,
 }
@@ -28,7 +29,7 @@ pub struct Bytes {
 impl Bytes {
     fn of(&mut self, it: Use) -> &mut u64 {
         match it {
-            Use::InUse => &mut self.in_use,
+            Use::Needed => &mut self.in_use,
             Use::Waiting => &mut self.waiting,
             Use::Taken => &mut self.taken,
         }
@@ -146,12 +147,14 @@ impl Sizes {
                 // only what it handed out is registered
                 let handed_out = fresh.iter().zip(bytes).filter(|(file, _)| released.contains(file));
                 let fresh: Vec<FileBytes> = handed_out.map(|(file, bytes)| (*file, *bytes)).collect();
-                fresh.iter().for_each(|(file, bytes)| self.tell(*file, *bytes, Use::Waiting, &mut change));
+                for (file, bytes) in &fresh {
+                    self.tell(*file, *bytes, Use::Waiting, &mut change);
+                }
                 change.said = (!fresh.is_empty()).then(|| AckBytes { fresh, ..AckBytes::default() });
             }
             (Call::Ack { fresh, reused, bytes, .. }, _) => {
                 for (file, bytes) in fresh.iter().zip(bytes) {
-                    self.tell(*file, *bytes, Use::InUse, &mut change);
+                    self.tell(*file, *bytes, Use::Needed, &mut change);
                 }
                 change.said = self.said(fresh, reused);
             }
@@ -161,7 +164,9 @@ impl Sizes {
             }
             _ => {}
         }
-        released.iter().for_each(|file| self.set(*file, Use::Waiting));
+        for file in released {
+            self.set(*file, Use::Waiting);
+        }
         change
     }
 
@@ -228,7 +233,7 @@ mod tests {
 
     #[test]
     fn a_late_acknowledgement_tells_only_what_it_handed_out() {
-        let mut sizes = Sizes::of(&[(1, 10)], |_| Some(Use::InUse));
+        let mut sizes = Sizes::of(&[(1, 10)], |_| Some(Use::Needed));
         let late = answered(Answer::AckLate { handed_out: 1 });
         let change = sizes.follow(&ack(&[1, 2], &[], &[99, 5]), &late, &[2]);
         let said = AckBytes { fresh: vec![(2, 5)], ..AckBytes::default() };
@@ -238,7 +243,7 @@ mod tests {
 
     #[test]
     fn a_start_drops_files_that_are_gone() {
-        let place = |file| [Some(Use::InUse), Some(Use::Waiting), Some(Use::Taken), None][file as usize];
+        let place = |file| [Some(Use::Needed), Some(Use::Waiting), Some(Use::Taken), None][file as usize];
         let sizes = Sizes::of(&[(0, 1), (1, 10), (2, 100), (3, 1000)], place);
         assert_eq!(sizes.sum(), Bytes { in_use: 1, waiting: 10, taken: 100, files: 3 });
         assert_eq!((sizes.bytes_of(2), sizes.bytes_of(3)), (Some(100), None));

@@ -74,7 +74,9 @@ impl Jobs {
         self.last_gone = gone.iter().map(|(job, _)| *job).max().unwrap_or(0).max(self.last_gone);
         let places = gone.iter().filter_map(|(job, _)| self.place_of(*job));
         let places: Vec<usize> = places.filter(|place| !self.jobs[*place].is_deleted).collect();
-        places.iter().for_each(|place| self.delete(*place));
+        for place in &places {
+            self.delete(*place);
+        }
         Ok(!places.is_empty())
     }
 

@@ -10,6 +10,7 @@ mod lease;
 mod leftovers;
 mod message;
 mod old_keys;
+mod queue;
 pub mod replay;
 mod round;
 mod state;
@@ -20,6 +21,7 @@ pub use delete::Delete;
 pub use jobs::Jobs;
 pub use lease::Lease;
 pub use message::{CallsDone, Created, Deletion, ForKeeping, Key, Message, Read, ReadDone};
+pub use queue::{queue, Inbox, Messages, NotSent};
 pub use replay::StartError;
 pub use state::{JobState, RecordState};
 
@@ -33,7 +35,7 @@ use keeper::Keeper;
 use leftovers::Leftovers;
 use old_keys::OldKeys;
 use round::Round;
-use std::sync::mpsc::{Receiver, RecvTimeoutError};
+use std::sync::mpsc::RecvTimeoutError;
 use std::sync::Arc;
 use std::time::Duration;
 use timer::Timer;
@@ -100,7 +102,7 @@ impl Writer {
     }
 
     /// Works until a message says to stop.
-    pub fn run(mut self, inbox: &Receiver<Message>) {
+    pub fn run(mut self, inbox: &Messages) {
         loop {
             let first = match inbox.recv_timeout(self.patience()) {
                 Ok(message) => Some(message),
@@ -225,7 +227,9 @@ impl Writer {
         let job = self.jobs.at(place);
         let (outcome, logged) = job.call(call, self.clock.now());
         self.metrics.call(&job.opening.name, call.name(), &outcome);
-        logged.into_iter().for_each(|logged| round.group.log(logged));
+        if let Some(logged) = logged {
+            round.group.log(logged);
+        }
         round.touched.insert(place);
         outcome
     }
@@ -234,7 +238,8 @@ impl Writer {
     fn tick_due(&mut self, round: &mut Round) {
         let now = self.clock.now();
         self.set_timer(round);
-        for place in self.timer.take_due(now) {
+        for (moment, place) in self.timer.take_due(now) {
+            self.metrics.queue.late(now.saturating_sub(moment));
             let outcome = self.call(round, place, &Call::Tick);
             if !did_its_work(&outcome) {
                 log::warn(&format!("tick job={} outcome={}", self.jobs.at(place).opening.name, outcome.json()));

@@ -60,6 +60,12 @@ impl Reader for Memory {
     fn sizes(&mut self, _: Option<(i64, u64)>, _: u32) -> Result<Vec<(i64, FileBytes)>, DbError> {
         Ok(vec![])
     }
+    fn gone(&mut self) -> Result<Vec<(i64, u64)>, DbError> {
+        Ok(vec![])
+    }
+    fn call_bytes(&mut self, _: &[i64]) -> Result<Vec<(i64, u64)>, DbError> {
+        Ok(vec![])
+    }
     fn room(&mut self) -> Result<Room, DbError> {
         Err(DbError::Odd("there is none"))
     }
@@ -165,9 +171,11 @@ fn a_summary_and_the_rest_of_the_log_give_the_same_history() -> Result<(), Error
     Follower::open(&tables, &mut memory, &opening())?.follow(&tables, &whole, &said)?;
     let wanted = dump(&tables);
     // record 1 has the files 100 and 101, and record 6 the file 600 so far
-    let bytes = tables
-        .all("select fresh_bytes, full_bytes from record where id in (1, 6) order by id", [], |row| row.try_into())?;
-    assert_eq!(bytes, [(2010_i64, 2024_i64), (6000, 6007)]);
+    let bytes: Vec<(i64, i64)> =
+        tables.all("select fresh_bytes, full_bytes from record where id in (1, 6) order by id", [], |row| {
+            row.try_into()
+        })?;
+    assert_eq!(bytes, [(2010, 2024), (6000, 6007)]);
     for place in 1..whole.len() {
         let (before, after) = whole.split_at(place);
         let files = [File::new("old"), File::new("new")];

@@ -195,7 +195,9 @@ impl Jobs {
             if after.is_none() {
                 break;
             }
-            page.into_iter().for_each(|(job, size)| sizes.entry(job).or_default().push(size));
+            for (job, size) in page {
+                sizes.entry(job).or_default().push(size);
+            }
         }
         for (job, sizes) in sizes {
             beat()?;
