@@ -7,7 +7,7 @@ import threading
 
 from harness import PROGRAM, Server, caught_up, configured, folder, served, until
 from postgres import postgres
-from relkvanu_service import Failed, Service, ack, cancel, deleted, savepoint
+from relkvanu_service import Failed, Service, ack, cancel, deleted, dispose, savepoint
 from test_images import SETTINGS, worked
 from test_metrics import scraped
 
@@ -25,7 +25,9 @@ def refused(service, name, reason, abandon=False):
 
 
 def emptied(job):
-    """Takes all files, and reports them."""
+    """Disposes of all savepoints, takes all files, and reports them."""
+    job.calls([dispose(record["id"]) for record in job.state()["live"]])
+    job.calls([deleted(int(row["file"])) for row in job.files(1000)["taken"]])
     while files := job.take(64):
         job.calls([deleted(file) for file in files])
 
@@ -158,13 +160,13 @@ def test_the_command_deletes():
 
 
 def test_logs_are_cut_by_their_bytes():
-    text = "image_calls = 50\nkeep_calls = 1000000\nkeep_bytes = 200000\n"
+    text = "image_calls = 50\nkeep_calls = 1000000\nkeep_bytes = 100000\n"
     with folder() as at:
         server = Server(at, args=configured(at, text)).start()
         service = Service(server.url)
         jobs = [service.open(name, SETTINGS, [1]) for name in ("large", "larger", "small")]
         jobs[2].calls([{"call": "tick"}] * 200)
-        for round_number in range(40):
+        for round_number in range(20):
             jobs[0].calls([{"call": "tick"}] * 100)
             jobs[1].calls([{"call": "tick"}] * 200)
             if round_number % 4 == 0:
@@ -175,15 +177,15 @@ def test_logs_are_cut_by_their_bytes():
             return [values[f'relkvanu_log_kept_calls{{job_name="{job.name}"}}'] for job in jobs]
 
         # a tick and its answer have some 50 bytes, and count as 120
-        until(lambda: sum(kept()) * 120 < 320_000, 20, told=kept)
+        until(lambda: sum(kept()) * 120 < 160_000, 20, told=kept)
         large, larger, small = kept()
-        assert small == 200 and large > 400 and larger > 400, kept()
+        assert small == 200 and large > 200 and larger > 200, kept()
         server.kill()
         server.start()
-        assert [job.state()["seq"] for job in jobs] == [4000, 8000, 200]
-        for _ in range(10):
+        assert [job.state()["seq"] for job in jobs] == [2000, 4000, 200]
+        for _ in range(5):
             jobs[0].calls([{"call": "tick"}] * 100)
             caught_up(jobs[0])
-        until(lambda: sum(kept()) * 120 < 320_000, 20, told=kept)
+        until(lambda: sum(kept()) * 120 < 160_000, 20, told=kept)
         server.stop()
-        return f"{[int(count) for count in (large, larger, small)]} calls kept of 4000, 8000 and 200"
+        return f"{[int(count) for count in (large, larger, small)]} calls kept of 2000, 4000 and 200"

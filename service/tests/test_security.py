@@ -79,7 +79,7 @@ def test_tokens_are_read_again():
         told_again(server)
         assert [server.get("/v1/jobs", token)[0] for token in (ALL, READER, ORDERS)] == [200, 401, 200]
         until(lambda: stream.over, 5)  # its token is no more
-        assert re.search(r'relkvanu_token_until_timestamp_seconds{access="write"} 3\.24', server.get("/metrics", ALL)[2])
+        assert re.search(r'relkvanu_token_until_timestamp_seconds{access="write"} 32472144000', server.get("/metrics", ALL)[2])
         # a bad file changes nothing
         written(f"{at}/token", "write short")
         told_again(server, "stay as they were")

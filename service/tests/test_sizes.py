@@ -12,10 +12,10 @@ def worked(job):
     """Files in use, waiting, taken and deleted. Returns what the API has to say of their bytes, and of the records'."""
     job.calls([savepoint(), ack(1, "0.0", [12, 11], sizes=[20, 100]), ack(1, "0.1", [13], sizes=[3])])
     job.calls([savepoint(), ack(2, "0.0", [21], [11], sizes=[7]), ack(2, "0.1", [14], [13])])  # nobody says how large 14 is
-    job.calls([dispose(1), savepoint(), ack(3, "0.0", [31], sizes=[1 << 53])])
+    job.calls([dispose(1), savepoint(), ack(3, "0.0", [31], sizes=[1 << 52])])
     assert job.take(1) == [12]
     job.calls([ack(1, "0.0", [41, 21], sizes=[50, 9999])])  # late: 41 is handed out, and 21 keeps its size
-    return {"in_use": 110 + (1 << 53), "waiting": 50, "taken": 20, "files": 6}, {1: (123, 123), 2: (7, 110), 3: (1 << 53, 1 << 53)}
+    return {"in_use": 110 + (1 << 52), "waiting": 50, "taken": 20, "files": 6}, {1: (123, 123), 2: (7, 110), 3: (1 << 52, 1 << 52)}
 
 
 def told(job):
@@ -33,7 +33,7 @@ def test_sizes_outlive_starts_and_a_lost_history():
     with served() as server:
         job = Service(server.url).open("orders", SETTINGS, [2])
         wanted = worked(job)
-        files = [100, 20, 3, None, 7, 1 << 53, 50, None]
+        files = [100, 20, 3, None, 7, 1 << 52, 50, None]
         assert told(job) == wanted and file_bytes(job) == files, (told(job), wanted)
         for lost in (False, True):
             server.kill()
@@ -55,8 +55,8 @@ def test_sizes_outlive_starts_and_a_lost_history():
         assert values['relkvanu_file_bytes{job_name="orders",state="in_use"}'] == wanted[0]["in_use"]
         assert values['relkvanu_sized_files{job_name="orders"}'] == 4
         job.call(ack(3, "0.1", [], [13]))
-        until(lambda: scraped(server)[1].get('relkvanu_record_bytes{job_name="orders",kind="savepoint",of="all"}') == (1 << 53) + 3)
-        assert scraped(server)[1]['relkvanu_record_bytes{job_name="orders",kind="savepoint",of="new"}'] == 1 << 53
+        until(lambda: scraped(server)[1].get('relkvanu_record_bytes{job_name="orders",kind="savepoint",of="all"}') == (1 << 52) + 3)
+        assert scraped(server)[1]['relkvanu_record_bytes{job_name="orders",kind="savepoint",of="new"}'] == 1 << 52
         return "6 files and 3 records, after a kill and without the history"
 
 
@@ -71,8 +71,8 @@ def test_sizes_outlive_cuts():
         job.calls([deleted(12)])
         read_and_cut(job, 150)
         before = told(job)
-        assert before[0] == {"in_use": 110 + (1 << 53), "waiting": 0, "taken": 0, "files": 4}, before
-        assert before[1][20] == (20, 23) and before[1][3] == (1 << 53, 1 << 53), before
+        assert before[0] == {"in_use": 110 + (1 << 52), "waiting": 0, "taken": 0, "files": 4}, before
+        assert before[1][20] == (20, 23) and before[1][3] == (1 << 52, 1 << 52), before
         with sqlite3.connect(server.database) as base:
             cut = base.execute("select min(seq) >= ? from ack_size", (job.state()["first"],)).fetchone()
         base.close()

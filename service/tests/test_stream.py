@@ -17,7 +17,7 @@ class Stream(threading.Thread):
         super().__init__(daemon=True)
         self.told, self.id, self.alive, self.head, self.over = [], None, 0, b"", False
         self.socket = socket.create_connection(("127.0.0.1", server.port), timeout=30)
-        lines = [f"GET {path} HTTP/1.1", "Host: localhost", *(f"{name}: {value}" for name, value in headers)]
+        lines = [f"GET {path} HTTP/1.1", "Host: localhost", "Connection: close", *(f"{name}: {value}" for name, value in headers)]
         self.socket.sendall("\r\n".join([*lines, "", ""]).encode())
         self.start()
 

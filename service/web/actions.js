@@ -158,5 +158,6 @@ at("ask-fields").addEventListener("input", showRequest);
 at("ask-no").addEventListener("click", () => at("ask").close());
 at("ask").addEventListener("close", () => {
   at("ask-token").value = "";
-  asking.opener?.focus();
+  // what was pressed may be gone, as the button of a savepoint that is disposed of
+  (asking.opener?.isConnected ? asking.opener : at("job-name")).focus();
 });

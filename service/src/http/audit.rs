@@ -52,7 +52,8 @@ impl Audit {
     /// Writes the line of a request that was answered, if it has one. `by` names its token.
     pub fn answered(&self, asked: &Asked, route: Option<&Route>, by: Option<&str>, reply: &mut Reply) {
         let (status, did) = (reply.status().as_u16(), reply.extensions_mut().remove::<Did>());
-        let is_bad = matches!(status, 401 | 403) || status >= 500;
+        // a standby answers 503 to each request
+        let is_bad = matches!(status, 401 | 403) || status >= 500 && status != 503;
         let changes_jobs = matches!(route, Some(Route::NewJob | Route::DeleteJob(_)));
         let more = match is_bad && !self.all {
             true => match self.next_bad(Instant::now()) {

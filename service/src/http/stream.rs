@@ -18,7 +18,7 @@ const KIND: &str = "text/event-stream";
 /// How many events are read at once.
 const PAGE: u32 = 200;
 /// How often it is told how many calls there are, if there are more.
-const CALLS_EACH: Duration = Duration::from_secs(1);
+const CALLS_EACH: Duration = Duration::from_millis(500);
 /// How often something is sent at least, so that no proxy takes the connection as dead.
 const ALIVE_EACH: Duration = Duration::from_secs(10);
 /// Where a client goes on from after a lost connection: what it got as `id` last.

@@ -50,13 +50,13 @@ pub struct Kept {
     /// The place at which an image was tried last.
     tried: u64,
     /// The bytes of a call on average, and of how many calls.
-    mean: (u64, u64),
+    mean: (f64, f64),
 }
 
 /// How many bytes a call takes beside its line and its answer, with its indexes.
-const ROW_BYTES: u64 = 70;
+const ROW_BYTES: f64 = 70.0;
 /// Of how many calls the average is that is kept.
-const MEAN_OF: u64 = 1000;
+const MEAN_OF: f64 = 1000.0;
 
 impl Kept {
     /// What a database has: its images and summaries, which rise, and the first call.
@@ -75,24 +75,24 @@ impl Kept {
 
     /// The bytes of a call on average, as the log says.
     pub fn set_mean(&mut self, bytes: u64) {
-        self.mean = (bytes + ROW_BYTES, MEAN_OF);
+        self.mean = (bytes as f64 + ROW_BYTES, MEAN_OF);
     }
 
     /// Notes a call whose line and answer have so many bytes.
     pub fn note(&mut self, bytes: u64) {
         let (mean, of) = self.mean;
-        let of = (of + 1).min(MEAN_OF);
-        self.mean = ((mean * (of - 1) + bytes + ROW_BYTES) / of, of);
+        let of = (of + 1.0).min(MEAN_OF);
+        self.mean = (mean + (bytes as f64 + ROW_BYTES - mean) / of, of);
     }
 
     /// About how many bytes the calls take that the log has, of which `seq` is the last.
     pub fn bytes(&self, seq: u64) -> u64 {
-        seq.saturating_sub(self.gone).saturating_mul(self.mean.0)
+        (seq.saturating_sub(self.gone) as f64 * self.mean.0) as u64
     }
 
     /// How many calls have so many bytes.
     pub fn calls_in(&self, bytes: u64) -> u64 {
-        bytes / self.mean.0.max(1)
+        (bytes as f64 / self.mean.0.max(1.0)) as u64
     }
 
     /// Sets up to where the log is to be cut: at the last summary before the image from which on it is kept.
