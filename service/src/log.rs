@@ -5,6 +5,7 @@ use std::future::Future;
 use std::io::Write;
 use std::sync::atomic::{AtomicBool, Ordering};
 use std::time::SystemTime;
+use tokio::task::futures::TaskLocalFuture;
 
 static IS_JSON: AtomicBool = AtomicBool::new(false);
 
@@ -19,8 +20,8 @@ pub fn use_json() {
 }
 
 /// Does some work, whose lines name this trace.
-pub async fn traced<T>(trace: Option<String>, work: impl Future<Output = T>) -> T {
-    TRACE.scope(trace, work).await
+pub fn traced<F: Future>(trace: Option<String>, work: F) -> TaskLocalFuture<Option<String>, F> {
+    TRACE.scope(trace, work)
 }
 
 pub fn info(text: &str) {

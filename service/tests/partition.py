@@ -121,12 +121,18 @@ class Faults:
 
     def __init__(self, chance, database, servers, lines, clocks):
         self.chance, self.database, self.servers, self.lines, self.clocks = chance, database, servers, lines, clocks
+        self.deck = []
         self.made = {"cut": 0, "stopped": 0, "killed": 0, "clock": 0, "database stopped": 0, "both cut": 0}
 
     def next(self):
-        place, fault = self.chance.randrange(2), self.chance.choice(list(self.made))
+        if not self.deck:
+            self.deck = self.chance.sample(list(self.made), len(self.made))
+        fault = self.deck.pop()
         self.made[fault] += 1
-        getattr(self, fault.replace(" ", "_"))(place, self.chance.uniform(0.5, 4))
+        # more often the leader than the other
+        place = next((place for place, server in enumerate(self.servers) if server.get("/readyz")[0] == 200), 0)
+        place = place if self.chance.random() < 0.7 else 1 - place
+        getattr(self, fault.replace(" ", "_"))(place, self.chance.uniform(0.5, 5))
 
     def cut(self, place, seconds):
         self.lines[place].is_cut = True
@@ -199,7 +205,7 @@ def run(seconds, seed=1):
         reads, epochs = sum(client.reads for client in clients), database.sql("select epoch from leader")
         wrong = [status for it in kept for status in it.ended if status not in (75, -9)]
         assert not wrong, (wrong, [server.log()[-600:] for server in servers])
-        assert made > 10 * seconds and int(epochs) > 2, (made, epochs)
+        assert made > 10 * seconds and int(epochs) > seconds // 30, (made, epochs, faults.made)
         said = ", ".join(f"{count} {fault}" for fault, count in faults.made.items())
         return f"{seconds} s with faults ({said}), {epochs} leaders: {made} calls answered, {logged} in the log, {oracle} as ckpt_job answers them; {reads} reads, none old"
 

@@ -279,6 +279,6 @@ def test_completions_and_the_manual_page():
     if not shutil.which("mandoc"):
         raise Skipped("mandoc is not here")
     pages = sorted(glob.glob(f"{SERVICE}/deploy/man/*.1"))
-    told = subprocess.run(["mandoc", "-T", "lint", *pages], stdout=subprocess.PIPE, text=True, check=False)
+    told = subprocess.run(["mandoc", "-T", "lint", "-W", "warning", *pages], stdout=subprocess.PIPE, text=True, check=False)
     assert told.returncode == 0, told.stdout
     return "bash completes commands and options"
