@@ -167,7 +167,7 @@ mod tests {
             assert_eq!(told, known, "{name}");
             assert!(page.contains(&format!(".Dt RELKVANU-{} 1\n", name.to_uppercase())), "{name}");
             let arguments = command.get_positionals().map(|it| it.get_id().as_str());
-            arguments.for_each(|it| assert!(page.contains(&format!(".Ar {it}\n")), "{name} {it}"));
+            arguments.for_each(|it| assert!(page.contains(&format!("Ar {it}\n")), "{name} {it}"));
         }
     }
 
