@@ -30,8 +30,8 @@ filled = sed -e 's|@PREFIX@|$(PREFIX)|g' -e 's|@LIBDIR@|$(patsubst $(PREFIX)/%,$
 # The programs that are built: in a release in build/bin.
 BUILT = $(wildcard $(PROGRAMS:%=build/bin/%) $(foreach it,$(PROGRAMS),crates/$(it)/out/$(it)))
 
-# The manual page of the service, which a release may have.
-MANUAL = $(firstword $(wildcard service/deploy/man/relkvanu.1 service/deploy/relkvanu.1))
+# The manual pages of the service, which a release may have.
+MANUAL = $(wildcard service/deploy/man/*.1)
 
 .PHONY: library install uninstall dist first job demo programs check note clean
 
@@ -98,7 +98,7 @@ uninstall:
 	rm -f $(libraries)/librelkvanu.a $(libraries)/librelkvanu.so $(libraries)/librelkvanu.so.0 $(libraries)/pkgconfig/relkvanu.pc
 	rm -f $(libraries)/librelkvanu-store.* $(libraries)/pkgconfig/relkvanu-store.pc $(into)/include/relkvanu_store.h $(into)/include/relkvanu_store.hpp
 	rm -f $(into)/share/man/man3/relkvanu.3 $(into)/share/man/man3/relkvanu_*.3
-	rm -f $(patsubst %,$(into)/bin/%,$(PROGRAMS) relkvanu) $(patsubst %,$(into)/share/man/man1/%.1,$(PROGRAMS) relkvanu)
+	rm -f $(patsubst %,$(into)/bin/%,$(PROGRAMS) relkvanu) $(PROGRAMS:%=$(into)/share/man/man1/%.1) $(into)/share/man/man1/relkvanu.1 $(into)/share/man/man1/relkvanu-*.1
 	rm -rf $(libraries)/cmake/relkvanu $(into)/share/doc/relkvanu
 	@[ -n "$(DESTDIR)" ] || echo "If ldconfig was run after the install, run it again."
 

@@ -1,6 +1,7 @@
 -- One group in one statement, with the lease and the fence: $1 seconds of the lease, $2 the epoch, then the columns of
--- `job`, `call`, `request` and `image` as arrays, images that go, and calls that go, then those of `summary` and `past`, and
--- summaries that go. Answers how many rows of the first four were written; none where another leads.
+-- `job`, `call`, `request` and `image` as arrays, images that go, and calls that go with what their acknowledgements said, then those of
+-- `summary` and `past`, summaries that go, those of `size`, sizes that go, those of `ack_size`, and jobs that go. Answers how many rows of
+-- the first four were written; none where another leads.
 with l as (
     update leader set until = clock_timestamp() + $1::float8 * interval '1 s' where epoch = $2::bigint returning 1
 ), j as (
@@ -37,6 +38,23 @@ with l as (
 ), o as (
     delete from summary using l, unnest($44::bigint[], $45::bigint[]) u(job, seq)
     where summary.job = u.job and summary.seq = u.seq
+), z as (
+    insert into size select u.job, u.file, u.bytes from l, unnest($46::bigint[], $47::bigint[], $48::bigint[]) u(job, file, bytes)
+    on conflict (job, file) do update set bytes = excluded.bytes
+), g as (
+    delete from size using l, unnest($49::bigint[], $50::bigint[]) u(job, file)
+    where size.job = u.job and size.file = u.file
+), a as (
+    insert into ack_size select u.job, u.seq, u.fresh, u.bytes from l, unnest(
+        $51::bigint[], $52::bigint[], $53::text[], $54::bigint[]) u(job, seq, fresh, bytes)
+    on conflict (job, seq) do update set fresh = excluded.fresh, bytes = excluded.bytes
+), y as (
+    delete from ack_size using l, unnest($33::bigint[], $35::bigint[]) u(job, upto)
+    where ack_size.job = u.job and ack_size.seq <= u.upto
+), q as (
+    delete from job using l, unnest($55::bigint[]) u(job) where job.job = u.job
+), w as (
+    insert into gone_job select u.job, u.name, u.at, 0 from l, unnest($55::bigint[], $56::text[], $57::bigint[]) u(job, name, at)
 )
 select (select count(*) from l), (select count(*) from j), (select count(*) from c), (select count(*) from r),
     (select count(*) from i)

@@ -1,12 +1,13 @@
-//! Tokens: which clients may read, and which may change something.
+//! Tokens: which clients may read, which may change something, and of which jobs.
 use hyper::header::{HeaderMap, AUTHORIZATION};
 use std::io;
 use std::path::{Path, PathBuf};
 use std::time::SystemTime;
-use subtle::ConstantTimeEq;
+use subtle::{Choice, ConstantTimeEq};
 use thiserror::Error;
 
 const SHORTEST: usize = 16;
+const LONGEST_NAME: usize = 64;
 
 #[derive(Clone, Copy, Debug, PartialEq, Eq)]
 pub enum Access {
@@ -14,11 +15,59 @@ pub enum Access {
     Write,
 }
 
+/// Jobs by their name, or by how their names begin.
+#[derive(Clone, Debug, PartialEq, Eq)]
+struct Pattern {
+    text: String,
+    is_prefix: bool,
+}
+
+impl Pattern {
+    fn of(text: &str) -> Pattern {
+        match text.strip_suffix('*') {
+            Some(prefix) => Pattern { text: prefix.to_string(), is_prefix: true },
+            None => Pattern { text: text.to_string(), is_prefix: false },
+        }
+    }
+
+    fn has(&self, job: &str) -> bool {
+        if self.is_prefix {
+            job.starts_with(&self.text)
+        } else {
+            job == self.text
+        }
+    }
+}
+
+/// Who makes a request: the name of the token, and the jobs that it is for.
+#[derive(Clone, Debug, PartialEq, Eq)]
+pub struct Caller {
+    pub name: String,
+    /// `None`: all.
+    jobs: Option<Vec<Pattern>>,
+    /// From when on it is refused.
+    pub until: Option<SystemTime>,
+}
+
+impl Caller {
+    /// A program of this machine, where there are no tokens.
+    pub fn local() -> Caller {
+        Caller { name: "local".to_string(), jobs: None, until: None }
+    }
+
+    pub fn may_see(&self, job: &str) -> bool {
+        self.jobs.as_ref().is_none_or(|jobs| jobs.iter().any(|pattern| pattern.has(job)))
+    }
+
+    pub fn may_see_all(&self) -> bool {
+        self.jobs.is_none()
+    }
+}
+
 struct Token {
     access: Access,
     text: Vec<u8>,
-    /// From when on it is refused.
-    until: Option<SystemTime>,
+    caller: Caller,
 }
 
 /// The tokens of a file. A write token may read too.
@@ -40,8 +89,10 @@ pub enum BadTokens {
     None,
     #[error("line {line} is not 'read TOKEN' or 'write TOKEN'")]
     Words { line: usize },
-    #[error("line {line} has {day:?} after its token, which is not until=YEAR-MONTH-DAY")]
-    Day { line: usize, day: String },
+    #[error(
+        "line {line} has {word:?} after its token, which is not until=YEAR-MONTH-DAY, jobs=NAME,PREFIX*,.. or name=WORD"
+    )]
+    Word { line: usize, word: String },
     #[error("line {line} begins with neither 'read' nor 'write'")]
     Access { line: usize },
     #[error("line {line} has a token of less than {SHORTEST} characters")]
@@ -54,8 +105,8 @@ impl Tokens {
         Tokens::parse(&text).map_err(|why| NoTokens::Bad { path: path.to_path_buf(), why })
     }
 
-    /// Reads lines of `read TOKEN` and `write TOKEN`, which may end with `until=YEAR-MONTH-DAY`. Empty lines and those that begin
-    /// with `#` are comments.
+    /// Reads lines of `read TOKEN` and `write TOKEN`, after which `until=YEAR-MONTH-DAY`, `jobs=NAME,PREFIX*` and `name=WORD` may
+    /// stand. Empty lines and those that begin with `#` are comments.
     fn parse(text: &str) -> Result<Tokens, BadTokens> {
         let lines = text.lines().enumerate().filter(|(_, line)| !line.trim().is_empty() && !line.starts_with('#'));
         let tokens: Vec<_> = lines.map(|(place, line)| token(place + 1, line)).collect::<Result<_, _>>()?;
@@ -67,43 +118,56 @@ impl Tokens {
 
     /// When the last token for this access ends, if all of them do.
     pub fn until(&self, access: Access) -> Option<SystemTime> {
-        let ends = self.0.iter().filter(|token| token.access == access).map(|token| token.until);
+        let ends = self.0.iter().filter(|token| token.access == access).map(|token| token.caller.until);
         ends.reduce(|one, other| Some(one?.max(other?))).flatten()
     }
 
-    /// Whether the headers have a token for this access. Each token is compared in full, in a time that depends on its
+    /// Who has the token of the headers, if it is one for this access. Each token is compared in full, in a time that depends on its
     /// length alone.
-    pub fn allow(&self, headers: &HeaderMap, wanted: Access, now: SystemTime) -> bool {
+    pub fn caller(&self, headers: &HeaderMap, wanted: Access, now: SystemTime) -> Option<&Caller> {
         let given = headers.get(AUTHORIZATION).and_then(|value| value.as_bytes().strip_prefix(b"Bearer "));
         let given = given.unwrap_or_default();
-        let matches = |Token { access, text, until }: &Token| {
+        let matches = |Token { access, text, caller }: &Token| -> bool {
             let may = *access == Access::Write || wanted == Access::Read;
-            text.ct_eq(given) & subtle::Choice::from(u8::from(may && until.is_none_or(|until| now < until)))
+            let is_now = caller.until.is_none_or(|until| now < until);
+            (text.ct_eq(given) & Choice::from(u8::from(may && is_now))).into()
         };
-        self.0.iter().map(matches).fold(subtle::Choice::from(0), |any, one| any | one).into()
+        // all are looked at, whichever matches
+        let found: Vec<bool> = self.0.iter().map(matches).collect();
+        found.iter().position(|it| *it).map(|place| &self.0[place].caller)
     }
 }
 
 fn token(line: usize, text: &str) -> Result<Token, BadTokens> {
-    let access = |word: &str| match word {
-        "read" => Some(Access::Read),
-        "write" => Some(Access::Write),
-        _ => None,
+    let mut words = text.split_whitespace();
+    let (Some(word), Some(text)) = (words.next(), words.next()) else {
+        return Err(BadTokens::Words { line });
     };
-    let words: Vec<&str> = text.split_whitespace().collect();
-    let (word, token, day) = match words[..] {
-        [word, token] => (word, token, None),
-        [word, token, day] => (word, token, Some(day)),
-        _ => return Err(BadTokens::Words { line }),
+    let access = match word {
+        "read" => Access::Read,
+        "write" => Access::Write,
+        _ => return Err(BadTokens::Access { line }),
     };
-    let start = |day: &str| humantime::parse_rfc3339(&format!("{}T00:00:00Z", day.strip_prefix("until=")?)).ok();
-    let bad = |day: &str| BadTokens::Day { line, day: day.to_string() };
-    let until = day.map(|day| start(day).ok_or_else(|| bad(day))).transpose()?;
-    let access = access(word).ok_or(BadTokens::Access { line })?;
-    if token.len() < SHORTEST {
+    let mut caller = Caller { name: format!("line-{line}"), jobs: None, until: None };
+    for word in words {
+        let bad = || BadTokens::Word { line, word: word.to_string() };
+        match word.split_once('=').ok_or_else(bad)? {
+            ("until", day) => caller.until = Some(start_of(day).ok_or_else(bad)?),
+            ("jobs", jobs) if !jobs.split(',').any(str::is_empty) => {
+                caller.jobs = Some(jobs.split(',').map(Pattern::of).collect());
+            }
+            ("name", name) if !name.is_empty() && name.len() <= LONGEST_NAME => caller.name = name.to_string(),
+            _ => return Err(bad()),
+        }
+    }
+    if text.len() < SHORTEST {
         return Err(BadTokens::Short { line });
     }
-    Ok(Token { access, text: token.as_bytes().to_vec(), until })
+    Ok(Token { access, text: text.as_bytes().to_vec(), caller })
+}
+
+fn start_of(day: &str) -> Option<SystemTime> {
+    humantime::parse_rfc3339(&format!("{day}T00:00:00Z")).ok()
 }
 
 #[cfg(test)]
@@ -120,30 +184,57 @@ mod tests {
         headers
     }
 
+    fn may(tokens: &Tokens, headers: &HeaderMap, access: Access) -> bool {
+        tokens.caller(headers, access, UNIX_EPOCH).is_some()
+    }
+
     #[test]
     fn a_write_token_reads_too() -> Result<(), BadTokens> {
         let tokens = Tokens::parse("# two\nread aaaaaaaaaaaaaaaa\n\nwrite bbbbbbbbbbbbbbbb\n")?;
-        assert!(tokens.allow(&bearer("aaaaaaaaaaaaaaaa"), Access::Read, UNIX_EPOCH));
-        assert!(!tokens.allow(&bearer("aaaaaaaaaaaaaaaa"), Access::Write, UNIX_EPOCH));
-        assert!(tokens.allow(&bearer("bbbbbbbbbbbbbbbb"), Access::Read, UNIX_EPOCH));
-        assert!(tokens.allow(&bearer("bbbbbbbbbbbbbbbb"), Access::Write, UNIX_EPOCH));
-        assert!(!tokens.allow(&bearer("bbbbbbbbbbbbbbb"), Access::Read, UNIX_EPOCH));
-        assert!(!tokens.allow(&bearer(""), Access::Read, UNIX_EPOCH));
-        assert!(!tokens.allow(&HeaderMap::new(), Access::Read, UNIX_EPOCH));
+        assert!(may(&tokens, &bearer("aaaaaaaaaaaaaaaa"), Access::Read));
+        assert!(!may(&tokens, &bearer("aaaaaaaaaaaaaaaa"), Access::Write));
+        assert!(may(&tokens, &bearer("bbbbbbbbbbbbbbbb"), Access::Read));
+        assert!(may(&tokens, &bearer("bbbbbbbbbbbbbbbb"), Access::Write));
+        assert!(!may(&tokens, &bearer("bbbbbbbbbbbbbbb"), Access::Read));
+        assert!(!may(&tokens, &bearer(""), Access::Read));
+        assert!(!may(&tokens, &HeaderMap::new(), Access::Read));
+        Ok(())
+    }
+
+    #[test]
+    fn a_token_may_be_for_some_jobs() -> Result<(), BadTokens> {
+        let tokens = Tokens::parse("read aaaaaaaaaaaaaaaa jobs=orders,eu-* name=alice\nwrite bbbbbbbbbbbbbbbb\n")?;
+        let of = |token| tokens.caller(&bearer(token), Access::Read, UNIX_EPOCH).cloned();
+        let (Some(alice), Some(other)) = (of("aaaaaaaaaaaaaaaa"), of("bbbbbbbbbbbbbbbb")) else {
+            panic!("they are tokens");
+        };
+        assert_eq!((alice.name.as_str(), other.name.as_str()), ("alice", "line-2"));
+        assert_eq!(
+            ["orders", "orders2", "eu-1", "eu", "us"].map(|job| alice.may_see(job)),
+            [true, false, true, false, false]
+        );
+        assert!(!alice.may_see_all() && other.may_see_all() && other.may_see("us"));
+        // one text for two things
+        let tokens = Tokens::parse("read aaaaaaaaaaaaaaaa name=r\nwrite aaaaaaaaaaaaaaaa name=w")?;
+        let name = |access| tokens.caller(&bearer("aaaaaaaaaaaaaaaa"), access, UNIX_EPOCH).map(|it| it.name.clone());
+        assert_eq!((name(Access::Read).as_deref(), name(Access::Write).as_deref()), (Some("r"), Some("w")));
         Ok(())
     }
 
     #[test]
     fn refuses_bad_files() {
-        let day = "until=2027-02-30".to_string();
+        let word = |line, word: &str| BadTokens::Word { line, word: word.to_string() };
         for (text, why) in [
             ("", BadTokens::None),
             ("# none", BadTokens::None),
             ("# one\nread short", BadTokens::Short { line: 2 }),
             ("admin aaaaaaaaaaaaaaaa", BadTokens::Access { line: 1 }),
             ("read", BadTokens::Words { line: 1 }),
-            ("read aaaaaaaaaaaaaaaa b", BadTokens::Day { line: 1, day: "b".to_string() }),
-            ("read aaaaaaaaaaaaaaaa until=2027-02-30", BadTokens::Day { line: 1, day }),
+            ("read aaaaaaaaaaaaaaaa b", word(1, "b")),
+            ("read aaaaaaaaaaaaaaaa until=2027-02-30", word(1, "until=2027-02-30")),
+            ("read aaaaaaaaaaaaaaaa jobs=", word(1, "jobs=")),
+            ("read aaaaaaaaaaaaaaaa name=", word(1, "name=")),
+            ("read aaaaaaaaaaaaaaaa job=a", word(1, "job=a")),
         ] {
             assert_eq!(Tokens::parse(text).err(), Some(why), "{text}");
         }
@@ -154,7 +245,7 @@ mod tests {
         let text =
             "read aaaaaaaaaaaaaaaa until=1970-01-03\nread bbbbbbbbbbbbbbbb until=1970-01-05\nwrite cccccccccccccccc\n";
         let (tokens, day) = (Tokens::parse(text)?, |number: u64| UNIX_EPOCH + Duration::from_secs(number * 86_400));
-        let may = |token, at| tokens.allow(&bearer(token), Access::Read, at);
+        let may = |token, at| tokens.caller(&bearer(token), Access::Read, at).is_some();
         assert!(may("aaaaaaaaaaaaaaaa", day(2) - Duration::from_secs(1)) && !may("aaaaaaaaaaaaaaaa", day(2)));
         assert!(may("bbbbbbbbbbbbbbbb", day(3)) && may("cccccccccccccccc", day(1_000_000)));
         assert_eq!((tokens.until(Access::Read), tokens.until(Access::Write)), (Some(day(4)), None));

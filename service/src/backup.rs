@@ -1,6 +1,6 @@
 //! `relkvanu backup`: copies an SQLite database while a service commits to it.
 use crate::cli;
-use crate::config::{Database, NoDatabase};
+use crate::database::{Database, NoDatabase};
 use crate::log;
 use rusqlite::{Connection, OpenFlags};
 use std::ffi::OsString;

@@ -1,6 +1,6 @@
 //! `relkvanu check`: makes the calls of a database's log again, and compares each answer, and each image, with what the database has.
 use crate::cli;
-use crate::config::{Database, NoDatabase};
+use crate::database::{Database, NoDatabase};
 use crate::exit::{NOT_TO_START, START_AGAIN};
 use crate::log;
 use crate::model::{Job, KeptImage, NoJob, Opening};

@@ -1,5 +1,6 @@
 //! The command line.
 use crate::ask::Ask;
+use crate::config::LogForm;
 use crate::http::{is_name, NO_NAME};
 use clap::{Args, Parser, Subcommand};
 use clap_complete::Shell;
@@ -56,9 +57,15 @@ pub struct Serve {
     /// How many calls before its last image a job's log keeps [default: 1000000]
     #[arg(long, value_name = "CALLS")]
     pub keep_calls: Option<u64>,
+    /// How many bytes the logs of all jobs keep together; 0 sets no such limit [default: 0]
+    #[arg(long, value_name = "BYTES")]
+    pub keep_bytes: Option<u64>,
     /// The address that a standby names to clients [default: http://LISTEN]
     #[arg(long, value_name = "URL")]
     pub advertise: Option<String>,
+    /// How the lines of the service's own log are written [default: text]
+    #[arg(long, value_name = "FORM")]
+    pub log: Option<LogForm>,
     /// Start though the clock is more than a day after the last moment of the log: it is right
     #[arg(long)]
     pub accept_clock: bool,
@@ -135,34 +142,43 @@ mod tests {
     use super::*;
     use clap::CommandFactory;
 
-    const PAGE: &str = include_str!("../deploy/relkvanu.1");
-    const OF_ALL: &str = "Options of the commands that ask a service";
+    /// The page of the program, and that of each command.
+    const ALL: &str = include_str!("../deploy/man/relkvanu.1");
 
-    /// The part of the manual page with this title.
-    fn section(title: &str) -> &'static str {
-        let begin = format!(".Ss {title}\n");
-        let (_, rest) = PAGE.split_once(begin.as_str()).unwrap_or_else(|| panic!("the manual page has no {title}"));
-        rest.split("\n.S").next().unwrap_or_default()
+    fn page(command: &str) -> String {
+        let path = format!("{}/deploy/man/relkvanu-{command}.1", env!("CARGO_MANIFEST_DIR"));
+        std::fs::read_to_string(&path).unwrap_or_else(|why| panic!("{path}: {why}"))
+    }
+
+    /// The options that a page describes, and the command that it is of.
+    fn options(page: &str) -> Vec<&str> {
+        let items = page.lines().filter_map(|line| line.strip_prefix(".It Fl -"));
+        items.flat_map(|item| item.split(" , Fl -")).filter_map(|item| item.split(' ').next()).collect()
     }
 
     #[test]
-    fn the_manual_page_has_each_command_and_option() {
-        let has = |text: &str, option: &str| text.split_whitespace().any(|word| word == format!("-{option}"));
+    fn each_command_has_a_page_with_its_options_and_no_other() {
         for command in Cli::command().get_subcommands() {
-            let own = section(command.get_name());
-            for option in command.get_arguments().filter_map(clap::Arg::get_long) {
-                let is_of_all = Ask::has(command.get_name()) && has(section(OF_ALL), option);
-                assert!(has(own, option) || is_of_all, "{} --{option}", command.get_name());
-            }
+            let (name, page) = (command.get_name(), page(command.get_name()));
+            let mut known: Vec<&str> = command.get_arguments().filter_map(clap::Arg::get_long).collect();
+            let mut told = options(&page);
+            known.sort_unstable();
+            told.sort_unstable();
+            assert_eq!(told, known, "{name}");
+            assert!(page.contains(&format!(".Dt RELKVANU-{} 1\n", name.to_uppercase())), "{name}");
+            let arguments = command.get_positionals().map(|it| it.get_id().as_str());
+            arguments.for_each(|it| assert!(page.contains(&format!("Ar {it}\n")), "{name} {it}"));
         }
     }
 
     #[test]
-    fn the_manual_page_has_no_other() {
+    fn the_page_of_the_program_has_each_command_and_no_other() {
         let command = Cli::command();
         let known: Vec<&str> = command.get_subcommands().map(clap::Command::get_name).collect();
-        let titles = PAGE.lines().filter_map(|line| line.strip_prefix(".Ss ")).filter(|title| *title != OF_ALL);
-        assert!(titles.clone().eq(known.iter().copied()), "{:?}", titles.collect::<Vec<_>>());
+        let told = ALL.lines().filter_map(|line| line.strip_prefix(".It Xr relkvanu-")?.strip_suffix(" 1"));
+        assert!(told.clone().eq(known.iter().copied()), "{:?}", told.collect::<Vec<_>>());
+        let folder = std::fs::read_dir(format!("{}/deploy/man", env!("CARGO_MANIFEST_DIR")));
+        assert_eq!(folder.map_or(0, Iterator::count), known.len() + 1);
     }
 
     #[test]

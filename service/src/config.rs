@@ -1,7 +1,10 @@
 //! The configuration: defaults, then a TOML file that overrides them, then the command line.
 use crate::cli::Serve;
+use crate::database::{Database, NoDatabase};
+use crate::http::TlsFiles;
 use crate::log;
 use crate::model::Keeping;
+use clap::ValueEnum;
 use serde::Deserialize;
 use std::io;
 use std::net::SocketAddr;
@@ -25,25 +28,12 @@ pub enum BadConfig {
     NoAddress(String),
     #[error("listen: {0} can be reached from other machines, so a token_file is needed")]
     NoTokens(SocketAddr),
+    #[error("tls_certificate and tls_key: there is only one of them")]
+    HalfTls,
     #[error("{name}: {value} is not within {least} to {most}")]
     Number { name: &'static str, value: u64, least: u64, most: u64 },
     #[error(transparent)]
     Database(#[from] NoDatabase),
-}
-
-/// Why a text names no database. It shows nothing of what may be a password.
-#[derive(Debug, PartialEq, Eq, Error)]
-#[error("database: {0}; it is an SQLite file, or a URL as postgres://user@host/name")]
-pub struct NoDatabase(Because);
-
-#[derive(Debug, PartialEq, Eq, Error)]
-pub enum Because {
-    #[error("has a scheme that is neither postgres nor postgresql")]
-    Scheme,
-    #[error("begins as libpq's list of keywords does")]
-    Keywords,
-    #[error("is empty")]
-    Empty,
 }
 
 /// What the file may say.
@@ -58,7 +48,20 @@ struct FileConfig {
     lease_seconds: Option<u64>,
     image_calls: Option<u64>,
     keep_calls: Option<u64>,
+    keep_bytes: Option<u64>,
+    log: Option<LogForm>,
+    log_requests: bool,
+    tls_certificate: Option<PathBuf>,
+    tls_key: Option<PathBuf>,
     limits: Limits,
+}
+
+/// How lines of the service's log are written.
+#[derive(Deserialize, Clone, Copy, Debug, PartialEq, Eq, ValueEnum)]
+#[serde(rename_all = "lowercase")]
+pub enum LogForm {
+    Text,
+    Json,
 }
 
 /// What requests may use.
@@ -126,13 +129,6 @@ impl Limits {
     }
 }
 
-/// Where the log is.
-#[derive(Clone, Debug, PartialEq, Eq)]
-pub enum Database {
-    Sqlite(PathBuf),
-    Postgres(String),
-}
-
 #[derive(Clone, Debug)]
 pub struct Config {
     pub listen: SocketAddr,
@@ -145,6 +141,10 @@ pub struct Config {
     pub limits: Limits,
     /// Whether the clock may be far ahead of the log.
     pub accept_clock: bool,
+    /// Whether the service's own log is JSON, and whether it has a line for each request.
+    pub log_json: bool,
+    pub log_requests: bool,
+    pub tls: Option<TlsFiles>,
 }
 
 impl Config {
@@ -158,17 +158,30 @@ impl Config {
         let listen = listen.parse().map_err(|_| BadConfig::NoAddress(listen))?;
         let database = given.database.clone().or(file.database).unwrap_or_else(|| DATABASE.to_string());
         let database = Database::of(&database)?;
+        let tls = match (file.tls_certificate, file.tls_key) {
+            (Some(certificate), Some(key)) => Some(TlsFiles { certificate, key }),
+            (None, None) => None,
+            _ => return Err(BadConfig::HalfTls),
+        };
         let config = Config {
             history: given.history.clone().or(file.history).unwrap_or_else(|| database.history(&listen)),
             token_file: given.token_file.clone().or(file.token_file),
-            advertise: given.advertise.clone().or(file.advertise).unwrap_or_else(|| format!("http://{listen}")),
+            advertise: given
+                .advertise
+                .clone()
+                .or(file.advertise)
+                .unwrap_or_else(|| format!("{}://{listen}", if tls.is_some() { "https" } else { "http" })),
             lease: Duration::from_secs(file.lease_seconds.unwrap_or(5)),
             keeping: Keeping {
                 image_calls: given.image_calls.or(file.image_calls).unwrap_or(IMAGE_CALLS),
                 keep_calls: given.keep_calls.or(file.keep_calls).unwrap_or(KEEP_CALLS),
+                keep_bytes: given.keep_bytes.or(file.keep_bytes).unwrap_or(0),
             },
             limits: file.limits,
             accept_clock: given.accept_clock,
+            log_json: given.log.or(file.log) == Some(LogForm::Json),
+            log_requests: file.log_requests,
+            tls,
             listen,
             database,
         };
@@ -191,6 +204,7 @@ impl Config {
             ("lease_seconds", self.lease.as_secs(), 1, 600),
             ("image_calls", self.keeping.image_calls, 0, 1_000_000_000),
             ("keep_calls", self.keeping.keep_calls, 0, 1_000_000_000_000),
+            ("keep_bytes", self.keeping.keep_bytes, 0, 1 << 50),
         ];
         for (name, value, least, most) in numbers {
             if !(least..=most).contains(&value) {
@@ -207,64 +221,4 @@ impl Config {
 fn read(path: &Path) -> Result<FileConfig, BadConfig> {
     let text = std::fs::read_to_string(path).map_err(|why| BadConfig::Unread { path: path.to_path_buf(), why })?;
     toml::from_str(&text).map_err(|why| BadConfig::NoToml { path: path.to_path_buf(), why })
-}
-
-impl Database {
-    /// A URL of PostgreSQL, or the path of an SQLite file.
-    pub fn of(text: &str) -> Result<Database, NoDatabase> {
-        if let Some((scheme, rest)) = text.split_once("://") {
-            // libpq takes the names of its schemes in lower case alone
-            return match scheme.to_ascii_lowercase().as_str() {
-                scheme @ ("postgres" | "postgresql") => Ok(Database::Postgres(format!("{scheme}://{rest}"))),
-                _ => Err(NoDatabase(Because::Scheme)),
-            };
-        }
-        let is_word =
-            |text: &str| !text.is_empty() && text.bytes().all(|byte| byte.is_ascii_lowercase() || byte == b'_');
-        match text.split_once('=') {
-            Some((word, _)) if is_word(word.trim()) => Err(NoDatabase(Because::Keywords)),
-            _ if text.is_empty() => Err(NoDatabase(Because::Empty)),
-            _ => Ok(Database::Sqlite(PathBuf::from(text))),
-        }
-    }
-
-    /// The default place of the history: beside the database, or in the folder of the service.
-    fn history(&self, listen: &SocketAddr) -> PathBuf {
-        match self {
-            Database::Sqlite(path) => {
-                let mut name = path.as_os_str().to_owned();
-                name.push(".history");
-                PathBuf::from(name)
-            }
-            Database::Postgres(_) => PathBuf::from(format!("relkvanu-{}.history", listen.port())),
-        }
-    }
-}
-
-#[cfg(test)]
-mod tests {
-    use super::*;
-
-    #[test]
-    fn a_database_is_a_file_or_a_url() {
-        let file = |path: &str| Ok(Database::Sqlite(PathBuf::from(path)));
-        let url = |url: &str| Ok(Database::Postgres(url.to_string()));
-        assert_eq!(Database::of("relkvanu.db"), file("relkvanu.db"));
-        assert_eq!(Database::of("/srv/a=b/x.db"), file("/srv/a=b/x.db"));
-        assert_eq!(Database::of("./host=db"), file("./host=db"));
-        assert_eq!(Database::of("postgres://u@db/x?sslmode=require"), url("postgres://u@db/x?sslmode=require"));
-        assert_eq!(Database::of("PostgreSQL://U@DB/X"), url("postgresql://U@DB/X"));
-        for (text, why) in [
-            ("host=db dbname=x", Because::Keywords),
-            ("dbname = x password=secret", Because::Keywords),
-            ("mysql://u:secret@db/x", Because::Scheme),
-            ("file://x.db", Because::Scheme),
-            ("", Because::Empty),
-        ] {
-            let refused = NoDatabase(why);
-            let told = refused.to_string();
-            assert!(told.starts_with("database: ") && !told.contains("secret"), "{told}");
-            assert_eq!(Database::of(text), Err(refused), "{text}");
-        }
-    }
 }

@@ -5,8 +5,7 @@ use crate::metrics::Metrics;
 use crate::model::{check_clock, lengths_text, shown, wall, Clock, Keeping, Moment};
 use crate::stop::Stop;
 use crate::store::{Lead, Reader, Store};
-use crate::writer::{Board, Jobs, Lease, Message, StartError, Writer};
-use std::sync::mpsc::Receiver;
+use crate::writer::{Board, Jobs, Lease, Messages, StartError, Writer};
 use std::sync::Arc;
 use std::time::Duration;
 
@@ -18,7 +17,7 @@ pub struct Leader {
     pub reader: Box<dyn Reader>,
     pub board: Arc<Board>,
     pub metrics: Arc<Metrics>,
-    pub messages: Receiver<Message>,
+    pub messages: Messages,
     pub listen: String,
     pub keeping: Keeping,
     /// Whether the clock may be far ahead of the log.
@@ -58,6 +57,7 @@ impl Leader {
         let mut waits = false;
         while !self.board.is_stopping() {
             self.board.beat();
+            self.metrics.queue.followed();
             let asked = Moment::now();
             match self.store.lead()? {
                 Lead::Here { epoch } => {

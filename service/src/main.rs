@@ -6,6 +6,7 @@ mod backup;
 mod check;
 mod cli;
 mod config;
+mod database;
 mod discard;
 mod exit;
 mod history;
@@ -20,7 +21,6 @@ mod serve;
 mod starting;
 mod stop;
 mod store;
-mod upkeep;
 mod writer;
 
 use clap::{CommandFactory, Parser};

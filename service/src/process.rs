@@ -7,6 +7,14 @@ pub fn make_files_private() {
     unsafe { umask(0o077) };
 }
 
+/// How many files may be open.
+pub fn files_limit() -> u64 {
+    let mut limit = rlimit { rlim_cur: 0, rlim_max: 0 };
+    // SAFETY: the call writes to `limit`, which lives until it returns.
+    unsafe { getrlimit(RLIMIT_NOFILE, &raw mut limit) };
+    limit.rlim_cur
+}
+
 /// Raises the number of files that may be open as far as the system allows, and returns it.
 pub fn most_files() -> u64 {
     let mut limit = rlimit { rlim_cur: 0, rlim_max: 0 };

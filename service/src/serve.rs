@@ -1,10 +1,10 @@
 //! `relkvanu serve`: opens the database, replays the jobs from the log, and serves them until it is stopped.
-use crate::auth::Tokens;
 use crate::cli;
-use crate::config::{Config, Database};
+use crate::config::Config;
+use crate::database::Database;
 use crate::exit;
 use crate::history::{Door, Historian, Place};
-use crate::http::{self, App};
+use crate::http::{self, App, Audit, Keys, Tls};
 use crate::leader::Leader;
 use crate::log;
 use crate::metrics::Metrics;
@@ -13,9 +13,8 @@ use crate::process;
 use crate::starting::Starting;
 use crate::stop::Stop;
 use crate::store::{DbError, Lite, LiteReader, Pg, PgReader, Reader, Store, Unusable};
-use crate::writer::{Board, Message};
+use crate::writer::{queue, Board, Inbox, Message, Messages};
 use sd_notify::NotifyState;
-use std::sync::mpsc::{sync_channel, Receiver, SyncSender};
 use std::sync::Arc;
 use std::time::{Duration, Instant};
 use tokio::net::TcpListener;
@@ -34,7 +33,11 @@ const LEAVE_WITHIN: Duration = Duration::from_secs(1);
 /// Serves, and ends the process.
 pub fn run(given: &cli::Serve) -> ! {
     process::make_files_private();
-    let ended = Config::of(given).map_err(Stop::from).and_then(serve);
+    let config = Config::of(given).map_err(Stop::from);
+    if config.as_ref().is_ok_and(|config| config.log_json) {
+        log::use_json();
+    }
+    let ended = config.and_then(serve);
     exit::now(match ended {
         Ok(()) => 0,
         Err(stop) => {
@@ -46,15 +49,16 @@ pub fn run(given: &cli::Serve) -> ! {
 
 fn serve(mut config: Config) -> Result<(), Stop> {
     config.limits.fit(process::most_files());
-    let tokens = config.token_file.as_deref().map(Tokens::read).transpose()?;
+    let tls = config.tls.clone().map(Tls::read).transpose()?;
+    let keys = Arc::new(Keys::read(config.token_file.clone(), tls)?);
     // before the lease is taken, so a second process at this address never leads
     let listener = listening(&config)?;
     let starting = Starting::begin();
     let store = open_store(&config)?;
     drop(starting);
     let (shared, messages) = Shared::new(&config)?;
-    shared.metrics.upkeep.tokens(tokens.as_ref());
-    let app = shared.app(&config, tokens)?;
+    shared.metrics.upkeep.tokens(keys.tokens().as_deref());
+    let app = shared.app(&config, keys)?;
     let historian = shared.historian(&config)?;
     let leader = shared.leader(&config, store, messages)?;
     historian.start();
@@ -73,20 +77,20 @@ fn serve(mut config: Config) -> Result<(), Stop> {
 struct Shared {
     board: Arc<Board>,
     metrics: Arc<Metrics>,
-    inbox: SyncSender<Message>,
+    inbox: Inbox,
     history: Arc<Place>,
 }
 
 impl Shared {
-    fn new(config: &Config) -> Result<(Shared, Receiver<Message>), Stop> {
-        let (inbox, messages) = sync_channel(config.limits.queue);
+    fn new(config: &Config) -> Result<(Shared, Messages), Stop> {
         let history = Arc::new(Place::new(config.history.clone()));
         let (board, metrics) = (Arc::new(Board::new()), Arc::new(Metrics::new()?));
+        let (inbox, messages) = queue(config.limits.queue, &metrics);
         Ok((Shared { board, metrics, inbox, history }, messages))
     }
 
     /// What answers requests.
-    fn app(&self, config: &Config, tokens: Option<Tokens>) -> Result<App, Stop> {
+    fn app(&self, config: &Config, keys: Arc<Keys>) -> Result<App, Stop> {
         Ok(App {
             board: Arc::clone(&self.board),
             metrics: Arc::clone(&self.metrics),
@@ -95,7 +99,8 @@ impl Shared {
             events: Arc::new(Mutex::new(open_reader(config)?)),
             history: Arc::new(Mutex::new(Door::new(Arc::clone(&self.history)))),
             place: Arc::clone(&self.history),
-            tokens,
+            keys,
+            audit: Audit::new(config.log_requests),
             bodies: http::room(config.limits.all_bodies_bytes),
             answers: http::room(config.limits.all_answers_bytes),
             limits: config.limits.clone(),
@@ -116,7 +121,7 @@ impl Shared {
         })
     }
 
-    fn leader(&self, config: &Config, store: Box<dyn Store>, messages: Receiver<Message>) -> Result<Leader, Stop> {
+    fn leader(&self, config: &Config, store: Box<dyn Store>, messages: Messages) -> Result<Leader, Stop> {
         Ok(Leader {
             store,
             reader: open_reader(config)?,
@@ -154,10 +159,11 @@ fn listening(config: &Config) -> Result<std::net::TcpListener, Stop> {
 /// Answers requests until the process gets a signal to stop, and then those that were begun. Returns whether it answered all.
 fn answer_requests(app: App, listener: std::net::TcpListener) -> Result<bool, Stop> {
     let runtime = tokio::runtime::Builder::new_multi_thread().worker_threads(2).enable_all().build()?;
-    let board = Arc::clone(&app.board);
+    let (board, keys, metrics) = (Arc::clone(&app.board), Arc::clone(&app.keys), Arc::clone(&app.metrics));
     let served = runtime.block_on(async move {
         let listener = TcpListener::from_std(listener)?;
         tokio::spawn(tell_systemd(board));
+        tokio::spawn(read_again(keys, metrics));
         Ok(http::serve(Arc::new(app), listener, told_to_stop()).await)
     });
     // a read that waits for the database does not keep the process
@@ -175,6 +181,16 @@ async fn tell_systemd(board: Arc<Board>) {
         if board.silence() < SILENCE {
             let _ = sd_notify::notify(false, &[NotifyState::Watchdog]);
         }
+    }
+}
+
+/// Reads the tokens and the certificate again at each SIGHUP.
+async fn read_again(keys: Arc<Keys>, metrics: Arc<Metrics>) {
+    let Ok(mut told) = signal(SignalKind::hangup()) else {
+        return;
+    };
+    while told.recv().await.is_some() {
+        keys.read_again(&metrics);
     }
 }
 

@@ -2,6 +2,7 @@
 use crate::auth::NoTokens;
 use crate::config::BadConfig;
 use crate::exit::{NOT_TO_START, START_AGAIN};
+use crate::http::NoTls;
 use crate::model::FarAhead;
 use crate::store::{DbError, Failure, Unusable};
 use crate::writer::StartError;
@@ -15,6 +16,8 @@ pub enum Stop {
     Config(#[from] BadConfig),
     #[error(transparent)]
     Tokens(#[from] NoTokens),
+    #[error(transparent)]
+    Tls(#[from] NoTls),
     #[error(transparent)]
     Clock(#[from] FarAhead),
     #[error(transparent)]
@@ -49,7 +52,7 @@ impl Stop {
     /// Whether another start may succeed, without anybody's doing.
     fn may_pass(&self) -> bool {
         match self {
-            Stop::Config(_) | Stop::Tokens(_) | Stop::Clock(_) | Stop::Metrics(_) => false,
+            Stop::Config(_) | Stop::Tokens(_) | Stop::Tls(_) | Stop::Clock(_) | Stop::Metrics(_) => false,
             Stop::Listen { .. } | Stop::System(_) | Stop::Lease(_) => true,
             Stop::Unusable(error) => error.may_pass(),
             Stop::Database(error) => !error.is_damage(),

@@ -49,7 +49,10 @@ BAD = [
     ("GET", "/v1/jobs/none", None, 404, None),
     ("GET", "/v1/jobs/..%2F..%2Fetc", None, 400, "job"),
     ("GET", "/../../etc/passwd", None, 404, None),
-    ("DELETE", "/v1/jobs/orders", None, 405, None),
+    ("DELETE", "/v1/jobs/orders", None, 409, None),
+    ("DELETE", "/v1/jobs/none", None, 404, None),
+    ("DELETE", "/v1/jobs/orders?abandon=2", None, 400, "abandon"),
+    ("DELETE", "/v1/jobs/orders/log", None, 405, None),
     ("GET", "/v1/jobs/orders/calls", None, 405, None),
 ]
 

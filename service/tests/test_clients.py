@@ -47,7 +47,7 @@ def test_answers_fit_the_description():
         job = "/v1/jobs/{job}"
         fits("POST", "/v1/jobs", "/v1/jobs", {"name": "a", "settings": {"interval": 10_000}, "shape": [2]})
         calls = [
-            {"call": "savepoint"}, {"call": "ack", "id": 1, "subtask": "0.0", "fresh": ["1", "2"]}, {"call": "ack", "id": 1, "subtask": "0.1"},
+            {"call": "savepoint"}, {"call": "ack", "id": 1, "subtask": "0.0", "fresh": ["1", "2"], "bytes": [10, 20]}, {"call": "ack", "id": 1, "subtask": "0.1"},
             {"call": "tick"}, {"call": "savepoint"}, {"call": "decline", "id": 2, "subtask": "0.0"}, {"call": "decline", "id": 2, "subtask": "0.0"},
             {"call": "ack", "id": 2, "subtask": "0.0", "fresh": ["9"]}, {"call": "restore", "from": 1}, {"call": "restore", "from": "latest", "shape": [1]},
             {"call": "take", "most": 9}, {"call": "deleted", "file": "9"}, {"call": "undeleted", "file": "9"}, {"call": "dispose", "id": 1},
@@ -65,7 +65,9 @@ def test_answers_fit_the_description():
             ("/v1/jobs/a/records/2", f"{job}/records/{{id}}"), ("/v1/jobs/a/records/77", f"{job}/records/{{id}}"), ("/v1/jobs/a/files", f"{job}/files"),
             ("/v1/jobs/a/files/1", f"{job}/files/{{file}}"), ("/v1/jobs/a/files/9", f"{job}/files/{{file}}"), ("/v1/jobs/a/files/5", f"{job}/files/{{file}}"),
             ("/v1/jobs/a/log", f"{job}/log"), ("/v1/jobs/a/log?limit=x", f"{job}/log"), ("/v1/jobs/a/events", f"{job}/events"),
-            ("/v1/jobs/a/samples", f"{job}/samples"), ("/v1/jobs/b", job), ("/healthz", "/healthz"), ("/readyz", "/readyz"), ("/metrics", "/metrics"),
+            ("/v1/jobs/a/samples", f"{job}/samples"), ("/v1/jobs/b", job), ("/v1/jobs/a/records/1/acks", f"{job}/records/{{id}}/acks"),
+            ("/v1/jobs/a/records/77/acks", f"{job}/records/{{id}}/acks"), ("/v1/jobs/a/records?how=expired", f"{job}/records"),
+            ("/v1/jobs/a/stream?after=99", f"{job}/stream"), ("/v1/jobs/b/stream", f"{job}/stream"), ("/healthz", "/healthz"), ("/readyz", "/readyz"), ("/metrics", "/metrics"),
             ("/openapi.json", "/openapi.json"),
         ]:
             told = fits("GET", path, route)
@@ -81,6 +83,8 @@ def test_answers_fit_the_description():
         assert "location" not in fits("POST", "/v1/jobs", "/v1/jobs", {"name": "b", "settings": {"interval": 10_000}, "shape": [2]})[1]
         texts = {entry["answer"] for entry in server.get("/v1/jobs/a/log")[2]["calls"]}
         check_log(server.get("/v1/jobs/a")[2], [2], server.get("/v1/jobs/a/log")[2]["calls"])
+        for path, status in ("/v1/jobs/b", 409), ("/v1/jobs/a", 409), ("/v1/jobs/a?abandon=1", 200), ("/v1/jobs/a", 404):
+            assert fits("DELETE", path, job)[0] == status, path
         return f"20 requests, {len(texts)} kinds of answers"
 
 

@@ -1,4 +1,5 @@
 """The commands that ask a service, and `relkvanu check`: what they print, for people and as JSON, and their exit statuses."""
+import glob
 import hashlib
 import json
 import os
@@ -277,6 +278,7 @@ def test_completions_and_the_manual_page():
         assert "savepoint" in ran("completions", shell)
     if not shutil.which("mandoc"):
         raise Skipped("mandoc is not here")
-    told = subprocess.run(["mandoc", "-T", "lint", f"{SERVICE}/deploy/relkvanu.1"], stdout=subprocess.PIPE, text=True, check=False)
+    pages = sorted(glob.glob(f"{SERVICE}/deploy/man/*.1"))
+    told = subprocess.run(["mandoc", "-T", "lint", "-W", "warning", *pages], stdout=subprocess.PIPE, text=True, check=False)
     assert told.returncode == 0, told.stdout
     return "bash completes commands and options"

@@ -48,7 +48,7 @@ def test_the_page_agrees_with_itself():
             assert told["facts"] == told["ends"] == told["row"] == [4, 0, 0], told
             assert abs(told["at"][0] - job.state()["now"]) < 10_000, told
             shows_the_focus(page)
-            asks_once(page)
+            asks_once(page, job)
             server.kill()
             until(lambda: page.execute_script("return document.body.classList.contains('old')"), 20)
             assert "what is shown is of" in test_page.texts(page, "#status")[0], test_page.texts(page, "#status")
@@ -62,19 +62,25 @@ def test_the_page_agrees_with_itself():
 def shows_the_focus(page):
     """A link keeps the focus while the page shows what is new."""
     page.execute_script("document.querySelector('#jobs a').focus()")
-    looks = page.execute_script("return document.querySelector('#status').textContent")
-    until(lambda: page.execute_script("return document.querySelector('#status').textContent") != looks, 10)
+    looks = page.execute_script("return document.querySelector('#moment').textContent")
+    until(lambda: page.execute_script("return document.querySelector('#moment').textContent") != looks, 10)
     time.sleep(1)
     assert page.execute_script("return document.activeElement.matches('#jobs a')"), "the focus was lost"
 
 
-def asks_once(page):
-    """Each look is one request; beside it the page waits for an event."""
+def asks_once(page, job):
+    """While nothing happens the page asks for nothing. For what happens it asks once: the stream tells it."""
+    def asked():
+        return page.execute_script("return performance.getEntriesByType('resource').map(it => new URL(it.name).pathname).filter(it => it.startsWith('/v1/'))")
+
     page.execute_script("performance.clearResourceTimings()")
     time.sleep(3)
-    asked = page.execute_script("return performance.getEntriesByType('resource').map(it => new URL(it.name).pathname)")
-    assert any(path.startswith("/v1/view/") for path in asked), asked
-    assert {path for path in asked if not path.startswith("/v1/view/")} <= {"/v1/jobs/orders/events"}, asked
+    assert len(asked()) <= 1, asked()  # the seldom look for other jobs
+    page.execute_script("performance.clearResourceTimings()")
+    before = int(test_page.texts(page, '[data-fact="Calls made"]')[0])
+    job.calls([ack(3, "0.0", [4]), savepoint()])
+    until(lambda: int(test_page.texts(page, '[data-fact="Calls made"]')[0]) == before + 1, 5)
+    assert set(asked()) == {"/v1/view/orders"} and len(asked()) <= 3, asked()
 
 
 def test_what_the_page_says():
@@ -86,7 +92,7 @@ def test_what_the_page_says():
             until(lambda: test_page.texts(page, "#job-name") == ["orders"], 20)
             told = evaluated(page, """
                 const job = {mode: "running", due: 5, now: 9, seq: 293, settings: {pause: 0, at_once: 1}, choice: {kind: "checkpoint", id: 4},
-                             files: {in_use: 0, waiting: 0, taken: 0}, shape: [1], last_completed: null, image: null};
+                             files: {in_use: 0, waiting: 0, taken: 0}, bytes: {in_use: 0, waiting: 0, taken: 0, files: 0}, shape: [1], last_completed: null, image: null};
                 const due = (job, pending) => views.facts(job, pending)[2].querySelector("dd").textContent;
                 const checkpoint = {id: 57, kind: "checkpoint"};
                 return {due: [due(job, []), due(job, [checkpoint]), due({...job, due: 2009}, [checkpoint]), due({...job, mode: "failed"}, [])],

@@ -183,7 +183,8 @@ def test_the_history_of_version_2_is_upgraded():
         server.stop()
         path = history_of(server)
         with sqlite3.connect(path) as base:
-            base.executescript("drop index sample_at; drop index record_unsaved; alter table record drop column saved; update version set number = 2")
+            base.executescript("""drop index sample_at; drop index record_unsaved; alter table record drop column saved; alter table record drop column fresh_bytes;
+                alter table record drop column full_bytes; alter table file drop column bytes; update version set number = 2""")
         base.close()
         server.start()
         caught_up(job)
@@ -191,7 +192,7 @@ def test_the_history_of_version_2_is_upgraded():
         assert not os.path.exists(f"{path}.bad")
         server.stop()
         with sqlite3.connect(path) as base:
-            base.execute("update version set number = 4")
+            base.execute("update version set number = 5")
         base.close()
         server.start()
         assert server.get("/v1/jobs/orders")[0] == 200

@@ -1,24 +1,31 @@
-// The page's loop: it reads the state of the jobs, shows it, and waits for the next event.
-import { get, keepToken } from "./api.js";
+// The page's loop: it reads the state of the jobs, shows it, and waits for what the job's stream tells.
+import * as actions from "./actions.js";
+import { get, keepToken, stream } from "./api.js";
 import * as charts from "./charts.js";
+import * as records from "./records.js";
 import * as views from "./views.js";
 
-const SLOWEST = 2000; // milliseconds between two looks
+const SELDOM = 15_000; // milliseconds between two looks if nothing comes: other jobs are not in the stream
+const SLOWEST = 2000; // if there is no stream
 const FASTEST = 250;
 const RECORDS = 60; // in the chart
-const ROWS = 25; // in the table
+const ROWS = 25; // in a table
 const SAMPLES = 600;
 const FILES = 40;
 
 const at = (id) => document.getElementById(id);
-const shown = { job: null, first: 1, charts: null, wake: null, last: null };
+// `told` is what is shown, of the moment `last`.
+const shown = { job: null, first: 1, charts: null, wake: null, last: null, told: null };
+// The stream of a job: its name, how to end it, and whether it told something since the last look.
+const heard = { job: null, ended: null, news: false };
 
 function chosen() {
   return location.hash.startsWith("#/jobs/") ? location.hash.slice(7) : null;
 }
 
 function say(text, isBad) {
-  at("status").textContent = text;
+  // a reader of the screen tells each change
+  if (at("status").textContent !== text) at("status").textContent = text;
   at("status").classList.toggle("bad", isBad);
 }
 
@@ -28,17 +35,40 @@ function list(name, items, empty) {
   at(empty).hidden = items.length > 0;
 }
 
-function showJob(told) {
+function look() {
+  shown.wake?.();
+}
+
+// What changes while nothing is told.
+function showTimes() {
+  const { job, pending } = shown.told;
+  const now = job.now + (Date.now() - shown.last);
+  views.fill(at("facts"), views.facts({ ...job, now }, pending));
+  list("pending", pending.map((record) => views.pending(record, now)), "nothing-pending");
+  at("moment").textContent = `· ${new Date().toLocaleTimeString()}`;
+}
+
+function act(action) {
+  actions.ask(action, (text) => {
+    at("done").textContent = text;
+    look();
+  });
+}
+
+async function showJob(told) {
   const job = told.job;
   at("job-name").textContent = job.name;
   at("hint").textContent = views.hint(job);
   at("hint").hidden = at("hint").textContent === "";
-  views.fill(at("facts"), views.facts(job, told.pending));
-  list("pending", told.pending.map((record) => views.pending(record, job.now)), "nothing-pending");
-  list("savepoints", told.savepoints.map((one) => views.savepoint(one, job.choice)), "no-savepoints");
-  views.fill(at("records"), told.records.slice(0, ROWS).map((record) => views.recordRow(record, told.pending, job.now)));
-  views.fill(at("taken"), views.fileButtons(told.taken, look));
-  views.fill(at("deleted"), views.fileButtons(told.deleted, look));
+  showTimes();
+  at("do-savepoint").disabled = job.mode !== "running";
+  at("do-restore").disabled = at("do-cancel").disabled = job.mode === "cancelled";
+  at("do-delete").disabled = job.mode === "running";
+  list("savepoints", told.savepoints.map((one) => views.savepoint(one, job.choice, (id) => act(actions.dispose(job, id)))), "no-savepoints");
+  const rows = await records.rows(job, told.records);
+  views.fill(at("records"), rows.map((record) => views.recordRow(record, told.pending, job.now, (id) => records.showRecord(job.name, id))));
+  views.fill(at("taken"), views.fileButtons(told.taken, lookUp));
+  views.fill(at("deleted"), views.fileButtons(told.deleted, lookUp));
   at("upto").textContent = views.progress(told.upto, job.seq);
   at("upto").classList.toggle("bad", views.lags(told.upto, job.seq));
   at("job").hidden = false;
@@ -53,22 +83,22 @@ async function show() {
   const name = chosen();
   const told = await get(`/view${name === null ? "" : `/${name}`}?records=${RECORDS}&samples=${SAMPLES}&files=${FILES}`);
   const job = told.job;
+  Object.assign(shown, { told, last: Date.now() });
   at("no-jobs").hidden = told.jobs.length > 0;
   views.fill(at("jobs"), told.jobs.map((one) => views.jobLink(one, job !== null && one.name === job.name)));
   if (job) {
-    if (shown.job !== job.name) at("file").replaceChildren();
+    if (shown.job !== job.name) for (const id of ["file", "record"]) at(id).replaceChildren();
     shown.job = job.name;
     shown.first = job.first;
-    showJob(told);
+    await showJob(told);
   } else {
     at("job").hidden = true;
   }
-  shown.last = new Date();
-  say(`live · epoch ${told.epoch} · ${shown.last.toLocaleTimeString()}`, false);
+  say(`live · epoch ${told.epoch}`, false);
   return job;
 }
 
-async function look(file) {
+async function lookUp(file) {
   at("file-number").value = file;
   try {
     at("file").replaceChildren(...views.fileHistory(await get(`/jobs/${shown.job}/files/${file}`), shown.first));
@@ -77,20 +107,42 @@ async function look(file) {
   }
 }
 
-// Waits for an event of the job, for at most this long, or for another reason to look again.
-async function waited(job) {
+// Hears the stream of this job, if it is not heard already.
+function hear(job) {
+  if (heard.job === job.name) return;
+  heard.ended?.abort();
   const ended = new AbortController();
+  Object.assign(heard, { job: job.name, ended, news: false });
+  const told = () => {
+    heard.news = true;
+    look();
+  };
+  const over = () => {
+    if (heard.ended === ended) heard.job = null;
+    look();
+  };
+  stream(`/jobs/${job.name}/stream?after=${job.seq}&log=${job.log}`, told, ended.signal).then(over, over);
+}
+
+function pause(milliseconds) {
+  return new Promise((resolve) => setTimeout(resolve, milliseconds));
+}
+
+// Waits until the job's stream tells something, a user does, or a time is over.
+async function waited(job) {
   const wake = new Promise((resolve) => (shown.wake = resolve));
-  const slow = new Promise((resolve) => setTimeout(resolve, SLOWEST));
-  const event = job ? get(`/jobs/${job.name}/events?after=${job.seq}&wait=30`, ended.signal).catch(() => slow) : slow;
-  await Promise.race([event, slow, wake]);
-  ended.abort();
+  if (job) hear(job);
+  if (!heard.news) await Promise.race([wake, pause(job ? SELDOM : SLOWEST)]);
+  heard.news = false;
+  // a stream that ended at once is not opened again at once
+  if (job && heard.job === null) await pause(SLOWEST);
 }
 
 // What stands on the page is of an earlier look: it is greyed, and says so.
 function showOld(error) {
-  const old = shown.last === null ? "" : `; what is shown is of ${shown.last.toLocaleTimeString()}`;
+  const old = shown.last === null ? "" : `; what is shown is of ${new Date(shown.last).toLocaleTimeString()}`;
   document.body.classList.toggle("old", shown.last !== null);
+  at("moment").textContent = "";
   at("token").hidden = error.status !== 401;
   at("leader").hidden = error.leader === null || error.leader === undefined;
   if (!at("leader").hidden) {
@@ -112,19 +164,27 @@ async function live() {
       showOld(error);
     }
     await waited(job);
-    await new Promise((resolve) => setTimeout(resolve, FASTEST));
+    await pause(FASTEST);
   }
 }
 
 at("token").addEventListener("submit", (event) => {
   event.preventDefault();
   keepToken(at("token-text").value);
-  shown.wake?.();
+  look();
 });
 at("file-form").addEventListener("submit", (event) => {
   event.preventDefault();
-  look(at("file-number").value);
+  lookUp(at("file-number").value);
 });
-addEventListener("hashchange", () => shown.wake?.());
+at("do-savepoint").addEventListener("click", () => act(actions.savepoint(shown.told.job)));
+at("do-restore").addEventListener("click", () => act(actions.restore(shown.told.job, shown.told.savepoints)));
+at("do-cancel").addEventListener("click", () => act(actions.cancel(shown.told.job)));
+at("do-delete").addEventListener("click", () => act(actions.remove(shown.told.job)));
+addEventListener("hashchange", look);
 matchMedia("(prefers-color-scheme: dark)").addEventListener("change", () => location.reload());
+setInterval(() => {
+  if (shown.told?.job && !document.body.classList.contains("old")) showTimes();
+}, 1000);
+records.start(look);
 live();

@@ -41,6 +41,18 @@ export function moment(ms) {
   return new Date(ms).toLocaleString([], { month: "short", day: "numeric", hour: "2-digit", minute: "2-digit", second: "2-digit" });
 }
 
+// A number of bytes in words.
+export function bytes(number) {
+  const units = ["B", "kB", "MB", "GB", "TB", "PB"];
+  let place = 0;
+  let rest = number;
+  while (rest >= 1000 && place < units.length - 1) {
+    rest /= 1000;
+    place += 1;
+  }
+  return `${place === 0 || rest >= 100 ? Math.round(rest) : rest.toFixed(1)} ${units[place]}`;
+}
+
 const MODES = { running: "good", failed: "bad", cancelled: "other" };
 const GOOD = new Set(["completed"]);
 const BAD = new Set(["expired", "declined", "failed over"]);
@@ -110,10 +122,20 @@ export function sampleRow(sample) {
   return element("tr", {}, cell(moment(sample.at)), cell(sample.in_use), cell(sample.waiting), cell(sample.taken));
 }
 
-export function savepoint(one, choice) {
+export function savepoint(one, choice, dispose) {
   const when = one.finished === null ? "" : `, complete since ${moment(one.finished)}`;
   const base = choice.kind === "savepoint" && choice.id === one.id ? "; a restart begins from it" : "";
-  return element("li", { "data-savepoint": one.id }, element("strong", {}, `savepoint ${one.id}`), when + base);
+  const button = element("button", { type: "button", class: "small", "aria-label": `Dispose of savepoint ${one.id}`, onclick: () => dispose(one.id) }, "Dispose…");
+  return element("li", { "data-savepoint": one.id }, element("strong", {}, `savepoint ${one.id}`), when + base, " ", button);
+}
+
+// The bytes of files, if acknowledgements say them.
+function sizes(job) {
+  const it = job.bytes;
+  if (it.files === 0) return [];
+  const files = job.files.in_use + job.files.waiting + job.files.taken;
+  const of = it.files < files ? ` (of ${it.files} files)` : "";
+  return [fact("Size in use", bytes(it.in_use) + of), fact("Garbage", bytes(it.waiting + it.taken) + of)];
 }
 
 export function facts(job, waiting) {
@@ -128,6 +150,7 @@ export function facts(job, waiting) {
     fact("Files in use", job.files.in_use),
     fact("Files waiting", job.files.waiting),
     fact("Files taken", job.files.taken, job.files.taken > 0 ? "other" : null),
+    ...sizes(job),
     fact("Calls made", job.seq),
     fact("Last image", image(job)),
   ];
@@ -146,7 +169,7 @@ export function pending(record, now) {
 }
 
 // A pending record says what it lacks now, and for how long it has been pending.
-export function recordRow(record, waiting, now) {
+export function recordRow(record, waiting, now, look) {
   const live = waiting.find((one) => one.id === record.id);
   const took = record.finished !== null ? duration(record.finished - record.started) : live ? `${duration(Math.max(0, now - live.started))} so far` : "";
   const how = record.how === "declined" ? record.why : record.how;
@@ -155,7 +178,7 @@ export function recordRow(record, waiting, now) {
   return element(
     "tr",
     { "data-record": record.id },
-    cell(record.id),
+    element("td", {}, element("button", { type: "button", class: "small", "aria-label": `Record ${record.id}: why and when`, onclick: () => look(record.id) }, record.id)),
     cell(how, record.how === "pending" ? null : tone(record.how)),
     cell(took),
     cell(missing(live ?? record), "many"),
@@ -163,6 +186,7 @@ export function recordRow(record, waiting, now) {
     cell(kept),
     cell(record.kind),
     cell(moment(record.started)),
+    cell(record.full_bytes === null ? "" : `${bytes(record.full_bytes)}, new ${bytes(record.fresh_bytes)}`),
   );
 }
 
@@ -182,6 +206,7 @@ function unknown(told, first) {
 }
 
 export function fileHistory(told, first) {
+  const size = told.bytes === null ? "" : `, ${bytes(told.bytes)}`;
   const uses = told.uses === null ? "memory ran out while its uses were counted" : `${told.uses} uses`;
   const pins = told.pins > 0 ? `, ${told.pins} of them by pending records that build on it` : "";
   const history = told.history;
@@ -195,7 +220,7 @@ export function fileHistory(told, first) {
       ].filter(Boolean)
     : [];
   return [
-    element("p", {}, element("strong", {}, `File ${told.file}: `), uses + pins),
+    element("p", {}, element("strong", {}, `File ${told.file}: `), uses + pins + size),
     by.length > 0 ? element("ul", { class: "uses" }, ...by) : "",
     steps.length > 0 ? element("ol", { class: "steps" }, ...steps) : element("p", {}, unknown(told, first)),
   ];

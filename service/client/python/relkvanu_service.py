@@ -78,9 +78,11 @@ def file_numbers():
         yield from range(begin, begin + (1 << _COUNT_BITS))
 
 
-def ack(record, subtask, fresh=(), reused=()):
-    """A subtask has taken its part of a record: its new files, and those of live records that it uses again."""
-    return {"call": "ack", "id": record, "subtask": subtask, "fresh": _texts(fresh), "reused": _texts(reused)}
+def ack(record, subtask, fresh=(), reused=(), sizes=None):
+    """A subtask has taken its part of a record: its new files, and those of live records that it uses again. `sizes` are the bytes of
+    each new file, which the service shows; one of an earlier version refuses them."""
+    said = {} if sizes is None else {"bytes": list(sizes)}
+    return {"call": "ack", "id": record, "subtask": subtask, "fresh": _texts(fresh), "reused": _texts(reused), **said}
 
 
 def decline(record, subtask):
@@ -173,6 +175,17 @@ class Service:
     def job(self, name):
         """A job that exists."""
         return Job(self, name)
+
+    def delete(self, name, abandon=False):
+        """Deletes a job that was cancelled or has failed, with its log and its history. Raises `Failed` with status 409 if files of the
+        job are left, unless it is to `abandon` them: nobody deletes them then. Returns whether there was such a job."""
+        try:
+            self.request("DELETE", f"/v1/jobs/{name}?abandon={int(abandon)}")
+        except Failed as failed:
+            if failed.status != 404:
+                raise
+            return False
+        return True
 
     def jobs(self):
         """The state of each job."""

@@ -10,6 +10,7 @@ use thiserror::Error;
 /// The exit status if the service answered, and the answer is no.
 const NO: u8 = 1;
 const NOT_FOUND: u16 = 404;
+const CONFLICT: u16 = 409;
 const NO_MEMORY: u16 = 507;
 
 #[derive(Debug, Error)]
@@ -20,6 +21,8 @@ pub enum Ended {
     Asked(#[from] Asked),
     #[error("the coordinator refuses it: {0}")]
     Refused(String),
+    #[error("there is no job {0}")]
+    NoJob(String),
     #[error("the service has no memory for it now")]
     NoMemory,
     #[error("savepoint {0} ended before it was complete")]
@@ -46,7 +49,8 @@ impl Ended {
     /// 1 if the answer is no, 75 if another try may be answered otherwise, and 78 if somebody has to look first.
     pub fn status(&self) -> u8 {
         match self {
-            Ended::Refused(_) | Ended::Incomplete(_) | Ended::Asked(Asked::Status { status: NOT_FOUND, .. }) => NO,
+            Ended::Refused(_) | Ended::Incomplete(_) | Ended::NoJob(_) => NO,
+            Ended::Asked(Asked::Status { status: NOT_FOUND | CONFLICT, .. }) => NO,
             Ended::NoneWhole | Ended::AtWork(_) => NO,
             Ended::NoMemory | Ended::Late(_) | Ended::Asked(Asked::Status { status: NO_MEMORY, .. }) => START_AGAIN,
             Ended::Behind => START_AGAIN,

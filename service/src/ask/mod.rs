@@ -55,6 +55,7 @@ async fn asked(given: &Ask) -> Result<(), Ended> {
             call(&service.job(&given.job), at.json, restore).await.map(|_| ())
         }
         Ask::Cancel(given) => call(&service.job(&given.job), at.json, Call::Cancel).await.map(|_| ()),
+        Ask::Delete(given) => delete(&service, given).await,
     }
 }
 
@@ -113,6 +114,14 @@ async fn call(job: &Job, json: bool, call: Call) -> Result<Value, Ended> {
         Some(Answer::NoMemory | Answer::NotMade) => Err(Ended::NoMemory),
         None => Err(relkvanu_client::Error::Answer("has no answer of the call".to_string()).into()),
     }
+}
+
+async fn delete(service: &Service, given: &words::Delete) -> Result<(), Ended> {
+    let job = given.job.as_str();
+    if !service.delete(job, given.abandon).await? {
+        return Err(Ended::NoJob(job.to_string()));
+    }
+    said(given.at.json, &json!({"deleted": job}), |_| format!("job {job} is deleted\n"))
 }
 
 async fn savepoint(job: &Job, given: &words::Savepoint) -> Result<(), Ended> {

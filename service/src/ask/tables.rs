@@ -57,6 +57,12 @@ pub fn job(job: &Value) -> String {
         ),
         format!("calls\t{}, of which the log has those from {} on", cell(&job["seq"]), cell(&job["first"])),
     ];
+    let bytes = &job["bytes"];
+    if bytes["files"].as_u64() > Some(0) {
+        let [in_use, waiting, taken] = ["in_use", "waiting", "taken"].map(|name| cell(&bytes[name]));
+        let of = cell(&bytes["files"]);
+        rows.push(format!("bytes of {of} files\t{in_use} in use, {waiting} waiting, {taken} taken"));
+    }
     if let Some(image) = job["image"].as_object() {
         rows.push(format!("image\tafter call {}, {} bytes", cell(&image["seq"]), cell(&image["bytes"])));
     }
@@ -89,6 +95,10 @@ pub fn record(record: &Value) -> String {
         rows.push(format!("triggered\t{}", at(&history["started"])));
         rows.push(format!("acknowledgements\t{}", cell(&history["acks"])));
         rows.push(format!("slowest\t{}", cell(&history["slowest"])));
+        if !history["full_bytes"].is_null() {
+            rows.push(format!("bytes\t{}", cell(&history["full_bytes"])));
+            rows.push(format!("bytes of new files\t{}", cell(&history["fresh_bytes"])));
+        }
         if !history["finished"].is_null() {
             rows.push(format!("{}\t{}", cell(&history["how"]), at(&history["finished"])));
         }
@@ -101,10 +111,10 @@ pub fn record(record: &Value) -> String {
 
 /// Files that were taken and not reported, and those that were deleted last.
 pub fn files(files: &Value) -> String {
-    let mut rows = vec!["FILE\tSTATE\tWRITTEN BY CALL\tRELEASED BY\tTAKEN BY\tDELETED BY".to_string()];
+    let mut rows = vec!["FILE\tSTATE\tWRITTEN BY CALL\tRELEASED BY\tTAKEN BY\tDELETED BY\tBYTES".to_string()];
     for (list, state) in [("taken", "taken"), ("deleted", "deleted")] {
         for file in items(&files[list]) {
-            let calls = ["born", "released", "taken", "deleted"].map(|name| cell(&file[name])).join("\t");
+            let calls = ["born", "released", "taken", "deleted", "bytes"].map(|name| cell(&file[name])).join("\t");
             rows.push(format!("{}\t{state}\t{calls}", cell(&file["file"])));
         }
     }
@@ -141,6 +151,9 @@ pub fn lines(texts: &Value) -> String {
 pub fn file(file: &Value) -> String {
     let history = &file["history"];
     let mut rows = vec![format!("file\t{}", cell(&file["file"])), format!("uses\t{}", cell(&file["uses"]))];
+    if !file["bytes"].is_null() {
+        rows.push(format!("bytes\t{}", cell(&file["bytes"])));
+    }
     for user in items(&file["used_by"]) {
         rows.push(format!("used by\trecord {}, subtask {}", cell(&user["record"]), cell(&user["subtask"])));
     }

@@ -26,6 +26,8 @@ pub enum Ask {
     Restore(Restore),
     /// Cancel a job for good: its checkpoints are dropped, unless it has `keep_on_cancel`
     Cancel(Cancel),
+    /// Delete a job that was cancelled or has failed, with its log and its history
+    Delete(Delete),
 }
 
 /// Where the service is, and how the answer is printed.
@@ -177,6 +179,18 @@ pub struct Cancel {
     pub at: At,
 }
 
+#[derive(Args)]
+pub struct Delete {
+    /// The job
+    #[arg(value_parser = job_name)]
+    pub job: String,
+    /// Though files of it are left, which nobody deletes then
+    #[arg(long)]
+    pub abandon: bool,
+    #[command(flatten)]
+    pub at: At,
+}
+
 impl Ask {
     pub fn at(&self) -> &At {
         match self {
@@ -190,16 +204,7 @@ impl Ask {
             Ask::Dispose(given) => &given.at,
             Ask::Restore(given) => &given.at,
             Ask::Cancel(given) => &given.at,
+            Ask::Delete(given) => &given.at,
         }
-    }
-}
-
-#[cfg(test)]
-impl Ask {
-    /// Whether this is a command that asks a service.
-    pub fn has(name: &str) -> bool {
-        let all = Ask::augment_subcommands(clap::Command::new(""));
-        let found = all.get_subcommands().any(|command| command.get_name() == name);
-        found
     }
 }

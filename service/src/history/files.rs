@@ -3,7 +3,7 @@
 //! which file.
 use super::follow::Made;
 use super::tables::Tables;
-use crate::model::{Answer, Call, Entry, Reply};
+use crate::model::{AckBytes, Answer, Call, Entry, Reply};
 use std::collections::VecDeque;
 
 /// The place of the call that released a file, if that call was cut before it was read.
@@ -33,7 +33,7 @@ impl Outbox {
 
     /// Adds a call of the log.
     pub fn follow(&mut self, tables: &Tables, made: &Made) -> rusqlite::Result<()> {
-        let Made { entry, call, reply } = made;
+        let Made { entry, call, reply, said } = made;
         let names_files = match call {
             Call::Ack { fresh, .. } => !fresh.is_empty(),
             Call::Take { .. } | Call::Deleted { .. } => true,
@@ -43,7 +43,7 @@ impl Outbox {
             tables.place(call, entry)?;
         }
         match call {
-            Call::Ack { fresh, .. } => Outbox::ack(tables, fresh, reply, entry)?,
+            Call::Ack { fresh, .. } => Outbox::ack(tables, fresh, reply, entry, *said)?,
             Call::Take { .. } => return self.take(tables, reply, entry),
             Call::Deleted { file } => return tables.deleted(entry.job, *file, entry.seq),
             Call::Undeleted { file } => {
@@ -56,14 +56,21 @@ impl Outbox {
     }
 
     /// An acknowledgement brings its fresh files. A late one brings only those that were handed out.
-    fn ack(tables: &Tables, fresh: &[u64], reply: &Reply, entry: &Entry) -> rusqlite::Result<()> {
+    fn ack(
+        tables: &Tables,
+        fresh: &[u64],
+        reply: &Reply,
+        entry: &Entry,
+        said: Option<&AckBytes>,
+    ) -> rusqlite::Result<()> {
+        let bytes = |file: u64| said?.bytes_of(file);
         if !matches!(reply, Reply::Answered(Answer::AckLate { .. })) {
-            return fresh.iter().try_for_each(|file| tables.born(entry.job, *file, entry.seq));
+            return fresh.iter().try_for_each(|file| tables.born(entry.job, *file, entry.seq, bytes(*file)));
         }
         if entry.waiting == 0 {
             return Ok(());
         }
-        fresh.iter().try_for_each(|file| tables.late(entry.job, *file, entry.seq))
+        fresh.iter().try_for_each(|file| tables.late(entry.job, *file, entry.seq, bytes(*file)))
     }
 
     pub fn push(&mut self, tables: &Tables, job: i64, released: u64, files: u64) -> rusqlite::Result<()> {

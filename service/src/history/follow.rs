@@ -6,8 +6,8 @@ use super::summary::Summary;
 use super::tables::{Progress, Tables};
 use crate::log;
 use crate::model::{
-    parse_line, Answer, Call, Contents, Entry, Image, Keeping, KeptSummary, Opening, Reply, SavedRecord, Subtask,
-    CALL_BYTES,
+    parse_line, AckBytes, Answer, Call, Contents, Entry, Image, Keeping, KeptSummary, Opening, Reply, SavedRecord,
+    Subtask, CALL_BYTES,
 };
 use crate::store::{DbError, Reader};
 use std::collections::BTreeMap;
@@ -22,13 +22,15 @@ pub struct Made<'a> {
     pub entry: &'a Entry,
     pub call: Call,
     pub reply: Reply,
+    /// What an acknowledgement said of sizes.
+    pub said: Option<&'a AckBytes>,
 }
 
 impl Made<'_> {
     /// `None` if the row has no call, or no answer.
     fn of(entry: &Entry) -> Option<Made<'_>> {
         let (_, call) = parse_line(&entry.line)?;
-        Some(Made { entry, call, reply: entry.reply()? })
+        Some(Made { entry, call, reply: entry.reply()?, said: None })
     }
 }
 
@@ -120,12 +122,15 @@ impl Follower {
         Ok(tables.set_progress(self.job, self.upto, self.at, &self.records.shape)?)
     }
 
-    /// Adds a page of the log in one transaction, and returns which records stopped being pending, and when.
-    pub fn follow(&mut self, tables: &Tables, page: &[Entry]) -> Result<Vec<(u64, Ended)>, Error> {
+    /// Adds a page of the log in one transaction, and returns which records stopped being pending, and when. `said` is what its
+    /// acknowledgements said of sizes, in order.
+    pub fn follow(&mut self, tables: &Tables, page: &[Entry], said: &[AckBytes]) -> Result<Vec<(u64, Ended)>, Error> {
         tables.within(|| {
             let mut ended = Vec::new();
             for entry in page {
-                if let Some(made) = Made::of(entry) {
+                if let Some(mut made) = Made::of(entry) {
+                    let place = said.binary_search_by_key(&entry.seq, |one| one.seq);
+                    made.said = place.ok().map(|place| &said[place]);
                     let by_it = self.records.follow(tables, &made)?;
                     ended.extend(by_it.into_iter().map(|one| (entry.at, one)));
                     self.outbox.follow(tables, &made)?;

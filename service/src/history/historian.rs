@@ -9,10 +9,10 @@ use crate::log;
 use crate::metrics::Metrics;
 use crate::model::{Keeping, KeptSummary};
 use crate::store::{room_of, Reader};
-use crate::writer::{Board, ForKeeping, Message, Read, ReadDone};
+use crate::writer::{Board, ForKeeping, Inbox, Message, Read, ReadDone};
 use std::collections::hash_map::Entry;
 use std::collections::HashMap;
-use std::sync::mpsc::{channel, Sender, SyncSender};
+use std::sync::mpsc::{channel, Sender};
 use std::sync::Arc;
 use std::time::{Duration, Instant};
 use tokio::sync::oneshot;
@@ -36,7 +36,7 @@ pub struct Historian {
     pub reader: Box<dyn Reader>,
     pub board: Arc<Board>,
     pub metrics: Arc<Metrics>,
-    pub inbox: SyncSender<Message>,
+    pub inbox: Inbox,
     pub keeping: Keeping,
     /// Records that ended before this moment are not counted: an earlier process has counted them.
     pub since: u64,
@@ -77,6 +77,7 @@ impl Historian {
         let mut samples = Samples::default();
         loop {
             let lengths = self.board.lengths();
+            self.forget_deleted(tables, &mut followers)?;
             self.add_followers(tables, &mut followers, &lengths)?;
             for (number, last) in lengths {
                 let Some(follower) = followers.get_mut(&number) else {
@@ -91,6 +92,25 @@ impl Historian {
             self.measure();
             std::thread::sleep(LOOK);
         }
+    }
+
+    /// Forgets the jobs that were deleted, those of an earlier process too.
+    fn forget_deleted(&self, tables: &Tables, followers: &mut HashMap<i64, Follower>) -> Result<(), Error> {
+        // before it leads it does not know the jobs
+        if !self.board.is_ready() {
+            return Ok(());
+        }
+        // a job that the tables have has been on the board, unless it was deleted
+        let (known, lengths) = (tables.jobs()?, self.board.lengths());
+        let is_there = |number: i64| lengths.iter().any(|(job, _)| *job == number);
+        for job in known.into_iter().filter(|number| !is_there(*number)) {
+            while tables.within(|| Ok(tables.forget_piece(job)?))? {}
+            if let Some(follower) = followers.remove(&job) {
+                self.metrics.forget(&follower.name);
+            }
+        }
+        followers.retain(|number, _| is_there(*number));
+        Ok(())
     }
 
     /// Adds the jobs that are new.
@@ -123,10 +143,16 @@ impl Historian {
         if page.first().is_none_or(|entry| entry.seq != follower.upto + 1) {
             return self.bridge(tables, follower);
         }
-        let ended = follower.follow(tables, &page)?;
+        let last = page.last().map_or(follower.upto, |entry| entry.seq);
+        let said = self.reader.said(follower.job, follower.upto, last)?;
+        let ended = follower.follow(tables, &page, &said)?;
         for (at, one) in ended.iter().filter(|(at, _)| *at >= self.since) {
             debug_assert!(*at >= self.since);
-            self.metrics.record(&follower.name, &one.kind.to_string(), one.how, one.took as f64 / 1000.0);
+            let kind = one.kind.to_string();
+            self.metrics.record(&follower.name, &kind, one.how, one.took as f64 / 1000.0);
+            if let (Some(bytes), true) = (one.bytes, one.how == "completed") {
+                self.metrics.sizes.record(&follower.name, &kind, bytes);
+            }
         }
         self.tell(follower);
         if next.is_some_and(|next| follower.upto >= next) {

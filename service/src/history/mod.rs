@@ -14,4 +14,4 @@ mod version;
 pub use error::Error;
 pub use historian::Historian;
 pub use place::{Door, Place};
-pub use read::{FileRow, HistoryReader, RecordRow};
+pub use read::{FileRow, HistoryReader, RecordRow, Search};

@@ -10,8 +10,8 @@ use std::path::Path;
 use std::time::Duration;
 
 pub const RECORD: &str =
-    "id, kind, shape, started, finished, how, gone, why, first_ack, last_ack, slowest, acks, missing";
-const FILE: &str = "file, born, released, taken, deleted";
+    "id, kind, shape, started, finished, how, gone, why, first_ack, last_ack, slowest, acks, missing, fresh_bytes, full_bytes";
+const FILE: &str = "file, born, released, taken, deleted, bytes";
 
 /// The history of a record. Moments are milliseconds of Unix time.
 #[derive(Serialize, Deserialize, Debug)]
@@ -35,6 +35,11 @@ pub struct RecordRow {
     pub missing: Vec<String>,
     /// How many more were missing.
     pub more_missing: u64,
+    /// The bytes of its new files, and of all files that its acknowledgements name. Summaries of earlier versions have none.
+    #[serde(default)]
+    pub fresh_bytes: Option<i64>,
+    #[serde(default)]
+    pub full_bytes: Option<i64>,
 }
 
 /// The history of a file, as places in the log.
@@ -45,6 +50,7 @@ pub struct FileRow {
     pub released: Option<u64>,
     pub taken: Option<u64>,
     pub deleted: Option<u64>,
+    pub bytes: Option<u64>,
 }
 
 #[derive(Serialize, Debug)]
@@ -54,6 +60,19 @@ pub struct Sample {
     pub waiting: i64,
     pub taken: i64,
     pub pending: i64,
+}
+
+/// Which records are looked for: all, or those that ended in one way, or of one kind.
+#[derive(Clone, Copy, Default)]
+pub struct Search {
+    pub how: Option<&'static str>,
+    pub kind: Option<&'static str>,
+}
+
+impl Search {
+    pub const HOWS: [&'static str; 8] =
+        ["pending", "completed", "expired", "declined", "subsumed", "failed over", "restored", "cancelled"];
+    pub const KINDS: [&'static str; 2] = ["checkpoint", "savepoint"];
 }
 
 impl RecordRow {
@@ -67,7 +86,7 @@ impl RecordRow {
 
 impl FileRow {
     fn unknown(file: u64) -> FileRow {
-        FileRow { file: file.to_string(), born: None, released: None, taken: None, deleted: None }
+        FileRow { file: file.to_string(), born: None, released: None, taken: None, deleted: None, bytes: None }
     }
 
     /// The places of the calls that it names.
@@ -94,9 +113,13 @@ impl HistoryReader {
     }
 
     /// At most this many records below a number, the greatest number first.
-    pub fn records(&self, job: i64, before: u64, most: u64) -> Result<Vec<RecordRow>, Error> {
-        let sql = format!("select {RECORD} from record where job = ? and id < ? order by id desc limit ?");
-        self.all(&sql, params![job, i64::try_from(before).unwrap_or(i64::MAX), bits(most)], record_of)
+    pub fn records(&self, job: i64, before: u64, most: u64, search: Search) -> Result<Vec<RecordRow>, Error> {
+        let sql = format!(
+            "select {RECORD} from record where job = ?1 and id < ?2 and (?3 is null or how = ?3) and (?4 is null or kind = ?4)
+            order by id desc limit ?5"
+        );
+        let before = i64::try_from(before).unwrap_or(i64::MAX);
+        self.all(&sql, params![job, before, search.how, search.kind, bits(most)], record_of)
     }
 
     pub fn record(&self, job: i64, id: u64) -> Result<Option<RecordRow>, Error> {
@@ -104,11 +127,12 @@ impl HistoryReader {
         Ok(self.all(&sql, params![job, bits(id)], record_of)?.pop())
     }
 
-    /// The files that were deleted last.
-    pub fn deleted(&self, job: i64, most: u64) -> Result<Vec<FileRow>, Error> {
-        let sql =
-            format!("select {FILE} from file where job = ? and deleted is not null order by deleted desc limit ?");
-        self.all(&sql, params![job, bits(most)], file_of)
+    /// The files that were deleted last before a call.
+    pub fn deleted(&self, job: i64, before: u64, most: u64) -> Result<Vec<FileRow>, Error> {
+        let sql = format!(
+            "select {FILE} from file where job = ? and deleted is not null and deleted < ? order by deleted desc limit ?"
+        );
+        self.all(&sql, params![job, i64::try_from(before).unwrap_or(i64::MAX), bits(most)], file_of)
     }
 
     /// The files that were taken and not reported, in the order in which they were taken.
@@ -178,6 +202,8 @@ pub fn record_of(row: &Row) -> rusqlite::Result<RecordRow> {
         acks: row.get(11)?,
         missing,
         more_missing: more.first().and_then(|text| text[1..].parse().ok()).unwrap_or(0),
+        fresh_bytes: row.get(13)?,
+        full_bytes: row.get(14)?,
     })
 }
 
@@ -191,6 +217,7 @@ fn file_of(row: &Row) -> rusqlite::Result<FileRow> {
         released: place(2)?,
         taken: place(3)?,
         deleted: place(4)?,
+        bytes: place(5)?,
     })
 }
 

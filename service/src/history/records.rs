@@ -1,7 +1,7 @@
 //! The history of records: when each was triggered and acknowledged, when and how it ended, and which subtasks were missing.
 use super::follow::Made;
 use super::tables::Tables;
-use crate::model::{Answer, Call, Entry, Kind, Reply, Subtask};
+use crate::model::{AckBytes, Answer, Call, Entry, Kind, Reply, Subtask};
 use std::collections::{BTreeMap, BTreeSet, HashSet};
 
 /// How a record ended that one of its subtasks declined.
@@ -18,11 +18,19 @@ pub struct Pending {
     pub first_ack: Option<u64>,
     pub last_ack: Option<u64>,
     pub slowest: Option<Subtask>,
+    /// The bytes of its new files, and of all files that its acknowledgements name, if one said some.
+    pub bytes: Option<(u64, u64)>,
 }
 
 impl Pending {
     pub fn new(kind: Kind, shape: Vec<u64>, started: u64) -> Pending {
-        Pending { kind, shape, started, acked: HashSet::new(), first_ack: None, last_ack: None, slowest: None }
+        let (first_ack, last_ack, slowest, bytes) = (None, None, None, None);
+        Pending { kind, shape, started, acked: HashSet::new(), first_ack, last_ack, slowest, bytes }
+    }
+
+    fn add_bytes(&mut self, said: &AckBytes) {
+        let (fresh, full) = self.bytes.unwrap_or_default();
+        self.bytes = Some((fresh.saturating_add(said.fresh_bytes()), full.saturating_add(said.full)));
     }
 
     pub fn ack(&mut self, subtask: Subtask, at: u64) {
@@ -54,6 +62,8 @@ pub struct Ended {
     pub how: &'static str,
     /// Milliseconds from its trigger on.
     pub took: u64,
+    /// The bytes of its new files, and of all.
+    pub bytes: Option<(u64, u64)>,
 }
 
 /// The records of one job.
@@ -78,9 +88,12 @@ impl Records {
 
     /// Adds a call of the log, and returns which records stopped being pending by it.
     pub fn follow(&mut self, tables: &Tables, made: &Made) -> rusqlite::Result<Vec<Ended>> {
-        let Made { entry, call, reply } = made;
+        let Made { entry, call, reply, said } = made;
         let mut ended = Vec::new();
         if let (Call::Ack { id, subtask, .. }, Reply::Answered(answer)) = (call, reply) {
+            if let (Some(pending), Some(said), false) = (self.pending.get_mut(id), said, is_late(answer)) {
+                pending.add_bytes(said);
+            }
             ended.extend(self.ack(tables, *id, *subtask, answer, entry)?);
         }
         for id in entry.ended() {
@@ -110,7 +123,7 @@ impl Records {
         answer: &Answer,
         entry: &Entry,
     ) -> rusqlite::Result<Option<Ended>> {
-        if matches!(answer, Answer::AckLate { .. }) {
+        if is_late(answer) {
             return Ok(None);
         }
         if let Some(pending) = self.pending.get_mut(&id) {
@@ -151,7 +164,8 @@ impl Records {
         self.changed.remove(&id);
         tables.acks(entry.job, id, &pending)?;
         tables.finish(entry.job, id, entry.at, how, pending.missing())?;
-        Ok(Some(Ended { kind: pending.kind, how, took: entry.at.saturating_sub(pending.started) }))
+        let (kind, took, bytes) = (pending.kind, entry.at.saturating_sub(pending.started), pending.bytes);
+        Ok(Some(Ended { kind, how, took, bytes }))
     }
 
     /// Writes what the tables do not have yet.
@@ -163,6 +177,10 @@ impl Records {
         }
         Ok(())
     }
+}
+
+fn is_late(answer: &Answer) -> bool {
+    matches!(answer, Answer::AckLate { .. })
 }
 
 fn how_pending_ended(call: &Call, entry: &Entry, id: u64, expires: u64) -> &'static str {

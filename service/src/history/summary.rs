@@ -28,6 +28,9 @@ pub struct Summary {
     /// The calls that released the files that wait, and of how many files each.
     queue: Vec<(i64, i64)>,
     places: Vec<Place>,
+    /// The files whose bytes are known, and these. Earlier versions have none, and pass over it.
+    #[serde(default)]
+    sizes: Vec<(i64, i64)>,
 }
 
 impl Summary {
@@ -41,6 +44,7 @@ impl Summary {
             union select taken from file where job = ?1 and deleted is null
             union select released from queue where job = ?1)";
         let records = format!("select {RECORD} from record where job = ? and gone is null");
+        let sizes = "select file, bytes from file where job = ? and deleted is null and bytes is not null";
         Ok(Summary {
             at: follower.at,
             shape: follower.records.shape.clone(),
@@ -50,6 +54,7 @@ impl Summary {
             queue: tables
                 .all("select released, files from queue where job = ? order by place", [job], |row| row.try_into())?,
             places: tables.all(places, [job], |row: &Row| row.try_into())?,
+            sizes: tables.all(sizes, [job], |row| row.try_into())?,
         })
     }
 
@@ -81,6 +86,10 @@ impl Summary {
         let sql = "insert or replace into file(job, file, born, released, taken) values(?, ?, ?, ?, ?)";
         for (file, born, released, taken) in &self.files {
             tables.run(sql, params![job, file, born, released, taken])?;
+        }
+        for (file, bytes) in &self.sizes {
+            let sql = "update file set bytes = ?3 where job = ?1 and file = ?2";
+            tables.run(sql, params![job, file, bytes])?;
         }
         for (place, (released, files)) in (0_i64..).zip(&self.queue) {
             tables.run("insert into queue values(?, ?, ?, ?)", params![job, place, released, files])?;
@@ -142,12 +151,14 @@ impl Tables {
 
     fn set_record(&self, job: i64, it: &RecordRow, saved: bool) -> rusqlite::Result<()> {
         let sql = format!(
-            "insert or replace into record(job, {RECORD}, saved) values(?, ?, ?, ?, ?, ?, ?, ?, ?, ?, ?, ?, ?, ?, ?)"
+            "insert or replace into record(job, {RECORD}, saved) values(?, ?, ?, ?, ?, ?, ?, ?, ?, ?, ?, ?, ?, ?, ?, ?, ?)"
         );
         let (id, shape, missing) = (it.id, shape_words(&it.shape), it.missing_words());
         let RecordRow { kind, started, finished, how, gone, why, first_ack, last_ack, slowest, acks, .. } = it;
+        let (fresh, full) = (it.fresh_bytes, it.full_bytes);
         let given = params![
-            job, id, kind, shape, started, finished, how, gone, why, first_ack, last_ack, slowest, acks, missing, saved
+            job, id, kind, shape, started, finished, how, gone, why, first_ack, last_ack, slowest, acks, missing,
+            fresh, full, saved
         ];
         self.run(&sql, given)
     }

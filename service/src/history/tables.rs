@@ -8,7 +8,8 @@ use crate::writer::JobState;
 use rusqlite::{params, Connection, OptionalExtension, Params, Row};
 use std::path::Path;
 
-const PENDING: &str = "select id, kind, shape, started, first_ack, last_ack, slowest from record
+const PENDING: &str =
+    "select id, kind, shape, started, first_ack, last_ack, slowest, fresh_bytes, full_bytes from record
     where job = ? and how = 'pending'";
 const PROGRESS: &str = "select upto, at, shape from progress where job = ?";
 
@@ -87,6 +88,31 @@ impl Tables {
             .try_for_each(|table| self.0.execute(&format!("delete from {table} where job = ?"), [job]).map(|_| ()))
     }
 
+    /// The jobs that the tables have something of.
+    pub fn jobs(&self) -> rusqlite::Result<Vec<i64>> {
+        self.all("select job from progress", [], |row| row.get(0))
+    }
+
+    /// Deletes a piece of all that the tables have of a job. Returns whether there may be more.
+    pub fn forget_piece(&self, job: i64) -> rusqlite::Result<bool> {
+        let tables = [
+            ("place", "job, seq"),
+            ("file", "job, file"),
+            ("queue", "job, place"),
+            ("record", "job, id"),
+            ("sample", "job, at"),
+            ("progress", "job"),
+        ];
+        for (table, columns) in tables {
+            let rows = format!("select {columns} from {table} where job = ?1 limit ?2");
+            let sql = format!("delete from {table} where ({columns}) in ({rows})");
+            if self.0.prepare_cached(&sql)?.execute(params![job, signed(PIECE)])? as u64 == PIECE {
+                return Ok(true);
+            }
+        }
+        Ok(false)
+    }
+
     /// Forgets the files and live records of a job.
     pub fn forget_live(&self, job: i64) -> rusqlite::Result<()> {
         ["file where", "queue where", "place where", "record where gone is null and"]
@@ -155,6 +181,7 @@ impl Tables {
             let mut pending = Pending::new(kind, shape, unsigned(row.get(3)?));
             (pending.first_ack, pending.last_ack) = (moment(4)?, moment(5)?);
             pending.slowest = row.get::<_, Option<String>>(6)?.and_then(|text| text.parse().ok());
+            pending.bytes = moment(7)?.zip(moment(8)?);
             Ok((unsigned(row.get(0)?), pending))
         })?;
         rows.collect()
@@ -167,11 +194,13 @@ impl Tables {
     }
 
     pub fn acks(&self, job: i64, id: u64, record: &Pending) -> rusqlite::Result<()> {
-        let sql = "update record set first_ack = ?3, last_ack = ?4, slowest = ?5, acks = ?6 where job = ?1 and id = ?2";
+        let sql = "update record set first_ack = ?3, last_ack = ?4, slowest = ?5, acks = ?6, fresh_bytes = ?7, full_bytes = ?8
+            where job = ?1 and id = ?2";
         let slowest = record.slowest.map(|subtask| subtask.to_string());
         let acks = i64::try_from(record.acked.len()).unwrap_or(i64::MAX);
         let (first, last) = (record.first_ack.map(signed), record.last_ack.map(signed));
-        self.run(sql, params![job, signed(id), first, last, slowest, acks])
+        let (fresh, full) = record.bytes.map(|(fresh, full)| (signed(fresh), signed(full))).unzip();
+        self.run(sql, params![job, signed(id), first, last, slowest, acks, fresh, full])
     }
 
     pub fn finish(&self, job: i64, id: u64, at: u64, how: &str, missing: Option<String>) -> rusqlite::Result<()> {
@@ -187,16 +216,16 @@ impl Tables {
     }
 
     /// A file is registered, whatever had its number before.
-    pub fn born(&self, job: i64, file: u64, seq: u64) -> rusqlite::Result<()> {
-        let sql = "insert or replace into file(job, file, born) values(?, ?, ?)";
-        self.run(sql, params![job, bits(file), signed(seq)])
+    pub fn born(&self, job: i64, file: u64, seq: u64, bytes: Option<u64>) -> rusqlite::Result<()> {
+        let sql = "insert or replace into file(job, file, born, bytes) values(?, ?, ?, ?)";
+        self.run(sql, params![job, bits(file), signed(seq), bytes.map(signed)])
     }
 
     /// A late acknowledgement named a file. It registered the file if the number was free.
-    pub fn late(&self, job: i64, file: u64, seq: u64) -> rusqlite::Result<()> {
-        let sql = "insert into file(job, file, born) values(?, ?, ?) on conflict do update
-            set born = excluded.born, released = null, taken = null, deleted = null where deleted is not null";
-        self.run(sql, params![job, bits(file), signed(seq)])
+    pub fn late(&self, job: i64, file: u64, seq: u64, bytes: Option<u64>) -> rusqlite::Result<()> {
+        let sql = "insert into file(job, file, born, bytes) values(?, ?, ?, ?) on conflict do update
+            set born = excluded.born, released = null, taken = null, deleted = null, bytes = excluded.bytes where deleted is not null";
+        self.run(sql, params![job, bits(file), signed(seq), bytes.map(signed)])
     }
 
     pub fn taken(&self, job: i64, file: u64, released: Option<u64>, seq: u64) -> rusqlite::Result<()> {

@@ -3,7 +3,11 @@ use super::error::Error;
 use rusqlite::Connection;
 
 /// What makes each version of the tables from the one before. The first is 2.
-const STEPS: [&str; 2] = [include_str!("../../sql/history.sql"), include_str!("../../sql/history_3.sql")];
+const STEPS: [&str; 3] = [
+    include_str!("../../sql/history.sql"),
+    include_str!("../../sql/history_3.sql"),
+    include_str!("../../sql/history_4.sql"),
+];
 const FIRST_VERSION: i64 = 2;
 
 /// The version of the tables; 0 if there are none.

@@ -11,18 +11,20 @@ use std::sync::{Arc, Mutex, MutexGuard, PoisonError};
 use std::task::{Context, Poll};
 use std::time::{Duration, Instant};
 use tokio::io::{AsyncRead, AsyncWrite, ReadBuf};
-use tokio::net::TcpStream;
 
 /// Bytes of a request's line and headers.
 const HEAD_BYTES: usize = 32 << 10;
 /// How long a connection that lost its place may go on to send its last answer.
 const LEAVE_WITHIN: Duration = Duration::from_secs(2);
 
+/// The bytes of a connection, with or without TLS.
+pub trait Stream: AsyncRead + AsyncWrite + Unpin + Send + 'static {}
+
+impl<S: AsyncRead + AsyncWrite + Unpin + Send + 'static> Stream for S {}
+
 /// Answers the requests of a connection until its client ends it, it is idle for too long, another connection needs its place, or
 /// the service stops. A request that has begun gets its whole answer.
-pub async fn serve(app: Arc<App>, stream: TcpStream, seat: Arc<Seat>) {
-    // a peer that has gone does not need the option
-    let _ = stream.set_nodelay(true);
+pub async fn serve<S: Stream>(app: Arc<App>, stream: S, seat: Arc<Seat>) {
     let activity = Arc::new(Activity::new());
     let stream = Watched { stream, activity: Arc::clone(&activity) };
     let service = service_fn(|request| {
@@ -124,12 +126,12 @@ fn lock(moment: &Mutex<Instant>) -> MutexGuard<'_, Instant> {
 }
 
 /// A connection's stream. Bytes that its client takes count as activity.
-struct Watched {
-    stream: TcpStream,
+struct Watched<S> {
+    stream: S,
     activity: Arc<Activity>,
 }
 
-impl Watched {
+impl<S> Watched<S> {
     fn sent(&self, told: Poll<Result<usize, Error>>) -> Poll<Result<usize, Error>> {
         if let Poll::Ready(Ok(1..)) = told {
             self.activity.touch();
@@ -138,13 +140,13 @@ impl Watched {
     }
 }
 
-impl AsyncRead for Watched {
+impl<S: Stream> AsyncRead for Watched<S> {
     fn poll_read(mut self: Pin<&mut Self>, cx: &mut Context<'_>, into: &mut ReadBuf<'_>) -> Poll<Result<(), Error>> {
         Pin::new(&mut self.stream).poll_read(cx, into)
     }
 }
 
-impl AsyncWrite for Watched {
+impl<S: Stream> AsyncWrite for Watched<S> {
     fn poll_write(mut self: Pin<&mut Self>, cx: &mut Context<'_>, bytes: &[u8]) -> Poll<Result<usize, Error>> {
         let told = Pin::new(&mut self.stream).poll_write(cx, bytes);
         self.sent(told)

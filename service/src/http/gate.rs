@@ -1,14 +1,17 @@
 //! The checks that every request passes: its route, its token, its origin, and whether this process leads.
+use super::audit::Asked;
+use super::members::PATH;
 use super::reply::{as_problem, error, text, wants_problems, with_header, Reply};
 use super::route::{NoRoute, Route};
 use super::seats::{Kind, Seat};
-use super::{page, reads, room, writes, App};
-use crate::auth::Access;
+use super::{page, reads, room, stream, trace, writes, App};
+use crate::auth::Caller;
+use crate::log;
 use hyper::header::{HeaderMap, HeaderName, ALLOW, CONNECTION, CONTENT_TYPE, HOST, RETRY_AFTER, WWW_AUTHENTICATE};
 use hyper::{Body, Request};
 use std::net::IpAddr;
 use std::sync::Arc;
-use std::time::{Duration, SystemTime};
+use std::time::{Duration, Instant, SystemTime};
 
 /// The header that names the leader's address.
 const LEADER: &str = "relkvanu-leader";
@@ -23,18 +26,33 @@ const FIND_LEADER: Duration = Duration::from_secs(1);
 
 /// Answers a request, once its connection has a place for it.
 pub async fn answer(app: Arc<App>, seat: &Arc<Seat>, request: Request<Body>) -> Reply {
+    let trace = trace::of(request.headers());
+    log::traced(trace, answered(app, seat, request)).await
+}
+
+async fn answered(app: Arc<App>, seat: &Arc<Seat>, request: Request<Body>) -> Reply {
     let route = Route::of(request.method(), request.uri().path());
     let name = route.as_ref().map_or("none", Route::name);
+    let asked = Asked {
+        method: request.method().to_string(),
+        path: request.uri().path().chars().take(PATH).collect(),
+        since: Instant::now(),
+    };
+    let known = route.as_ref().ok().cloned();
     let (kind, checked) = checked(&app, route, request.headers());
+    let by = checked.as_ref().ok().and_then(|(_, caller)| caller.as_ref()).map(|caller| caller.name.clone());
     let wants_problems = wants_problems(request.headers());
-    let reply = match (seat.begin(kind), checked) {
+    let mut reply = match (seat.begin(kind), checked) {
         (None, _) => crowded(),
         (Some(_), Err(refused)) => *refused,
         // the page's files are a part of the program
-        (Some(_), Ok(route @ Route::Asset(_))) => dispatched(&app, route, request).await,
-        (Some(turn), Ok(route)) => room::kept(&app, turn, dispatched(&app, route, request).await).await,
+        (Some(_), Ok((route @ Route::Asset(_), _))) => dispatched(&app, route, None, request).await,
+        (Some(turn), Ok((route, caller))) => {
+            room::kept(&app, turn, dispatched(&app, route, caller, request).await).await
+        }
     };
     app.metrics.request(name, reply.status().as_u16());
+    app.audit.answered(&asked, known.as_ref(), by.as_deref(), &mut reply);
     let reply = if wants_problems { as_problem(reply) } else { reply };
     match app.board.log() {
         "" => reply,
@@ -42,12 +60,15 @@ pub async fn answer(app: Arc<App>, seat: &Arc<Seat>, request: Request<Body>) -> 
     }
 }
 
+/// A route, and who asks for it, if it needs a token.
+type Admitted = (Route, Option<Caller>);
+
 /// The route of a request that may be made, and the kind of place that it needs.
-fn checked(app: &App, route: Result<Route, NoRoute>, headers: &HeaderMap) -> (Kind, Result<Route, Box<Reply>>) {
+fn checked(app: &App, route: Result<Route, NoRoute>, headers: &HeaderMap) -> (Kind, Result<Admitted, Box<Reply>>) {
     match route {
         Err(none) => (Kind::Stranger, Err(no_route(&none).into())),
         Ok(route) => match admitted(app, &route, headers) {
-            Ok(()) => (route.kind(), Ok(route)),
+            Ok(caller) => (route.kind(), Ok((route, caller))),
             Err(refused) => (Kind::Stranger, Err(refused)),
         },
     }
@@ -58,11 +79,12 @@ fn crowded() -> Reply {
     with_header(busy("too many connections do this"), CONNECTION, "close")
 }
 
-async fn dispatched(app: &App, route: Route, request: Request<Body>) -> Reply {
-    dispatch(app, route, request).await.unwrap_or_else(|refused| *refused)
+async fn dispatched(app: &Arc<App>, route: Route, caller: Option<Caller>, request: Request<Body>) -> Reply {
+    let caller = caller.unwrap_or_else(Caller::local);
+    dispatch(app, route, &caller, request).await.unwrap_or_else(|refused| *refused)
 }
 
-async fn dispatch(app: &App, route: Route, request: Request<Body>) -> Result<Reply, Box<Reply>> {
+async fn dispatch(app: &Arc<App>, route: Route, caller: &Caller, request: Request<Body>) -> Result<Reply, Box<Reply>> {
     if route.needs_leader() && !app.board.is_ready() {
         return Err(standby(app).await.into());
     }
@@ -70,9 +92,11 @@ async fn dispatch(app: &App, route: Route, request: Request<Body>) -> Result<Rep
         Route::Asset(asset) => Ok(page::answer(asset)),
         Route::Health => Ok(health(app)),
         Route::Ready => Ok(ready(app).await),
-        Route::NewJob => writes::new_job(app, request).await,
+        Route::NewJob => writes::new_job(app, caller, request).await,
+        Route::DeleteJob(job) => writes::delete_job(app, job, request.uri().query().unwrap_or("")).await,
         Route::Calls(job) => writes::calls(app, job, request).await,
-        read => reads::answer(app, read, request.uri().query().unwrap_or("")).await,
+        Route::Stream(job) => stream::answer(app, job, caller, &request).await,
+        read => reads::answer(app, read, caller, request.uri().query().unwrap_or("")).await,
     }
 }
 
@@ -87,24 +111,34 @@ fn no_route(none: &NoRoute) -> Reply {
 
 /// Whether a request may be made. It has a token, or, if there are no tokens, comes from a program of this machine and names
 /// this machine. A page of another site can do neither, because it can't set this type of content.
-fn admitted(app: &App, route: &Route, headers: &HeaderMap) -> Result<(), Box<Reply>> {
+fn admitted(app: &App, route: &Route, headers: &HeaderMap) -> Result<Option<Caller>, Box<Reply>> {
     let Some(access) = route.access() else {
-        return Ok(());
+        return Ok(None);
     };
-    match &app.tokens {
-        Some(tokens) if !tokens.allow(headers, access, SystemTime::now()) => {
+    let caller = match app.keys.tokens().as_deref() {
+        Some(tokens) => tokens.caller(headers, access, SystemTime::now()).cloned().ok_or_else(|| {
             let refused = error(401, "Authorization: a token for this is needed, as 'Bearer TOKEN'");
-            return Err(with_header(refused, WWW_AUTHENTICATE, "Bearer").into());
-        }
-        None if !names_loopback(headers) => {
-            return Err(error(403, "Host: names another machine, and there are no tokens").into())
+            with_header(refused, WWW_AUTHENTICATE, "Bearer")
+        })?,
+        None if names_loopback(headers) => Caller::local(),
+        None => return Err(error(403, "Host: names another machine, and there are no tokens").into()),
+    };
+    match route.job() {
+        Some(job) if !caller.may_see(job) => return Err(not_for(job).into()),
+        None if matches!(route, Route::Metrics) && !caller.may_see_all() => {
+            return Err(error(403, "Authorization: this token is for some jobs, and the metrics are of all").into());
         }
         _ => {}
     }
-    match access {
-        Access::Write if !is_json(headers) => Err(error(415, "Content-Type: is not application/json").into()),
-        _ => Ok(()),
+    if route.has_body() && !is_json(headers) {
+        return Err(error(415, "Content-Type: is not application/json").into());
     }
+    Ok(Some(caller))
+}
+
+/// The token is for other jobs. Whether there is such a job is not told.
+pub fn not_for(job: &str) -> Reply {
+    error(403, &format!("Authorization: this token is not for the job {job}"))
 }
 
 fn is_json(headers: &HeaderMap) -> bool {

@@ -10,6 +10,8 @@ use std::fmt;
 const MOST_MEMBERS: usize = 16;
 /// How many characters of a client's text an error shows.
 const SHOWN: usize = 40;
+/// How many characters of a path the log shows.
+pub const PATH: usize = 200;
 
 /// What is wrong with a request, and where.
 #[derive(Debug, PartialEq, Eq)]

@@ -1,6 +1,9 @@
 //! The HTTP side: connections and their limits, and the path of every request to its answer.
+mod acks;
+mod audit;
 mod connection;
 mod gate;
+mod keys;
 mod members;
 mod page;
 mod places;
@@ -12,23 +15,27 @@ mod room;
 mod route;
 mod seats;
 mod server;
+mod stream;
+mod tls;
+mod trace;
 mod view;
 mod wire;
 mod writes;
 
+pub use audit::Audit;
+pub use keys::Keys;
 pub use server::serve;
+pub use tls::{NoTls, Tls, TlsFiles};
 pub use wire::{is_name, NO_NAME};
 
-use crate::auth::Tokens;
 use crate::config::Limits;
 use crate::history::{self, Door, HistoryReader, Place};
 use crate::log;
 use crate::metrics::Metrics;
 use crate::store::{DbError, Reader};
-use crate::writer::{Board, Message, Read, ReadDone};
+use crate::writer::{Board, Inbox, Message, NotSent, Read, ReadDone};
 use reply::{error, Reply};
 use std::error::Error;
-use std::sync::mpsc::{SyncSender, TrySendError};
 use std::sync::Arc;
 use std::time::Duration;
 use tokio::sync::{oneshot, Mutex, Semaphore};
@@ -42,14 +49,15 @@ const READ_WITHIN: Duration = Duration::from_secs(20);
 pub struct App {
     pub board: Arc<Board>,
     pub metrics: Arc<Metrics>,
-    pub inbox: SyncSender<Message>,
+    pub inbox: Inbox,
     /// Reads of the log. Each connection to a database has one reader at a time; the others wait without a thread.
     pub reader: Arc<Mutex<Box<dyn Reader>>>,
     /// Reads of events, which do not wait for those of the log.
     pub events: Arc<Mutex<Box<dyn Reader>>>,
     pub history: Arc<Mutex<Door>>,
     pub place: Arc<Place>,
-    pub tokens: Option<Tokens>,
+    pub keys: Arc<Keys>,
+    pub audit: Audit,
     /// Room for the bodies of all requests, in units of [`BODY_UNIT`] bytes.
     pub bodies: Arc<Semaphore>,
     /// Room for large answers that were not sent yet, likewise.
@@ -73,8 +81,8 @@ impl App {
         let (reply, answer) = oneshot::channel();
         match self.inbox.try_send(message(reply)) {
             Ok(()) => answer.await.map_err(|_| gate::busy("the service is stopping").into()),
-            Err(TrySendError::Full(_)) => Err(gate::busy("too many requests wait").into()),
-            Err(TrySendError::Disconnected(_)) => Err(gate::busy("the service is stopping").into()),
+            Err(NotSent::Full) => Err(gate::busy("too many requests wait").into()),
+            Err(NotSent::Ended) => Err(gate::busy("the service is stopping").into()),
         }
     }
 

@@ -14,12 +14,14 @@ pub struct Asset {
 
 const SCRIPT: &str = "text/javascript; charset=utf-8";
 
-const ASSETS: [Asset; 9] = [
+const ASSETS: [Asset; 11] = [
     Asset { path: "/", kind: "text/html; charset=utf-8", bytes: include_bytes!("../../web/index.html") },
     Asset { path: "/page.css", kind: "text/css; charset=utf-8", bytes: include_bytes!("../../web/page.css") },
     Asset { path: "/icon.svg", kind: "image/svg+xml", bytes: include_bytes!("../../web/icon.svg") },
     Asset { path: "/main.js", kind: SCRIPT, bytes: include_bytes!("../../web/main.js") },
     Asset { path: "/api.js", kind: SCRIPT, bytes: include_bytes!("../../web/api.js") },
+    Asset { path: "/actions.js", kind: SCRIPT, bytes: include_bytes!("../../web/actions.js") },
+    Asset { path: "/records.js", kind: SCRIPT, bytes: include_bytes!("../../web/records.js") },
     Asset { path: "/charts.js", kind: SCRIPT, bytes: include_bytes!("../../web/charts.js") },
     Asset { path: "/views.js", kind: SCRIPT, bytes: include_bytes!("../../web/views.js") },
     Asset { path: "/chart.js", kind: SCRIPT, bytes: include_bytes!(concat!(env!("OUT_DIR"), "/chart.js")) },

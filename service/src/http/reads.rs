@@ -2,10 +2,11 @@
 use super::places::{self, Place};
 use super::query::{self, numbers, Parameter};
 use super::render::{self, Metadata};
-use super::reply::{body, error, json_reply, with_type, Reply};
+use super::reply::{bad_field, body, error, json_reply, with_type, Reply};
 use super::route::Route;
-use super::{no_job, view, App};
-use crate::history::FileRow;
+use super::{acks, no_job, view, App};
+use crate::auth::Caller;
+use crate::history::{FileRow, HistoryReader, Search};
 use crate::store::Reader;
 use crate::writer::{JobState, Read, ReadDone, RecordState};
 use serde_json::{json, Value};
@@ -22,22 +23,27 @@ const fn limit(most: u64, default: u64) -> Parameter {
     Parameter { name: "limit", most, default }
 }
 
-pub async fn answer(app: &App, route: Route, query: &str) -> Result<Reply, Box<Reply>> {
+pub async fn answer(app: &App, route: Route, caller: &Caller, query: &str) -> Result<Reply, Box<Reply>> {
     match route {
         Route::Metrics => metrics(app, query).await,
-        Route::Jobs => jobs(app, query).await,
+        Route::Jobs => jobs(app, caller, query).await,
         Route::Job(job) => one_job(app, job, query).await,
         Route::Records(job) => records(app, &job, query).await,
         Route::Record(job, id) => record(app, job, id, query).await,
+        Route::Acks(job, id) => acks::answer(app, job, id, query).await,
         Route::Files(job) => files(app, &job, query).await,
         Route::File(job, file) => one_file(app, job, file, query).await,
         Route::Log(job) => log(app, &job, query).await,
         Route::Events(job) => events(app, &job, query).await,
         Route::Samples(job) => samples(app, &job, query).await,
-        Route::View(job) => view::answer(app, job, query).await,
-        Route::Asset(_) | Route::Health | Route::Ready | Route::NewJob | Route::Calls(_) => {
-            Err(error(404, "is no read").into())
-        }
+        Route::View(job) => view::answer(app, job, caller, query).await,
+        Route::Asset(_)
+        | Route::Health
+        | Route::Ready
+        | Route::NewJob
+        | Route::DeleteJob(_)
+        | Route::Calls(_)
+        | Route::Stream(_) => Err(error(404, "is no read").into()),
     }
 }
 
@@ -59,6 +65,11 @@ async fn metrics(app: &App, query: &str) -> Result<Reply, Box<Reply>> {
     };
     let jobs = tokio::time::timeout(ASK_WRITER, asked).await.unwrap_or_default();
     app.metrics.lead(app.board.is_ready());
+    app.metrics.queue.length(app.inbox.len());
+    app.metrics.process.look();
+    if app.board.is_ready() {
+        app.metrics.queue.followed();
+    }
     app.metrics.commit_takes(app.board.commit_takes());
     app.metrics.upkeep.history_up(app.place.works());
     app.board.lags().iter().for_each(|(job, lag)| app.metrics.upkeep.history_lag(job, *lag));
@@ -66,16 +77,19 @@ async fn metrics(app: &App, query: &str) -> Result<Reply, Box<Reply>> {
     Ok(with_type(200, "text/plain; version=0.0.4", text))
 }
 
-async fn jobs(app: &App, query: &str) -> Result<Reply, Box<Reply>> {
-    numbers(query, [])?;
-    match app.read(Read::Jobs).await? {
-        ReadDone::Jobs(jobs) => {
-            let log = app.board.log();
-            let jobs: Vec<Value> = jobs.iter().map(|job| render::job(job, log)).collect();
-            Ok(json_reply(200, &json!({"epoch": app.board.epoch(), "log": log, "jobs": jobs})))
-        }
-        _ => Err(error(500, "the writer answered something else").into()),
-    }
+/// The jobs in the order in which they were opened, in parts if that is asked for: `next` is the `after` of the next part.
+async fn jobs(app: &App, caller: &Caller, query: &str) -> Result<Reply, Box<Reply>> {
+    let [after, most] = numbers(query, [AFTER, limit(u64::MAX, u64::MAX)])?;
+    let ReadDone::Jobs(mut jobs) = app.read(Read::Jobs).await? else {
+        return Err(error(500, "the writer answered something else").into());
+    };
+    let number = |job: &JobState| u64::try_from(job.opening.number).unwrap_or(0);
+    jobs.retain(|job| number(job) > after && caller.may_see(&job.opening.name));
+    let most = usize::try_from(most).unwrap_or(usize::MAX).min(jobs.len());
+    let next = (most < jobs.len()).then(|| jobs[..most].last().map_or(after, number));
+    let log = app.board.log();
+    let jobs: Vec<Value> = jobs[..most].iter().map(|job| render::job(job, log)).collect();
+    Ok(json_reply(200, &json!({"epoch": app.board.epoch(), "log": log, "jobs": jobs, "next": next})))
 }
 
 async fn one_job(app: &App, job: String, query: &str) -> Result<Reply, Box<Reply>> {
@@ -88,11 +102,25 @@ async fn one_job(app: &App, job: String, query: &str) -> Result<Reply, Box<Reply
 
 async fn records(app: &App, job: &str, query: &str) -> Result<Reply, Box<Reply>> {
     let before = Parameter { name: "before", most: u64::MAX, default: u64::MAX };
-    let [before, most] = numbers(query, [before, limit(MOST_ROWS, 100)])?;
+    let (how, query) = query::text(query, "how");
+    let (kind, query) = query::text(&query, "kind");
+    let search = Search { how: word("how", how, &Search::HOWS)?, kind: word("kind", kind, &Search::KINDS)? };
+    let [before, most] = numbers(&query, [before, limit(MOST_ROWS, 100)])?;
     let number = app.number(job)?;
-    let (records, upto) =
-        app.read_history(move |history| Ok((history.records(number, before, most)?, history.upto(number)?))).await?;
+    let read =
+        move |history: &HistoryReader| Ok((history.records(number, before, most, search)?, history.upto(number)?));
+    let (records, upto) = app.read_history(read).await?;
     Ok(json_reply(200, &json!({"upto": upto, "records": records})))
+}
+
+/// One of these words, in which a '+' or '%20' stands for a space.
+fn word(name: &str, given: Option<&str>, words: &[&'static str]) -> Result<Option<&'static str>, Box<Reply>> {
+    let Some(given) = given else {
+        return Ok(None);
+    };
+    let said = given.replace('+', " ").replace("%20", " ");
+    let found = words.iter().find(|word| **word == said);
+    found.map(|word| Some(*word)).ok_or_else(|| bad_field(name, &format!("is none of {}", words.join(", "))).into())
 }
 
 async fn record(app: &App, job: String, id: u64, query: &str) -> Result<Reply, Box<Reply>> {
@@ -116,11 +144,12 @@ pub(super) fn metadata(live: Option<RecordState>) -> Result<Option<Metadata>, Bo
 
 /// The files that were taken and not reported, those taken first before the others, and the files that were deleted last.
 async fn files(app: &App, job: &str, query: &str) -> Result<Reply, Box<Reply>> {
-    let [most] = numbers(query, [limit(MOST_ROWS, 100)])?;
+    let before = Parameter { name: "before", most: u64::MAX, default: u64::MAX };
+    let [before, most] = numbers(query, [before, limit(MOST_ROWS, 100)])?;
     let ReadDone::Job(state) = app.read(Read::Job(job.to_string())).await? else {
         return Err(no_job(job).into());
     };
-    let FilesRead { upto, taken, deleted } = files_of(app, &state, most).await?;
+    let FilesRead { upto, taken, deleted } = files_of(app, &state, before, most).await?;
     Ok(json_reply(200, &json!({"upto": upto, "taken": taken, "deleted": deleted})))
 }
 
@@ -130,12 +159,12 @@ pub(super) struct FilesRead {
     pub deleted: Vec<FileRow>,
 }
 
-/// How far the history is, and at most this many taken and deleted files.
-pub(super) async fn files_of(app: &App, job: &JobState, most: u64) -> Result<FilesRead, Box<Reply>> {
+/// How far the history is, and at most this many taken files, and files that were deleted before a call.
+pub(super) async fn files_of(app: &App, job: &JobState, before: u64, most: u64) -> Result<FilesRead, Box<Reply>> {
     let number = job.opening.number;
     let (taken, deleted, upto) = app
         .read_history(move |history| {
-            Ok((history.taken(number, most)?, history.deleted(number, most)?, history.upto(number)?))
+            Ok((history.taken(number, most)?, history.deleted(number, before, most)?, history.upto(number)?))
         })
         .await?;
     let knows_all = upto >= job.seq && taken.len() as u64 == most.min(job.files.taken);
@@ -156,22 +185,26 @@ async fn taken_by_all(app: &App, job: &str, number: i64, most: u64) -> Result<Ve
 async fn one_file(app: &App, job: String, file: u64, query: &str) -> Result<Reply, Box<Reply>> {
     numbers(query, [])?;
     let number = app.number(&job)?;
-    let ReadDone::File { uses, live } = app.read(Read::File { job: job.clone(), file }).await? else {
+    let ReadDone::File { uses, bytes, live } = app.read(Read::File { job: job.clone(), file }).await? else {
         return Err(no_job(&job).into());
     };
     let live = if uses == Some(0) { Vec::new() } else { live };
     let by = used_by(app, &job, file, live).await?;
     let pins = uses.map(|uses| uses.saturating_sub(by.len() as u64));
-    let history = app
+    let (bytes, history) = app
         .read_history(move |history| {
             let row = history.file(number, file)?;
-            row.map(|row| Ok(render::file_history(&row, &history.places(number, &row.places())?))).transpose()
+            let bytes = bytes.or(row.as_ref().and_then(|row| row.bytes));
+            let told = match &row {
+                Some(row) => Some(render::file_history(row, &history.places(number, &row.places())?)),
+                None => None,
+            };
+            Ok((bytes, told))
         })
         .await?;
-    Ok(json_reply(
-        200,
-        &json!({"file": file.to_string(), "uses": uses, "pins": pins, "used_by": by, "history": history}),
-    ))
+    let file = file.to_string();
+    let told = json!({"file": file, "bytes": bytes, "uses": uses, "pins": pins, "used_by": by, "history": history});
+    Ok(json_reply(200, &told))
 }
 
 /// The acknowledgements of these live records that name a file. Reads one record at a time, so none keeps the writer

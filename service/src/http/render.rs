@@ -30,7 +30,7 @@ fn live((record, missing): &(LiveRecord, u64)) -> Value {
 
 /// A job's state. `log` is the identity of the log that it is from.
 pub fn job(state: &JobState, log: &str) -> Value {
-    let files = &state.files;
+    let (files, bytes) = (&state.files, &state.bytes);
     json!({
         "name": state.opening.name,
         "settings": settings_json(&state.opening.settings),
@@ -44,6 +44,7 @@ pub fn job(state: &JobState, log: &str) -> Value {
         "oldest_expiry": state.oldest_expiry,
         "choice": choice(state.choice),
         "files": {"in_use": files.in_use, "waiting": files.waiting, "taken": files.taken},
+        "bytes": {"in_use": bytes.in_use, "waiting": bytes.waiting, "taken": bytes.taken, "files": bytes.files},
         "last_completed": state.last_completed,
         "last_event": state.last_event,
         "first": state.first,

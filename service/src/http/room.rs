@@ -19,8 +19,11 @@ const PIECE: usize = 64 << 10;
 
 /// The answer. A large one now keeps its room and its connection's place until it is sent; if there is no room, it says so.
 pub async fn kept(app: &App, turn: Turn, reply: Reply) -> Reply {
-    let Some(length) = HttpBody::size_hint(reply.body()).exact().filter(|length| *length > SMALL) else {
-        return reply;
+    let length = match HttpBody::size_hint(reply.body()).exact() {
+        // it is sent as it comes, and its connection's place is taken until it ends
+        None => return reply.map(|body| Body::wrap_stream(Streamed { body, _turn: turn })),
+        Some(length) if length <= SMALL => return reply,
+        Some(length) => length,
     };
     let wanted = units(usize::try_from(length).unwrap_or(usize::MAX));
     // an answer that needs more than all room gets all of it
@@ -34,6 +37,19 @@ pub async fn kept(app: &App, turn: Turn, reply: Reply) -> Reply {
     };
     head.headers.insert(CONTENT_LENGTH, HeaderValue::from(length));
     Reply::from_parts(head, Body::wrap_stream(Pieces { rest, _room: room, _turn: turn }))
+}
+
+struct Streamed {
+    body: Body,
+    _turn: Turn,
+}
+
+impl Stream for Streamed {
+    type Item = Result<Bytes, hyper::Error>;
+
+    fn poll_next(mut self: Pin<&mut Self>, cx: &mut Context<'_>) -> Poll<Option<Self::Item>> {
+        Pin::new(&mut self.body).poll_data(cx)
+    }
 }
 
 struct Pieces {

@@ -15,13 +15,18 @@ pub enum Route {
     Jobs,
     NewJob,
     Job(String),
+    DeleteJob(String),
     Calls(String),
     Records(String),
     Record(String, u64),
+    /// When each subtask acknowledged a record.
+    Acks(String, u64),
     Files(String),
     File(String, u64),
     Log(String),
     Events(String),
+    /// The events as one answer that does not end.
+    Stream(String),
     Samples(String),
     /// All that the page shows of a job, or of the first one.
     View(Option<String>),
@@ -40,7 +45,7 @@ pub enum NoRoute {
 
 /// All routes of the API. The description must have each.
 #[cfg(test)]
-pub const API: [(&str, &str); 17] = [
+pub const API: [(&str, &str); 20] = [
     ("get", "/healthz"),
     ("get", "/readyz"),
     ("get", "/metrics"),
@@ -48,13 +53,16 @@ pub const API: [(&str, &str); 17] = [
     ("get", "/v1/jobs"),
     ("post", "/v1/jobs"),
     ("get", "/v1/jobs/{job}"),
+    ("delete", "/v1/jobs/{job}"),
     ("post", "/v1/jobs/{job}/calls"),
     ("get", "/v1/jobs/{job}/records"),
     ("get", "/v1/jobs/{job}/records/{id}"),
+    ("get", "/v1/jobs/{job}/records/{id}/acks"),
     ("get", "/v1/jobs/{job}/files"),
     ("get", "/v1/jobs/{job}/files/{file}"),
     ("get", "/v1/jobs/{job}/log"),
     ("get", "/v1/jobs/{job}/events"),
+    ("get", "/v1/jobs/{job}/stream"),
     ("get", "/v1/jobs/{job}/samples"),
     ("get", "/v1/view"),
     ("get", "/v1/view/{job}"),
@@ -91,14 +99,20 @@ impl Route {
         if rest == ["calls"] {
             return if method == Method::POST { Ok(Route::Calls(name)) } else { Err(NoRoute::Method("POST")) };
         }
+        if rest.is_empty() && !is_get {
+            let is_delete = method == Method::DELETE;
+            return if is_delete { Ok(Route::DeleteJob(name)) } else { Err(NoRoute::Method("GET, DELETE")) };
+        }
         let route = match rest {
             [] => Route::Job(name),
             ["records"] => Route::Records(name),
             ["records", id] => Route::Record(name, id.parse().map_err(|_| NoRoute::Part("id"))?),
+            ["records", id, "acks"] => Route::Acks(name, id.parse().map_err(|_| NoRoute::Part("id"))?),
             ["files"] => Route::Files(name),
             ["files", file] => Route::File(name, parse_file(file).ok_or(NoRoute::Part("file"))?),
             ["log"] => Route::Log(name),
             ["events"] => Route::Events(name),
+            ["stream"] => Route::Stream(name),
             ["samples"] => Route::Samples(name),
             _ => return Err(NoRoute::Path),
         };
@@ -113,9 +127,25 @@ impl Route {
     pub fn access(&self) -> Option<Access> {
         match self {
             Route::Asset(_) | Route::Health | Route::Ready => None,
-            Route::NewJob | Route::Calls(_) => Some(Access::Write),
+            Route::NewJob | Route::Calls(_) | Route::DeleteJob(_) => Some(Access::Write),
             _ => Some(Access::Read),
         }
+    }
+
+    /// The job that the path names.
+    pub fn job(&self) -> Option<&str> {
+        match self {
+            Route::Job(job) | Route::DeleteJob(job) | Route::Calls(job) | Route::Records(job) => Some(job),
+            Route::Record(job, _) | Route::Acks(job, _) | Route::Files(job) | Route::File(job, _) => Some(job),
+            Route::Log(job) | Route::Events(job) | Route::Stream(job) | Route::Samples(job) => Some(job),
+            Route::View(job) => job.as_deref(),
+            Route::Asset(_) | Route::Health | Route::Ready | Route::Metrics | Route::Jobs | Route::NewJob => None,
+        }
+    }
+
+    /// Whether it has a body of JSON. A page of another site can't send that type, nor a DELETE.
+    pub fn has_body(&self) -> bool {
+        matches!(self, Route::NewJob | Route::Calls(_))
     }
 
     /// The kind of place that its connection takes.
@@ -123,7 +153,7 @@ impl Route {
         match self {
             Route::Asset(_) => Kind::Stranger,
             Route::Health | Route::Ready => Kind::Health,
-            Route::Events(_) => Kind::Poll,
+            Route::Events(_) | Route::Stream(_) => Kind::Poll,
             _ => Kind::Client,
         }
     }
@@ -143,13 +173,16 @@ impl Route {
             Route::Jobs => "jobs",
             Route::NewJob => "new_job",
             Route::Job(_) => "job",
+            Route::DeleteJob(_) => "delete_job",
             Route::Calls(_) => "calls",
             Route::Records(_) => "records",
             Route::Record(..) => "record",
+            Route::Acks(..) => "acks",
             Route::Files(_) => "files",
             Route::File(..) => "file",
             Route::Log(_) => "log",
             Route::Events(_) => "events",
+            Route::Stream(_) => "stream",
             Route::Samples(_) => "samples",
             Route::View(_) => "view",
         }
@@ -164,7 +197,7 @@ mod tests {
     fn each_route_of_the_api_is_found() {
         for (method, path) in API {
             let path = path.replace("{job}", "orders").replace("{id}", "12").replace("{file}", "31");
-            let method = if method == "post" { Method::POST } else { Method::GET };
+            let method = Method::from_bytes(method.to_uppercase().as_bytes()).unwrap_or(Method::GET);
             assert!(Route::of(&method, &path).is_ok(), "{method} {path}");
         }
     }
@@ -217,7 +250,8 @@ mod tests {
         assert_eq!(Route::of(&Method::GET, "/v1/jobs/a/records/x"), Err(NoRoute::Part("id")));
         assert_eq!(Route::of(&Method::GET, "/v1/jobs/a/files/+1"), Err(NoRoute::Part("file")));
         assert_eq!(Route::of(&Method::PUT, "/v1/jobs"), Err(NoRoute::Method("GET, POST")));
-        assert_eq!(Route::of(&Method::DELETE, "/v1/jobs/a"), Err(NoRoute::Method("GET")));
+        assert_eq!(Route::of(&Method::PUT, "/v1/jobs/a"), Err(NoRoute::Method("GET, DELETE")));
+        assert_eq!(Route::of(&Method::DELETE, "/v1/jobs/a/log"), Err(NoRoute::Method("GET")));
         assert_eq!(Route::of(&Method::GET, "/v1/jobs/a/calls"), Err(NoRoute::Method("POST")));
     }
 }

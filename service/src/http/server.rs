@@ -1,5 +1,6 @@
 //! Accepts connections until the service stops, and then waits until each request that was begun has its answer.
 use super::seats::{Places, Seat};
+use super::tls::Tls;
 use super::{connection, App};
 use crate::log;
 use std::future::Future;
@@ -46,6 +47,25 @@ async fn accept(app: &Arc<App>, listener: &TcpListener, is_open: mpsc::Sender<()
 
 async fn connected(app: Arc<App>, stream: TcpStream, seat: Arc<Seat>, _is_open: mpsc::Sender<()>) {
     app.metrics.connections().inc();
-    connection::serve(Arc::clone(&app), stream, seat).await;
+    // a peer that has gone does not need the option
+    let _ = stream.set_nodelay(true);
+    match app.keys.tls().map(Tls::acceptor) {
+        None => connection::serve(Arc::clone(&app), stream, seat).await,
+        Some(acceptor) => {
+            if let Some(stream) = agreed(&app, &seat, acceptor.accept(stream)).await {
+                connection::serve(Arc::clone(&app), stream, seat).await;
+            }
+        }
+    }
     app.metrics.connections().dec();
+}
+
+/// What a connection agrees on by TLS, unless it takes too long, another connection needs its place, or the service stops. One that
+/// does not agree is its client's business.
+async fn agreed<S, E>(app: &App, seat: &Seat, agree: impl Future<Output = Result<S, E>>) -> Option<S> {
+    tokio::select! {
+        agreed = tokio::time::timeout(Duration::from_secs(app.limits.idle_seconds), agree) => agreed.ok()?.ok(),
+        () = seat.lost() => None,
+        () = app.board.stopping() => None,
+    }
 }

@@ -5,7 +5,8 @@ use super::reads::{files_of, metadata, FilesRead};
 use super::render;
 use super::reply::{error, json_reply, Reply};
 use super::App;
-use crate::history::{self, HistoryReader};
+use crate::auth::Caller;
+use crate::history::{self, HistoryReader, Search};
 use crate::model::Kind;
 use crate::writer::{JobState, Read, ReadDone};
 use serde_json::{json, Value};
@@ -27,11 +28,12 @@ struct Wanted {
 }
 
 /// The job of this name is shown, or the first one if there is none.
-pub async fn answer(app: &App, name: Option<String>, query: &str) -> Result<Reply, Box<Reply>> {
+pub async fn answer(app: &App, name: Option<String>, caller: &Caller, query: &str) -> Result<Reply, Box<Reply>> {
     let [records, samples, files] = numbers(query, [RECORDS, SAMPLES, FILES])?;
-    let ReadDone::Jobs(jobs) = app.read(Read::Jobs).await? else {
+    let ReadDone::Jobs(mut jobs) = app.read(Read::Jobs).await? else {
         return Err(error(500, "the writer answered something else").into());
     };
+    jobs.retain(|job| caller.may_see(&job.opening.name));
     let names: Vec<Value> =
         jobs.iter().map(|job| json!({"name": job.opening.name, "mode": render::mode(job.mode)})).collect();
     let mut told = json!({"epoch": app.board.epoch(), "jobs": names, "job": null});
@@ -69,12 +71,12 @@ async fn pending(app: &App, job: &JobState) -> Result<Vec<Value>, Box<Reply>> {
 /// What the history has of a job, how far it is, and the files that were taken and deleted.
 async fn history(app: &App, job: &JobState, wanted: Wanted) -> Result<serde_json::Map<String, Value>, Box<Reply>> {
     let number = job.opening.number;
-    let FilesRead { upto, taken, deleted } = files_of(app, job, wanted.files).await?;
+    let FilesRead { upto, taken, deleted } = files_of(app, job, u64::MAX, wanted.files).await?;
     let savepoints: Vec<u64> = savepoints(job).collect();
     app.read_history(move |history| {
         let told = json!({
             "upto": upto,
-            "records": history.records(number, u64::MAX, wanted.records)?,
+            "records": history.records(number, u64::MAX, wanted.records, Search::default())?,
             "samples": history.samples(number, 0, wanted.samples)?,
             "savepoints": kept(history, number, &savepoints)?,
             "taken": taken,

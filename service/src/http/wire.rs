@@ -38,6 +38,16 @@ impl Members<'_> {
         files.unwrap_or_else(|| Err(self.wrong(name, "is no list of files")))
     }
 
+    /// The bytes of fresh files, which are none if there is no such member.
+    fn bytes(&mut self) -> Checked<Vec<u64>> {
+        let Some(value) = self.take("bytes") else {
+            return Ok(Vec::new());
+        };
+        let wrong = |at: usize| invalid(&format!("{}[{at}]", self.field("bytes")), "is no whole number from 0 to 2^53");
+        let number = |at, item: &RawValue| read::<u64>(item).filter(|it| *it <= GREATEST).ok_or_else(|| wrong(at));
+        each(value, number).unwrap_or_else(|| Err(self.wrong("bytes", "is no list of numbers")))
+    }
+
     fn shape(&mut self) -> Checked<Option<Vec<u64>>> {
         let Some(value) = self.take("shape") else {
             return Ok(None);
@@ -125,12 +135,7 @@ fn call(mut members: Members) -> Checked<Call> {
     let call = match name.as_ref() {
         "tick" => Call::Tick,
         "savepoint" => Call::Savepoint,
-        "ack" => Call::Ack {
-            id: members.id()?,
-            subtask: members.subtask()?,
-            fresh: members.files("fresh")?,
-            reused: members.files("reused")?,
-        },
+        "ack" => ack(&mut members)?,
         "decline" => Call::Decline { id: members.id()?, subtask: members.subtask()? },
         "dispose" => Call::Dispose { id: members.id()? },
         "restore" => Call::Restore { target: target(&mut members)?, shape: members.shape()? },
@@ -142,6 +147,16 @@ fn call(mut members: Members) -> Checked<Call> {
     };
     members.finish()?;
     Ok(call)
+}
+
+fn ack(members: &mut Members) -> Checked<Call> {
+    let (id, subtask) = (members.id()?, members.subtask()?);
+    let (fresh, reused, bytes) = (members.files("fresh")?, members.files("reused")?, members.bytes()?);
+    if !bytes.is_empty() && bytes.len() != fresh.len() {
+        let why = format!("has {} numbers, and fresh has {} files", bytes.len(), fresh.len());
+        return Err(members.wrong("bytes", &why));
+    }
+    Ok(Call::Ack { id, subtask, fresh, reused, bytes })
 }
 
 fn target(members: &mut Members) -> Checked<Target> {
@@ -165,10 +180,12 @@ mod tests {
     #[test]
     fn reads_calls() {
         let body = r#"{"calls":[{"call":"ack","id":12,"subtask":"1.0","fresh":["31"],"reused":["18446744073709551615"]},
+            {"call":"ack","id":12,"subtask":"1.0","fresh":["32","30"],"bytes":[0,9007199254740992]},
             {"call":"take","most":64},{"call":"restore","from":3,"shape":[2]},{"call":"restore","from":"latest"}]}"#;
         let subtask = Subtask { vertex: 1, index: 0 };
         let wanted = vec![
-            Call::Ack { id: 12, subtask, fresh: vec![31], reused: vec![u64::MAX] },
+            Call::Ack { id: 12, subtask, fresh: vec![31], reused: vec![u64::MAX], bytes: vec![] },
+            Call::Ack { id: 12, subtask, fresh: vec![32, 30], reused: vec![], bytes: vec![0, 1 << 53] },
             Call::Take { most: 64 },
             Call::Restore { target: Target::Savepoint(3), shape: Some(vec![2]) },
             Call::Restore { target: Target::Latest, shape: None },
@@ -190,6 +207,11 @@ mod tests {
         assert_eq!(ack(r#""id":1,"subtask":"1.0","reused":["18446744073709551616"]"#), "calls[1].reused[0]");
         assert_eq!(ack(r#""id":1,"subtask":"1.0","frsh":["1"]"#), "calls[1].frsh");
         assert_eq!(ack(r#""id":1,"subtask":"1.0","fresh":{}"#), "calls[1].fresh");
+        assert_eq!(ack(r#""id":1,"subtask":"1.0","fresh":["1"],"bytes":[1,2]"#), "calls[1].bytes");
+        assert_eq!(ack(r#""id":1,"subtask":"1.0","bytes":[1]"#), "calls[1].bytes");
+        assert_eq!(ack(r#""id":1,"subtask":"1.0","fresh":["1"],"bytes":{}"#), "calls[1].bytes");
+        assert_eq!(ack(r#""id":1,"subtask":"1.0","fresh":["1"],"bytes":["1"]"#), "calls[1].bytes[0]");
+        assert_eq!(ack(r#""id":1,"subtask":"1.0","fresh":["1"],"bytes":[9007199254740993]"#), "calls[1].bytes[0]");
     }
 
     #[test]

@@ -1,8 +1,11 @@
 //! Requests that change something: a new job, and calls.
+use super::audit::Did;
+use super::query::{numbers, Parameter};
 use super::reply::{bad_field, body, error, invalid, json_reply, refusal, with_header, Reply};
 use super::{gate, no_job, units, wire, App};
+use crate::auth::Caller;
 use crate::model::{settings_json, sha256, Call};
-use crate::writer::{CallsDone, Created, Key, Message};
+use crate::writer::{CallsDone, Created, Delete, Deletion, Key, Message};
 use hyper::body::HttpBody;
 use hyper::header::{HeaderMap, LOCATION};
 use hyper::{Body, Request};
@@ -13,12 +16,17 @@ use tokio::sync::OwnedSemaphorePermit;
 
 const KEY: &str = "idempotency-key";
 const LONGEST_KEY: usize = 255;
+/// 1: though files of the job are left.
+const ABANDON: Parameter = Parameter { name: "abandon", most: 1, default: 0 };
 /// How long a body may still take when the service stops.
 const STOP_BODIES: Duration = Duration::from_secs(5);
 
-pub async fn new_job(app: &App, request: Request<Body>) -> Result<Reply, Box<Reply>> {
+pub async fn new_job(app: &App, caller: &Caller, request: Request<Body>) -> Result<Reply, Box<Reply>> {
     let (bytes, _room) = read_body(app, request).await?;
     let wire::NewJob { name, settings, shape } = wire::new_job(&bytes).map_err(|why| invalid(&why))?;
+    if !caller.may_see(&name) {
+        return Err(gate::not_for(&name).into());
+    }
     let told = json!({"name": name, "settings": settings_json(&settings), "shape": shape});
     let place = format!("/v1/jobs/{name}");
     let created = app.ask(|reply| Message::Create { name, settings, shape, reply }).await?;
@@ -35,6 +43,19 @@ fn bad_name_taken() -> Reply {
     refusal(409, json!({"error": why, "field": "name"}))
 }
 
+/// Deletes a job with its log and its history.
+pub async fn delete_job(app: &App, job: String, query: &str) -> Result<Reply, Box<Reply>> {
+    let [abandon] = numbers(query, [ABANDON])?;
+    let name = job.clone();
+    let told = app.ask(|reply| Message::Delete(Delete { job, abandon: abandon == 1, reply })).await?;
+    Ok(match told {
+        Deletion::Done => json_reply(200, &json!({"deleted": name})),
+        Deletion::NoJob => no_job(&name),
+        Deletion::Refused(why) => refusal(409, json!({"error": why.to_string(), "reason": why.word()})),
+        Deletion::Busy => gate::busy("the database does not take it now"),
+    })
+}
+
 pub async fn calls(app: &App, job: String, request: Request<Body>) -> Result<Reply, Box<Reply>> {
     app.number(&job)?;
     let name = key_name(request.headers())?;
@@ -44,16 +65,20 @@ pub async fn calls(app: &App, job: String, request: Request<Body>) -> Result<Rep
         return Err(key_is_missing(call).into());
     }
     let key = name.map(|name| Key { name, digest: sha256(&bytes) });
-    let at = job.clone();
+    let (at, did) = (job.clone(), Did::of(&calls));
     let done = app.ask(|reply| Message::Calls { job, calls, key, reply }).await?;
-    Ok(match done {
+    let mut reply = match done {
         CallsDone::Made(outcomes) => body(200, app.board.answers(&outcomes)),
         CallsDone::Known(answers) => body(200, answers),
         CallsDone::KeyUsed => {
             refusal(422, json!({"error": "Idempotency-Key was used with another body", "field": "Idempotency-Key"}))
         }
         CallsDone::NoJob => no_job(&at),
-    })
+    };
+    if let Some(did) = did {
+        reply.extensions_mut().insert(did);
+    }
+    Ok(reply)
 }
 
 fn key_is_missing(call: &Call) -> Reply {

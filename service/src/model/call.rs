@@ -65,14 +65,35 @@ impl Target {
 pub enum Call {
     Tick,
     Savepoint,
-    Ack { id: u64, subtask: Subtask, fresh: Vec<u64>, reused: Vec<u64> },
-    Decline { id: u64, subtask: Subtask },
-    Dispose { id: u64 },
-    Restore { target: Target, shape: Option<Vec<u64>> },
+    /// `bytes` are those of each fresh file, or none. The log's line does not have them.
+    Ack {
+        id: u64,
+        subtask: Subtask,
+        fresh: Vec<u64>,
+        reused: Vec<u64>,
+        bytes: Vec<u64>,
+    },
+    Decline {
+        id: u64,
+        subtask: Subtask,
+    },
+    Dispose {
+        id: u64,
+    },
+    Restore {
+        target: Target,
+        shape: Option<Vec<u64>>,
+    },
     Cancel,
-    Take { most: u64 },
-    Deleted { file: u64 },
-    Undeleted { file: u64 },
+    Take {
+        most: u64,
+    },
+    Deleted {
+        file: u64,
+    },
+    Undeleted {
+        file: u64,
+    },
 }
 
 impl Call {

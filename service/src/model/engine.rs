@@ -66,13 +66,18 @@ impl Engine {
         self.0.taken_files().ok()
     }
 
+    /// The file at a place among those that wait for deletion.
+    pub fn waiting_file(&self, place: u64) -> Option<u64> {
+        self.0.waiting_file(usize::try_from(place).ok()?)
+    }
+
     /// Makes a call at the moment `now`.
     pub fn make(&mut self, call: &Call, now: u64) -> Result<Reply, Fault> {
         let core = &mut self.0;
         let made = match call {
             Call::Tick => core.tick(now),
             Call::Savepoint => core.savepoint(now),
-            Call::Ack { id, subtask, fresh, reused } => core.ack(now, *id, subtask.into(), fresh, reused),
+            Call::Ack { id, subtask, fresh, reused, .. } => core.ack(now, *id, subtask.into(), fresh, reused),
             Call::Decline { id, subtask } => core.decline(now, *id, subtask.into()),
             Call::Dispose { id } => core.dispose(*id),
             Call::Restore { target, shape } => core.restore(now, target.savepoint(), shape.as_deref()),

@@ -6,7 +6,9 @@ use super::kept::Kept;
 use super::live::{ended, Live};
 use super::outcome::{Outcome, Reply};
 use super::settings::pending_limit;
+use super::sizes::{FileBytes, SizeChange, Sizes, Use};
 use relkvanu::{Answer, Choice, Kind, Live as LiveRecord, Mode, Settings};
+use std::collections::HashSet;
 
 /// What a job was opened with, which never changes.
 #[derive(Clone, Debug, PartialEq, Eq)]
@@ -49,6 +51,12 @@ impl Entry {
     }
 }
 
+/// What the database gets of a call that changed something.
+pub struct Logged {
+    pub entry: Entry,
+    pub sizes: SizeChange,
+}
+
 pub struct Job {
     pub opening: Opening,
     /// The shape that the job has now.
@@ -63,6 +71,9 @@ pub struct Job {
     pub last_event: u64,
     /// What the database has of the log, if this process leads.
     pub kept: Kept,
+    /// The bytes of files, if this process leads.
+    pub sizes: Sizes,
+    pub is_deleted: bool,
     engine: Engine,
     live: Live,
 }
@@ -71,8 +82,9 @@ impl Job {
     pub fn open(opening: Opening) -> Result<Job, NoJob> {
         let engine = Engine::open(&opening.settings, &opening.shape, opening.started)?;
         let (shape, at, kept) = (opening.shape.clone(), opening.started, Kept::default());
-        let live = Live::new();
-        Ok(Job { opening, shape, seq: 0, at, last_completed: None, last_event: 0, kept, engine, live })
+        let (live, sizes) = (Live::new(), Sizes::default());
+        let (seq, last_completed, last_event, is_deleted) = (0, None, 0, false);
+        Ok(Job { opening, shape, seq, at, last_completed, last_event, kept, sizes, is_deleted, engine, live })
     }
 
     /// Goes on from an image.
@@ -85,6 +97,15 @@ impl Job {
         Ok(())
     }
 
+    /// The job was deleted: frees what it takes, as far as memory allows.
+    pub fn close(&mut self) {
+        self.is_deleted = true;
+        (self.kept, self.sizes, self.live) = (Kept::default(), Sizes::default(), Live::new());
+        if let Ok(engine) = Engine::open(&self.opening.settings, &self.opening.shape, self.opening.started) {
+            self.engine = engine;
+        }
+    }
+
     /// The image of the job as it is now; `None` if memory ran out.
     pub fn image(&self) -> Option<Image> {
         let Job { seq, at, last_completed, last_event, .. } = *self;
@@ -93,7 +114,7 @@ impl Job {
     }
 
     /// Makes a call. If it changed something, also returns its row, which has to be committed before the call is answered.
-    pub fn call(&mut self, call: &Call, now: u64) -> (Outcome, Option<Entry>) {
+    pub fn call(&mut self, call: &Call, now: u64) -> (Outcome, Option<Logged>) {
         let line = match call.line(now) {
             Err(relkvanu::Fault::Memory) => return (Outcome::NoMemory, None),
             // The line would be longer than a line may be: an acknowledgement of this many files is refused below.
@@ -108,17 +129,49 @@ impl Job {
             return (Outcome::Made { seq: None, reply }, None);
         }
         let (record, ended) = self.take_in(call, now, &reply);
+        let sizes = self.resize(call, &reply, waiting);
+        let answer = reply.text();
+        self.kept.note((line.len() + answer.len()) as u64);
         let entry = Entry {
             job: self.opening.number,
             seq: self.seq,
             at: self.at,
             record,
             line,
-            answer: reply.text(),
+            answer,
             ended,
             waiting: self.engine.counts().waiting.saturating_sub(waiting),
         };
-        (Outcome::Made { seq: Some(self.seq), reply }, Some(entry))
+        (Outcome::Made { seq: Some(self.seq), reply }, Some(Logged { entry, sizes }))
+    }
+
+    /// What a call changed of the sizes, before which so many files were waiting.
+    fn resize(&mut self, call: &Call, reply: &Reply, waiting: u64) -> SizeChange {
+        if self.sizes.ignores(call) {
+            return SizeChange::default();
+        }
+        let places = waiting..self.engine.counts().waiting;
+        let released: Vec<u64> = places.filter_map(|place| self.engine.waiting_file(place)).collect();
+        let mut change = self.sizes.follow(call, reply, &released);
+        if let Some(said) = &mut change.said {
+            (said.job, said.seq) = (self.opening.number, self.seq);
+        }
+        change
+    }
+
+    /// Takes in the sizes that the database has, of the files that the coordinator has; `None` if memory ran out.
+    pub fn take_sizes(&mut self, sizes: &[FileBytes]) -> Option<()> {
+        let taken = self.engine.taken()?;
+        let places = 0..self.engine.counts().waiting;
+        let waiting: HashSet<u64> = places.filter_map(|place| self.engine.waiting_file(place)).collect();
+        let place = |file: u64| match self.engine.uses(file) {
+            _ if taken.binary_search(&file).is_ok() => Some(Use::Taken),
+            _ if waiting.contains(&file) => Some(Use::Waiting),
+            Some(1..) => Some(Use::Needed),
+            _ => None,
+        };
+        self.sizes = Sizes::of(sizes, place);
+        Some(())
     }
 
     /// Makes the call of a line of the log again.
@@ -178,7 +231,7 @@ impl Job {
 
     /// The moment at which the timer has to tick: a checkpoint is due and may be triggered, or a record expires.
     pub fn wake(&mut self) -> Option<u64> {
-        if self.engine.mode() != Mode::Running {
+        if self.is_deleted || self.engine.mode() != Mode::Running {
             return None;
         }
         let expiry = self.engine.oldest_expiry();

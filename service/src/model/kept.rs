@@ -15,6 +15,8 @@ pub struct Keeping {
     pub image_calls: u64,
     /// Calls before the last image that are kept, at least.
     pub keep_calls: u64,
+    /// Bytes that the logs of all jobs may take; 0: as many as the calls have.
+    pub keep_bytes: u64,
 }
 
 /// An image that the database has.
@@ -47,7 +49,14 @@ pub struct Kept {
     gone: u64,
     /// The place at which an image was tried last.
     tried: u64,
+    /// The bytes of a call on average, and of how many calls.
+    mean: (f64, f64),
 }
+
+/// How many bytes a call takes beside its line and its answer, with its indexes.
+const ROW_BYTES: f64 = 70.0;
+/// Of how many calls the average is that is kept.
+const MEAN_OF: f64 = 1000.0;
 
 impl Kept {
     /// What a database has: its images and summaries, which rise, and the first call.
@@ -64,8 +73,30 @@ impl Kept {
         kept
     }
 
+    /// The bytes of a call on average, as the log says.
+    pub fn set_mean(&mut self, bytes: u64) {
+        self.mean = (bytes as f64 + ROW_BYTES, MEAN_OF);
+    }
+
+    /// Notes a call whose line and answer have so many bytes.
+    pub fn note(&mut self, bytes: u64) {
+        let (mean, of) = self.mean;
+        let of = (of + 1.0).min(MEAN_OF);
+        self.mean = (mean + (bytes as f64 + ROW_BYTES - mean) / of, of);
+    }
+
+    /// About how many bytes the calls take that the log has, of which `seq` is the last.
+    pub fn bytes(&self, seq: u64) -> u64 {
+        (seq.saturating_sub(self.gone) as f64 * self.mean.0) as u64
+    }
+
+    /// How many calls have so many bytes.
+    pub fn calls_in(&self, bytes: u64) -> u64 {
+        (bytes as f64 / self.mean.0.max(1.0)) as u64
+    }
+
     /// Sets up to where the log is to be cut: at the last summary before the image from which on it is kept.
-    fn aim(&mut self, keeping: Keeping) {
+    pub fn aim(&mut self, keeping: Keeping) {
         let base = self.base(keeping);
         self.cut = self.summaries.iter().rfind(|seq| **seq <= base).map_or(self.cut, |seq| self.cut.max(*seq));
     }
@@ -160,7 +191,7 @@ fn needless(places: &[u64], cut: u64, keeping: Keeping) -> Vec<u64> {
 mod tests {
     use super::*;
 
-    const KEEPING: Keeping = Keeping { image_calls: 10, keep_calls: 80 };
+    const KEEPING: Keeping = Keeping { image_calls: 10, keep_calls: 80, keep_bytes: 0 };
 
     fn image(seq: u64, bytes: usize) -> Image {
         let text = "x".repeat(bytes);
@@ -179,7 +210,7 @@ mod tests {
         assert!(!kept.wants_image(19, KEEPING) && kept.wants_image(20, KEEPING));
         kept.add(&image(20, 1500), KEEPING);
         assert!(!kept.wants_image(34, KEEPING) && kept.wants_image(35, KEEPING));
-        assert!(!kept.wants_image(1 << 40, Keeping { image_calls: 0, keep_calls: 0 }));
+        assert!(!kept.wants_image(1 << 40, Keeping { image_calls: 0, keep_calls: 0, keep_bytes: 0 }));
     }
 
     #[test]
@@ -219,7 +250,7 @@ mod tests {
 
     #[test]
     fn images_and_summaries_between_near_ones_go() {
-        let (mut kept, keeping) = (Kept::default(), Keeping { image_calls: 1, keep_calls: 8000 });
+        let (mut kept, keeping) = (Kept::default(), Keeping { image_calls: 1, keep_calls: 8000, keep_bytes: 0 });
         for seq in 1..=20_000 {
             kept.add_summary(seq, keeping);
             kept.add(&image(seq, 1), keeping);
@@ -230,6 +261,21 @@ mod tests {
             assert!(places[0] <= 12_000 && places[0] >= 10_000, "{places:?}");
         }
         assert!(kept.summaries.contains(&kept.cut));
+    }
+
+    #[test]
+    fn a_log_tells_about_its_bytes() {
+        let mut kept = Kept::default();
+        assert_eq!((kept.bytes(10), kept.calls_in(1000)), (0, 1000));
+        (0..5000).for_each(|place| kept.note(if place % 2 == 0 { 20 } else { 40 }));
+        assert!((980..=1020).contains(&kept.bytes(10)), "{}", kept.bytes(10));
+        kept.set_mean(130);
+        assert_eq!((kept.bytes(10), kept.calls_in(1000)), (2000, 5));
+        (1..=20).for_each(|seq| kept.add_summary(seq * 10, KEEPING));
+        (1..=20).for_each(|seq| drop(kept.add(&image(seq * 10, 1), KEEPING)));
+        assert_eq!(kept.cut, 120);
+        kept.aim(Keeping { keep_calls: 20, ..KEEPING });
+        assert_eq!(kept.cut, 180);
     }
 
     #[test]

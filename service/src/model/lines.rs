@@ -18,7 +18,9 @@ impl Call {
         match self {
             Call::Tick => C::Tick { now },
             Call::Savepoint => C::Savepoint { now },
-            Call::Ack { id, subtask, fresh, reused } => C::Ack { now, id: *id, subtask: subtask.into(), fresh, reused },
+            Call::Ack { id, subtask, fresh, reused, .. } => {
+                C::Ack { now, id: *id, subtask: subtask.into(), fresh, reused }
+            }
             Call::Decline { id, subtask } => C::Decline { now, id: *id, subtask: subtask.into() },
             Call::Dispose { id } => C::Dispose { id: *id },
             Call::Restore { target, shape } => {
@@ -58,7 +60,8 @@ fn changing(said: relkvanu::Call<'_>) -> Option<(u64, Call)> {
         C::Tick { now } => (now, Call::Tick),
         C::Savepoint { now } => (now, Call::Savepoint),
         C::Ack { now, id, subtask, fresh, reused } => {
-            (now, Call::Ack { id, subtask: subtask.into(), fresh: fresh.to_vec(), reused: reused.to_vec() })
+            let (fresh, reused) = (fresh.to_vec(), reused.to_vec());
+            (now, Call::Ack { id, subtask: subtask.into(), fresh, reused, bytes: vec![] })
         }
         C::Decline { now, id, subtask } => (now, Call::Decline { id, subtask: subtask.into() }),
         C::Dispose { id } => (0, Call::Dispose { id }),
@@ -87,10 +90,10 @@ mod tests {
             (Call::Tick, "tick 1234"),
             (Call::Savepoint, "savepoint 1234"),
             (
-                Call::Ack { id: 12, subtask: SUBTASK, fresh: vec![31, u64::MAX], reused: vec![11] },
+                Call::Ack { id: 12, subtask: SUBTASK, fresh: vec![31, u64::MAX], reused: vec![11], bytes: vec![] },
                 "ack 1234 12 1.7 +31 +18446744073709551615 =11",
             ),
-            (Call::Ack { id: 12, subtask: SUBTASK, fresh: vec![], reused: vec![] }, "ack 1234 12 1.7"),
+            (Call::Ack { id: 12, subtask: SUBTASK, fresh: vec![], reused: vec![], bytes: vec![] }, "ack 1234 12 1.7"),
             (Call::Decline { id: 3, subtask: SUBTASK }, "decline 1234 3 1.7"),
             (Call::Restore { target: Target::Latest, shape: None }, "restore 1234 latest"),
             (Call::Restore { target: Target::Savepoint(4), shape: Some(vec![2, 1]) }, "restore 1234 4 2 1"),
@@ -111,7 +114,7 @@ mod tests {
 
     #[test]
     fn files_ascend_in_a_line() {
-        let call = Call::Ack { id: 1, subtask: SUBTASK, fresh: vec![31, 11], reused: vec![9, 8] };
+        let call = Call::Ack { id: 1, subtask: SUBTASK, fresh: vec![31, 11], reused: vec![9, 8], bytes: vec![] };
         assert_eq!(call.line(5).as_deref(), Ok("ack 5 1 1.7 +11 +31 =8 =9"));
     }
 

@@ -10,6 +10,7 @@ mod lines;
 mod live;
 mod outcome;
 mod settings;
+mod sizes;
 mod starts;
 mod summary;
 
@@ -18,11 +19,12 @@ pub use clock::{check as check_clock, millis, shown, wall, Clock, FarAhead, Mome
 pub use engine::{Fault, NoJob};
 pub use event::{kind, Event};
 pub use image::{sha256, Contents, Image, SavedRecord};
-pub use job::{Entry, Job, Opening};
+pub use job::{Entry, Job, Logged, Opening};
 pub use kept::{Cut, Keeping, Kept, KeptImage, CALL_BYTES};
 pub use lines::parse_line;
 pub use outcome::{Outcome, Reply};
 pub use relkvanu::{Answer, Choice, FileCounts, Kind, Live as LiveRecord, Mode, Settings};
 pub use settings::{check_shape, config_line, parse_config, settings_json, settings_of, shape_words, FIELDS};
+pub use sizes::{parse_sizes, sizes_text, AckBytes, Bytes, FileBytes};
 pub use starts::{length_in, lengths_text};
 pub use summary::{KeptSummary, PastRecord, SummaryPart};

@@ -1,7 +1,9 @@
 //! One parser of rows for both databases.
 use super::error::DbError;
 use super::rows::{Keyed, SavedImage};
-use crate::model::{parse_config, Entry, Image, KeptImage, KeptSummary, Opening, PastRecord};
+use crate::model::{
+    parse_config, parse_sizes, AckBytes, Entry, FileBytes, Image, KeptImage, KeptSummary, Opening, PastRecord,
+};
 use rusqlite::types::{Type, ValueRef};
 
 /// A cell of a row. PostgreSQL gives numbers as texts.
@@ -181,6 +183,22 @@ impl FromRow for PastRecord {
 
     fn read(row: &mut Row) -> Option<PastRecord> {
         Some(PastRecord { job: row.number()?, id: row.number()?, text: row.text()? })
+    }
+}
+
+impl FromRow for AckBytes {
+    const TABLE: &'static str = "ack_size";
+
+    fn read(row: &mut Row) -> Option<AckBytes> {
+        Some(AckBytes { job: row.number()?, seq: row.number()?, fresh: row.parsed(parse_sizes)?, full: row.number()? })
+    }
+}
+
+impl FromRow for FileBytes {
+    const TABLE: &'static str = "size";
+
+    fn read(row: &mut Row) -> Option<FileBytes> {
+        Some((row.number::<i64>()? as u64, row.number()?))
     }
 }
 

@@ -2,8 +2,8 @@
 use super::cells::Row;
 use super::error::{DbError, Failure, Unusable};
 use super::files::{self, Opened};
-use super::rows::{steps_after, Group, Keyed, Lead, Store, Written, MOST_STARTS, VERSION};
-use crate::model::{config_line, shape_words, Cut, Entry, Image, Opening, PastRecord, SummaryPart};
+use super::lite_write::write;
+use super::rows::{steps_after, Group, Keyed, Lead, Store, Written, MOST_STARTS, OF_JOBS, VERSION};
 use rusqlite::config::DbConfig;
 use rusqlite::{ffi, params, Connection, ErrorCode, OptionalExtension};
 use std::fs::File;
@@ -19,6 +19,7 @@ const STEPS: [&str; VERSION] = [
         "; ",
         include_str!("../../sql/lite_history.sql")
     ),
+    include_str!("../../sql/lite_3.sql"),
 ];
 pub(super) const BUSY: Duration = Duration::from_secs(2);
 /// How long a start waits for readers of another program.
@@ -131,6 +132,18 @@ impl Store for Lite {
         Ok(self.connection.execute(sql, [signed(before), signed(most)])? as u64)
     }
 
+    fn forget_job(&mut self, job: i64) -> Result<bool, DbError> {
+        for (table, columns, most) in OF_JOBS {
+            let rows = format!("select {columns} from {table} where job = ?1 order by {columns} limit ?2");
+            let sql = format!("delete from {table} where ({columns}) in ({rows})");
+            if self.connection.execute(&sql, params![job, signed(most)])? as u64 == most {
+                return Ok(true);
+            }
+        }
+        self.connection.execute("update gone_job set is_empty = 1 where job = ?", [job])?;
+        Ok(false)
+    }
+
     fn note(&mut self, at: u64) -> Result<(), DbError> {
         let sql = "insert into clock values(1, ?) on conflict (one) do update set at = excluded.at";
         self.connection.execute(sql, [signed(at)])?;
@@ -162,87 +175,6 @@ fn failure(error: rusqlite::Error) -> Failure {
         Some(ErrorCode::TooBig) => Failure::TooLarge(error),
         _ => Failure::Lost(error),
     }
-}
-
-/// One transaction. It is rolled back if this returns an error.
-fn write(connection: &mut Connection, group: &Group) -> rusqlite::Result<()> {
-    let transaction = connection.transaction()?;
-    write_jobs(&transaction, &group.jobs)?;
-    write_entries(&transaction, &group.entries)?;
-    write_requests(&transaction, &group.requests)?;
-    write_images(&transaction, &group.images)?;
-    drop_images(&transaction, &group.dropped)?;
-    cut(&transaction, &group.cuts)?;
-    write_summaries(&transaction, &group.summaries)?;
-    write_past(&transaction, &group.past)?;
-    drop_summaries(&transaction, &group.dropped_summaries)?;
-    transaction.commit()
-}
-
-fn write_jobs(within: &Connection, jobs: &[Opening]) -> rusqlite::Result<()> {
-    let mut insert = within.prepare_cached("insert into job values(?, ?, ?, ?, ?, 1, ?)")?;
-    for job in jobs {
-        let (line, shape) = (config_line(&job.settings), shape_words(&job.shape));
-        insert.execute(params![job.number, job.name, line, shape, signed(job.started), env!("CARGO_PKG_VERSION")])?;
-    }
-    Ok(())
-}
-
-fn write_entries(within: &Connection, entries: &[Entry]) -> rusqlite::Result<()> {
-    let mut insert = within.prepare_cached("insert into call values(?, ?, ?, ?, ?, ?, ?, ?)")?;
-    for entry in entries {
-        let numbers = [entry.seq, entry.at, entry.waiting].map(signed);
-        let ([seq, at, waiting], record) = (numbers, entry.record.map(signed));
-        insert.execute(params![entry.job, seq, at, record, entry.line, entry.answer, entry.ended, waiting])?;
-    }
-    Ok(())
-}
-
-fn write_requests(within: &Connection, requests: &[Keyed]) -> rusqlite::Result<()> {
-    let mut insert = within.prepare_cached("insert into request values(?, ?, ?, ?, ?)")?;
-    for request in requests {
-        insert.execute(params![request.job, request.key, signed(request.at), request.digest, request.answers])?;
-    }
-    Ok(())
-}
-
-fn write_images(within: &Connection, images: &[Image]) -> rusqlite::Result<()> {
-    let mut insert = within.prepare_cached("insert into image values(?, ?, ?, ?, ?, ?, ?, ?, ?)")?;
-    for image in images {
-        let numbers = [image.seq, image.at, image.last_event, image.text.len() as u64].map(signed);
-        let ([seq, at, event, bytes], completed) = (numbers, image.last_completed.map(signed));
-        let (digest, shape) = (image.digest(), shape_words(&image.shape));
-        insert.execute(params![image.job, seq, at, digest, shape, completed, event, bytes, image.text])?;
-    }
-    Ok(())
-}
-
-fn drop_images(within: &Connection, places: &[(i64, u64)]) -> rusqlite::Result<()> {
-    let mut delete = within.prepare_cached("delete from image where job = ? and seq = ?")?;
-    places.iter().try_for_each(|(job, seq)| delete.execute(params![job, signed(*seq)]).map(|_| ()))
-}
-
-fn cut(within: &Connection, cuts: &[Cut]) -> rusqlite::Result<()> {
-    let mut delete = within.prepare_cached("delete from call where job = ? and seq > ? and seq <= ?")?;
-    cuts.iter().try_for_each(|cut| delete.execute(params![cut.job, signed(cut.after), signed(cut.upto)]).map(|_| ()))
-}
-
-fn write_summaries(within: &Connection, parts: &[SummaryPart]) -> rusqlite::Result<()> {
-    let mut insert = within.prepare_cached("insert or replace into summary values(?, ?, ?, ?, ?)")?;
-    for SummaryPart { job, seq, part, whole, text } in parts {
-        insert.execute(params![job, signed(*seq), signed(*part), signed(*whole), text])?;
-    }
-    Ok(())
-}
-
-fn write_past(within: &Connection, records: &[PastRecord]) -> rusqlite::Result<()> {
-    let mut insert = within.prepare_cached("insert or replace into past values(?, ?, ?)")?;
-    records.iter().try_for_each(|it| insert.execute(params![it.job, signed(it.id), it.text]).map(|_| ()))
-}
-
-fn drop_summaries(within: &Connection, places: &[(i64, u64)]) -> rusqlite::Result<()> {
-    let mut delete = within.prepare_cached("delete from summary where job = ? and seq = ?")?;
-    places.iter().try_for_each(|(job, seq)| delete.execute(params![job, signed(*seq)]).map(|_| ()))
 }
 
 /// A number as SQLite keeps it. Moments, places and numbers of records are below 2^62.

@@ -2,9 +2,10 @@
 use super::cells::{FromRow, Row};
 use super::error::DbError;
 use super::lite::{signed, BUSY};
+use super::reader::Reader;
 use super::room::room_of;
-use super::rows::{whole, LogPage, Reader, Room, SavedImage, COLUMNS, IMAGE_COLUMNS, IS_EVENT, PAGE_BYTES};
-use crate::model::{Entry, KeptImage, KeptSummary, Opening, PastRecord};
+use super::rows::{whole, LogPage, Room, SavedImage, COLUMNS, IMAGE_COLUMNS, IS_EVENT, PAGE_BYTES};
+use crate::model::{AckBytes, Entry, FileBytes, KeptImage, KeptSummary, Opening, PastRecord};
 use rusqlite::{params, Connection, OpenFlags, OptionalExtension, Params};
 use std::path::Path;
 
@@ -105,6 +106,28 @@ impl Reader for LiteReader {
     fn past(&mut self, job: i64, after: u64, most: u32) -> Result<Vec<PastRecord>, DbError> {
         let sql = "select job, id, text from past where job = ? and id > ? order by id limit ?";
         self.all(sql, params![job, signed(after), most])
+    }
+
+    fn said(&mut self, job: i64, after: u64, upto: u64) -> Result<Vec<AckBytes>, DbError> {
+        let sql = "select job, seq, fresh, bytes from ack_size where job = ? and seq > ? and seq <= ? order by seq";
+        self.all(sql, params![job, signed(after), signed(upto)])
+    }
+
+    fn sizes(&mut self, after: Option<(i64, u64)>, most: u32) -> Result<Vec<(i64, FileBytes)>, DbError> {
+        let sql = "select job, file, bytes from size where (job, file) > (?, ?) order by job, file limit ?";
+        let (job, file) = after.map_or((i64::MIN, i64::MIN), |(job, file)| (job, file as i64));
+        self.all(sql, params![job, file, most])
+    }
+
+    fn gone(&mut self) -> Result<Vec<(i64, u64)>, DbError> {
+        self.all("select job, is_empty from gone_job", [])
+    }
+
+    fn call_bytes(&mut self, jobs: &[i64]) -> Result<Vec<(i64, u64)>, DbError> {
+        let sql = "select job, cast(avg(length(line) + length(answer)) as integer) from
+            (select job, line, answer from call where job = ? order by seq desc limit 100) group by job";
+        let of = |job: &i64| self.one(sql, [job]);
+        jobs.iter().filter_map(|job| of(job).transpose()).collect()
     }
 
     fn room(&mut self) -> Result<Room, DbError> {

@@ -4,11 +4,13 @@ mod error;
 mod files;
 mod lite;
 mod lite_read;
+mod lite_write;
 mod parameter;
 mod pg;
 mod pg_columns;
 mod pg_read;
 mod pq;
+mod reader;
 mod room;
 mod rows;
 
@@ -18,7 +20,8 @@ pub use lite::Lite;
 pub use lite_read::LiteReader;
 pub use pg::Pg;
 pub use pg_read::PgReader;
+pub use reader::Reader;
 pub use room::room_of;
-pub use rows::{Group, Keyed, Lead, Reader, SavedImage, Store};
+pub use rows::{GoneJob, Group, Keyed, Lead, SavedImage, Store};
 #[cfg(test)]
 pub use rows::{Room, IS_EVENT};

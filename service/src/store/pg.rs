@@ -5,7 +5,7 @@ use super::error::{DbError, Failure, Unusable};
 use super::parameter::Parameter;
 use super::pg_columns::columns;
 use super::pq::{Connection, Failed, Rows};
-use super::rows::{steps_after, Group, Keyed, Lead, Store, Written, MOST_STARTS, VERSION};
+use super::rows::{steps_after, Group, Keyed, Lead, Store, Written, MOST_STARTS, OF_JOBS, VERSION};
 use crate::model::Moment;
 use std::ffi::CStr;
 use std::time::Duration;
@@ -19,6 +19,7 @@ const STEPS: [&str; VERSION] = [
         "; ",
         include_str!("../../sql/pg_history.sql")
     ),
+    include_str!("../../sql/pg_3.sql"),
 ];
 const COMMIT: &str = include_str!("../../sql/pg_commit.sql");
 const COMMIT_NAME: &CStr = c"commit_group";
@@ -151,6 +152,21 @@ impl Store for Pg {
             (select job, key from request where at < $1::bigint limit $2::bigint) returning 1) select count(*) from gone";
         let rows = self.connection.query(sql, &[&before.to_string(), &most.to_string()])?;
         Ok(cell(&rows, 0).and_then(|count| count.parse().ok()).unwrap_or(0))
+    }
+
+    fn forget_job(&mut self, job: i64) -> Result<bool, DbError> {
+        for (table, columns, most) in OF_JOBS {
+            let rows =
+                format!("select {columns} from {table} where job = $1::bigint order by {columns} limit $2::bigint");
+            let gone = format!("delete from {table} where ({columns}) in ({rows}) returning 1");
+            let sql = format!("with gone as ({gone}) select count(*) from gone");
+            let rows = self.connection.query(&sql, &[&job.to_string(), &most.to_string()])?;
+            if cell(&rows, 0).and_then(|count| count.parse().ok()) == Some(most) {
+                return Ok(true);
+            }
+        }
+        self.connection.query("update gone_job set is_empty = 1 where job = $1::bigint", &[&job.to_string()])?;
+        Ok(false)
     }
 
     fn note(&mut self, at: u64) -> Result<(), DbError> {

@@ -1,7 +1,10 @@
 //! The columns of a group, as the parameters of the statement that writes it to PostgreSQL.
 use super::parameter::Parameter;
-use super::rows::{Group, Keyed};
-use crate::model::{config_line, shape_words, Cut, Entry, Image, Opening, PastRecord, SummaryPart};
+use super::rows::{GoneJob, Group, Keyed};
+use crate::model::{
+    config_line, shape_words, sizes_text, AckBytes, Cut, Entry, Image, Opening, PastRecord, SummaryPart,
+};
+use std::collections::BTreeMap;
 
 /// The columns of all tables, in the order of `sql/pg_commit.sql`.
 pub fn columns(group: &Group) -> Vec<Parameter> {
@@ -15,6 +18,9 @@ pub fn columns(group: &Group) -> Vec<Parameter> {
     given.extend(summary_columns(&group.summaries));
     given.extend(past_columns(&group.past));
     given.extend(dropped_columns(&group.dropped_summaries));
+    given.extend(size_columns(&group.sizes));
+    given.extend(said_columns(&group.said));
+    given.extend(gone_columns(&group.gone));
     given
 }
 
@@ -100,5 +106,35 @@ fn past_columns(records: &[PastRecord]) -> [Parameter; 3] {
         Parameter::numbers(records.iter().map(|record| Some(record.job))),
         Parameter::numbers(records.iter().map(|record| Some(number(record.id)))),
         Parameter::texts(records.iter().map(|record| Some(record.text.clone()))),
+    ]
+}
+
+/// The sizes that are new, then those that go. A file's number is kept with its 64 bits.
+fn size_columns(sizes: &BTreeMap<(i64, u64), Option<u64>>) -> [Parameter; 5] {
+    let new = || sizes.iter().filter_map(|((job, file), size)| Some((*job, *file as i64, (*size)?)));
+    let gone = || sizes.iter().filter(|(_, size)| size.is_none()).map(|(place, _)| place);
+    [
+        Parameter::numbers(new().map(|(job, _, _)| Some(job))),
+        Parameter::numbers(new().map(|(_, file, _)| Some(file))),
+        Parameter::numbers(new().map(|(_, _, bytes)| Some(number(bytes)))),
+        Parameter::numbers(gone().map(|(job, _)| Some(*job))),
+        Parameter::numbers(gone().map(|(_, file)| Some(*file as i64))),
+    ]
+}
+
+fn said_columns(said: &[AckBytes]) -> [Parameter; 4] {
+    [
+        Parameter::numbers(said.iter().map(|it| Some(it.job))),
+        Parameter::numbers(said.iter().map(|it| Some(number(it.seq)))),
+        Parameter::texts(said.iter().map(|it| Some(sizes_text(&it.fresh)))),
+        Parameter::numbers(said.iter().map(|it| Some(number(it.full)))),
+    ]
+}
+
+fn gone_columns(jobs: &[GoneJob]) -> [Parameter; 3] {
+    [
+        Parameter::numbers(jobs.iter().map(|it| Some(it.job))),
+        Parameter::texts(jobs.iter().map(|it| Some(it.name.clone()))),
+        Parameter::numbers(jobs.iter().map(|it| Some(number(it.at)))),
     ]
 }

@@ -2,8 +2,9 @@
 use super::cells::{FromRow, Row};
 use super::error::DbError;
 use super::pq::{Connection, Failed, Rows};
-use super::rows::{whole, LogPage, Reader, Room, SavedImage, COLUMNS, IMAGE_COLUMNS, IS_EVENT, PAGE_BYTES};
-use crate::model::{Entry, KeptImage, KeptSummary, Opening, PastRecord};
+use super::reader::Reader;
+use super::rows::{whole, LogPage, Room, SavedImage, COLUMNS, IMAGE_COLUMNS, IS_EVENT, PAGE_BYTES};
+use crate::model::{AckBytes, Entry, FileBytes, KeptImage, KeptSummary, Opening, PastRecord};
 use std::time::Duration;
 
 /// A statement of a reader may take this long.
@@ -127,6 +128,30 @@ impl Reader for PgReader {
         let sql =
             "select job, id, text from past where job = $1::bigint and id > $2::bigint order by id limit $3::bigint";
         self.all(sql, &[&job.to_string(), &signed(after), &most.to_string()])
+    }
+
+    fn said(&mut self, job: i64, after: u64, upto: u64) -> Result<Vec<AckBytes>, DbError> {
+        let sql = "select job, seq, fresh, bytes from ack_size
+            where job = $1::bigint and seq > $2::bigint and seq <= $3::bigint order by seq";
+        self.all(sql, &[&job.to_string(), &signed(after), &signed(upto)])
+    }
+
+    fn sizes(&mut self, after: Option<(i64, u64)>, most: u32) -> Result<Vec<(i64, FileBytes)>, DbError> {
+        let sql = "select job, file, bytes from size
+            where (job, file) > ($1::bigint, $2::bigint) order by job, file limit $3::bigint";
+        let (job, file) = after.map_or((i64::MIN, i64::MIN), |(job, file)| (job, file as i64));
+        self.all(sql, &[&job.to_string(), &file.to_string(), &most.to_string()])
+    }
+
+    fn gone(&mut self) -> Result<Vec<(i64, u64)>, DbError> {
+        self.all("select job, is_empty from gone_job", &[])
+    }
+
+    fn call_bytes(&mut self, jobs: &[i64]) -> Result<Vec<(i64, u64)>, DbError> {
+        let sql = "select u.job, avg(octet_length(line) + octet_length(answer))::bigint
+            from unnest($1::bigint[]) u(job) cross join lateral (
+            select line, answer from call where call.job = u.job order by seq desc limit 100) last group by u.job";
+        self.all(sql, &[&array(jobs.iter())])
     }
 
     fn room(&mut self) -> Result<Room, DbError> {

@@ -1,9 +1,8 @@
 //! The messages that share a commit, and the answers that were given before under their keys, read for all at once.
 use super::message::{Key, Message};
-use super::{Jobs, MOST_CALLS};
+use super::{Jobs, Messages, MOST_CALLS};
 use crate::store::{DbError, Keyed, Store};
 use std::collections::HashMap;
-use std::sync::mpsc::Receiver;
 
 /// What was answered under the keys of a batch, by job and key.
 #[derive(Default)]
@@ -26,14 +25,14 @@ impl Answered {
 }
 
 /// The messages that wait behind a first one, until their calls fill a commit.
-pub fn gather(first: Option<Message>, inbox: &Receiver<Message>) -> Vec<Message> {
+pub fn gather(first: Option<Message>, inbox: &Messages) -> Vec<Message> {
     let (mut batch, mut calls) = (Vec::new(), 0);
     let mut next = first;
     while let Some(message) = next {
         calls += calls_of(&message);
         let is_last = calls >= MOST_CALLS || matches!(message, Message::Stop);
         batch.push(message);
-        next = if is_last { None } else { inbox.try_recv().ok() };
+        next = if is_last { None } else { inbox.try_recv() };
     }
     batch
 }

@@ -161,6 +161,11 @@ impl Board {
         jobs.insert(job.opening.name.clone(), watched);
     }
 
+    /// A job was deleted. Whoever waits for its events waits no longer.
+    pub fn forget(&self, job: &str) {
+        self.jobs.write().unwrap_or_else(PoisonError::into_inner).remove(job);
+    }
+
     /// A job's number in the database.
     pub fn number(&self, job: &str) -> Option<i64> {
         self.read().get(job).map(|watched| watched.number)

@@ -87,6 +87,11 @@ impl Writer {
     /// Commits what the history gives, apart from calls, so that these neither wait for it nor fail with it.
     pub(super) fn keep(&mut self, given: Vec<(ForKeeping, Sender<bool>)>) {
         for (one, reply) in given {
+            // a job may be deleted by now
+            if !self.jobs.has(&one) {
+                let _ = reply.send(false);
+                continue;
+            }
             let (job, whole, group) = match one {
                 ForKeeping::Summary { job, part } => {
                     let whole = (part.whole > 0).then_some(part.seq);
@@ -103,7 +108,9 @@ impl Writer {
                 Err(Failure::Lost(why)) => lose(&why),
             };
             if let (true, Some(place), Some(seq)) = (is_written, job, whole) {
-                self.jobs.at(place).kept.add_summary(seq, self.keeper.keeping());
+                let job = self.jobs.at(place);
+                let keeping = self.keeper.keeping(job);
+                job.kept.add_summary(seq, keeping);
                 self.keeper.called(&[place].into());
             }
             let _ = reply.send(is_written);

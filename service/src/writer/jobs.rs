@@ -1,16 +1,11 @@
 //! All jobs of the service, brought up to date with the log.
-use super::replay::{missing, repeat, resume, StartError};
-use crate::model::{Entry, Job, Keeping, Kept, KeptImage, KeptSummary, NoJob, Opening};
-use crate::store::Reader;
-use std::collections::{BTreeMap, HashMap};
+mod catch_up;
 
-const PAGE: u32 = 10_000;
-/// From which job on: all.
-const ALL: i64 = i64::MIN;
-/// How many calls are made between two reports that the work goes on.
-const BEAT_EACH: usize = 256;
-/// How many bytes of images are read at once, unless one alone has more.
-const BATCH_BYTES: u64 = 16 << 20;
+use super::message::ForKeeping;
+use super::replay::StartError;
+use crate::model::{Job, NoJob, Opening};
+use crate::store::Reader;
+use std::collections::HashMap;
 
 /// Reports that the work goes on. An error ends it.
 pub type Beat<'a> = &'a mut dyn FnMut() -> Result<(), StartError>;
@@ -23,6 +18,9 @@ pub struct Jobs {
     last_moment: u64,
     /// The last moment of the logs when they were read.
     read_to: Option<u64>,
+    /// The greatest number of a job that was deleted, and those jobs of which the database has something left.
+    last_gone: i64,
+    leftovers: Vec<i64>,
 }
 
 impl Jobs {
@@ -42,6 +40,46 @@ impl Jobs {
         self.places.get(name).copied()
     }
 
+    /// The places of all jobs that are not deleted.
+    pub fn places(&self) -> Vec<usize> {
+        (0..self.jobs.len()).filter(|place| !self.jobs[*place].is_deleted).collect()
+    }
+
+    /// Jobs that were deleted, of which the database has something left.
+    pub fn leftovers(&self) -> Vec<i64> {
+        self.leftovers.clone()
+    }
+
+    /// Whether the jobs that this is of are there.
+    pub fn has(&self, given: &ForKeeping) -> bool {
+        let is_there = |number| self.place_of(number).is_some_and(|place| !self.jobs[place].is_deleted);
+        match given {
+            ForKeeping::Summary { job, .. } => self.place(job).is_some(),
+            ForKeeping::Past(past) => past.iter().all(|record| is_there(record.job)),
+        }
+    }
+
+    /// Forgets a job that was deleted. Its place stays empty.
+    pub fn delete(&mut self, place: usize) {
+        let job = &mut self.jobs[place];
+        job.close();
+        self.last_gone = self.last_gone.max(job.opening.number);
+        self.places.remove(&job.opening.name);
+    }
+
+    /// Forgets the jobs that the database has as deleted. Returns whether there was one.
+    fn delete_gone(&mut self, reader: &mut dyn Reader) -> Result<bool, StartError> {
+        let gone = reader.gone()?;
+        self.leftovers = gone.iter().filter(|(_, is_empty)| *is_empty == 0).map(|(job, _)| *job).collect();
+        self.last_gone = gone.iter().map(|(job, _)| *job).max().unwrap_or(0).max(self.last_gone);
+        let places = gone.iter().filter_map(|(job, _)| self.place_of(*job));
+        let places: Vec<usize> = places.filter(|place| !self.jobs[*place].is_deleted).collect();
+        for place in &places {
+            self.delete(*place);
+        }
+        Ok(!places.is_empty())
+    }
+
     /// A job's number in the database.
     pub fn number(&self, name: &str) -> Option<i64> {
         Some(self.jobs[self.place(name)?].opening.number)
@@ -49,11 +87,11 @@ impl Jobs {
 
     /// Each job's number, and how many calls it has.
     pub fn lengths(&self) -> Vec<(i64, u64)> {
-        self.jobs.iter().map(|job| (job.opening.number, job.seq)).collect()
+        self.jobs.iter().filter(|job| !job.is_deleted).map(|job| (job.opening.number, job.seq)).collect()
     }
 
     pub fn all(&mut self) -> impl Iterator<Item = &mut Job> {
-        self.jobs.iter_mut()
+        self.jobs.iter_mut().filter(|job| !job.is_deleted)
     }
 
     /// The last moment of the log.
@@ -63,7 +101,11 @@ impl Jobs {
 
     /// The number that a new job gets.
     pub fn next_number(&self) -> i64 {
-        self.jobs.last().map_or(0, |job| job.opening.number) + 1
+        self.last_number().max(self.last_gone) + 1
+    }
+
+    fn last_number(&self) -> i64 {
+        self.jobs.last().map_or(0, |job| job.opening.number)
     }
 
     /// Opens a job, and returns its place.
@@ -75,173 +117,4 @@ impl Jobs {
         self.places.insert(name, place);
         Ok(place)
     }
-
-    /// Makes the calls of the log that these jobs have not made, and returns how many there were. Compares each answer.
-    /// The number of statements does not depend on that of the jobs. Calls `beat` between them and between calls, and ends if that fails.
-    pub fn catch_up(&mut self, reader: &mut dyn Reader, beat: Beat) -> Result<u64, StartError> {
-        let changed = self.changed(reader)?;
-        beat()?;
-        let last = self.next_number() - 1;
-        let (mut behind, from) = (changed, self.jobs.len());
-        for opening in reader.jobs_after(last)? {
-            let name = opening.name.clone();
-            self.open(opening).map_err(|why| StartError::NotOpened { job: name, why })?;
-        }
-        behind.extend(from..self.jobs.len());
-        self.resume_all(from..self.jobs.len(), reader, beat)?;
-        self.read_logs(behind, reader, beat)
-    }
-
-    /// The places of jobs that may have calls which were not made here.
-    fn changed(&mut self, reader: &mut dyn Reader) -> Result<Vec<usize>, StartError> {
-        let Some(since) = self.read_to else {
-            self.read_to = Some(reader.last_moment()?);
-            return Ok((0..self.jobs.len()).collect());
-        };
-        let Some(changed) = reader.changed(since)? else {
-            return Ok((0..self.jobs.len()).collect());
-        };
-        // calls that are committed later have this moment or a later one
-        self.read_to = changed.iter().map(|(_, at)| *at).max().max(Some(since));
-        Ok(changed.iter().filter_map(|(job, _)| self.place_of(*job)).collect())
-    }
-
-    /// The place of a job by its number, in whose order the jobs are.
-    fn place_of(&self, number: i64) -> Option<usize> {
-        self.jobs.binary_search_by_key(&number, |job| job.opening.number).ok()
-    }
-
-    /// Makes the calls of several jobs, and goes on from images where calls were cut. Returns how many calls there were.
-    fn read_logs(&mut self, behind: Vec<usize>, reader: &mut dyn Reader, beat: Beat) -> Result<u64, StartError> {
-        let (mut behind, mut made) = (behind, 0);
-        while !behind.is_empty() {
-            let stopped = self.read_pages(&behind, &mut made, reader, beat)?;
-            // the leader may have cut faster than this process reads
-            behind = self.resume_all(stopped.keys().copied(), reader, beat)?;
-            let gap = stopped
-                .iter()
-                .find_map(|(place, found)| (*found).filter(|_| !behind.contains(place)).map(|seq| (*place, seq)));
-            if let Some((place, seq)) = gap {
-                let (job, why) = (self.jobs[place].opening.name.clone(), missing(&self.jobs[place]));
-                return Err(StartError::Damaged { job, seq, why });
-            }
-        }
-        Ok(made)
-    }
-
-    /// Makes the calls that follow in the logs of several jobs. Returns the places of those jobs that have none, or that have a later one,
-    /// and which.
-    fn read_pages(
-        &mut self,
-        places: &[usize],
-        made: &mut u64,
-        reader: &mut dyn Reader,
-        beat: Beat,
-    ) -> Result<BTreeMap<usize, Option<u64>>, StartError> {
-        let mut behind: BTreeMap<i64, usize> =
-            places.iter().map(|place| (self.jobs[*place].opening.number, *place)).collect();
-        let mut stopped: BTreeMap<usize, Option<u64>> = places.iter().map(|place| (*place, None)).collect();
-        let mut from = ALL;
-        loop {
-            beat()?;
-            let asked = behind.range(from..).map(|(job, place)| (*job, self.jobs[*place].seq));
-            let page = reader.logs(&asked.collect::<Vec<_>>(), PAGE)?;
-            match page.last() {
-                // the jobs before it have been read, if the rows came in order: then the last page, of all jobs, has none
-                Some(entry) => from = entry.job,
-                None if from == ALL => return Ok(stopped),
-                None => from = ALL,
-            }
-            for entries in page.chunk_by(|one, next| one.job == next.job) {
-                let (number, first) = (entries[0].job, entries[0].seq);
-                let Some(place) = behind.get(&number).copied() else {
-                    continue;
-                };
-                if first != self.jobs[place].seq + 1 {
-                    behind.remove(&number);
-                    stopped.insert(place, Some(first));
-                    continue;
-                }
-                self.make_all(place, entries, beat)?;
-                *made += entries.len() as u64;
-                stopped.remove(&place);
-            }
-        }
-    }
-
-    fn make_all(&mut self, place: usize, entries: &[Entry], beat: Beat) -> Result<(), StartError> {
-        let job = &mut self.jobs[place];
-        for piece in entries.chunks(BEAT_EACH) {
-            beat()?;
-            piece.iter().try_for_each(|entry| repeat(job, entry))?;
-        }
-        self.last_moment = self.last_moment.max(job.at);
-        Ok(())
-    }
-
-    /// Goes on from the last images of jobs that are after the calls which these have. Returns the places of those jobs. If the leader
-    /// has deleted an image meanwhile, its job stays as it is: there is a later one.
-    fn resume_all(
-        &mut self,
-        places: impl Iterator<Item = usize>,
-        reader: &mut dyn Reader,
-        beat: Beat,
-    ) -> Result<Vec<usize>, StartError> {
-        let numbers: Vec<i64> = places.map(|place| self.jobs[place].opening.number).collect();
-        if numbers.is_empty() {
-            return Ok(Vec::new());
-        }
-        // of each job the last one stays
-        let mut newest: BTreeMap<i64, KeptImage> = reader.images_of(&numbers)?.into_iter().collect();
-        newest.retain(|job, image| self.place_of(*job).is_some_and(|place| image.seq > self.jobs[place].seq));
-        for batch in batches(&newest) {
-            for saved in reader.images_at(&batch)? {
-                beat()?;
-                if let Some(place) = self.place_of(saved.image.job) {
-                    resume(&mut self.jobs[place], &saved)?;
-                    self.last_moment = self.last_moment.max(saved.image.at);
-                }
-            }
-        }
-        Ok(newest.keys().filter_map(|job| self.place_of(*job)).collect())
-    }
-
-    /// Reads what the database has of each job's log.
-    pub fn take_stock(&mut self, reader: &mut dyn Reader, keeping: Keeping, beat: Beat) -> Result<(), StartError> {
-        let numbers: Vec<i64> = self.jobs.iter().map(|job| job.opening.number).collect();
-        let mut images: HashMap<i64, Vec<KeptImage>> = HashMap::new();
-        for (job, image) in reader.images_of(&numbers)? {
-            images.entry(job).or_default().push(image);
-        }
-        beat()?;
-        let mut summaries: HashMap<i64, Vec<KeptSummary>> = HashMap::new();
-        for (job, summary) in reader.summaries_of(&numbers)? {
-            summaries.entry(job).or_default().push(summary);
-        }
-        beat()?;
-        let firsts: HashMap<i64, u64> = reader.firsts(&numbers)?.into_iter().collect();
-        for job in &mut self.jobs {
-            let number = job.opening.number;
-            let images = images.remove(&number).unwrap_or_default();
-            let summaries = summaries.remove(&number).unwrap_or_default();
-            job.kept = Kept::of(images, &summaries, firsts.get(&number).copied(), keeping);
-        }
-        Ok(())
-    }
-}
-
-/// Places of images, in groups whose texts have some megabytes.
-fn batches(images: &BTreeMap<i64, KeptImage>) -> Vec<Vec<(i64, u64)>> {
-    let (mut batches, mut bytes) = (Vec::<Vec<(i64, u64)>>::new(), 0);
-    for (job, image) in images {
-        bytes += image.bytes;
-        match batches.last_mut() {
-            Some(batch) if bytes <= BATCH_BYTES => batch.push((*job, image.seq)),
-            _ => {
-                batches.push(vec![(*job, image.seq)]);
-                bytes = image.bytes;
-            }
-        }
-    }
-    batches
 }

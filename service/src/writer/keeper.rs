@@ -23,7 +23,13 @@ pub struct Keeper {
     /// The jobs whose last image or cut could not be written.
     failing: BTreeMap<usize, Pause>,
     last_failure: Option<Moment>,
+    /// How many bytes the log of each job may take, and when that was reckoned.
+    level: u64,
+    reckoned: Option<Moment>,
 }
+
+/// How often it looks how many bytes the logs take.
+const LOOK_EACH: Duration = Duration::from_secs(1);
 
 /// An image or a cut that is put off.
 struct Pause {
@@ -40,11 +46,33 @@ pub struct Upkeep {
 impl Keeper {
     /// Looks at all jobs first.
     pub fn new(keeping: Keeping, jobs: usize) -> Keeper {
-        Keeper { keeping, attend: (0..jobs).collect(), failing: BTreeMap::new(), last_failure: None }
+        let attend = (0..jobs).collect();
+        Keeper { keeping, attend, failing: BTreeMap::new(), last_failure: None, level: u64::MAX, reckoned: None }
     }
 
-    pub fn keeping(&self) -> Keeping {
-        self.keeping
+    /// What is kept of a job: fewer calls if the logs of all jobs take too many bytes.
+    pub fn keeping(&self, job: &Job) -> Keeping {
+        let calls = self.keeping.keep_calls.min(job.kept.calls_in(self.level));
+        Keeping { keep_calls: calls, ..self.keeping }
+    }
+
+    /// Reckons how many bytes the log of each job may take, and attends to those that take more.
+    fn reckon(&mut self, jobs: &mut Jobs) {
+        let is_fresh = self.reckoned.is_some_and(|at| at.elapsed() < LOOK_EACH);
+        if self.keeping.keep_bytes == 0 || is_fresh {
+            return;
+        }
+        self.reckoned = Some(Moment::now());
+        let places = jobs.places();
+        let taken: Vec<u64> = places.iter().map(|place| bytes_of(jobs.at(*place))).collect();
+        let level = level(taken.clone(), self.keeping.keep_bytes);
+        self.level = level;
+        for (place, _) in places.into_iter().zip(taken).filter(|(_, bytes)| *bytes > level) {
+            let job = jobs.at(place);
+            let keeping = self.keeping(job);
+            job.kept.aim(keeping);
+            self.attend.insert(place);
+        }
     }
 
     /// These jobs were called.
@@ -56,6 +84,7 @@ impl Keeper {
     /// the log says. `added` calls were written in the last one.
     pub fn work(&mut self, jobs: &mut Jobs, board: &Board, metrics: &Metrics, added: usize) -> Round {
         let mut round = Round::default();
+        self.reckon(jobs);
         if self.last_failure.is_some_and(|at| at.elapsed() < PAUSE) {
             return round;
         }
@@ -66,8 +95,11 @@ impl Keeper {
                 continue;
             }
             let job = jobs.at(place);
+            if job.is_deleted {
+                continue;
+            }
             let before = job.kept.clone();
-            if job.kept.wants_image(job.seq, self.keeping) {
+            if job.kept.wants_image(job.seq, self.keeping(job)) {
                 self.save(job, metrics, &mut round.group);
             }
             let (number, most) = (job.opening.number, CUT_CALLS + added as u64);
@@ -96,7 +128,8 @@ impl Keeper {
             return job.kept.postpone(job.seq);
         };
         metrics.image(started.elapsed());
-        let gone = job.kept.add(&image, self.keeping);
+        let keeping = self.keeping(job);
+        let gone = job.kept.add(&image, keeping);
         group.dropped.extend(gone.into_iter().map(|seq| (image.job, seq)));
         group.images.push(image);
     }
@@ -127,5 +160,38 @@ impl Keeper {
             self.failing.remove(&upkeep.place);
             metrics.image_fails(jobs.name(upkeep.place), false);
         }
+    }
+}
+
+fn bytes_of(job: &Job) -> u64 {
+    job.kept.bytes(job.seq)
+}
+
+/// The greatest number that each of these may have so that all have no more than `most` together; the smaller ones stay as they are.
+fn level(mut taken: Vec<u64>, most: u64) -> u64 {
+    taken.sort_unstable();
+    let (mut rest, mut left) = (most, taken.len() as u64);
+    for bytes in taken {
+        if bytes.saturating_mul(left) > rest {
+            return rest / left;
+        }
+        rest -= bytes;
+        left -= 1;
+    }
+    u64::MAX
+}
+
+#[cfg(test)]
+mod tests {
+    use super::level;
+
+    #[test]
+    fn large_logs_are_cut_and_small_ones_are_not() {
+        assert_eq!(level(vec![], 10), u64::MAX);
+        assert_eq!(level(vec![5, 5], 10), u64::MAX);
+        assert_eq!(level(vec![100, 1, 200], 61), 30);
+        assert_eq!(level(vec![100, 200], 100), 50);
+        assert_eq!(level(vec![100, 60, 200], 240), 90);
+        assert_eq!(level(vec![u64::MAX, u64::MAX], 3), 1);
     }
 }

@@ -1,6 +1,8 @@
 //! The messages to the writer, and its answers.
+use super::delete::Delete;
 use super::state::{JobState, RecordState};
-use crate::model::{Call, NoJob, Outcome, PastRecord, Settings, SummaryPart};
+use crate::model::{Call, FileCounts, NoJob, Outcome, PastRecord, Settings, SummaryPart};
+use thiserror::Error;
 use tokio::sync::oneshot;
 
 /// An Idempotency-Key, and the digest of the body that it came with.
@@ -26,7 +28,36 @@ pub enum Message {
     Read(Read, oneshot::Sender<ReadDone>),
     /// What the history gives to the database. The answer says whether it was committed.
     Keep(ForKeeping, oneshot::Sender<bool>),
+    Delete(Delete),
     Stop,
+}
+
+#[derive(Debug)]
+pub enum Deletion {
+    Done,
+    NoJob,
+    Refused(NotDeletable),
+    /// The database does not take it now.
+    Busy,
+}
+
+/// Why a job is not deleted.
+#[derive(Clone, Copy, Debug, PartialEq, Eq, Error)]
+pub enum NotDeletable {
+    #[error("the job runs: cancel it first")]
+    Running,
+    #[error("files of the job are left: {} in use, {} waiting for deletion, {} taken", .0.in_use, .0.waiting, .0.taken)]
+    Files(FileCounts),
+}
+
+impl NotDeletable {
+    /// Its word in the API.
+    pub fn word(self) -> &'static str {
+        match self {
+            NotDeletable::Running => "running",
+            NotDeletable::Files(_) => "files",
+        }
+    }
 }
 
 #[derive(Debug)]
@@ -77,9 +108,10 @@ pub enum ReadDone {
     Job(Box<JobState>),
     /// A live record, or `None` if none has the number.
     Record(Option<RecordState>),
-    /// How many uses the file has, and which records are live.
+    /// How many uses the file has, its bytes if they are known, and which records are live.
     File {
         uses: Option<u64>,
+        bytes: Option<u64>,
         live: Vec<u64>,
     },
     /// Ascending; `None` if memory ran out.

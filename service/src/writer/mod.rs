@@ -2,21 +2,26 @@
 mod batch;
 mod board;
 mod commit;
+mod delete;
 mod jobs;
 mod keeper;
 mod lag;
 mod lease;
+mod leftovers;
 mod message;
 mod old_keys;
+mod queue;
 pub mod replay;
 mod round;
 mod state;
 mod timer;
 
 pub use board::Board;
+pub use delete::Delete;
 pub use jobs::Jobs;
 pub use lease::Lease;
-pub use message::{CallsDone, Created, ForKeeping, Key, Message, Read, ReadDone};
+pub use message::{CallsDone, Created, Deletion, ForKeeping, Key, Message, Read, ReadDone};
+pub use queue::{queue, Inbox, Messages, NotSent};
 pub use replay::StartError;
 pub use state::{JobState, RecordState};
 
@@ -27,9 +32,10 @@ use crate::store::Store;
 use batch::Answered;
 use commit::lose;
 use keeper::Keeper;
+use leftovers::Leftovers;
 use old_keys::OldKeys;
 use round::Round;
-use std::sync::mpsc::{Receiver, RecvTimeoutError};
+use std::sync::mpsc::RecvTimeoutError;
 use std::sync::Arc;
 use std::time::Duration;
 use timer::Timer;
@@ -54,6 +60,7 @@ pub struct Writer {
     /// The next round, with what it writes beside calls.
     next: Round,
     old_keys: OldKeys,
+    leftovers: Leftovers,
     followed: Moment,
     noted: Moment,
     lease: Lease,
@@ -71,7 +78,7 @@ impl Writer {
         keeping: Keeping,
     ) -> Writer {
         let (timer, keeper, next) = (Timer::default(), Keeper::new(keeping, jobs.len()), Round::default());
-        let (old_keys, now) = (OldKeys::new(), Moment::now());
+        let (old_keys, leftovers, now) = (OldKeys::new(), Leftovers::of(jobs.leftovers()), Moment::now());
         board.set_lease(&lease);
         let mut writer = Writer {
             store,
@@ -83,18 +90,19 @@ impl Writer {
             keeper,
             next,
             old_keys,
+            leftovers,
             followed: now,
             noted: now,
             lease,
         };
-        for place in 0..writer.jobs.len() {
+        for place in writer.jobs.places() {
             writer.publish(place);
         }
         writer
     }
 
     /// Works until a message says to stop.
-    pub fn run(mut self, inbox: &Receiver<Message>) {
+    pub fn run(mut self, inbox: &Messages) {
         loop {
             let first = match inbox.recv_timeout(self.patience()) {
                 Ok(message) => Some(message),
@@ -111,15 +119,17 @@ impl Writer {
             self.commit(&mut round);
             let (stop, added, keys) = (round.stop, round.group.entries.len(), round.group.requests.len());
             self.keeper.called(&round.touched);
-            let given = std::mem::take(&mut round.given);
+            let (given, deletions) = (std::mem::take(&mut round.given), std::mem::take(&mut round.deletions));
             self.answer(round);
             self.keep(given);
+            self.delete(deletions);
             if stop {
                 self.board.end_lease();
                 self.store.release();
                 return;
             }
             self.old_keys.work(self.store.as_mut(), &self.metrics, keys, self.clock.now());
+            self.leftovers.work(self.store.as_mut());
             self.next = self.keeper.work(&mut self.jobs, &self.board, &self.metrics, added);
             self.look_at_clock();
         }
@@ -144,6 +154,7 @@ impl Writer {
     /// How long to wait for a message: until a job has to be ticked, or the lease to be renewed.
     fn patience(&self) -> Duration {
         let beat = self.store.beat().saturating_sub(self.lease.age()).min(SLEEP).min(self.old_keys.wait());
+        let beat = self.leftovers.wait().map_or(beat, |wait| beat.min(wait));
         let beat = if self.next.group.is_empty() { beat.max(Duration::from_millis(1)) } else { Duration::ZERO };
         match self.timer.next() {
             None => beat,
@@ -156,6 +167,7 @@ impl Writer {
             Message::Stop => round.stop = true,
             Message::Read(read, reply) => round.reads.push((read, reply)),
             Message::Keep(given, reply) => round.given.push((given, reply)),
+            Message::Delete(delete) => round.deletions.push(delete),
             Message::Create { name, settings, shape, reply } => {
                 let created = round.create(&mut self.jobs, &name, settings, shape, self.clock.now());
                 round.created.push((created, reply));
@@ -213,9 +225,11 @@ impl Writer {
 
     fn call(&mut self, round: &mut Round, place: usize, call: &Call) -> Outcome {
         let job = self.jobs.at(place);
-        let (outcome, entry) = job.call(call, self.clock.now());
+        let (outcome, logged) = job.call(call, self.clock.now());
         self.metrics.call(&job.opening.name, call.name(), &outcome);
-        round.group.entries.extend(entry);
+        if let Some(logged) = logged {
+            round.group.log(logged);
+        }
         round.touched.insert(place);
         outcome
     }
@@ -224,7 +238,8 @@ impl Writer {
     fn tick_due(&mut self, round: &mut Round) {
         let now = self.clock.now();
         self.set_timer(round);
-        for place in self.timer.take_due(now) {
+        for (moment, place) in self.timer.take_due(now) {
+            self.metrics.queue.late(now.saturating_sub(moment));
             let outcome = self.call(round, place, &Call::Tick);
             if !did_its_work(&outcome) {
                 log::warn(&format!("tick job={} outcome={}", self.jobs.at(place).opening.name, outcome.json()));

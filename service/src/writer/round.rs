@@ -1,4 +1,5 @@
 //! What one commit collects, and the requests that wait for it.
+use super::delete::Delete;
 use super::jobs::Jobs;
 use super::keeper::Upkeep;
 use super::message::{CallsDone, Created, ForKeeping, Key, Read, ReadDone};
@@ -16,6 +17,7 @@ pub struct Round {
     pub created: Vec<(Created, Sender<Created>)>,
     pub reads: Vec<(Read, Sender<ReadDone>)>,
     pub given: Vec<(ForKeeping, Sender<bool>)>,
+    pub deletions: Vec<Delete>,
     /// The places of jobs that were called.
     pub touched: BTreeSet<usize>,
     /// Jobs whose tick did nothing, and when it is tried again.

@@ -1,7 +1,7 @@
 //! The state of a job, as reads return it between two commits.
 use super::jobs::Jobs;
 use super::message::{Read, ReadDone};
-use crate::model::{Choice, FileCounts, Job, KeptImage, Kind, LiveRecord, Mode, Opening};
+use crate::model::{Bytes, Choice, FileCounts, Job, KeptImage, Kind, LiveRecord, Mode, Opening};
 
 #[derive(Debug)]
 pub struct JobState {
@@ -15,6 +15,8 @@ pub struct JobState {
     pub oldest_expiry: Option<u64>,
     pub choice: Choice,
     pub files: FileCounts,
+    /// The bytes of the files of which these are known.
+    pub bytes: Bytes,
     pub last_completed: Option<u64>,
     pub last_event: u64,
     /// The first call that the log has, and the last image.
@@ -41,6 +43,7 @@ pub fn read(jobs: &mut Jobs, read: Read, now: u64) -> ReadDone {
         Read::Taken(name) => of(jobs, &name, |job| ReadDone::Taken(job.engine().taken())),
         Read::File { job, file } => of(jobs, &job, |job| ReadDone::File {
             uses: job.engine().uses(file),
+            bytes: job.sizes.bytes_of(file),
             live: job.live().keys().copied().collect(),
         }),
     }
@@ -75,6 +78,7 @@ fn state(job: &mut Job, now: u64) -> JobState {
         oldest_expiry,
         choice,
         files,
+        bytes: job.sizes.sum(),
         last_completed: job.last_completed,
         last_event: job.last_event,
         first: job.kept.first(),

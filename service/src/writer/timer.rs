@@ -25,10 +25,10 @@ impl Timer {
         self.queue.first().map(|(moment, _)| *moment)
     }
 
-    /// Takes out the jobs whose moment has come.
-    pub fn take_due(&mut self, now: u64) -> Vec<usize> {
-        let due: Vec<usize> = self.queue.range(..=(now, usize::MAX)).map(|(_, place)| *place).collect();
-        for place in &due {
+    /// Takes out the jobs whose moment has come, each with that moment.
+    pub fn take_due(&mut self, now: u64) -> Vec<(u64, usize)> {
+        let due: Vec<(u64, usize)> = self.queue.range(..=(now, usize::MAX)).copied().collect();
+        for (_, place) in &due {
             self.set(*place, None);
         }
         due
@@ -49,8 +49,8 @@ mod tests {
         timer.set(3, Some(5));
         timer.set(3, None);
         assert_eq!(timer.next(), Some(10));
-        assert_eq!(timer.take_due(30), vec![1, 0]);
-        assert_eq!(timer.take_due(30), Vec::<usize>::new());
+        assert_eq!(timer.take_due(30), vec![(10, 1), (30, 0)]);
+        assert_eq!(timer.take_due(30), vec![]);
         assert_eq!(timer.next(), Some(40));
     }
 }

@@ -12,6 +12,13 @@ pub enum Call {
         fresh: Vec<u64>,
         reused: Vec<u64>,
     },
+    /// An acknowledgement that says the bytes of each fresh file. A service of an earlier version refuses it.
+    SizedAck {
+        id: u64,
+        subtask: (u16, u16),
+        fresh: Vec<(u64, u64)>,
+        reused: Vec<u64>,
+    },
     Decline {
         id: u64,
         subtask: (u16, u16),
@@ -44,6 +51,11 @@ impl Call {
             Call::Savepoint => json!({"call": "savepoint"}),
             Call::Ack { id, subtask: of, fresh, reused } => {
                 json!({"call": "ack", "id": id, "subtask": subtask(of), "fresh": texts(fresh), "reused": texts(reused)})
+            }
+            Call::SizedAck { id, subtask: of, fresh, reused } => {
+                let (fresh, bytes): (Vec<u64>, Vec<u64>) = fresh.iter().copied().unzip();
+                let (fresh, reused) = (texts(&fresh), texts(reused));
+                json!({"call": "ack", "id": id, "subtask": subtask(of), "fresh": fresh, "reused": reused, "bytes": bytes})
             }
             Call::Decline { id, subtask: of } => json!({"call": "decline", "id": id, "subtask": subtask(of)}),
             Call::Dispose { id } => json!({"call": "dispose", "id": id}),
@@ -103,5 +115,18 @@ impl Answer {
     #[must_use]
     pub fn is_completed(&self) -> bool {
         matches!(self, Answer::Made { reply, .. } if reply["ack"] == "completed")
+    }
+}
+
+#[cfg(test)]
+mod tests {
+    use super::*;
+
+    #[test]
+    fn an_acknowledgement_may_say_bytes() {
+        let call = Call::SizedAck { id: 7, subtask: (1, 0), fresh: vec![(31, 5), (u64::MAX, 0)], reused: vec![11] };
+        let wanted = json!({"call": "ack", "id": 7, "subtask": "1.0", "fresh": ["31", "18446744073709551615"],
+            "reused": ["11"], "bytes": [5, 0]});
+        assert_eq!(call.json(), wanted);
     }
 }

@@ -111,6 +111,10 @@ impl Asked {
         Asked { wait, ..Asked::get(path) }
     }
 
+    pub fn delete(path: String) -> Asked {
+        Asked { method: Method::DELETE, ..Asked::get(path) }
+    }
+
     pub fn post(path: String, body: &Value, key: Option<&str>) -> Asked {
         Asked { method: Method::POST, body: Some(body.to_string()), key: key.map(str::to_string), ..Asked::get(path) }
     }

@@ -80,6 +80,16 @@ impl Service {
         Job { requests, manner, path: format!("/v1/jobs/{name}") }
     }
 
+    /// Deletes a job that was cancelled or has failed, with its log and its history. The service refuses it with status 409 if files of
+    /// the job are left, unless it is to `abandon` them: nobody deletes them then. Returns whether there was such a job.
+    pub async fn delete(&self, name: &str, abandon: bool) -> Result<bool, Error> {
+        let path = format!("/v1/jobs/{name}?abandon={}", u8::from(abandon));
+        match self.requests.body(&self.manner, Asked::delete(path)).await {
+            Err(Error::Status { status: 404, .. }) => Ok(false),
+            told => told.map(|_| true),
+        }
+    }
+
     /// The state of each job.
     pub async fn jobs(&self) -> Result<Value, Error> {
         self.requests.body(&self.manner, Asked::get("/v1/jobs".to_string())).await

@@ -1,6 +1,6 @@
 //! A history that goes on from a summary, and tables of each version.
 use super::*;
-use crate::model::{parse_config, PastRecord};
+use crate::model::{parse_config, FileBytes, PastRecord};
 use crate::store::{Room, SavedImage};
 use std::path::PathBuf;
 
@@ -10,6 +10,7 @@ struct Memory {
     log: Vec<Entry>,
     summaries: Vec<(KeptSummary, String)>,
     past: Vec<PastRecord>,
+    said: Vec<AckBytes>,
 }
 
 impl Memory {
@@ -52,6 +53,18 @@ impl Reader for Memory {
     }
     fn past(&mut self, _: i64, after: u64, most: u32) -> Result<Vec<PastRecord>, DbError> {
         Ok(self.past.iter().filter(|record| record.id > after).take(most as usize).cloned().collect())
+    }
+    fn said(&mut self, _: i64, after: u64, upto: u64) -> Result<Vec<AckBytes>, DbError> {
+        Ok(self.said.iter().filter(|one| one.seq > after && one.seq <= upto).cloned().collect())
+    }
+    fn sizes(&mut self, _: Option<(i64, u64)>, _: u32) -> Result<Vec<(i64, FileBytes)>, DbError> {
+        Ok(vec![])
+    }
+    fn gone(&mut self) -> Result<Vec<(i64, u64)>, DbError> {
+        Ok(vec![])
+    }
+    fn call_bytes(&mut self, _: &[i64]) -> Result<Vec<(i64, u64)>, DbError> {
+        Ok(vec![])
     }
     fn room(&mut self) -> Result<Room, DbError> {
         Err(DbError::Odd("there is none"))
@@ -100,13 +113,22 @@ fn log() -> Vec<Entry> {
     log
 }
 
+/// What the acknowledgements of the log said: a file has ten times its number of bytes, and each uses one of 7 again.
+fn said(log: &[Entry]) -> Vec<AckBytes> {
+    let of = |entry: &Entry| {
+        let file: u64 = entry.line.split_once('+')?.1.parse().ok()?;
+        Some(AckBytes { job: 1, seq: entry.seq, fresh: vec![(file, file * 10)], full: file * 10 + 7 })
+    };
+    log.iter().filter_map(of).collect()
+}
+
 fn dump(tables: &Tables) -> Vec<String> {
     let told = ["progress", "record", "file", "queue", "place"].map(|table| {
         // the places of a queue are counted from where it began, and only one of the histories has given its records away
         let columns = match table {
             "queue" => "released, files",
             "record" => {
-                "id, kind, shape, started, finished, how, gone, why, first_ack, last_ack, slowest, acks, missing"
+                "id, kind, shape, started, finished, how, gone, why, first_ack, last_ack, slowest, acks, missing, fresh_bytes, full_bytes"
             }
             _ => "*",
         };
@@ -145,15 +167,22 @@ fn a_summary_and_the_rest_of_the_log_give_the_same_history() -> Result<(), Error
     let file = File::new("whole");
     let tables = Tables::open(&file.0)?;
     let mut memory = Memory { log: whole.clone(), ..Memory::default() };
-    Follower::open(&tables, &mut memory, &opening())?.follow(&tables, &whole)?;
+    let said = said(&whole);
+    Follower::open(&tables, &mut memory, &opening())?.follow(&tables, &whole, &said)?;
     let wanted = dump(&tables);
+    // record 1 has the files 100 and 101, and record 6 the file 600 so far
+    let bytes: Vec<(i64, i64)> =
+        tables.all("select fresh_bytes, full_bytes from record where id in (1, 6) order by id", [], |row| {
+            row.try_into()
+        })?;
+    assert_eq!(bytes, [(2010, 2024), (6000, 6007)]);
     for place in 1..whole.len() {
         let (before, after) = whole.split_at(place);
         let files = [File::new("old"), File::new("new")];
         let old = Tables::open(&files[0].0)?;
         let mut memory = Memory { log: whole.clone(), ..Memory::default() };
         let mut follower = Follower::open(&old, &mut memory, &opening())?;
-        follower.follow(&old, before)?;
+        follower.follow(&old, before, &said)?;
         memory.past = old.unsaved(1, 100)?;
         old.set_saved(&memory.past)?;
         assert!(old.unsaved(1, 100)?.is_empty());
@@ -165,7 +194,7 @@ fn a_summary_and_the_rest_of_the_log_give_the_same_history() -> Result<(), Error
         let mut follower = Follower::open(&new, &mut memory, &opening())?;
         assert!(follower.load(&new, &mut memory)? && follower.upto == place as u64);
         assert!(!follower.load(&new, &mut memory)?, "it would load it for ever");
-        follower.follow(&new, after)?;
+        follower.follow(&new, after, &said)?;
         let told = dump(&new);
         let differ: Vec<_> = told.iter().filter(|row| !wanted.contains(row)).collect();
         let missing: Vec<_> = wanted.iter().filter(|row| !told.contains(row)).collect();
@@ -188,11 +217,12 @@ fn a_summary_and_the_rest_of_the_log_give_the_same_history() -> Result<(), Error
             record: Some(6),
             ..whole[0].clone()
         };
-        follower.follow(&new, &[last])?;
-        let acks = new.all("select acks, how from record where id = 6", [], |row| {
-            Ok((row.get::<_, i64>(0)?, row.get::<_, String>(1)?))
+        let more = AckBytes { seq: last.seq, full: 30, ..AckBytes::default() };
+        follower.follow(&new, &[last], &[more])?;
+        let acks = new.all("select acks, how, full_bytes from record where id = 6", [], |row| {
+            Ok((row.get::<_, i64>(0)?, row.get::<_, String>(1)?, row.get::<_, i64>(2)?))
         })?;
-        assert_eq!(acks, [(2, "completed".to_string())]);
+        assert_eq!(acks, [(2, "completed".to_string(), 6037)]);
     }
     Ok(())
 }
@@ -200,10 +230,13 @@ fn a_summary_and_the_rest_of_the_log_give_the_same_history() -> Result<(), Error
 #[test]
 fn tables_of_each_version() -> Result<(), Error> {
     let file = File::new("versions");
-    Tables::open(&file.0)?.run("update version set number = 4", [])?;
-    assert!(matches!(Tables::open(&file.0), Err(error @ Error::Newer(4)) if !error.is_damage()));
+    Tables::open(&file.0)?.run("update version set number = 5", [])?;
+    assert!(matches!(Tables::open(&file.0), Err(error @ Error::Newer(5)) if !error.is_damage()));
     let base = rusqlite::Connection::open(&file.0)?;
-    base.execute_batch("update version set number = 2; drop index sample_at; drop index record_unsaved; alter table record drop column saved")?;
+    base.execute_batch(
+        "update version set number = 2; drop index sample_at; drop index record_unsaved; alter table record drop column saved;
+        alter table record drop column fresh_bytes; alter table record drop column full_bytes; alter table file drop column bytes",
+    )?;
     let tables = Tables::open(&file.0)?;
     assert_eq!((tables.drop_samples(1, 1)?, tables.unsaved(1, 1)?), (0, vec![]));
     base.execute_batch("update version set number = 1")?;

@@ -1,4 +1,5 @@
 //! Metrics of what the service does beside its calls: the history, deletions, and the room that it takes.
+use super::forget;
 use crate::auth::{Access, Tokens};
 use prometheus::{Gauge, GaugeVec, IntGauge, IntGaugeVec, Opts, Registry};
 use std::time::{Duration, SystemTime, UNIX_EPOCH};
@@ -57,6 +58,11 @@ impl Upkeep {
 
     pub fn history_lag(&self, job: &str, lag: Duration) {
         self.history_lag.with_label_values(&[job]).set(lag.as_secs_f64());
+    }
+
+    /// A job was deleted.
+    pub fn forget(&self, job: &str) {
+        forget(&self.history_lag, job);
     }
 
     /// When the last token for each access ends, if it does.

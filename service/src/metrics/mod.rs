@@ -1,12 +1,24 @@
 //! The metrics for Prometheus: the writer sets counters and times, and reads set gauges.
-use crate::model::{Mode, Outcome};
-use crate::upkeep::Upkeep;
+mod jobs;
+mod process;
+mod queue;
+mod sizes;
+mod upkeep;
+
+use crate::model::Outcome;
 use crate::writer::JobState;
+use jobs::Gauges;
+use process::Process;
+use prometheus::core::{Collector, MetricVec, MetricVecBuilder};
 use prometheus::{
     Encoder, Gauge, GaugeVec, Histogram, HistogramOpts, HistogramVec, IntCounterVec, IntGauge, IntGaugeVec, Opts,
     Registry, TextEncoder,
 };
+use queue::Queue;
+use sizes::SizeMetrics;
+use std::collections::HashMap;
 use std::time::Duration;
+use upkeep::Upkeep;
 
 const SECONDS: [f64; 12] = [0.0005, 0.001, 0.002, 0.005, 0.01, 0.02, 0.05, 0.1, 0.25, 0.5, 1.0, 5.0];
 const ROWS: [f64; 8] = [1.0, 4.0, 16.0, 64.0, 256.0, 1024.0, 4096.0, 16384.0];
@@ -28,23 +40,9 @@ pub struct Metrics {
     durations: HistogramVec,
     gauges: Gauges,
     pub upkeep: Upkeep,
-}
-
-/// The gauges of jobs, which each scrape sets anew.
-struct Gauges {
-    mode: IntGaugeVec,
-    interval: GaugeVec,
-    timeout: GaugeVec,
-    completed: GaugeVec,
-    opened: GaugeVec,
-    files: IntGaugeVec,
-    pending: IntGaugeVec,
-    log_calls: IntGaugeVec,
-    kept_calls: IntGaugeVec,
-    image_at: GaugeVec,
-    image_bytes: IntGaugeVec,
-    since_image: IntGaugeVec,
-    history: IntGaugeVec,
+    pub sizes: SizeMetrics,
+    pub queue: Queue,
+    pub process: Process,
 }
 
 impl Metrics {
@@ -91,6 +89,9 @@ impl Metrics {
             )?,
             gauges: Gauges::new()?,
             upkeep: Upkeep::new()?,
+            sizes: SizeMetrics::new()?,
+            queue: Queue::new()?,
+            process: Process::new()?,
         };
         metrics.register()?;
         Ok(metrics)
@@ -111,6 +112,9 @@ impl Metrics {
         registry.register(Box::new(self.commit_takes.clone()))?;
         registry.register(Box::new(self.durations.clone()))?;
         self.upkeep.register(registry)?;
+        self.sizes.register(registry)?;
+        self.queue.register(registry)?;
+        self.process.register(registry)?;
         self.gauges.register(registry)
     }
 
@@ -162,7 +166,19 @@ impl Metrics {
 
     /// How far the history is in a job's log.
     pub fn history(&self, job: &str, upto: u64) {
-        set(&self.gauges.history, &[job], upto);
+        self.gauges.history(job, upto);
+    }
+
+    /// A job was deleted: its values go.
+    pub fn forget(&self, job: &str) {
+        for counter in [&self.calls, &self.records] {
+            forget(counter, job);
+        }
+        forget(&self.images_fail, job);
+        forget(&self.durations, job);
+        self.gauges.forget(job);
+        self.upkeep.forget(job);
+        self.sizes.forget(job);
     }
 
     pub fn lead(&self, leads: bool) {
@@ -173,6 +189,7 @@ impl Metrics {
     pub fn text(&self, jobs: &[JobState]) -> Result<Vec<u8>, prometheus::Error> {
         for job in jobs {
             self.gauges.set(job);
+            self.sizes.job(&job.opening.name, &job.bytes);
             // it is there, and 0 at first
             self.images_fail.with_label_values(&[job.opening.name.as_str()]);
         }
@@ -182,90 +199,20 @@ impl Metrics {
     }
 }
 
-impl Gauges {
-    fn new() -> Result<Gauges, prometheus::Error> {
-        Ok(Gauges {
-            mode: gauge("relkvanu_mode", "What the job is doing: 1 running, 2 failed, 3 cancelled.", &["job_name"])?,
-            interval: seconds("relkvanu_interval_seconds", "From one trigger to the next, the pause if it is longer.")?,
-            timeout: seconds("relkvanu_timeout_seconds", "How long a record may wait for acknowledgements.")?,
-            completed: seconds(
-                "relkvanu_last_completed_timestamp_seconds",
-                "When the last checkpoint completed, in Unix time; before the first, when the job was opened.",
-            )?,
-            opened: seconds("relkvanu_job_opened_timestamp_seconds", "When the job was opened, in Unix time.")?,
-            files: gauge(
-                "relkvanu_files",
-                "State files that are in use, wait for deletion, or were taken for it.",
-                &["job_name", "state"],
-            )?,
-            pending: gauge(
-                "relkvanu_pending_records",
-                "Records that wait for acknowledgements.",
-                &["job_name", "kind"],
-            )?,
-            log_calls: gauge(
-                "relkvanu_log_calls",
-                "Calls that the job's log has had: the place of the last.",
-                &["job_name"],
-            )?,
-            kept_calls: gauge("relkvanu_log_kept_calls", "Calls that the job's log still has.", &["job_name"])?,
-            image_at: seconds(
-                "relkvanu_image_timestamp_seconds",
-                "The moment of the job's last image, in Unix time; before the first, when the job was opened.",
-            )?,
-            image_bytes: gauge("relkvanu_image_bytes", "How long the job's last image is.", &["job_name"])?,
-            since_image: gauge(
-                "relkvanu_calls_since_image",
-                "Calls after the job's last image, which a start makes again.",
-                &["job_name"],
-            )?,
-            history: gauge(
-                "relkvanu_history_calls",
-                "The place in the job's log up to which the history has read.",
-                &["job_name"],
-            )?,
-        })
-    }
-
-    fn register(&self, registry: &Registry) -> Result<(), prometheus::Error> {
-        let Gauges { mode, files, pending, log_calls, kept_calls, image_bytes, since_image, history, .. } = self;
-        for gauge in [mode, files, pending, log_calls, kept_calls, image_bytes, since_image, history] {
-            registry.register(Box::new(gauge.clone()))?;
+/// Removes the values of a job.
+fn forget<T: MetricVecBuilder>(values: &MetricVec<T>, job: &str)
+where
+    MetricVec<T>: Collector,
+{
+    for family in values.collect() {
+        for metric in family.get_metric() {
+            let labels: HashMap<&str, &str> =
+                metric.get_label().iter().map(|label| (label.get_name(), label.get_value())).collect();
+            if labels.get("job_name") == Some(&job) {
+                // it may be removed by now
+                let _ = values.remove(&labels);
+            }
         }
-        let Gauges { interval, timeout, completed, opened, image_at, .. } = self;
-        [interval, timeout, completed, opened, image_at]
-            .into_iter()
-            .try_for_each(|gauge| registry.register(Box::new(gauge.clone())))
-    }
-
-    fn set(&self, job: &JobState) {
-        let name = job.opening.name.as_str();
-        let mode = match job.mode {
-            Mode::Running => 1,
-            Mode::Failed => 2,
-            Mode::Cancelled => 3,
-            _ => 0,
-        };
-        set(&self.mode, &[name], mode);
-        let settings = &job.opening.settings;
-        set_seconds(&self.interval, name, settings.interval.max(settings.pause));
-        set_seconds(&self.timeout, name, settings.timeout);
-        set_seconds(&self.completed, name, job.last_completed.unwrap_or(job.opening.started));
-        set_seconds(&self.opened, name, job.opening.started);
-        set(&self.files, &[name, "in_use"], job.files.in_use);
-        set(&self.files, &[name, "waiting"], job.files.waiting);
-        set(&self.files, &[name, "taken"], job.files.taken);
-        set(&self.pending, &[name, "checkpoint"], job.pending_checkpoints as u64);
-        set(&self.pending, &[name, "savepoint"], job.pending_savepoints as u64);
-        self.set_log(job, name);
-    }
-
-    fn set_log(&self, job: &JobState, name: &str) {
-        set(&self.log_calls, &[name], job.seq);
-        set(&self.kept_calls, &[name], (job.seq + 1).saturating_sub(job.first));
-        set_seconds(&self.image_at, name, job.image.map_or(job.opening.started, |image| image.at));
-        set(&self.image_bytes, &[name], job.image.map_or(0, |image| image.bytes));
-        set(&self.since_image, &[name], job.seq.saturating_sub(job.image.map_or(0, |image| image.seq)));
     }
 }
 

@@ -1,0 +1,125 @@
+//! The gauges of jobs, which each scrape sets anew.
+use super::{forget, gauge, seconds, set, set_seconds};
+use crate::model::Mode;
+use crate::writer::JobState;
+use prometheus::{GaugeVec, IntGaugeVec, Registry};
+
+pub struct Gauges {
+    mode: IntGaugeVec,
+    interval: GaugeVec,
+    timeout: GaugeVec,
+    completed: GaugeVec,
+    opened: GaugeVec,
+    files: IntGaugeVec,
+    pending: IntGaugeVec,
+    log_calls: IntGaugeVec,
+    kept_calls: IntGaugeVec,
+    image_at: GaugeVec,
+    image_bytes: IntGaugeVec,
+    since_image: IntGaugeVec,
+    history: IntGaugeVec,
+}
+
+impl Gauges {
+    pub fn new() -> Result<Gauges, prometheus::Error> {
+        Ok(Gauges {
+            mode: gauge("relkvanu_mode", "What the job is doing: 1 running, 2 failed, 3 cancelled.", &["job_name"])?,
+            interval: seconds("relkvanu_interval_seconds", "From one trigger to the next, the pause if it is longer.")?,
+            timeout: seconds("relkvanu_timeout_seconds", "How long a record may wait for acknowledgements.")?,
+            completed: seconds(
+                "relkvanu_last_completed_timestamp_seconds",
+                "When the last checkpoint completed, in Unix time; before the first, when the job was opened.",
+            )?,
+            opened: seconds("relkvanu_job_opened_timestamp_seconds", "When the job was opened, in Unix time.")?,
+            files: gauge(
+                "relkvanu_files",
+                "State files that are in use, wait for deletion, or were taken for it.",
+                &["job_name", "state"],
+            )?,
+            pending: gauge(
+                "relkvanu_pending_records",
+                "Records that wait for acknowledgements.",
+                &["job_name", "kind"],
+            )?,
+            log_calls: gauge(
+                "relkvanu_log_calls",
+                "Calls that the job's log has had: the place of the last.",
+                &["job_name"],
+            )?,
+            kept_calls: gauge("relkvanu_log_kept_calls", "Calls that the job's log still has.", &["job_name"])?,
+            image_at: seconds(
+                "relkvanu_image_timestamp_seconds",
+                "The moment of the job's last image, in Unix time; before the first, when the job was opened.",
+            )?,
+            image_bytes: gauge("relkvanu_image_bytes", "How long the job's last image is.", &["job_name"])?,
+            since_image: gauge(
+                "relkvanu_calls_since_image",
+                "Calls after the job's last image, which a start makes again.",
+                &["job_name"],
+            )?,
+            history: gauge(
+                "relkvanu_history_calls",
+                "The place in the job's log up to which the history has read.",
+                &["job_name"],
+            )?,
+        })
+    }
+
+    pub fn register(&self, registry: &Registry) -> Result<(), prometheus::Error> {
+        let Gauges { mode, files, pending, log_calls, kept_calls, image_bytes, since_image, history, .. } = self;
+        for gauge in [mode, files, pending, log_calls, kept_calls, image_bytes, since_image, history] {
+            registry.register(Box::new(gauge.clone()))?;
+        }
+        let Gauges { interval, timeout, completed, opened, image_at, .. } = self;
+        [interval, timeout, completed, opened, image_at]
+            .into_iter()
+            .try_for_each(|gauge| registry.register(Box::new(gauge.clone())))
+    }
+
+    pub fn set(&self, job: &JobState) {
+        let name = job.opening.name.as_str();
+        let mode = match job.mode {
+            Mode::Running => 1,
+            Mode::Failed => 2,
+            Mode::Cancelled => 3,
+            _ => 0,
+        };
+        set(&self.mode, &[name], mode);
+        let settings = &job.opening.settings;
+        set_seconds(&self.interval, name, settings.interval.max(settings.pause));
+        set_seconds(&self.timeout, name, settings.timeout);
+        set_seconds(&self.completed, name, job.last_completed.unwrap_or(job.opening.started));
+        set_seconds(&self.opened, name, job.opening.started);
+        set(&self.files, &[name, "in_use"], job.files.in_use);
+        set(&self.files, &[name, "waiting"], job.files.waiting);
+        set(&self.files, &[name, "taken"], job.files.taken);
+        set(&self.pending, &[name, "checkpoint"], job.pending_checkpoints as u64);
+        set(&self.pending, &[name, "savepoint"], job.pending_savepoints as u64);
+        self.set_log(job, name);
+    }
+
+    /// How far the history is in a job's log.
+    pub fn history(&self, job: &str, upto: u64) {
+        set(&self.history, &[job], upto);
+    }
+
+    /// A job was deleted.
+    pub fn forget(&self, job: &str) {
+        let Gauges { mode, files, pending, log_calls, kept_calls, image_bytes, since_image, history, .. } = self;
+        for gauge in [mode, files, pending, log_calls, kept_calls, image_bytes, since_image, history] {
+            forget(gauge, job);
+        }
+        let Gauges { interval, timeout, completed, opened, image_at, .. } = self;
+        for gauge in [interval, timeout, completed, opened, image_at] {
+            forget(gauge, job);
+        }
+    }
+
+    fn set_log(&self, job: &JobState, name: &str) {
+        set(&self.log_calls, &[name], job.seq);
+        set(&self.kept_calls, &[name], (job.seq + 1).saturating_sub(job.first));
+        set_seconds(&self.image_at, name, job.image.map_or(job.opening.started, |image| image.at));
+        set(&self.image_bytes, &[name], job.image.map_or(0, |image| image.bytes));
+        set(&self.since_image, &[name], job.seq.saturating_sub(job.image.map_or(0, |image| image.seq)));
+    }
+}

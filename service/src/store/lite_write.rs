@@ -1,0 +1,121 @@
+//! Writes a group to an SQLite file.
+use super::lite::signed;
+use super::rows::{GoneJob, Group, Keyed};
+use crate::model::{
+    config_line, shape_words, sizes_text, AckBytes, Cut, Entry, Image, Opening, PastRecord, SummaryPart,
+};
+use rusqlite::{params, Connection};
+use std::collections::BTreeMap;
+
+/// One transaction. It is rolled back if this returns an error.
+pub fn write(connection: &mut Connection, group: &Group) -> rusqlite::Result<()> {
+    let transaction = connection.transaction()?;
+    write_jobs(&transaction, &group.jobs)?;
+    write_entries(&transaction, &group.entries)?;
+    write_requests(&transaction, &group.requests)?;
+    write_images(&transaction, &group.images)?;
+    drop_images(&transaction, &group.dropped)?;
+    cut(&transaction, &group.cuts)?;
+    write_summaries(&transaction, &group.summaries)?;
+    write_past(&transaction, &group.past)?;
+    drop_summaries(&transaction, &group.dropped_summaries)?;
+    write_sizes(&transaction, &group.sizes)?;
+    write_said(&transaction, &group.said)?;
+    drop_jobs(&transaction, &group.gone)?;
+    transaction.commit()
+}
+
+fn write_jobs(within: &Connection, jobs: &[Opening]) -> rusqlite::Result<()> {
+    let mut insert = within.prepare_cached("insert into job values(?, ?, ?, ?, ?, 1, ?)")?;
+    for job in jobs {
+        let (line, shape) = (config_line(&job.settings), shape_words(&job.shape));
+        insert.execute(params![job.number, job.name, line, shape, signed(job.started), env!("CARGO_PKG_VERSION")])?;
+    }
+    Ok(())
+}
+
+fn write_entries(within: &Connection, entries: &[Entry]) -> rusqlite::Result<()> {
+    let mut insert = within.prepare_cached("insert into call values(?, ?, ?, ?, ?, ?, ?, ?)")?;
+    for entry in entries {
+        let numbers = [entry.seq, entry.at, entry.waiting].map(signed);
+        let ([seq, at, waiting], record) = (numbers, entry.record.map(signed));
+        insert.execute(params![entry.job, seq, at, record, entry.line, entry.answer, entry.ended, waiting])?;
+    }
+    Ok(())
+}
+
+fn write_requests(within: &Connection, requests: &[Keyed]) -> rusqlite::Result<()> {
+    let mut insert = within.prepare_cached("insert into request values(?, ?, ?, ?, ?)")?;
+    for request in requests {
+        insert.execute(params![request.job, request.key, signed(request.at), request.digest, request.answers])?;
+    }
+    Ok(())
+}
+
+fn write_images(within: &Connection, images: &[Image]) -> rusqlite::Result<()> {
+    let mut insert = within.prepare_cached("insert into image values(?, ?, ?, ?, ?, ?, ?, ?, ?)")?;
+    for image in images {
+        let numbers = [image.seq, image.at, image.last_event, image.text.len() as u64].map(signed);
+        let ([seq, at, event, bytes], completed) = (numbers, image.last_completed.map(signed));
+        let (digest, shape) = (image.digest(), shape_words(&image.shape));
+        insert.execute(params![image.job, seq, at, digest, shape, completed, event, bytes, image.text])?;
+    }
+    Ok(())
+}
+
+fn drop_images(within: &Connection, places: &[(i64, u64)]) -> rusqlite::Result<()> {
+    let mut delete = within.prepare_cached("delete from image where job = ? and seq = ?")?;
+    places.iter().try_for_each(|(job, seq)| delete.execute(params![job, signed(*seq)]).map(|_| ()))
+}
+
+fn cut(within: &Connection, cuts: &[Cut]) -> rusqlite::Result<()> {
+    let mut delete = within.prepare_cached("delete from call where job = ? and seq > ? and seq <= ?")?;
+    let mut forget = within.prepare_cached("delete from ack_size where job = ? and seq <= ?")?;
+    cuts.iter().try_for_each(|cut| {
+        delete.execute(params![cut.job, signed(cut.after), signed(cut.upto)])?;
+        forget.execute(params![cut.job, signed(cut.upto)]).map(|_| ())
+    })
+}
+
+fn write_summaries(within: &Connection, parts: &[SummaryPart]) -> rusqlite::Result<()> {
+    let mut insert = within.prepare_cached("insert or replace into summary values(?, ?, ?, ?, ?)")?;
+    for SummaryPart { job, seq, part, whole, text } in parts {
+        insert.execute(params![job, signed(*seq), signed(*part), signed(*whole), text])?;
+    }
+    Ok(())
+}
+
+fn write_past(within: &Connection, records: &[PastRecord]) -> rusqlite::Result<()> {
+    let mut insert = within.prepare_cached("insert or replace into past values(?, ?, ?)")?;
+    records.iter().try_for_each(|it| insert.execute(params![it.job, signed(it.id), it.text]).map(|_| ()))
+}
+
+fn drop_summaries(within: &Connection, places: &[(i64, u64)]) -> rusqlite::Result<()> {
+    let mut delete = within.prepare_cached("delete from summary where job = ? and seq = ?")?;
+    places.iter().try_for_each(|(job, seq)| delete.execute(params![job, signed(*seq)]).map(|_| ()))
+}
+
+fn write_sizes(within: &Connection, sizes: &BTreeMap<(i64, u64), Option<u64>>) -> rusqlite::Result<()> {
+    let mut insert = within.prepare_cached("insert or replace into size values(?, ?, ?)")?;
+    let mut delete = within.prepare_cached("delete from size where job = ? and file = ?")?;
+    sizes.iter().try_for_each(|((job, file), size)| match size {
+        Some(bytes) => insert.execute(params![job, *file as i64, signed(*bytes)]).map(|_| ()),
+        None => delete.execute(params![job, *file as i64]).map(|_| ()),
+    })
+}
+
+fn write_said(within: &Connection, said: &[AckBytes]) -> rusqlite::Result<()> {
+    let mut insert = within.prepare_cached("insert or replace into ack_size values(?, ?, ?, ?)")?;
+    said.iter().try_for_each(|it| {
+        insert.execute(params![it.job, signed(it.seq), sizes_text(&it.fresh), signed(it.full)]).map(|_| ())
+    })
+}
+
+fn drop_jobs(within: &Connection, jobs: &[GoneJob]) -> rusqlite::Result<()> {
+    let mut delete = within.prepare_cached("delete from job where job = ?")?;
+    let mut note = within.prepare_cached("insert into gone_job values(?, ?, ?, 0)")?;
+    jobs.iter().try_for_each(|it| {
+        delete.execute([it.job])?;
+        note.execute(params![it.job, it.name, signed(it.at)]).map(|_| ())
+    })
+}

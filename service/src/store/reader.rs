@@ -1,0 +1,148 @@
+//! What a reader of the database does.
+use super::error::DbError;
+use super::rows::{LogPage, Room, SavedImage, PAGE_BYTES, VERSION};
+use crate::model::{AckBytes, Entry, FileBytes, KeptImage, KeptSummary, Opening, PastRecord};
+
+/// A connection that only reads. A part of a log that it returns has one call at least, if there is one, and [`PAGE_BYTES`] or one call
+/// more at most. So it is no sign of the end that there are fewer calls than were asked for.
+pub trait Reader: Send {
+    /// The version of the tables. Fails if these are no tables of a service.
+    fn version(&mut self) -> Result<i64, DbError> {
+        Ok(VERSION as i64)
+    }
+
+    /// From now on this connection reads the database as it is now.
+    fn hold(&mut self) -> Result<(), DbError> {
+        Ok(())
+    }
+
+    fn jobs(&mut self) -> Result<Vec<Opening>, DbError>;
+
+    /// The entries after `after`, at most `most`.
+    fn log(&mut self, job: i64, after: u64, most: u32) -> Result<LogPage, DbError>;
+
+    /// The entries after `after` that are events, at most `most`.
+    fn events(&mut self, job: i64, after: u64, most: u32) -> Result<LogPage, DbError>;
+
+    /// The entries after `after` that are about a record, at most `most`.
+    fn about(&mut self, job: i64, record: u64, after: u64, most: u32) -> Result<LogPage, DbError>;
+
+    /// The entry at a place.
+    fn entry(&mut self, job: i64, seq: u64) -> Result<Option<Entry>, DbError>;
+
+    /// The first image after a place.
+    fn image(&mut self, job: i64, after: u64) -> Result<Option<SavedImage>, DbError>;
+
+    /// The images of a job, in order.
+    fn images(&mut self, job: i64) -> Result<Vec<KeptImage>, DbError>;
+
+    /// The summaries of a job's history, in order.
+    fn summaries(&mut self, job: i64) -> Result<Vec<KeptSummary>, DbError>;
+
+    /// The text of a summary; `None` if a part is missing.
+    fn summary(&mut self, job: i64, seq: u64) -> Result<Option<String>, DbError>;
+
+    /// The records after a number that ended, at most `most`.
+    fn past(&mut self, job: i64, after: u64, most: u32) -> Result<Vec<PastRecord>, DbError>;
+
+    /// What acknowledgements said of sizes, of the calls after `after` up to `upto`, in order.
+    fn said(&mut self, job: i64, after: u64, upto: u64) -> Result<Vec<AckBytes>, DbError>;
+
+    /// The bytes of files of jobs, after the file `after` of a job, at most `most`, in order.
+    fn sizes(&mut self, after: Option<(i64, u64)>, most: u32) -> Result<Vec<(i64, FileBytes)>, DbError>;
+
+    /// The numbers of jobs that were deleted, and 1 if nothing is left of it.
+    fn gone(&mut self) -> Result<Vec<(i64, u64)>, DbError>;
+
+    /// How many bytes the lines and answers of the last calls of jobs have on average.
+    fn call_bytes(&mut self, jobs: &[i64]) -> Result<Vec<(i64, u64)>, DbError>;
+
+    /// How much room the database takes, and has.
+    fn room(&mut self) -> Result<Room, DbError>;
+
+    /// The first call that the log has.
+    fn first(&mut self, job: i64) -> Result<Option<u64>, DbError>;
+
+    /// How many calls each job had when the identity `name` of the log ended; `None` if the log does not know that it
+    /// began, or ended.
+    fn lengths_after(&mut self, name: &str) -> Result<Option<String>, DbError>;
+
+    /// The last moment that a leader wrote down by [`Store::note`]; 0: none.
+    fn noted(&mut self) -> Result<u64, DbError> {
+        Ok(0)
+    }
+
+    /// The jobs with a number above `number`, in order.
+    fn jobs_after(&mut self, number: i64) -> Result<Vec<Opening>, DbError> {
+        let mut jobs = self.jobs()?;
+        jobs.retain(|job| job.number > number);
+        Ok(jobs)
+    }
+
+    /// The last moment of all logs, from which on [`Reader::changed`] tells what is new.
+    fn last_moment(&mut self) -> Result<u64, DbError> {
+        Ok(0)
+    }
+
+    /// The jobs that have calls or images of this moment or a later one, each with the last moment of these. A database whose only
+    /// process leads need not know: then it is `None`.
+    fn changed(&mut self, _since: u64) -> Result<Option<Vec<(i64, u64)>>, DbError> {
+        Ok(None)
+    }
+
+    /// The entries of jobs, each after a place: those of a job in order and without gaps. There are at most `most` of all, and about
+    /// [`PAGE_BYTES`]; none if there are no more.
+    fn logs(&mut self, after: &[(i64, u64)], most: u32) -> Result<LogPage, DbError> {
+        let (mut page, mut bytes) = (LogPage::new(), 0);
+        for (job, seq) in after {
+            let room = most.saturating_sub(u32::try_from(page.len()).unwrap_or(most));
+            if room == 0 || bytes >= PAGE_BYTES {
+                break;
+            }
+            let entries = self.log(*job, *seq, room)?;
+            bytes += entries.iter().map(|entry| entry.line.len() + entry.answer.len()).sum::<usize>();
+            page.extend(entries);
+        }
+        Ok(page)
+    }
+
+    /// The images of jobs, in order.
+    fn images_of(&mut self, jobs: &[i64]) -> Result<Vec<(i64, KeptImage)>, DbError> {
+        let mut found = Vec::new();
+        for job in jobs {
+            found.extend(self.images(*job)?.into_iter().map(|image| (*job, image)));
+        }
+        Ok(found)
+    }
+
+    /// The summaries of jobs, in order.
+    fn summaries_of(&mut self, jobs: &[i64]) -> Result<Vec<(i64, KeptSummary)>, DbError> {
+        let mut found = Vec::new();
+        for job in jobs {
+            found.extend(self.summaries(*job)?.into_iter().map(|summary| (*job, summary)));
+        }
+        Ok(found)
+    }
+
+    /// The images at these places. One that is gone is left out.
+    fn images_at(&mut self, places: &[(i64, u64)]) -> Result<Vec<SavedImage>, DbError> {
+        let mut found = Vec::new();
+        for (job, seq) in places {
+            let image = self.image(*job, seq.saturating_sub(1))?;
+            found.extend(image.filter(|saved| saved.image.seq == *seq));
+        }
+        Ok(found)
+    }
+
+    /// The first calls that the logs of jobs have.
+    fn firsts(&mut self, jobs: &[i64]) -> Result<Vec<(i64, u64)>, DbError> {
+        let mut found = Vec::new();
+        for job in jobs {
+            found.extend(self.first(*job)?.map(|first| (*job, first)));
+        }
+        Ok(found)
+    }
+
+    /// The address of the leader, if it is known.
+    fn leader(&mut self) -> Option<String>;
+}

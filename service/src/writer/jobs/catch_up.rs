@@ -1,0 +1,228 @@
+//! How jobs are brought up to date with the log, in a number of statements that does not depend on that of the jobs.
+use super::super::replay::{missing, repeat, resume, StartError};
+use super::{Beat, Jobs};
+use crate::model::{Entry, FileBytes, Keeping, Kept, KeptImage, KeptSummary};
+use crate::store::Reader;
+use std::collections::{BTreeMap, HashMap};
+
+const PAGE: u32 = 10_000;
+/// From which job on: all.
+const ALL: i64 = i64::MIN;
+/// How many calls are made between two reports that the work goes on.
+const BEAT_EACH: usize = 256;
+/// How many bytes of images are read at once, unless one alone has more.
+const BATCH_BYTES: u64 = 16 << 20;
+
+impl Jobs {
+    /// Makes the calls of the log that these jobs have not made, and returns how many there were. Compares each answer.
+    /// The number of statements does not depend on that of the jobs. Calls `beat` between them and between calls, and ends if that fails.
+    pub fn catch_up(&mut self, reader: &mut dyn Reader, beat: Beat) -> Result<u64, StartError> {
+        let changed = self.changed(reader)?;
+        beat()?;
+        let (mut behind, from) = (changed, self.jobs.len());
+        for opening in reader.jobs_after(self.last_number())? {
+            let name = opening.name.clone();
+            self.open(opening).map_err(|why| StartError::NotOpened { job: name, why })?;
+        }
+        behind.extend(from..self.jobs.len());
+        self.delete_gone(reader)?;
+        self.resume_all(from..self.jobs.len(), reader, beat)?;
+        self.read_logs(behind, reader, beat)
+    }
+
+    /// The places of jobs that may have calls which were not made here.
+    fn changed(&mut self, reader: &mut dyn Reader) -> Result<Vec<usize>, StartError> {
+        let Some(since) = self.read_to else {
+            self.read_to = Some(reader.last_moment()?);
+            return Ok((0..self.jobs.len()).collect());
+        };
+        let Some(changed) = reader.changed(since)? else {
+            return Ok((0..self.jobs.len()).collect());
+        };
+        // calls that are committed later have this moment or a later one
+        self.read_to = changed.iter().map(|(_, at)| *at).max().max(Some(since));
+        Ok(changed.iter().filter_map(|(job, _)| self.place_of(*job)).collect())
+    }
+
+    /// The place of a job by its number, in whose order the jobs are.
+    pub(super) fn place_of(&self, number: i64) -> Option<usize> {
+        self.jobs.binary_search_by_key(&number, |job| job.opening.number).ok()
+    }
+
+    /// Makes the calls of several jobs, and goes on from images where calls were cut. Returns how many calls there were.
+    fn read_logs(&mut self, behind: Vec<usize>, reader: &mut dyn Reader, beat: Beat) -> Result<u64, StartError> {
+        let (mut behind, mut made) = (behind, 0);
+        while !behind.is_empty() {
+            behind.retain(|place| !self.jobs[*place].is_deleted);
+            let stopped = self.read_pages(&behind, &mut made, reader, beat)?;
+            // the leader may have cut faster than this process reads
+            behind = self.resume_all(stopped.keys().copied(), reader, beat)?;
+            let gap = stopped
+                .iter()
+                .find_map(|(place, found)| (*found).filter(|_| !behind.contains(place)).map(|seq| (*place, seq)));
+            if let Some((place, seq)) = gap {
+                // its job may have been deleted meanwhile, whose calls then go
+                if self.delete_gone(reader)? && self.jobs[place].is_deleted {
+                    behind.extend(stopped.into_keys());
+                    continue;
+                }
+                let (job, why) = (self.jobs[place].opening.name.clone(), missing(&self.jobs[place]));
+                return Err(StartError::Damaged { job, seq, why });
+            }
+        }
+        Ok(made)
+    }
+
+    /// Makes the calls that follow in the logs of several jobs. Returns the places of those jobs that have none, or that have a later one,
+    /// and which.
+    fn read_pages(
+        &mut self,
+        places: &[usize],
+        made: &mut u64,
+        reader: &mut dyn Reader,
+        beat: Beat,
+    ) -> Result<BTreeMap<usize, Option<u64>>, StartError> {
+        let mut behind: BTreeMap<i64, usize> =
+            places.iter().map(|place| (self.jobs[*place].opening.number, *place)).collect();
+        let mut stopped: BTreeMap<usize, Option<u64>> = places.iter().map(|place| (*place, None)).collect();
+        let mut from = ALL;
+        loop {
+            beat()?;
+            let asked = behind.range(from..).map(|(job, place)| (*job, self.jobs[*place].seq));
+            let page = reader.logs(&asked.collect::<Vec<_>>(), PAGE)?;
+            match page.last() {
+                // the jobs before it have been read, if the rows came in order: then the last page, of all jobs, has none
+                Some(entry) => from = entry.job,
+                None if from == ALL => return Ok(stopped),
+                None => from = ALL,
+            }
+            for entries in page.chunk_by(|one, next| one.job == next.job) {
+                let (number, first) = (entries[0].job, entries[0].seq);
+                let Some(place) = behind.get(&number).copied() else {
+                    continue;
+                };
+                if first != self.jobs[place].seq + 1 {
+                    behind.remove(&number);
+                    stopped.insert(place, Some(first));
+                    continue;
+                }
+                self.make_all(place, entries, beat)?;
+                *made += entries.len() as u64;
+                stopped.remove(&place);
+            }
+        }
+    }
+
+    fn make_all(&mut self, place: usize, entries: &[Entry], beat: Beat) -> Result<(), StartError> {
+        let job = &mut self.jobs[place];
+        for piece in entries.chunks(BEAT_EACH) {
+            beat()?;
+            piece.iter().try_for_each(|entry| repeat(job, entry))?;
+        }
+        self.last_moment = self.last_moment.max(job.at);
+        Ok(())
+    }
+
+    /// Goes on from the last images of jobs that are after the calls which these have. Returns the places of those jobs. If the leader
+    /// has deleted an image meanwhile, its job stays as it is: there is a later one.
+    fn resume_all(
+        &mut self,
+        places: impl Iterator<Item = usize>,
+        reader: &mut dyn Reader,
+        beat: Beat,
+    ) -> Result<Vec<usize>, StartError> {
+        let numbers: Vec<i64> = places.map(|place| self.jobs[place].opening.number).collect();
+        if numbers.is_empty() {
+            return Ok(Vec::new());
+        }
+        // of each job the last one stays
+        let mut newest: BTreeMap<i64, KeptImage> = reader.images_of(&numbers)?.into_iter().collect();
+        newest.retain(|job, image| self.place_of(*job).is_some_and(|place| image.seq > self.jobs[place].seq));
+        for batch in batches(&newest) {
+            for saved in reader.images_at(&batch)? {
+                beat()?;
+                if let Some(place) = self.place_of(saved.image.job) {
+                    resume(&mut self.jobs[place], &saved)?;
+                    self.last_moment = self.last_moment.max(saved.image.at);
+                }
+            }
+        }
+        Ok(newest.keys().filter_map(|job| self.place_of(*job)).collect())
+    }
+
+    /// Reads what the database has of each job's log.
+    pub fn take_stock(&mut self, reader: &mut dyn Reader, keeping: Keeping, beat: Beat) -> Result<(), StartError> {
+        let numbers: Vec<i64> = self.jobs.iter().map(|job| job.opening.number).collect();
+        let mut images: HashMap<i64, Vec<KeptImage>> = HashMap::new();
+        for (job, image) in reader.images_of(&numbers)? {
+            images.entry(job).or_default().push(image);
+        }
+        beat()?;
+        let mut summaries: HashMap<i64, Vec<KeptSummary>> = HashMap::new();
+        for (job, summary) in reader.summaries_of(&numbers)? {
+            summaries.entry(job).or_default().push(summary);
+        }
+        beat()?;
+        let firsts: HashMap<i64, u64> = reader.firsts(&numbers)?.into_iter().collect();
+        for job in &mut self.jobs {
+            let number = job.opening.number;
+            let images = images.remove(&number).unwrap_or_default();
+            let summaries = summaries.remove(&number).unwrap_or_default();
+            job.kept = Kept::of(images, &summaries, firsts.get(&number).copied(), keeping);
+        }
+        if keeping.keep_bytes > 0 {
+            beat()?;
+            self.take_means(reader.call_bytes(&numbers)?);
+        }
+        self.take_sizes(reader, beat)
+    }
+
+    fn take_means(&mut self, means: Vec<(i64, u64)>) {
+        for (job, bytes) in means {
+            if let Some(place) = self.place_of(job) {
+                self.jobs[place].kept.set_mean(bytes);
+            }
+        }
+    }
+
+    /// Reads the bytes of files that the database has.
+    fn take_sizes(&mut self, reader: &mut dyn Reader, beat: Beat) -> Result<(), StartError> {
+        let (mut sizes, mut after) = (HashMap::<i64, Vec<FileBytes>>::new(), None);
+        loop {
+            beat()?;
+            let page = reader.sizes(after, PAGE)?;
+            after = page.last().map(|(job, (file, _))| (*job, *file));
+            if after.is_none() {
+                break;
+            }
+            for (job, size) in page {
+                sizes.entry(job).or_default().push(size);
+            }
+        }
+        for (job, sizes) in sizes {
+            beat()?;
+            if let Some(place) = self.place_of(job).filter(|place| !self.jobs[*place].is_deleted) {
+                let job = &mut self.jobs[place];
+                let (name, seq) = (job.opening.name.clone(), job.seq);
+                job.take_sizes(&sizes).ok_or(StartError::NoMemory { job: name, seq })?;
+            }
+        }
+        Ok(())
+    }
+}
+
+/// Places of images, in groups whose texts have some megabytes.
+fn batches(images: &BTreeMap<i64, KeptImage>) -> Vec<Vec<(i64, u64)>> {
+    let (mut batches, mut bytes) = (Vec::<Vec<(i64, u64)>>::new(), 0);
+    for (job, image) in images {
+        bytes += image.bytes;
+        match batches.last_mut() {
+            Some(batch) if bytes <= BATCH_BYTES => batch.push((*job, image.seq)),
+            _ => {
+                batches.push(vec![(*job, image.seq)]);
+                bytes = image.bytes;
+            }
+        }
+    }
+    batches
+}

@@ -1,0 +1,214 @@
+"""Partitions: two services over PostgreSQL, whose lines to it are cut, which are stopped, whose clocks jump, and a database that is stopped,
+with clients at work at both. partition.py [SECONDS] does it for 10 minutes."""
+import asyncio
+import os
+import random
+import signal
+import sys
+import threading
+import time
+
+from harness import Kept, PgArchive, Server, configured, folder, free_port, until
+from postgres import postgres
+from preloaded import Clocks
+from relkvanu_service import Service
+from writers import SETTINGS, Writer, check
+
+JOBS = ["orders", "users"]
+SETTINGS = {**SETTINGS, "interval": 25, "timeout": 3000}
+SHAPE = [2, 4]
+CONFIG = "lease_seconds = 2\nimage_calls = 200\nkeep_calls = 400\n"
+HOUR = 3600
+
+
+class Line(threading.Thread):
+    """The line of a service to the database. While it is cut, nothing goes through in either direction, and no end is told."""
+
+    def __init__(self, to):
+        super().__init__(daemon=True)
+        self.to, self.port, self.is_cut, self.listens = to, free_port(), False, False
+        self.start()
+        until(lambda: self.listens)
+
+    def run(self):
+        asyncio.run(self.serve())
+
+    async def serve(self):
+        server = await asyncio.start_server(self.connected, "127.0.0.1", self.port)
+        self.listens = True
+        await server.serve_forever()
+
+    async def whole(self):
+        while self.is_cut:
+            await asyncio.sleep(0.01)
+
+    async def connected(self, reader, writer):
+        await self.whole()
+        try:
+            other_reader, other_writer = await asyncio.open_connection("127.0.0.1", self.to)
+        except OSError:
+            return writer.close()
+        await asyncio.gather(self.pipe(reader, other_writer), self.pipe(other_reader, writer))
+
+    async def pipe(self, reader, writer):
+        try:
+            while data := await reader.read(1 << 20):
+                await self.whole()
+                writer.write(data)
+                await writer.drain()
+        except OSError:
+            pass
+        await self.whole()
+        writer.close()
+
+
+class Floor:
+    """The last place of each job that was answered to anybody."""
+
+    def __init__(self):
+        self.lock, self.places = threading.Lock(), {}
+
+    def of(self, job):
+        with self.lock:
+            return self.places.get(job, 0)
+
+    def raised(self, job, seq):
+        with self.lock:
+            self.places[job] = max(self.places.get(job, 0), seq)
+
+
+class Client(Writer):
+    """A writer that also looks whether what it reads is as new as all that was answered before it asked."""
+
+    def __init__(self, urls, job, number, floor):
+        super().__init__(urls, job, number)
+        self.floor, self.reads = floor, 0
+        self.read, self.job.state = self.job.state, self.state
+
+    def state(self):
+        floor = self.floor.of(self.name_of_job)
+        told = self.read()
+        self.reads += 1
+        if told["seq"] < floor:
+            self.errors.append(f"a read of {self.name_of_job} has {told['seq']} calls, and call {floor} was answered before it")
+        return told
+
+    def send(self, calls):
+        before = len(self.made)
+        super().send(calls)
+        for _, answer in self.made[before:]:
+            self.floor.raised(self.name_of_job, answer["seq"])
+
+
+def family(database):
+    """The processes of the database."""
+    with open(f"{database.data}/postmaster.pid", encoding="utf-8") as it:
+        parent = int(it.readline())
+    with open(f"/proc/{parent}/task/{parent}/children", encoding="utf-8") as it:
+        return [parent, *map(int, it.read().split())]
+
+
+def told(processes, what):
+    for process in processes:
+        try:
+            os.kill(process, what)
+        except ProcessLookupError:
+            pass  # one that served a connection has ended
+
+
+class Faults:
+    """One fault at a time, for a while."""
+
+    def __init__(self, chance, database, servers, lines, clocks):
+        self.chance, self.database, self.servers, self.lines, self.clocks = chance, database, servers, lines, clocks
+        self.deck = []
+        self.made = {"cut": 0, "stopped": 0, "killed": 0, "clock": 0, "database stopped": 0, "both cut": 0}
+
+    def next(self):
+        if not self.deck:
+            self.deck = self.chance.sample(list(self.made), len(self.made))
+        fault = self.deck.pop()
+        self.made[fault] += 1
+        # more often the leader than the other
+        place = next((place for place, server in enumerate(self.servers) if server.get("/readyz")[0] == 200), 0)
+        place = place if self.chance.random() < 0.7 else 1 - place
+        getattr(self, fault.replace(" ", "_"))(place, self.chance.uniform(0.5, 5))
+
+    def cut(self, place, seconds):
+        self.lines[place].is_cut = True
+        time.sleep(seconds)
+        self.lines[place].is_cut = False
+
+    def both_cut(self, place, seconds):
+        self.lines[place].is_cut = True
+        self.cut(1 - place, min(seconds, 2))
+        self.lines[place].is_cut = False
+
+    def stopped(self, place, seconds):
+        process = self.servers[place].process.pid
+        told([process], signal.SIGSTOP)
+        time.sleep(seconds)
+        told([process], signal.SIGCONT)
+
+    def killed(self, place, _):
+        told([self.servers[place].process.pid], signal.SIGKILL)
+
+    def clock(self, place, seconds):
+        self.clocks[place].set(day=self.chance.choice([-HOUR, -5, 5, HOUR, 20 * HOUR]))
+        time.sleep(seconds)
+        self.clocks[place].set()
+
+    def database_stopped(self, _, seconds):
+        """Neither a line nor a process tells that it is."""
+        processes = family(self.database)
+        told(processes, signal.SIGSTOP)
+        time.sleep(min(seconds, 3))
+        told(processes, signal.SIGCONT)
+
+
+def run(seconds, seed=1):
+    chance = random.Random(seed)
+    with postgres() as database, folder() as at:
+        archive_of = database.url
+        lines = [Line(database.port) for _ in range(2)]
+        clocks = [Clocks(at, f"clocks-{place}") for place in range(2)]
+        urls = [archive_of.replace(str(database.port), str(line.port)) for line in lines]
+        servers = [Server(at, urls[place], configured(at, CONFIG), clocks[place].prefix) for place in range(2)]
+        servers[0].start()
+        archive = PgArchive(database)
+        servers[1].stand_by()
+        kept = [Kept(server) for server in servers]
+        service, addresses, floor = Service(*(server.url for server in servers)), [server.url for server in servers], Floor()
+        for job in JOBS:
+            service.open(job, SETTINGS, SHAPE)
+        clients = [Client(addresses, JOBS[number % 2], number, floor) for number in range(10)]
+        for it in (*kept, *clients):
+            it.start()
+        faults = Faults(chance, database, servers, lines, clocks)
+        end = time.monotonic() + seconds
+        while time.monotonic() < end:
+            faults.next()
+            time.sleep(chance.uniform(0.3, 3))
+            assert not [error for client in clients for error in client.errors], [client.errors for client in clients if client.errors]
+        time.sleep(5)  # all is whole again
+        for client in clients:
+            client.over.set()
+        for client in clients:
+            client.join(90)
+            assert not client.is_alive(), "a client hangs"
+        found = [check(clients, service, job, SHAPE, archive) for job in JOBS]
+        for it in kept:
+            it.over.set()
+        for server in servers:
+            server.stop()
+        made, logged, oracle = (sum(one[part] or 0 for one in found) for part in range(3))
+        reads, epochs = sum(client.reads for client in clients), database.sql("select epoch from leader")
+        wrong = [status for it in kept for status in it.ended if status not in (75, -9)]
+        assert not wrong, (wrong, [server.log()[-600:] for server in servers])
+        assert made > 10 * seconds and int(epochs) > seconds // 30, (made, epochs, faults.made)
+        said = ", ".join(f"{count} {fault}" for fault, count in faults.made.items())
+        return f"{seconds} s with faults ({said}), {epochs} leaders: {made} calls answered, {logged} in the log, {oracle} as ckpt_job answers them; {reads} reads, none old"
+
+
+if __name__ == "__main__":
+    print(run(int((sys.argv[1:] or ["600"])[0])))

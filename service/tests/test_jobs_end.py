@@ -1,0 +1,191 @@
+"""Jobs that are deleted, with what was kept of them; and logs that are cut by their bytes."""
+import json
+import signal
+import sqlite3
+import subprocess
+import threading
+
+from harness import PROGRAM, Server, caught_up, configured, folder, served, until
+from postgres import postgres
+from relkvanu_service import Failed, Service, ack, cancel, deleted, dispose, savepoint
+from test_images import SETTINGS, worked
+from test_metrics import scraped
+
+TABLES = ("call", "ack_size", "request", "image", "summary", "past", "size", "job")
+HISTORY = ("record", "file", "queue", "place", "sample", "progress")
+
+
+def refused(service, name, reason, abandon=False):
+    told = [None]
+    try:
+        service.delete(name, abandon)
+    except Failed as failed:
+        told = [failed.status, reason in str(failed)]
+    assert told == [409, True], (name, told)
+
+
+def emptied(job):
+    """Disposes of all savepoints, takes all files, and reports them."""
+    job.calls([dispose(record["id"]) for record in job.state()["live"]])
+    job.calls([deleted(int(row["file"])) for row in job.files(1000)["taken"]])
+    while files := job.take(64):
+        job.calls([deleted(file) for file in files])
+
+
+def rows(path, tables, number):
+    with sqlite3.connect(path, timeout=20) as base:
+        told = {table: base.execute(f"select count(*) from {table} where job = ?", (number,)).fetchone()[0] for table in tables}
+    base.close()
+    return {table: count for table, count in told.items() if count}
+
+
+def ended(server, service, name):
+    """A job with much in its log, its history and its metrics, that has ended; its number."""
+    job = service.open(name, SETTINGS, [2])
+    worked(job, 60)
+    job.calls([savepoint(), ack(61, "0.0", [7001], sizes=[5])])
+    caught_up(job)
+    until(lambda: f'job_name="{name}"' in server.get("/metrics")[2])
+    refused(service, name, "the job runs")
+    refused(service, name, "the job runs", abandon=True)
+    job.call(cancel())
+    refused(service, name, "files of the job are left")
+    return job
+
+
+def test_a_job_is_deleted_with_what_was_kept_of_it():
+    with served(args=["--image-calls", "20", "--keep-calls", "60"]) as server:
+        service = Service(server.url)
+        other = service.open("users", SETTINGS, [2])
+        worked(other, 5)
+        job = ended(server, service, "orders")
+        emptied(job)
+        until(lambda: {"call", "request", "image", "summary", "past", "job"} <= set(rows(server.database, TABLES, 2)), told=lambda: rows(server.database, TABLES, 2))
+        caught_up(job)
+        until(lambda: rows(f"{server.folder}/history-{server.port}", ("sample", "record"), 2))
+        after, told = job.state()["seq"], []
+        waits = threading.Thread(target=lambda: told.append(server.get(f"/v1/jobs/orders/events?after={after}&wait=60")[0]))
+        waits.start()
+        assert service.delete("orders") and not service.delete("orders")
+        waits.join(5)
+        assert told == [404], told
+        assert server.get("/v1/jobs/orders")[0] == 404 and [it["name"] for it in service.jobs()] == ["users"]
+        until(lambda: not rows(server.database, TABLES, 2), told=lambda: rows(server.database, TABLES, 2))
+        until(lambda: not rows(f"{server.folder}/history-{server.port}", HISTORY, 2))
+        assert not [line for line in server.get("/metrics")[2].splitlines() if 'job_name="orders"' in line]
+        # the same name is another job then, after a start too: no number is given twice
+        for _ in range(2):
+            server.kill()
+            server.start()
+            assert server.get("/v1/jobs/orders")[0] == 404
+        new = service.open("orders", SETTINGS, [2])
+        assert new.state()["seq"] == 0 and list(new.log()) == [] and new.file(10)["history"] is None
+        worked(new, 2)
+        with sqlite3.connect(server.database) as base:
+            assert base.execute("select job, name from job order by job").fetchall() == [(1, "users"), (3, "orders")]
+            assert base.execute("select job, name, is_empty from gone_job").fetchall() == [(2, "orders", 1)]
+        base.close()
+        assert other.state()["seq"] > 20 and len(other.records()) == 5
+        return "and its name belongs to a new job"
+
+
+def test_a_kill_leaves_nothing_behind():
+    with served(args=["--image-calls", "0"]) as server:
+        service = Service(server.url)
+        job = service.open("orders", SETTINGS, [1])
+        for _ in range(8):
+            job.calls([{"call": "tick"}] * 1000)
+        job.call(cancel())
+        caught_up(job)
+        assert service.delete("orders")
+        server.kill()
+        left = rows(server.database, TABLES, 1)
+        server.start()
+        until(lambda: not rows(server.database, TABLES, 1))
+        until(lambda: not rows(f"{server.folder}/history-{server.port}", HISTORY, 1))
+        return f"it was killed with {left} left"
+
+
+def test_a_standby_forgets_a_job_that_it_has():
+    with postgres() as database, folder() as at:
+        args = configured(at, "lease_seconds = 1\nimage_calls = 20\nkeep_calls = 0\n")
+        leader, standby = Server(at, database.url, args).start(), Server(at, database.url, args)
+        service = Service(leader.url)
+        users, jobs = service.open("users", SETTINGS, [2]), [service.open(f"orders{number}", SETTINGS, [2]) for number in range(3)]
+        for job in jobs:
+            worked(job, 2)
+        standby.stand_by()
+        standby.process.send_signal(signal.SIGSTOP)  # it has not read what comes
+        for job in jobs:
+            worked(job, 20, 3)
+            job.call(cancel())
+            emptied(job)
+            assert service.delete(job.name)
+        worked(users, 3)
+        until(lambda: database.sql("select min(is_empty) from gone_job") == "1")
+        assert database.sql("select count(*) from call where job > 1") == "0"
+        standby.process.send_signal(signal.SIGCONT)
+        leader.kill()
+        standby.wait_ready()
+        service = Service(standby.url)
+        assert [job["name"] for job in service.jobs()] == ["users"] and service.job("users").state()["seq"] == users_calls(service)
+        worked(service.open("orders1", SETTINGS, [2]), 1)
+        assert database.sql("select max(job) from job") == "5"
+        standby.stop()
+        return "3 jobs, while it was suspended"
+
+
+def users_calls(service):
+    return len(list(service.job("users").log())) + service.job("users").state()["first"] - 1
+
+
+def test_the_command_deletes():
+    with served() as server:
+        service = Service(server.url)
+        job = service.open("orders", {**SETTINGS, "keep_on_cancel": True}, [1])
+        job.calls([savepoint(), ack(1, "0.0", [1])])
+
+        def run(*words):
+            told = subprocess.run([PROGRAM, "delete", *words, "--url", server.url], stdout=subprocess.PIPE, stderr=subprocess.PIPE, text=True, check=False)
+            return told.returncode, told.stdout, told.stderr
+
+        assert run("orders")[0] == 1 and "cancel it first" in run("orders")[2], run("orders")
+        job.call(cancel())
+        told = run("orders")
+        assert told[0] == 1 and "1 in use, 0 waiting for deletion, 0 taken" in told[2], told
+        assert run("orders", "--abandon", "--json") == (0, json.dumps({"deleted": "orders"}, separators=(",", ":")) + "\n", "")
+        told = run("orders")
+        assert told[0] == 1 and "there is no job orders" in told[2], told
+        return "4 runs"
+
+
+def test_logs_are_cut_by_their_bytes():
+    text = "image_calls = 50\nkeep_calls = 1000000\nkeep_bytes = 100000\n"
+    with folder() as at:
+        server = Server(at, args=configured(at, text)).start()
+        service = Service(server.url)
+        jobs = [service.open(name, SETTINGS, [1]) for name in ("large", "larger", "small")]
+        jobs[2].calls([{"call": "tick"}] * 200)
+        for round_number in range(20):
+            jobs[0].calls([{"call": "tick"}] * 100)
+            jobs[1].calls([{"call": "tick"}] * 200)
+            if round_number % 4 == 0:
+                caught_up(jobs[1])
+
+        def kept():
+            values = scraped(server)[1]
+            return [values[f'relkvanu_log_kept_calls{{job_name="{job.name}"}}'] for job in jobs]
+
+        # a tick and its answer have some 50 bytes, and count as 120
+        until(lambda: sum(kept()) * 120 < 160_000, 20, told=kept)
+        large, larger, small = kept()
+        assert small == 200 and large > 200 and larger > 200, kept()
+        server.kill()
+        server.start()
+        assert [job.state()["seq"] for job in jobs] == [2000, 4000, 200]
+        for _ in range(5):
+            jobs[0].calls([{"call": "tick"}] * 100)
+            caught_up(jobs[0])
+        until(lambda: sum(kept()) * 120 < 160_000, 20, told=kept)
+        server.stop()
+        return f"{[int(count) for count in (large, larger, small)]} calls kept of 2000, 4000 and 200"

@@ -1,0 +1,245 @@
+"""What a user does on the page: the calls that it makes, after a question, with a token, by the keyboard; a record's times, and older
+records."""
+import time
+
+import test_page
+from harness import Server, caught_up, folder, served, until
+from relkvanu_service import Service, ack, decline, savepoint
+
+SETTINGS = {"interval": 3_600_000, "timeout": 7_200_000, "tolerable": 1000}
+READ, WRITE = "r" * 20, "w" * 20
+
+
+def focus(page):
+    return page.execute_script("return document.activeElement.id")
+
+
+def keys(page, *pressed):
+    page.switch_to.active_element.send_keys(*pressed)
+
+
+def opened(page, button):
+    """Opens a question by the keyboard."""
+    from selenium.webdriver.common.keys import Keys
+
+    page.execute_script("arguments[0].focus()", page.find_element("css selector", button))
+    keys(page, Keys.ENTER)
+    until(lambda: page.execute_script("return document.getElementById('ask').open"), 5)
+
+
+def is_asking(page):
+    return page.execute_script("return document.getElementById('ask').open")
+
+
+def said(page):
+    return page.execute_script("return document.getElementById('ask-call').textContent")
+
+
+def nameless(page):
+    """The fields and buttons that a screen reader can't name, and labels that name nothing."""
+    return page.execute_script("""
+        const named = (it) => it.labels?.length > 0 || it.getAttribute("aria-label") || it.textContent.trim() !== "";
+        const lost = [...document.querySelectorAll("input, select, button, dialog, [role=region], [role=group]")].filter((it) =>
+          !named(it) && !document.getElementById(it.getAttribute("aria-labelledby")));
+        const wrong = [...document.querySelectorAll("label[for]")].filter((it) => !document.getElementById(it.htmlFor));
+        const ids = [...document.querySelectorAll("[id]")].map((it) => it.id);
+        return [...lost, ...wrong].map((it) => it.outerHTML).concat(ids.filter((id, place) => ids.indexOf(id) !== place));""")
+
+
+def test_a_user_acts_by_the_keyboard():
+    page = test_page.started(1200, 1000)
+    with folder() as at:
+        with open(f"{at}/token", "w", encoding="utf-8") as it:
+            it.write(f"read {READ}\nwrite {WRITE}\n")
+        server = Server(at, args=["--token-file", f"{at}/token"]).start()
+        try:
+            return acted(page, server)
+        finally:
+            page.quit()
+            server.stop()
+
+
+def acted(page, server):
+    from selenium.webdriver.common.keys import Keys
+
+    job = Service(server.url, token=WRITE).open("orders", SETTINGS, [1, 2])
+    page.get(f"{server.url}/#/jobs/orders")
+    until(lambda: not page.execute_script("return document.getElementById('token').hidden"), 10)
+    page.execute_script("document.getElementById('token-text').focus()")
+    keys(page, READ, Keys.ENTER)
+    until(lambda: test_page.texts(page, "#job-name") == ["orders"], 10)
+    assert nameless(page) == [], nameless(page)
+
+    # a savepoint: the request is shown, a read token is not enough, and a write token makes it
+    opened(page, "#do-savepoint")
+    assert said(page) == 'POST /v1/jobs/orders/calls\n{\n "calls": [\n  {\n   "call": "savepoint"\n  }\n ]\n}', said(page)
+    assert focus(page) == "ask-yes" and nameless(page) == []
+    keys(page, Keys.ENTER)
+    until(lambda: focus(page) == "ask-token", 5)
+    assert "write token" in test_page.texts(page, "#ask-wrong")[0] and job.state()["seq"] == 0
+    test_page.picture(page, "service-page-asks")
+    keys(page, WRITE, Keys.ENTER)
+    until(lambda: not is_asking(page), 5)
+    assert test_page.texts(page, "#done") == ["Savepoint 1 is triggered, as call 1."], test_page.texts(page, "#done")
+    assert focus(page) == "do-savepoint" and [entry["line"].split()[0] for entry in job.log()] == ["savepoint"]
+
+    # what can't be taken back begins at the other button, and Escape does nothing
+    job.calls([ack(1, "0.0", [1]), ack(1, "1.0", [2]), ack(1, "1.1", [3])])
+    until(lambda: test_page.texts(page, "#savepoints button"), 10)
+    opened(page, "#savepoints button")
+    assert focus(page) == "ask-no" and "can't be taken back" in test_page.texts(page, "#ask-question")[0] and '"id": 1' in said(page), said(page)
+    keys(page, Keys.ESCAPE)
+    until(lambda: not is_asking(page), 5)
+    opened(page, "#savepoints button")
+    keys(page, Keys.ENTER)
+    until(lambda: not is_asking(page), 5)
+    assert job.state()["seq"] == 4
+
+    # a restore from the savepoint, in another shape
+    opened(page, "#do-restore")
+    assert '"from": "latest"' in said(page) and "shape" not in said(page), said(page)
+    page.execute_script("const it = document.getElementById('restore-from'); it.value = '1'; it.dispatchEvent(new Event('input', {bubbles: true}))")
+    page.execute_script("document.getElementById('restore-shape').focus()")
+    keys(page, "1 3")
+    assert '"from": 1' in said(page) and "3" in said(page).split("shape")[1], said(page)
+    page.execute_script("document.getElementById('ask-yes').focus()")
+    keys(page, Keys.ENTER)
+    until(lambda: not is_asking(page), 5)
+    assert "begins again from savepoint 1" in test_page.texts(page, "#done")[0] and job.state()["shape"] == [1, 3], job.state()["shape"]
+
+    # an answer that is lost: the second try makes no second call
+    page.execute_script("""
+        const real = window.fetch;
+        window.fetch = async (...given) => {
+          if (given[1]?.method !== "POST") return real(...given);
+          window.fetch = real;
+          await real(...given);
+          throw new TypeError("the line is cut");
+        };""")
+    opened(page, "#do-savepoint")
+    keys(page, Keys.ENTER)
+    until(lambda: "made or not" in test_page.texts(page, "#ask-wrong")[0], 5)
+    until(lambda: page.execute_script("return !document.getElementById('ask-yes').disabled"), 5)
+    page.execute_script("document.getElementById('ask-yes').focus()")
+    keys(page, Keys.ENTER)
+    until(lambda: not is_asking(page), 5)
+    assert [entry["line"].split()[0] for entry in job.log()].count("savepoint") == 2, list(job.log())
+
+    # a disposal, and one that is refused
+    job.call({"call": "decline", "id": 2, "subtask": "0.0"})
+    until(lambda: test_page.texts(page, "#savepoints button"), 10)
+    opened(page, "#savepoints button")
+    page.execute_script("document.getElementById('ask-yes').focus()")
+    keys(page, Keys.ENTER)
+    until(lambda: test_page.texts(page, "#ask-wrong")[0] or not is_asking(page), 5)
+    first = test_page.texts(page, "#ask-wrong")[0] or test_page.texts(page, "#done")[0]
+    assert "refuses" in first or "disposed" in first, first
+    if is_asking(page):
+        keys(page, Keys.ESCAPE)
+
+    # the end
+    opened(page, "#do-cancel")
+    assert focus(page) == "ask-no"
+    page.execute_script("document.getElementById('ask-yes').focus()")
+    keys(page, Keys.ENTER)
+    until(lambda: not is_asking(page), 5)
+    until(lambda: job.state()["mode"] == "cancelled", 5)
+    until(lambda: page.execute_script("return document.getElementById('do-savepoint').disabled"), 10)
+    # the job goes, though its files are left
+    opened(page, "#do-delete")
+    assert said(page) == "DELETE /v1/jobs/orders", said(page)
+    page.execute_script("document.getElementById('ask-yes').focus()")
+    keys(page, Keys.ENTER)
+    until(lambda: "files of the job are left" in test_page.texts(page, "#ask-wrong")[0], 5)
+    page.execute_script("document.getElementById('delete-abandon').focus()")
+    keys(page, Keys.SPACE)
+    assert said(page) == "DELETE /v1/jobs/orders?abandon=1", said(page)
+    calls = job.state()["seq"]
+    page.execute_script("document.getElementById('ask-yes').focus()")
+    keys(page, Keys.ENTER)
+    until(lambda: not is_asking(page) and test_page.texts(page, "#done") == ["Job orders is deleted."], 5)
+    until(lambda: not page.execute_script("return document.getElementById('no-jobs').hidden"), 10)
+    wrong = [entry["message"] for entry in page.get_log("browser") if entry["level"] == "SEVERE" and "status of 40" not in entry["message"]]
+    assert not wrong, wrong
+    return f"{calls} calls, {first!r}"
+
+
+def test_a_record_and_older_ones():
+    page = test_page.started(1200, 1000)
+    try:
+        with served() as server:
+            job = Service(server.url).open("orders", {**SETTINGS, "timeout": 1500}, [2])
+            for number in range(1, 61):
+                acks = [ack(number, "0.0", [number], sizes=[1500]), ack(number, "0.1", sizes=[])]
+                job.calls([savepoint(), *([decline(number, "0.1")] if number % 2 else acks)])
+            job.calls([savepoint()])
+            for index in (0, 1):
+                time.sleep(0.1)
+                job.calls([ack(61, f"0.{index}", [1000 + index], [2], sizes=[2_500_000])])
+            job.calls([savepoint(), ack(62, "0.0")])
+            caught_up(job)
+            page.get(f"{server.url}/#/jobs/orders")
+            return looked_at(page, job)
+    finally:
+        page.quit()
+
+
+def first_of(page):
+    cells = test_page.texts(page, "#records td:first-child")
+    return (cells or [""])[0], len(cells)
+
+
+def pressed(page, selector):
+    page.execute_script("arguments[0].click()", page.find_element("css selector", selector))
+
+
+def chosen(page, name, value):
+    page.execute_script("const it = document.getElementById(arguments[0]); it.value = arguments[1]; it.dispatchEvent(new Event('change'))", name, value)
+
+
+def looked_at(page, job):
+    # pages, back and forth
+    until(lambda: first_of(page) == ("62", 25), 10)
+    pressed(page, "#older")
+    until(lambda: first_of(page) == ("37", 25), 10)
+    pressed(page, "#older")
+    until(lambda: first_of(page) == ("12", 12), 10)
+    assert page.execute_script("return [document.getElementById('older').disabled, document.getElementById('newer').disabled]") == [True, False]
+    pressed(page, "#newer")
+    until(lambda: first_of(page) == ("37", 25), 10)
+    # a search
+    chosen(page, "how", "declined")
+    until(lambda: first_of(page) == ("59", 25), 10)
+    pressed(page, "#older")
+    until(lambda: first_of(page) == ("9", 5), 10)
+    chosen(page, "kind", "checkpoint")
+    until(lambda: first_of(page) == ("", 0) and not page.execute_script("return document.getElementById('no-records').hidden"), 10)
+    chosen(page, "kind", "")
+    chosen(page, "how", "")
+    until(lambda: first_of(page)[1] == 25, 10)
+    # one record: why, how large, and when each subtask acknowledged
+    row = page.find_element("css selector", "#records tr[data-record='61'] button")
+    pressed(page, "#records tr[data-record='61'] button")
+    until(lambda: focus(page) == "record-title", 10)
+    assert row.text == "61" and "5.0 MB" in test_page.texts(page, "tr[data-record='61'] td:last-child")[0]
+    log = [entry["at"] for entry in job.log() if entry["line"].split()[:3:2] == ["ack", "61"]]
+    started = job.record(61)["history"]["started"]
+    rows = page.execute_script("return [...document.querySelectorAll('#acks tr')].map(it => [...it.children].map(c => c.textContent))")
+    assert [row[:2] for row in rows] == [["0.1", f"{log[1] - started} ms"], ["0.0", f"{log[0] - started} ms"]], (rows, log, started)
+    times = dict(zip(test_page.texts(page, "#record dt"), test_page.texts(page, "#record dd")))
+    assert times == {"First": rows[1][1], "Median": rows[1][1], "99 of 100": rows[0][1], "Slowest": rows[0][1]}, times
+    assert test_page.texts(page, "#record-size") == ["Its files have 5.0 MB, of which 5.0 MB are new."], test_page.texts(page, "#record-size")
+    test_page.picture(page, "service-page-record")
+    for number, why in (("59", "Subtask 0.1 declined it."), ("60", "Each subtask acknowledged it, and it is kept.")):
+        page.execute_script("document.getElementById('record-number').value = arguments[0]; document.getElementById('record-form').requestSubmit()", number)
+        until(lambda said=why: test_page.texts(page, "#record-why") == [said], 10, told=lambda: test_page.texts(page, "#record-why"))
+    # the last one expires
+    until(lambda: job.record(62)["history"]["how"] == "expired", 10)
+    page.execute_script("document.getElementById('record-number').value = '62'; document.getElementById('record-form').requestSubmit()")
+    why = "It expired: within its timeout of 1.5 s there was no acknowledgement of 0.1."
+    until(lambda: test_page.texts(page, "#record-why") == [why], 10, told=lambda: test_page.texts(page, "#record-why"))
+    page.execute_script("document.getElementById('record-number').value = '999'; document.getElementById('record-form').requestSubmit()")
+    until(lambda: "no record 999" in "".join(test_page.texts(page, "#record")), 10)
+    least = test_page.contrast(page)
+    assert least >= 4.5 and nameless(page) == [], (least, nameless(page))
+    return f"62 records in 3 pages, {times}"

@@ -1,0 +1,180 @@
+"""Tokens for some jobs, tokens and a certificate that are read again, who called in the log, and lists in parts."""
+import os
+import re
+import signal
+import socket
+import ssl
+import subprocess
+import time
+import urllib.request
+
+from harness import PROGRAM, Server, caught_up, folder, served, until
+from relkvanu_service import Failed, Service, ack, deleted, dispose, savepoint
+from test_images import SETTINGS
+from test_start import refused
+from test_stream import Stream
+
+ALL, ORDERS, READER = "a" * 20, "o" * 20, "r" * 20
+JOB = {"settings": {"interval": 1 << 40}, "shape": [1]}
+
+
+def written(path, *lines):
+    with open(path, "w", encoding="utf-8") as it:
+        it.write("\n".join(lines) + "\n")
+
+
+def told_again(server, says="read again"):
+    """Sends SIGHUP, and waits until the service says that it has read its files."""
+    before = server.log().count(says)
+    server.process.send_signal(signal.SIGHUP)
+    until(lambda: server.log().count(says) > before, 5)
+
+
+def test_tokens_for_some_jobs():
+    with folder() as at:
+        written(f"{at}/token", f"write {ALL} name=root", f"write {ORDERS} jobs=orders,eu-* name=alice", f"read {READER} jobs=eu-*")
+        server = Server(at, args=["--token-file", f"{at}/token"]).start()
+        for name, token, status in [
+            ("orders", ORDERS, 201), ("eu-1", ORDERS, 201), ("us", ORDERS, 403), ("us", ALL, 201), ("eu-1", READER, 401),
+        ]:
+            assert server.request("POST", "/v1/jobs", {**JOB, "name": name}, token)[0] == status, (name, token)
+        for path, token, status in [
+            ("/v1/jobs/orders", ORDERS, 200), ("/v1/jobs/us", ORDERS, 403), ("/v1/jobs/none", ORDERS, 403), ("/v1/jobs/eu-none", ORDERS, 404),
+            ("/v1/jobs/orders", READER, 403), ("/v1/jobs/eu-1/log", READER, 200), ("/v1/jobs/us/stream", READER, 403), ("/v1/view/us", ORDERS, 403),
+            ("/metrics", ORDERS, 403), ("/metrics", ALL, 200), ("/v1/jobs/us", ALL, 200),
+        ]:
+            assert server.get(path, token)[0] == status, (path, token)
+        names = {token: [job["name"] for job in server.get("/v1/jobs", token)[2]["jobs"]] for token in (ALL, ORDERS, READER)}
+        assert names == {ALL: ["orders", "eu-1", "us"], ORDERS: ["orders", "eu-1"], READER: ["eu-1"]}, names
+        view = server.get("/v1/view", READER)[2]
+        assert [job["name"] for job in view["jobs"]] == ["eu-1"] and view["job"]["name"] == "eu-1", view
+        cancel = {"calls": [{"call": "cancel"}]}
+        assert [server.request("POST", f"/v1/jobs/{job}/calls", cancel, token)[0] for job, token in [("us", ORDERS), ("eu-1", READER), ("eu-1", ORDERS)]] == [403, 401, 200]
+        assert server.request("DELETE", "/v1/jobs/us", token=ORDERS)[0] == 403 and server.request("DELETE", "/v1/jobs/eu-1", token=ORDERS)[0] == 200
+        # who did it
+        told = re.findall(r"request method=(\S+) path=(\S+) status=(\d+) by=(\S+)", server.log())
+        assert ("POST", "/v1/jobs/eu-1/calls", "200", "alice") in told and ("DELETE", "/v1/jobs/eu-1", "200", "alice") in told, told
+        assert ("POST", "/v1/jobs", "201", "root") in told and not any(token in server.log() for token in (ALL, ORDERS, READER))
+        # a flood of refused requests makes few lines
+        before = server.log().count("status=401")
+        for _ in range(100):
+            assert server.get("/v1/jobs", "x" * 20)[0] == 401
+        time.sleep(1.1)
+        server.get("/v1/jobs", "x" * 20)
+        lines = server.log().count("status=401") - before
+        assert 1 <= lines <= 6 and re.search(r"status=401 by=nobody took_ms=\d+ more=\d+", server.log()), lines
+        server.stop()
+        return f"{len(told)} lines name who called"
+
+
+def test_tokens_are_read_again():
+    with folder() as at:
+        written(f"{at}/token", f"write {ALL}", f"read {READER}")
+        server = Server(at, args=["--token-file", f"{at}/token"]).start()
+        server.request("POST", "/v1/jobs", {**JOB, "name": "orders"}, ALL)
+        stream = Stream(server, "/v1/jobs/orders/stream", [("Authorization", f"Bearer {READER}")])
+        until(lambda: stream.head)
+        written(f"{at}/token", f"write {ALL} until=2999-01-01", f"read {ORDERS}")
+        assert server.get("/v1/jobs", READER)[0] == 200  # not yet
+        told_again(server)
+        assert [server.get("/v1/jobs", token)[0] for token in (ALL, READER, ORDERS)] == [200, 401, 200]
+        until(lambda: stream.over, 5)  # its token is no more
+        assert re.search(r'relkvanu_token_until_timestamp_seconds{access="write"} 32472144000', server.get("/metrics", ALL)[2])
+        # a bad file changes nothing
+        written(f"{at}/token", "write short")
+        told_again(server, "stay as they were")
+        assert [server.get("/v1/jobs", token)[0] for token in (ALL, ORDERS)] == [200, 200] and "line 1" in server.log()
+        server.stop()
+        return "a new one, an old one and a bad file"
+
+
+def certificate(at, name):
+    """A new certificate for 127.0.0.1, which signs itself, over the old one."""
+    words = ["-newkey", "rsa:2048", "-nodes", "-keyout", f"{at}/key.pem", "-out", f"{at}/certificate.pem", "-subj", f"/CN={name}"]
+    more = ["-days", "2", "-addext", "subjectAltName=IP:127.0.0.1"]
+    subprocess.run(["openssl", "req", "-x509", *words, *more], check=True, stderr=subprocess.DEVNULL)
+
+
+def name_of(server):
+    text = ssl.get_server_certificate(("127.0.0.1", server.port))
+    return subprocess.run(["openssl", "x509", "-noout", "-subject"], input=text, stdout=subprocess.PIPE, text=True, check=True).stdout.strip()
+
+
+class TlsServer(Server):
+    """A service that speaks TLS."""
+
+    def get(self, path, token=None):
+        context = ssl.create_default_context(cafile=f"{self.folder}/certificate.pem")
+        try:
+            with urllib.request.urlopen(f"https://127.0.0.1:{self.port}{path}", context=context, timeout=10) as answer:
+                return answer.status, {}, answer.read().decode()
+        except OSError as error:
+            return getattr(error, "code", 0), {}, None
+
+
+def test_tls_of_its_own():
+    with folder() as at:
+        certificate(at, "first")
+        tls = f"tls_certificate = '{at}/certificate.pem'\ntls_key = '{at}/key.pem'\n"
+        written(f"{at}/service.toml", tls, "[limits]\nidle_seconds = 2")
+        server = TlsServer(at, args=["--config", f"{at}/service.toml"]).start()
+        job = Service(f"https://127.0.0.1:{server.port}", ca=f"{at}/certificate.pem").open("orders", SETTINGS, [1])
+        job.calls([savepoint(), ack(1, "0.0", [1])])
+        # the client in Rust, by the program's commands
+        told = subprocess.run(
+            [PROGRAM, "show", "orders", "--json", "--url", f"https://127.0.0.1:{server.port}"],
+            env={**os.environ, "SSL_CERT_FILE": f"{at}/certificate.pem"}, stdout=subprocess.PIPE, stderr=subprocess.PIPE, text=True, check=False,
+        )
+        assert told.returncode == 0 and '"seq":2' in told.stdout, told
+        assert Server.get(server, "/healthz")[0] == 0  # without TLS
+        # old versions are refused, and one that says nothing does not stay
+        words = ["openssl", "s_client", "-connect", f"127.0.0.1:{server.port}", "-tls1_1"]
+        old = subprocess.run(words, stdin=subprocess.DEVNULL, stdout=subprocess.PIPE, stderr=subprocess.STDOUT, text=True, check=False)
+        assert old.returncode != 0 and "Cipher is (NONE)" in old.stdout, old.stdout[-300:]
+        with socket.create_connection(("127.0.0.1", server.port), timeout=10) as silent:
+            assert silent.recv(10) == b""
+        first = name_of(server)
+        certificate(at, "second")
+        told_again(server, "the certificate is read again")
+        assert "first" in first and "second" in name_of(server), (first, name_of(server))
+        assert server.get("/readyz")[0] == 200
+        written(f"{at}/key.pem", "no key")
+        told_again(server, "the certificate stays as it was")
+        assert "second" in name_of(server)
+        assert server.stop() == 0
+        words = ["--database", f"{at}/other.db", "--listen", "127.0.0.1:0", "--config", f"{at}/service.toml"]
+        refused(words, 78, "tls_key")
+        written(f"{at}/service.toml", f"tls_key = '{at}/key.pem'")
+        refused(words, 78, "there is only one of them")
+        return "two certificates"
+
+
+def test_lists_come_in_parts():
+    with served() as server:
+        service = Service(server.url)
+        for number in range(7):
+            service.open(f"j{number}", SETTINGS, [1])
+        names, after = [], 0
+        while after is not None:
+            told = server.get(f"/v1/jobs?after={after}&limit=3")[2]
+            names.append([job["name"] for job in told["jobs"]])
+            after = told["next"]
+        assert names == [["j0", "j1", "j2"], ["j3", "j4", "j5"], ["j6"]], names
+        whole = server.get("/v1/jobs")[2]
+        assert len(whole["jobs"]) == 7 and whole["next"] is None and server.get("/v1/jobs?limit=0")[2]["next"] == 0
+        job = service.job("j0")
+        job.calls([savepoint(), ack(1, "0.0", range(1, 8)), dispose(1)])
+        job.calls([deleted(file) for file in job.take(9)])
+        caught_up(job)
+        files, before = [], 1 << 50
+        while page := server.get(f"/v1/jobs/j0/files?limit=3&before={before}")[2]["deleted"]:
+            files.append([row["file"] for row in page])
+            before = page[-1]["deleted"]
+        assert files == [["7", "6", "5"], ["4", "3", "2"], ["1"]], files
+        try:
+            server.get("/v1/jobs?limit=x")
+            service.request("GET", "/v1/jobs?limit=x")
+            raise AssertionError("it was not refused")
+        except Failed as failed:
+            assert (failed.status, failed.field) == (400, "limit")
+        return "7 jobs and 7 files"

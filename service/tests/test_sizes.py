@@ -1,0 +1,117 @@
+"""Sizes that acknowledgements say: each file's through its life, a record's, over starts, take-overs, cuts and a lost history."""
+import sqlite3
+
+from harness import CALL, Server, caught_up, configured, folder, lose_history, served, until
+from postgres import postgres
+from relkvanu_service import Failed, Service, ack, deleted, dispose, savepoint, undeleted
+from test_images import KEEPING, SETTINGS, read_and_cut
+from test_metrics import scraped
+
+
+def worked(job):
+    """Files in use, waiting, taken and deleted. Returns what the API has to say of their bytes, and of the records'."""
+    job.calls([savepoint(), ack(1, "0.0", [12, 11], sizes=[20, 100]), ack(1, "0.1", [13], sizes=[3])])
+    job.calls([savepoint(), ack(2, "0.0", [21], [11], sizes=[7]), ack(2, "0.1", [14], [13])])  # nobody says how large 14 is
+    job.calls([dispose(1), savepoint(), ack(3, "0.0", [31], sizes=[1 << 52])])
+    assert job.take(1) == [12]
+    job.calls([ack(1, "0.0", [41, 21], sizes=[50, 9999])])  # late: 41 is handed out, and 21 keeps its size
+    return {"in_use": 110 + (1 << 52), "waiting": 50, "taken": 20, "files": 6}, {1: (123, 123), 2: (7, 110), 3: (1 << 52, 1 << 52)}
+
+
+def told(job):
+    """What the API says."""
+    caught_up(job)
+    records = {record["id"]: (record["fresh_bytes"], record["full_bytes"]) for record in job.records()}
+    return job.state()["bytes"], records
+
+
+def file_bytes(job):
+    return [job.file(number)["bytes"] for number in (11, 12, 13, 14, 21, 31, 41, 99)]
+
+
+def test_sizes_outlive_starts_and_a_lost_history():
+    with served() as server:
+        job = Service(server.url).open("orders", SETTINGS, [2])
+        wanted = worked(job)
+        files = [100, 20, 3, None, 7, 1 << 52, 50, None]
+        assert told(job) == wanted and file_bytes(job) == files, (told(job), wanted)
+        for lost in (False, True):
+            server.kill()
+            if lost:
+                lose_history(server)
+            server.start()
+            assert told(job) == wanted and file_bytes(job) == files, (lost, told(job), file_bytes(job))
+        assert [row["bytes"] for row in job.files()["taken"]] == [20]
+        job.call(undeleted(12))
+        assert job.state()["bytes"] == {**wanted[0], "waiting": 70, "taken": 0}, job.state()["bytes"]
+        assert sorted(job.take(9)) == [12, 41]
+        job.calls([deleted(12), deleted(41)])
+        assert told(job)[0] == {**wanted[0], "waiting": 0, "taken": 0, "files": 4}
+        assert job.file(12)["bytes"] == 20  # the history has it
+        with sqlite3.connect(server.database) as base:
+            assert base.execute("select count(*) from size").fetchone() == (4,)
+        base.close()
+        values = scraped(server)[1]
+        assert values['relkvanu_file_bytes{job_name="orders",state="in_use"}'] == wanted[0]["in_use"]
+        assert values['relkvanu_sized_files{job_name="orders"}'] == 4
+        job.call(ack(3, "0.1", [], [13]))
+        until(lambda: scraped(server)[1].get('relkvanu_record_bytes{job_name="orders",kind="savepoint",of="all"}') == (1 << 52) + 3)
+        assert scraped(server)[1]['relkvanu_record_bytes{job_name="orders",kind="savepoint",of="new"}'] == 1 << 52
+        return "6 files and 3 records, after a kill and without the history"
+
+
+def test_sizes_outlive_cuts():
+    with served(args=KEEPING) as server:
+        job = Service(server.url).open("orders", SETTINGS, [2])
+        worked(job)
+        for number in range(4, 44):
+            job.calls([savepoint(), ack(number, "0.0", [number * 10], sizes=[number]), ack(number, "0.1", [], [13])])
+            job.call(dispose(number))
+            job.calls([deleted(file) for file in job.take(9)])
+        job.calls([deleted(12)])
+        read_and_cut(job, 150)
+        before = told(job)
+        assert before[0] == {"in_use": 110 + (1 << 52), "waiting": 0, "taken": 0, "files": 4}, before
+        assert before[1][20] == (20, 23) and before[1][3] == (1 << 52, 1 << 52), before
+        with sqlite3.connect(server.database) as base:
+            cut = base.execute("select min(seq) >= ? from ack_size", (job.state()["first"],)).fetchone()
+        base.close()
+        assert cut == (1,), cut
+        server.stop()
+        lose_history(server)
+        server.start()
+        assert told(job) == before and job.file(11)["bytes"] == 100, told(job)
+        return f"{job.state()['first'] - 1} calls cut"
+
+
+def test_sizes_outlive_a_take_over():
+    with postgres() as database, folder() as at:
+        servers = [Server(at, database.url, configured(at, "lease_seconds = 1\n")) for _ in range(2)]
+        leader, standby = servers[0].start(), servers[1].stand_by()
+        wanted = worked(Service(leader.url).open("orders", SETTINGS, [2]))
+        # a leader of an earlier version has deleted this file, and left its size
+        database.sql("insert into size values (1, 77, 5)")
+        leader.kill()
+        standby.wait_ready()
+        job = Service(standby.url).job("orders")
+        assert told(job) == wanted, told(job)
+        job.calls([deleted(12)])
+        assert database.sql("select string_agg(file::text, ' ' order by file) from size") == "11 13 21 31 41 77"
+        # what archives and an earlier leader's statement rely on
+        columns = "select string_agg(column_name, ', ' order by ordinal_position) from information_schema.columns where table_name = 'call'"
+        assert database.sql(columns) == CALL
+        standby.stop()
+        return "by the standby of a leader that was killed"
+
+
+def test_jobs_without_sizes_have_none():
+    with served() as server:
+        job = Service(server.url).open("orders", SETTINGS, [2])
+        job.calls([savepoint(), ack(1, "0.0", [1]), ack(1, "0.1", [2])])
+        assert told(job) == ({"in_use": 0, "waiting": 0, "taken": 0, "files": 0}, {1: (None, None)})
+        try:
+            job.call(ack(1, "0.0", [5], sizes=[1, 2]))
+            raise AssertionError("it was not refused")
+        except Failed as refused:
+            assert (refused.status, refused.field) == (400, "calls[0].bytes"), refused
+        return "and a list of another length is refused"

@@ -1,0 +1,163 @@
+// What a user does to a job: a dialog asks, shows the call that will be made, and makes it once.
+import { Failed, keepToken, newKey, send } from "./api.js";
+import { element, fill } from "./views.js";
+
+const FINAL = "This can't be taken back.";
+
+const at = (id) => document.getElementById(id);
+
+function calls(job, call) {
+  return { method: "POST", path: `/jobs/${job.name}/calls`, body: { calls: [call] } };
+}
+
+export function savepoint(job) {
+  return {
+    title: `Trigger a savepoint of ${job.name}`,
+    question: "The job triggers a savepoint now, beside its checkpoints. Its files stay until you dispose of it.",
+    button: "Trigger it",
+    request: () => calls(job, { call: "savepoint" }),
+  };
+}
+
+export function dispose(job, id) {
+  return {
+    title: `Dispose of savepoint ${id} of ${job.name}`,
+    question: `Savepoint ${id} ends, and the files that nothing else uses are deleted. ${FINAL}`,
+    button: `Dispose of savepoint ${id}`,
+    isFinal: true,
+    request: () => calls(job, { call: "dispose", id }),
+  };
+}
+
+export function cancel(job) {
+  const kept = job.settings.keep_on_cancel ? "Its checkpoints are kept." : "The files of its checkpoints are deleted.";
+  return {
+    title: `Cancel ${job.name}`,
+    question: `The job ends for good: it triggers and restores nothing any more. ${kept} ${FINAL}`,
+    button: `Cancel ${job.name}`,
+    isFinal: true,
+    request: () => calls(job, { call: "cancel" }),
+  };
+}
+
+export function remove(job) {
+  const abandon = element("input", { id: "delete-abandon", type: "checkbox" });
+  return {
+    title: `Delete ${job.name}`,
+    question: `The job is deleted with its log and its history. The service refuses it while files of the job are left. ${FINAL}`,
+    button: `Delete ${job.name}`,
+    isFinal: true,
+    fields: [element("p", {}, abandon, element("label", { for: "delete-abandon" }, " though files are left, which nobody deletes then"))],
+    request: () => ({ method: "DELETE", path: `/jobs/${job.name}${abandon.checked ? "?abandon=1" : ""}`, body: null }),
+    outcome: (told) => [`Job ${told.deleted} is deleted.`, true],
+  };
+}
+
+// The numbers of a shape, as `2 3`; nothing if the field is empty.
+function shape(text) {
+  const words = text.split(/[\s,·]+/).filter((word) => word !== "");
+  return words.length === 0 ? {} : { shape: words.map(Number) };
+}
+
+export function restore(job, savepoints) {
+  const choice = job.choice.kind === "fresh" ? "from nothing" : `${job.choice.kind} ${job.choice.id}`;
+  const from = element("select", { id: "restore-from" }, element("option", { value: "latest" }, `the latest: ${choice}`));
+  from.append(...savepoints.map((one) => element("option", { value: one.id }, `savepoint ${one.id}`)));
+  const into = element("input", { id: "restore-shape", placeholder: job.shape.join(" "), pattern: "[0-9 ,·]*", "aria-describedby": "restore-help" });
+  return {
+    title: `Restore ${job.name}`,
+    question: `The job begins again. Records that are pending end, and so does what was done after the record that it begins from. End all tasks of the job first. ${FINAL}`,
+    button: `Restore ${job.name}`,
+    isFinal: true,
+    fields: [
+      element("p", {}, element("label", { for: "restore-from" }, "Begin from "), from),
+      element("p", {}, element("label", { for: "restore-shape" }, "In the shape "), into, element("span", { id: "restore-help" }, " the parallelism of each vertex; empty: as it is")),
+    ],
+    request: () => calls(job, { call: "restore", from: from.value === "latest" ? "latest" : Number(from.value), ...shape(into.value) }),
+  };
+}
+
+// What became of a call, in words, and whether it was made.
+export function outcome(told) {
+  const answer = told.answers[0];
+  if (answer.refused) return [`The coordinator refuses it: ${answer.refused}. Nothing has changed.`, false];
+  if (answer.no_memory || answer.not_made) return ["The service has no memory for it now. Nothing has changed.", false];
+  const seq = `, as call ${answer.seq}`;
+  if (answer.savepoint) return [`Savepoint ${answer.id} is triggered${seq}.`, true];
+  if (answer.dispose) return [`The savepoint is disposed of${seq}; ${answer.released} files wait for deletion now.`, true];
+  if (answer.cancel) return [`The job is cancelled${seq}; ${answer.released} files wait for deletion now.`, true];
+  const from = answer.restore === "fresh" ? "nothing" : `${answer.restore} ${answer.id}`;
+  return [`The job begins again from ${from}${seq}.`, true];
+}
+
+const asking = { action: null, key: null, text: "", then: null, opener: null };
+
+// The request as it will be made. While it says the same, it has the same key, so that a second try makes no second call.
+function request() {
+  const it = asking.action.request();
+  const text = `${it.method} /v1${it.path}${it.body === null ? "" : `\n${JSON.stringify(it.body, null, 1)}`}`;
+  if (text !== asking.text) [asking.text, asking.key] = [text, newKey()];
+  return it;
+}
+
+function showRequest() {
+  request();
+  at("ask-call").textContent = asking.text;
+}
+
+function complain(text) {
+  at("ask-wrong").textContent = text;
+}
+
+// Asks before an action. `then` gets the words of what was done.
+export function ask(action, then) {
+  Object.assign(asking, { action, then, text: "", opener: document.activeElement });
+  at("ask-title").textContent = action.title;
+  at("ask-question").textContent = action.question;
+  fill(at("ask-fields"), action.fields ?? []);
+  at("ask-yes").textContent = action.button;
+  at("ask-yes").classList.toggle("bad", action.isFinal === true);
+  at("ask-yes").disabled = false;
+  at("ask-token-field").hidden = true;
+  complain("");
+  showRequest();
+  at("ask").showModal();
+  (action.isFinal ? at("ask-no") : at("ask-yes")).focus();
+}
+
+async function make() {
+  const it = request();
+  if (!at("ask-token-field").hidden && at("ask-token").value !== "") keepToken(at("ask-token").value);
+  at("ask-yes").disabled = true;
+  try {
+    const [text, isDone] = (asking.action.outcome ?? outcome)(await send(it.method, it.path, it.body, it.body === null ? null : asking.key));
+    if (!isDone) return complain(text);
+    at("ask").close();
+    asking.then(text);
+  } catch (error) {
+    if (!(error instanceof Failed)) throw error;
+    wrong(error);
+  } finally {
+    at("ask-yes").disabled = false;
+  }
+}
+
+function wrong(error) {
+  const wantsToken = error.status === 401 || error.status === 403;
+  at("ask-token-field").hidden = !wantsToken && at("ask-token-field").hidden;
+  const lost = error.status === 0 ? " It may have been made or not: try again, and it is made once." : "";
+  complain(wantsToken ? `${error.message}. Give a write token.` : error.message + lost);
+  if (wantsToken) at("ask-token").focus();
+}
+
+at("ask-form").addEventListener("submit", (event) => {
+  event.preventDefault();
+  make();
+});
+at("ask-fields").addEventListener("input", showRequest);
+at("ask-no").addEventListener("click", () => at("ask").close());
+at("ask").addEventListener("close", () => {
+  at("ask-token").value = "";
+  // what was pressed may be gone, as the button of a savepoint that is disposed of
+  (asking.opener?.isConnected ? asking.opener : at("job-name")).focus();
+});
