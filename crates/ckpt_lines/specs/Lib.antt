@@ -1,4 +1,5 @@
 -- The definitions that contracts cite.
+pub mod Bytes
 pub mod Keywords
 pub mod Meanings
 pub mod Reading

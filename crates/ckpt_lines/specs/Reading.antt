@@ -13,6 +13,7 @@ use Rattle.ckpt_lines.specs.declared.limits.TheConstants.{LONGEST_LINE}
 use Rattle.ckpt_lines.specs.declared.line.Line.{Line}
 use Rattle.ckpt_lines.specs.declared.line.Line.TheVariants.{Skip, Config, Job, Start, Tick, Savepoint, Ack, Decline, Dispose, Restore, Cancel, Take, Deleted, Undeleted, Show, Count, All}
 use Rattle.ckpt_lines.specs.declared.values.FileWord.{FileWord}
+use Rattle.ckpt_lines.specs.Bytes.{hash}
 use Rattle.ckpt_lines.specs.Keywords.{keyword_of, spelling, takes_memory}
 use Rattle.ckpt_lines.specs.Values.{number, subtask, retention, target_of, file_word, fresh_file, reused_file}
 use Rattle.ckpt_lines.specs.Words.{words_of}
@@ -151,7 +152,7 @@ row_of None words = Err fault.Word
 row_of (Some first) words = row first words
 
 abbrev pub is_comment : List ℕ → Bool
-is_comment word = slice_index word 0 == 35
+is_comment word = slice_index word 0 == hash
 
 unfoldable pub line_of : List (List ℕ) → Result Line LineFault
 line_of [] = Ok Skip

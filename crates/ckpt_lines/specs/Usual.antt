@@ -3,6 +3,7 @@ use Rattle.std.specs.Prelude.{◌≡◌, ℕ, Bool, true, false, List, [], ◌�
 use Rattle.std.specs.Str.Lines.{strip_carriage_return}
 use Rattle.ckpt_lines.specs.declared.keyword.Keyword.{Keyword}
 use Rattle.ckpt_lines.specs.declared.keyword.Keyword.TheVariants.{Tick, Savepoint, Ack, Dispose, Take, Deleted, Undeleted, Count}
+use Rattle.ckpt_lines.specs.Bytes.{space}
 use Rattle.ckpt_lines.specs.Keywords.{spelling}
 use Rattle.ckpt_lines.specs.Reading.{is_too_long, number_place}
 use Rattle.ckpt_lines.specs.Words.{words_of}
@@ -20,7 +21,7 @@ is_usual _ = false
 
 -- The text is this keyword, a space, and this rest.
 abbrev pub BeginsWith : List ℕ → Keyword → List ℕ → Type 0
-BeginsWith text first rest = text ≡ spelling first ++ 32 ∷ rest
+BeginsWith text first rest = text ≡ spelling first ++ space ∷ rest
 
 -- A usual keyword is at the very start of the line, with a space directly after it. One number follows, and no further word.
 pub record IsUsual (line : List ℕ) : Type 0 where

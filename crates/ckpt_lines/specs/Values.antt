@@ -8,6 +8,7 @@ use Rattle.std.specs.Str.Parse.{digits_value}
 use Rattle.ckpt_ids.specs.declared.subtask.SubtaskId.{SubtaskId}
 use Rattle.ckpt_ids.specs.declared.call.Target.{Target}
 use Rattle.ckpt_ids.specs.declared.call.Target.TheVariants as target
+use Rattle.ckpt_lines.specs.Bytes.{dot, equals, plus, zero}
 use Rattle.ckpt_lines.specs.declared.fault.LineFault.{LineFault}
 use Rattle.ckpt_lines.specs.declared.fault.LineFault.TheVariants as fault
 use Rattle.ckpt_lines.specs.declared.values.FileWord.{FileWord}
@@ -22,7 +23,7 @@ number_of word = if is_number word then Some (digits_value 10 word) else None
 
 -- the number with one more digit, if the byte is a digit and the number is at most 2^64 - 1
 abbrev pub with_digit : ℕ → ℕ → Option ℕ
-with_digit number byte = if is_ascii_digit byte && nat_lt (number * 10 + (byte - 48)) (2 ^ 64) then Some (number * 10 + (byte - 48)) else None
+with_digit number byte = if is_ascii_digit byte && nat_lt (number * 10 + (byte - zero)) (2 ^ 64) then Some (number * 10 + (byte - zero)) else None
 
 abbrev pub small : ℕ → Option ℕ
 small n = if nat_lt n (2 ^ 16) then Some n else None
@@ -32,7 +33,7 @@ unfoldable pub part_of : List ℕ → Option ℕ
 part_of word = option_and_then small (number_of word)
 
 abbrev pub is_dot : ℕ → Bool
-is_dot byte = byte == 46
+is_dot byte = byte == dot
 
 -- the subtask of this vertex and this index, if both are there
 abbrev pub joined : Option ℕ → Option ℕ → Option SubtaskId
@@ -65,13 +66,13 @@ signed sign None = Err fault.Number
 
 -- whether the sign is that of a new file
 abbrev pub is_fresh : ℕ → Result Bool LineFault
-is_fresh sign = if sign == 43 then Ok true else (if sign == 61 then Ok false else Err fault.Word)
+is_fresh sign = if sign == plus then Ok true else (if sign == equals then Ok false else Err fault.Word)
 
 -- a plus or an equals sign, and a number
 unfoldable pub file_word : List ℕ → Result FileWord LineFault
 file_word [] = Err fault.Word
 file_word (sign ∷ word) =
-    if sign == 43 then signed Fresh (number_of word) else (if sign == 61 then signed Reused (number_of word) else Err fault.Word)
+    if sign == plus then signed Fresh (number_of word) else (if sign == equals then signed Reused (number_of word) else Err fault.Word)
 
 abbrev pub fresh_file : FileWord → Option ℕ
 fresh_file (Fresh file) = Some file

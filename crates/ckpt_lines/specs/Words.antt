@@ -1,9 +1,10 @@
 -- The words of a line.
 use Rattle.std.specs.Prelude.{ℕ, Bool, true, false, ◌==◌, List, [], ◌∷◌, filter}
 use Rattle.std.specs.List.{position_or_len, slice_split}
+use Rattle.ckpt_lines.specs.Bytes.{space}
 
 abbrev pub is_space : ℕ → Bool
-is_space byte = byte == 32
+is_space byte = byte == space
 
 abbrev pub is_word : List ℕ → Bool
 is_word [] = false

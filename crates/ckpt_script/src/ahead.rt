@@ -3,7 +3,7 @@ ghost use Rattle.std.specs.Prelude.{◌≡◌, ◌+◌, ◌≢◌, ◌≤◌, �
 ghost use Rattle.std.specs.Io.KnownBytes.{IsAtEnd};
 ghost use Rattle.ckpt_script.specs.Devices.{IsCounted, IsCaused};
 ghost use Rattle.ckpt_script.specs.Faults.{FailsBy};
-ghost use Rattle.ckpt_script.specs.Flushes.{IsTied};
+ghost use Rattle.ckpt_script.specs.Flushes.{EndsFlushed, StaysTied};
 ghost use Rattle.ckpt_script.specs.Known.{Prints};
 ghost use Rattle.ckpt_script.specs.Lines.{held, FindsNewline, Moves};
 ghost use Rattle.ckpt_script.specs.Reads.{FindsLine, IsFilled, IsFollowed, ReadsOn, ReadsPart, UsesBytes, left_by};
@@ -89,14 +89,14 @@ impl Ahead {
         ensures read { ReadsOn self.old (S.remaining source.old) self.new (S.remaining source.new) }
         ensures filled { OnOk result (IsFilled self.old (S.asked source.old) self.new (S.asked source.new)) }
         ensures at_once { OnOk result (self.old.bytes ≡ [] → self.old.is_ended ≡ false → printed.new.bytes ≡ []) }
-        ensures flushed { K.failures sink.new ≡ 0 → self.old.bytes ≡ [] → self.old.is_ended ≡ false → IsTied printed.old (K.unflushed sink.old) (K.failures sink.old) → K.unflushed sink.new ≡ 0 }
+        ensures flushed { self.old.bytes ≡ [] → self.old.is_ended ≡ false → EndsFlushed printed.old (K.unflushed sink.old) (K.failures sink.old) (K.unflushed sink.new) (K.failures sink.new) }
         ensures shown { OnOk result (Prints (K.contents sink.old) (K.contents sink.new) printed.old.bytes [] printed.new.bytes (K.failures sink.new)) }
         ensures fault { IfErr result (FailsBy self.old (K.contents sink.old) (K.contents sink.new) printed.old.bytes printed.new.bytes) }
         ensures cause { IfErr result (IsCaused (S.asked source.new) (K.failures sink.new)) }
         ensures memory { IfErr result (λ why. why ≢ RunFault.Memory) }
         ensures unread { OnErr result (self.new.bytes ≡ []) }
         ensures same_source { S.device source.new ≡ S.device source.old }
-        ensures tied { IsTied printed.old (K.unflushed sink.old) (K.failures sink.old) → IsTied printed.new (K.unflushed sink.new) (K.failures sink.new) }
+        ensures tied { StaysTied printed.old (K.unflushed sink.old) (K.failures sink.old) printed.new (K.unflushed sink.new) (K.failures sink.new) }
         ensures same_sink { K.device sink.new ≡ K.device sink.old }
     {
         if self.start < self.end || self.is_ended {
@@ -161,7 +161,7 @@ impl Ahead {
         ensures fault { IfErr result (FailsBy self.old (K.contents sink.old) (K.contents sink.new) printed.old.bytes printed.new.bytes) }
         ensures cause { IfErr result (IsCaused (S.asked source.new) (K.failures sink.new)) }
         ensures same_source { S.device source.new ≡ S.device source.old }
-        ensures tied { IsTied printed.old (K.unflushed sink.old) (K.failures sink.old) → IsTied printed.new (K.unflushed sink.new) (K.failures sink.new) }
+        ensures tied { StaysTied printed.old (K.unflushed sink.old) (K.failures sink.old) printed.new (K.unflushed sink.new) (K.failures sink.new) }
         ensures same_sink { K.device sink.new ≡ K.device sink.old }
     {
         let newline = self.newline();

@@ -1,7 +1,7 @@
 //! What was printed and is not written yet.
 ghost use Rattle.std.specs.Prelude.{◌≡◌, ◌≤◌, [], true, length, IfOk, OnOk, OnErr, IfErr};
 ghost use Rattle.std.specs.Io.KnownBytes.{Appends};
-ghost use Rattle.ckpt_script.specs.Flushes.{IsTied};
+ghost use Rattle.ckpt_script.specs.Flushes.{IsTied, StaysTied};
 ghost use Rattle.ckpt_script.specs.Known.{IsCut, Passes, PassesFront};
 
 use crate::fault::RunFault;
@@ -51,7 +51,7 @@ impl Printed {
         ensures fault { IfErr result (λ why. why ≡ RunFault.Write) }
         ensures going_on { OnOk result (K.failures sink.new ≡ 0) }
         ensures failed { OnErr result (K.failures sink.new ≡ 1) }
-        ensures tied { IsTied self.old (K.unflushed sink.old) (K.failures sink.old) → IsTied self.new (K.unflushed sink.new) (K.failures sink.new) }
+        ensures tied { StaysTied self.old (K.unflushed sink.old) (K.failures sink.old) self.new (K.unflushed sink.new) (K.failures sink.new) }
         ensures same_sink { K.device sink.new ≡ K.device sink.old }
     {
         if self.waiting.len() <= CHUNK {
@@ -70,7 +70,7 @@ impl Printed {
         ensures flushed { OnOk result (IsTied self.old (K.unflushed sink.old) (K.failures sink.old) → K.unflushed sink.new ≡ 0) }
         ensures going_on { OnOk result (K.failures sink.new ≡ 0) }
         ensures failed { OnErr result (K.failures sink.new ≡ 1) }
-        ensures tied { IsTied self.old (K.unflushed sink.old) (K.failures sink.old) → IsTied self.new (K.unflushed sink.new) (K.failures sink.new) }
+        ensures tied { StaysTied self.old (K.unflushed sink.old) (K.failures sink.old) self.new (K.unflushed sink.new) (K.failures sink.new) }
         ensures same_sink { K.device sink.new ≡ K.device sink.old }
     {
         self.write_out(sink)?;
@@ -95,7 +95,7 @@ impl Printed {
         ensures err { IfErr result (λ why. (why ≡ RunFault.Write) × IsCut (K.contents sink.old) (K.contents sink.new) self.old.bytes) }
         ensures going_on { OnOk result (K.failures sink.new ≡ 0) }
         ensures failed { OnErr result (K.failures sink.new ≡ 1) }
-        ensures tied { IsTied self.old (K.unflushed sink.old) (K.failures sink.old) → IsTied self.new (K.unflushed sink.new) (K.failures sink.new) }
+        ensures tied { StaysTied self.old (K.unflushed sink.old) (K.failures sink.old) self.new (K.unflushed sink.new) (K.failures sink.new) }
         ensures same_sink { K.device sink.new ≡ K.device sink.old }
     {
         if self.waiting.is_empty() {

@@ -3,7 +3,7 @@ ghost use Rattle.std.specs.Prelude.{◌≡◌, ◌≤◌, ◌<◌, ◌+◌, [], 
 ghost use Rattle.std.specs.Io.KnownBytes.{IsAtEnd};
 ghost use Rattle.ckpt_script.specs.Devices.{Asked, IsCaused, SinkCauses, IsReadThrough};
 ghost use Rattle.ckpt_script.specs.Faults.{FailsToPrint};
-ghost use Rattle.ckpt_script.specs.Flushes.{IsTied};
+ghost use Rattle.ckpt_script.specs.Flushes.{IsTied, StaysTied};
 ghost use Rattle.ckpt_script.specs.Reads.{IsAhead, left_by, line_at};
 ghost use Rattle.ckpt_script.specs.Runs.{text_next, PrintsNext, Obeys, IsReady, GoesOn, Stops, EndsBy};
 ghost use Rattle.ckpt_script.specs.Telling.{keeps_lines};
@@ -51,7 +51,7 @@ impl Runner {
         ensures shown { OnOk result (PrintsNext self.old newline self.new (K.contents sink.old) (K.contents sink.new) (K.failures sink.new)) }
         ensures fault { IfErr result (FailsToPrint (K.contents sink.old) (K.contents sink.new) self.old.printed.bytes (text_next self.old newline)) }
         ensures cause { IfErr result (SinkCauses (K.failures sink.new)) }
-        ensures tied { IsTied self.old.printed (K.unflushed sink.old) (K.failures sink.old) → IsTied self.new.printed (K.unflushed sink.new) (K.failures sink.new) }
+        ensures tied { StaysTied self.old.printed (K.unflushed sink.old) (K.failures sink.old) self.new.printed (K.unflushed sink.new) (K.failures sink.new) }
         ensures same_sink { K.device sink.new ≡ K.device sink.old }
     {
         let number = self.summary.lines + 1;
@@ -87,7 +87,7 @@ impl Runner {
         ensures stopped { IfErr result (Stops self.old (S.remaining source.old) (K.contents sink.old) self.new (S.remaining source.new) (K.contents sink.new)) }
         ensures cause { IfErr result (IsCaused (S.asked source.new) (K.failures sink.new)) }
         ensures same_source { S.device source.new ≡ S.device source.old }
-        ensures tied { IsTied self.old.printed (K.unflushed sink.old) (K.failures sink.old) → IsTied self.new.printed (K.unflushed sink.new) (K.failures sink.new) }
+        ensures tied { StaysTied self.old.printed (K.unflushed sink.old) (K.failures sink.old) self.new.printed (K.unflushed sink.new) (K.failures sink.new) }
         ensures same_sink { K.device sink.new ≡ K.device sink.old }
     {
         laws::front();
@@ -141,7 +141,7 @@ impl Runner {
         ensures read { OnOk result (IsReadThrough (S.asked source.new)) }
         ensures cause { IfErr result (IsCaused (S.asked source.new) (K.failures sink.new)) }
         ensures same_source { S.device source.new ≡ S.device source.old }
-        ensures tied { IsTied self.old.printed (K.unflushed sink.old) (K.failures sink.old) → IsTied self.new.printed (K.unflushed sink.new) (K.failures sink.new) }
+        ensures tied { StaysTied self.old.printed (K.unflushed sink.old) (K.failures sink.old) self.new.printed (K.unflushed sink.new) (K.failures sink.new) }
         ensures same_sink { K.device sink.new ≡ K.device sink.old }
     {
         loop {
