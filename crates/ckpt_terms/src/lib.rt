@@ -7,10 +7,13 @@
 #![tactic(auto)]
 
 pub mod call;
+mod known;
 pub mod laws;
+pub mod machine;
 pub mod names;
 pub mod terms;
 
 pub use call::{FencedAnswer, FencedCall, FencedRefusal};
+pub use machine::{FenceFault, Machine};
 pub use names::{Names, Span};
 pub use terms::Terms;
