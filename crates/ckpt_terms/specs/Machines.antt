@@ -75,7 +75,7 @@ files_by r = flat_map (λ a. a.files) r.acks ++ r.pins
 
 -- every file that is in use, waits for deletion or was fetched for it
 abbrev pub known_files : State → List ℕ
-known_files m = flat_map files_by m.records ++ m.waiting ++ m.taken
+known_files m = flat_map files_by m.records ++ (m.waiting ++ m.taken)
 
 -- whether one of them has this number or a greater one
 abbrev pub has_known_from : State → ℕ → Bool

@@ -7,10 +7,10 @@
 #![tactic(auto)]
 
 pub mod call;
-mod known;
 pub mod laws;
 pub mod machine;
 pub mod names;
+mod scan;
 pub mod terms;
 
 pub use call::{FencedAnswer, FencedCall, FencedRefusal};

@@ -10,8 +10,8 @@ ghost use Rattle.ckpt_terms.specs.declared.machine.Machine.TheVariants as machin
 ghost use Rattle.ckpt_terms.specs.Machines.{MakesStep, core_in, fence_fault, first_names, is_free, machine_of, machine_step, names_in, passes};
 
 use crate::call::{FencedAnswer, NAMES_END};
-use crate::known::has_known_from;
 use crate::names::Names;
+use crate::scan::has_known_from;
 use crate::terms::Terms;
 use ckpt_core::{Core, CoreFault};
 use ckpt_ids::{Answer, Call};
