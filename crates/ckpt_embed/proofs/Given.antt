@@ -1,4 +1,4 @@
--- The answers of a take and a show.
+-- The answers of a take and a show, and what makes a coordinator the same.
 use Rattle.std.proofs.Common.{◌≡◌, refl, sym, ap, ◌∙◌, subst, arith}
 use Rattle.std.specs.Prelude.{◌≤◌, ℕ, min, Option, Some, None, length}
 use Rattle.std.proofs.lemmas.List.{length-take}
@@ -7,6 +7,9 @@ use Rattle.ckpt_ids.specs.declared.call.Call.TheVariants as call
 use Rattle.ckpt_model.specs.Refusals.{refusal}
 use Rattle.ckpt_model.specs.State.{State}
 use Rattle.ckpt_model.specs.Steps.{step, effect, take_files, unless_refused}
+use Rattle.ckpt_terms.specs.declared.machine.Machine.{Machine}
+use Rattle.ckpt_terms.specs.declared.machine.Machine.TheVariants.{Plain, Fenced}
+use Rattle.ckpt_terms.specs.Machines.{Issued, core_in, machine_of, names_in}
 use Rattle.ckpt_embed.specs.Buffers.{files_in}
 
 shows_leave : (m : State) (id : ℕ) (w : Option Why) → (unless_refused m (call.Show id) w).0 ≡ m
@@ -33,3 +36,12 @@ take_brings m n = takes_some m n (never_refused m n)
 
 pub take_at_most : (m : State) (n : ℕ) → length (files_in (step m (call.Take n)).1) ≤ n
 take_at_most m n = subst (λ (k : ℕ). k ≤ n) (sym (take_brings m n)) (omega arith)
+
+whole : (k : Machine) → k ≡ machine_of (core_in k) (names_in k)
+whole (Plain m) = refl
+whole (Fenced m) = refl
+
+-- two coordinators with one state and the same names
+pub same_machine : (k n : Machine) → core_in k ≡ core_in n → names_in k ≡ names_in n → k ≡ n
+same_machine k n core names =
+    whole k ∙ ap (λ (m : State). machine_of m (names_in k)) core ∙ ap (λ (it : Option Issued). machine_of (core_in n) it) names ∙ sym (whole n)

@@ -43,11 +43,6 @@ held_whole : (m : State) (n : Option Issued) → IsHeld (Some (machine_of m n)) 
 held_whole m None = (refl, refl)
 held_whole m (Some n) = (refl, refl)
 
--- and is the one that has them
-pub whole : (k : Machine) → k ≡ machine_of (core_in k) (names_in k)
-whole (Plain m) = refl
-whole (Fenced m) = refl
-
 module _ {M : Type 1} {𝓤 : Ura M} (𝓛 : Logic 𝓤) where
   -- the right to free a block says that its address can be compared with null
   tested : (p : Ptr) (x : R.Denot) → ent 𝓤 (sem 𝓛 (boxed p x)) (guard 𝓤 (Testable p) (sem 𝓛 (boxed p x)))

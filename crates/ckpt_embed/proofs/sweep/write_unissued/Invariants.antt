@@ -1,7 +1,7 @@
 -- The loop invariants of `write_unissued`.
 use Rattle.std.proofs.Common.{◌≡◌, ◌≤◌, leb, length, take, drop}
 use Rattle.std.specs.List.{filter}
-use Rattle.ckpt_embed.proofs.garbage.write_unissued.Given as goal
+use Rattle.ckpt_embed.proofs.sweep.write_unissued.Given as goal
 
 abbrev pub invariant-loop-place : goal.invariant-loop-place
 invariant-loop-place l = record {

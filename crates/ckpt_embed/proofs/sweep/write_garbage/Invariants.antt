@@ -2,7 +2,7 @@
 use Rattle.std.proofs.Common.{◌≡◌, ◌≤◌, length, take, drop}
 use Rattle.std.specs.List.{filter}
 use Rattle.ckpt_terms.specs.Fencing.{is_garbage}
-use Rattle.ckpt_embed.proofs.garbage.write_garbage.Given as goal
+use Rattle.ckpt_embed.proofs.sweep.write_garbage.Given as goal
 
 abbrev pub invariant-loop-place : goal.invariant-loop-place
 invariant-loop-place l = record {
