@@ -23,7 +23,6 @@ use Rattle.std.proofs.GlobalToken.{dealloc_token-Testable}
 use Rattle.std_alloc.specs.Box.Ownership.{box_owns}
 use Rattle.ckpt_model.specs.State.{State}
 use Rattle.ckpt_terms.specs.contracts.machine.Machine as machine
-use Rattle.ckpt_terms.specs.declared.machine.Machine.{Machine}
 use Rattle.ckpt_terms.specs.declared.machine.Machine.TheVariants.{Plain, Fenced}
 use Rattle.ckpt_terms.specs.Machines.{Issued, core_in, machine_of, names_in}
 use Rattle.ckpt_embed.specs.Kept.{IsHeld, heap, kept}

@@ -1,5 +1,5 @@
 -- The files that a coordinator knows, as one list, and the test whether one of them has a number or a greater one.
-use Rattle.std.proofs.Common.{◌≡◌, ℕ, ◌<◌, Bool, true, false, ◌||◌, leb, ltb, List, [], ◌∷◌, ◌++◌, map, refl, sym, ap, ◌∙◌, ◌⊎◌, inl, inr, ⊎_elim}
+use Rattle.std.proofs.Common.{◌≡◌, ℕ, ◌<◌, Bool, true, false, ◌||◌, leb, ltb, List, [], ◌∷◌, ◌++◌, map, refl, sym, ap, ◌∙◌, inl, inr, ⊎_elim}
 use Rattle.std.specs.List.{list_any, flat_map}
 use Rattle.std.proofs.lemmas.Bool.{cases_Bool, or_cases, leb-false}
 use Rattle.std.proofs.lemmas.List.Folds.{list_any-append}
@@ -9,7 +9,6 @@ use Rattle.ckpt_ids.specs.Ordered.{IsIn}
 use Rattle.ckpt_ids.specs.Records.{Record, uses, is_present}
 use Rattle.ckpt_ids.proofs.OrderedLemmas.{IsIn-append_left, IsIn-append_right, IsIn-flat_map, IsIn-from_in_order, IsIn-in_order, IsIn-from_list_any, IsIn-from_test, list_any-from_IsIn, list_any-none, fails-from_list_any}
 use Rattle.ckpt_model.specs.declared.image.Image.{Image}
-use Rattle.ckpt_model.specs.declared.image.Saved.{Saved}
 use Rattle.ckpt_model.specs.Images.{record_in, settled, state_in}
 use Rattle.ckpt_model.specs.State.{State, is_known, in_outbox}
 use Rattle.ckpt_model.proofs.Records.Present.{Holds, IsHeld, IsHeld-from_present}

@@ -1,5 +1,5 @@
 -- Answers the goals of `show_from`.
-use Rattle.std.proofs.Common.{◌≡◌, sym, ap, ◌∙◌}
+use Rattle.std.proofs.Common.{sym, ap, ◌∙◌}
 use Rattle.ckpt_model.specs.Steps.{Stepped}
 use Rattle.ckpt_terms.specs.Machines.{core_in}
 use Rattle.ckpt_embed.proofs.Given.{show_stays, same_machine}

@@ -4,7 +4,6 @@ use Rattle.std.specs.Prelude.{Some, None, cond}
 use Rattle.std.proofs.lemmas.Bool.{le-ltb, ne_eqb, or_from}
 use Rattle.ckpt_model.specs.Images.{settled, state_in}
 use Rattle.ckpt_model.specs.State.{State}
-use Rattle.ckpt_terms.specs.declared.machine.FenceFault.{FenceFault}
 use Rattle.ckpt_terms.specs.declared.machine.FenceFault.TheVariants.{BadName, NameInUse}
 use Rattle.ckpt_terms.specs.declared.machine.Machine.TheVariants as machine
 use Rattle.ckpt_terms.specs.Machines.{fence_fault, has_known_from}

@@ -7,7 +7,7 @@ use Rattle.ckpt_terms.specs.declared.call.FencedCall.TheVariants.{Make}
 use Rattle.ckpt_terms.specs.declared.machine.Machine.{Machine}
 use Rattle.ckpt_terms.specs.declared.machine.Machine.TheVariants as machine
 use Rattle.ckpt_terms.specs.Fencing.{Fenced, FencedStepped, fenced_step}
-use Rattle.ckpt_terms.specs.Machines.{MakesStep, machine_step, names_in, passes}
+use Rattle.ckpt_terms.specs.Machines.{MakesStep, names_in, passes}
 use Rattle.ckpt_terms.proofs.MachineLemmas.{passed_on}
 use Rattle.ckpt_terms.proofs.machine.Machine.apply.Goals as goal
 
