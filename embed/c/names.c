@@ -147,13 +147,13 @@ static relkvanu_answer declines(relkvanu *job) {
     return relkvanu_decline_in(job, 1, 1000, 1, 0, 0);
 }
 
-/* Makes the call with each request for memory refused. Then nothing has changed, and the same call can be made. Returns how many
+/* Makes the call with no memory from each request on. Then nothing has changed, and the same call can be made. Returns how many
  * requests it makes. */
 static uint64_t without_memory(relkvanu (*made)(void), relkvanu_answer (*call)(relkvanu *)) {
     for (uint64_t nth = 1;; nth++) {
         relkvanu job = made();
         struct seen before = look(&job);
-        heap_refuse(nth);
+        heap_refuse_from(nth);
         relkvanu_answer told = call(&job);
         uint64_t requests = heap_requests();
         heap_refuse(0);
@@ -177,7 +177,7 @@ static void memory(void) {
     CHECK(without_memory(busy, acknowledges) > 0);
     CHECK(without_memory(busy, declines) == 0);
     relkvanu job = busy();
-    heap_refuse(1);
+    heap_refuse_from(1);
     look(&job);
     FENCED(relkvanu_reserve(&job, 2, 1), RELKVANU_OLD_TERM, 0);
     FENCED(relkvanu_reserve(&job, 1, 0), RELKVANU_BAD_COUNT, 0);
