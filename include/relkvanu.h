@@ -623,7 +623,7 @@ RELKVANU_NODISCARD relkvanu_answer relkvanu_taken_files(relkvanu *handle, uint64
  *
  * On a handle with names a call without a term has the term 0, which none has: relkvanu_ack and relkvanu_decline are refused with
  * RELKVANU_OLD_TERM, and so are the lines of such calls. relkvanu_restore and relkvanu_cancel end the term; after 2^62 terms they are
- * refused with RELKVANU_TERMS_USED_UP. All other functions work as without names.
+ * refused with RELKVANU_TERMS_USED_UP. relkvanu_save has no names yet, and refuses such a handle. All other functions work as without.
  *
  * RELKVANU_FENCED and its reasons come before any RELKVANU_REFUSED. */
 
