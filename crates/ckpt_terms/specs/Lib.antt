@@ -2,6 +2,7 @@
 pub mod FencedExamples
 pub mod Fencing
 pub mod FencedLaws
+pub mod Machines
 pub mod Spans
 pub mod TermsImages
 pub mod TermsOpening

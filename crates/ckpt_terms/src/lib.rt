@@ -8,9 +8,12 @@
 
 pub mod call;
 pub mod laws;
+pub mod machine;
 pub mod names;
+mod scan;
 pub mod terms;
 
 pub use call::{FencedAnswer, FencedCall, FencedRefusal};
+pub use machine::{FenceFault, Machine};
 pub use names::{Names, Span};
 pub use terms::Terms;

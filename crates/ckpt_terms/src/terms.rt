@@ -142,7 +142,8 @@ impl Terms {
         FencedAnswer::Forfeited
     }
 
-    fn make(&mut self, term: u64, call: &Call) -> Result<FencedAnswer, AllocError>
+    /// Makes a call of the coordinator, as [`Terms::apply`] makes [`FencedCall::Make`].
+    pub fn make(&mut self, term: u64, call: &Call) -> Result<FencedAnswer, AllocError>
         ensures done { IfOk result (λ answer. fenced_step self.old (Make term call.now) ≡ (self.new, answer)) }
         ensures memory { OnErr result (wants_memory self.old (Make term call.now) ≡ true) }
         ensures unchanged { OnErr result (self.new ≡ self.old) }
@@ -222,6 +223,29 @@ impl Terms {
         ensures { result.now ≡ self.now.core }
     {
         &self.core
+    }
+
+    /// The first name that was never reserved.
+    pub fn next_name(&self) -> u64
+        ensures { result ≡ self.now.next_name }
+    {
+        self.next_name
+    }
+
+    /// A coordinator of these parts.
+    ///
+    /// Condition: together they are sound.
+    pub(crate) fn of(alloc: Global, core: Core, term: u64, next_name: u64, unspent: Names) -> Terms
+        requires { IsFenced (record { core = core; term = term; next_name = next_name; unspent = unspent }) }
+        ensures { result ≡ record { core = core; term = term; next_name = next_name; unspent = unspent } }
+    {
+        Terms {
+            alloc,
+            core,
+            term,
+            next_name,
+            unspent,
+        }
     }
 }
 
