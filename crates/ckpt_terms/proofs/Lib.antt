@@ -1,6 +1,8 @@
 -- The lemmas that the proofs use.
 pub mod Classes
+pub mod Counted
 pub mod Fences
+pub mod Imaged
 pub mod Known
 pub mod Modes
 pub mod OnceIssued

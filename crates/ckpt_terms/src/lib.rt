@@ -7,10 +7,12 @@
 #![tactic(auto)]
 
 pub mod call;
+pub mod image;
 pub mod laws;
 pub mod names;
 pub mod terms;
 
 pub use call::{FencedAnswer, FencedCall, FencedRefusal};
+pub use image::TermsImage;
 pub use names::{Names, Span};
 pub use terms::Terms;
