@@ -4,6 +4,7 @@ pub mod Fencing
 pub mod FencedLaws
 pub mod Machines
 pub mod Spans
+pub mod Spent
 pub mod TermsImages
 pub mod TermsOpening
 pub mod Wants

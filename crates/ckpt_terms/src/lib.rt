@@ -7,6 +7,7 @@
 #![tactic(auto)]
 
 pub mod call;
+pub mod image;
 pub mod laws;
 pub mod machine;
 pub mod names;
@@ -14,6 +15,7 @@ mod scan;
 pub mod terms;
 
 pub use call::{FencedAnswer, FencedCall, FencedRefusal};
+pub use image::TermsImage;
 pub use machine::{FenceFault, Machine};
 pub use names::{Names, Span};
 pub use terms::Terms;
