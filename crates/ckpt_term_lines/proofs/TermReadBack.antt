@@ -1,13 +1,11 @@
 -- The line of each call is read as that call.
-use Rattle.std.proofs.Common.{◌≡◌, ℕ, ◌≤◌, Bool, true, false, eqb, length, List, [], ◌∷◌, ◌++◌, Result, Ok, refl, sym, ap, subst, ◌∙◌, append_assoc}
+use Rattle.std.proofs.Common.{◌≡◌, ℕ, Bool, true, false, eqb, length, List, [], ◌∷◌, ◌++◌, Ok, refl, sym, subst, append_assoc}
 use Rattle.std.proofs.lemmas.Bool.{le-ltb}
 use Rattle.std.specs.Prelude.{map, flat_map, codes, decimal}
 use Rattle.ckpt_ids.specs.declared.call.Call.{Call}
 use Rattle.ckpt_ids.specs.declared.call.Call.TheVariants as made
-use Rattle.ckpt_lines.specs.declared.fault.LineFault.{LineFault}
 use Rattle.ckpt_lines.specs.declared.limits.TheConstants.{LONGEST_LINE}
 use Rattle.ckpt_lines.specs.declared.line.Line.{Line}
-use Rattle.ckpt_lines.specs.declared.line.Line.TheVariants as script
 use Rattle.ckpt_lines.specs.Reading.{ended, line_of}
 use Rattle.ckpt_texts.specs.Texts.{spaced}
 use Rattle.ckpt_call_lines.specs.CallTexts.{Fits, FitsCall, call_text, line_of_call}

@@ -1,5 +1,5 @@
 -- Worked lines: what the definitions read and print, computed. The expected ones were written by hand, from docs/LOGS.md.
-use Rattle.std.specs.Prelude.{◌≡◌, ◌-◌, ◌^◌, [], ◌∷◌, ◌++◌, refl, codes, decimal, Ok, Err}
+use Rattle.std.specs.Prelude.{◌≡◌, [], ◌∷◌, ◌++◌, refl, codes, decimal, Ok, Err}
 use Rattle.ckpt_ids.specs.declared.call.Call.TheVariants as made
 use Rattle.ckpt_ids.specs.declared.reply.Answer.TheVariants.{Refused}
 use Rattle.ckpt_ids.specs.declared.reply.Refusal.TheVariants as refusal
