@@ -77,7 +77,7 @@ typedef struct {
 } relkvanu_settings;
 
 typedef struct {
-    uint32_t code; /* one of RELKVANU_DONE to RELKVANU_BAD_LINE */
+    uint32_t code; /* one of RELKVANU_DONE to RELKVANU_FENCED */
     uint32_t what; /* which reply, refusal or bad argument */
     uint64_t a, b; /* its numbers, which the comment of its constant describes; otherwise 0 */
 } relkvanu_answer;
@@ -105,8 +105,9 @@ typedef struct {
 #define RELKVANU_NO_MEMORY 2u    /* nothing has changed; what, a and b are 0: make the same call again later */
 #define RELKVANU_CLOSED 3u       /* the handle has no coordinator; what, a and b are 0 */
 #define RELKVANU_BAD_ARGUMENT 4u /* nothing has changed: what is an argument. "refused {name}" */
-#define RELKVANU_TOO_SHORT 5u    /* nothing has changed: the buffer needs a places; what is 0, and b too but in relkvanu_line_call. "too short {a}" */
+#define RELKVANU_TOO_SHORT 5u    /* nothing has changed: the buffer needs a places, and a second one b; what is 0. "too short {a}" */
 #define RELKVANU_BAD_LINE 6u     /* nothing has changed: what is a fault of a line. "fault {name}" */
+#define RELKVANU_FENCED 7u       /* nothing has changed: what says why the term or the names refuse the call. "fenced {name}" */
 
 /* what, if code is RELKVANU_DONE */
 #define RELKVANU_OPENED 0u
@@ -174,6 +175,13 @@ typedef struct {
 #define RELKVANU_WAITING 53u          /* a: file */
 #define RELKVANU_NONE_WAITS 54u       /* there are fewer waiting files */
 
+/* what, if a call on terms and names is RELKVANU_DONE */
+#define RELKVANU_RESERVED 56u /* a: the first name, b: how many: the others follow it */
+#define RELKVANU_FORFEITED 57u
+#define RELKVANU_TERM 58u    /* a: the term that runs, b: the next name */
+#define RELKVANU_NAMED 59u   /* the handle has names now */
+#define RELKVANU_GARBAGE 60u /* of relkvanu_garbage a, b: the files at the start of garbage and of unissued */
+
 /* what, if code is RELKVANU_REFUSED; they are checked in this order */
 #define RELKVANU_MOMENT_TOO_LARGE 1u     /* the moment is above its limit */
 #define RELKVANU_NOT_RUNNING 2u          /* the job has failed or was cancelled */
@@ -191,6 +199,18 @@ typedef struct {
 #define RELKVANU_NO_SUCH_RECORD 14u      /* no live record has the number */
 #define RELKVANU_IDS_USED_UP 15u         /* no number is left for another record */
 
+/* what, if code is RELKVANU_FENCED */
+#define RELKVANU_OLD_TERM 1u       /* the term of the task has ended, or has not begun */
+#define RELKVANU_ENDED 2u          /* the job was cancelled, and no task runs */
+#define RELKVANU_BAD_COUNT 3u      /* it would reserve no name, or more than 65536 */
+#define RELKVANU_NAMES_USED_UP 4u  /* all names up to 2^62 - 1 were given out */
+#define RELKVANU_TERMS_USED_UP 5u  /* as many terms have ended as can be counted, 2^62 */
+#define RELKVANU_SPENT 6u          /* a: file; its name was given out, and the term does not hold it: nobody deletes it for this answer */
+#define RELKVANU_NEVER_RESERVED 7u /* a: file; its name was not given out */
+#define RELKVANU_NO_NAMES 8u       /* the handle has no names */
+#define RELKVANU_HAS_NAMES 9u      /* the handle has names */
+#define RELKVANU_NAME_IN_USE 10u   /* a file with this number or a greater one is in use, waits for deletion or was fetched */
+
 /* what, if code is RELKVANU_BAD_ARGUMENT */
 #define RELKVANU_ALREADY_OPEN 1u /* the handle has a coordinator already */
 #define RELKVANU_BAD_CONFIG 2u   /* a value of the settings is outside its limits */
@@ -199,6 +219,7 @@ typedef struct {
 #define RELKVANU_BAD_FIRST 5u    /* the number of the first record is not within 1 to 2^62 - 1 */
 #define RELKVANU_BAD_KIND 6u     /* the kind of a call that is to be written */
 #define RELKVANU_BAD_IMAGE 7u    /* the bytes are not an image, or the state is not sound, or no coordinator could be opened so */
+#define RELKVANU_BAD_NAME 8u     /* the first name is 0 or above 2^62 */
 
 /* what, if code is RELKVANU_BAD_LINE: the first fault from the left */
 #define RELKVANU_FAULT_TOO_LONG 1u /* a line has at most 131072 bytes */
@@ -234,7 +255,8 @@ enum relkvanu_code {
     relkvanu_code_closed = RELKVANU_CLOSED,
     relkvanu_code_bad_argument = RELKVANU_BAD_ARGUMENT,
     relkvanu_code_too_short = RELKVANU_TOO_SHORT,
-    relkvanu_code_bad_line = RELKVANU_BAD_LINE
+    relkvanu_code_bad_line = RELKVANU_BAD_LINE,
+    relkvanu_code_fenced = RELKVANU_FENCED
 };
 
 /* What was answered, if the code is RELKVANU_DONE. */
@@ -294,7 +316,12 @@ enum relkvanu_reply {
     relkvanu_reply_files = RELKVANU_FILES,
     relkvanu_reply_not_acknowledged = RELKVANU_NOT_ACKNOWLEDGED,
     relkvanu_reply_waiting = RELKVANU_WAITING,
-    relkvanu_reply_none_waits = RELKVANU_NONE_WAITS
+    relkvanu_reply_none_waits = RELKVANU_NONE_WAITS,
+    relkvanu_reply_reserved = RELKVANU_RESERVED,
+    relkvanu_reply_forfeited = RELKVANU_FORFEITED,
+    relkvanu_reply_term = RELKVANU_TERM,
+    relkvanu_reply_named = RELKVANU_NAMED,
+    relkvanu_reply_garbage = RELKVANU_GARBAGE
 };
 
 /* Why a call was refused: the first of these that applies. */
@@ -316,6 +343,20 @@ enum relkvanu_refusal {
     relkvanu_refusal_ids_used_up = RELKVANU_IDS_USED_UP
 };
 
+/* Why a term or the names refuse a call. */
+enum relkvanu_fenced {
+    relkvanu_fenced_old_term = RELKVANU_OLD_TERM,
+    relkvanu_fenced_ended = RELKVANU_ENDED,
+    relkvanu_fenced_bad_count = RELKVANU_BAD_COUNT,
+    relkvanu_fenced_names_used_up = RELKVANU_NAMES_USED_UP,
+    relkvanu_fenced_terms_used_up = RELKVANU_TERMS_USED_UP,
+    relkvanu_fenced_spent = RELKVANU_SPENT,
+    relkvanu_fenced_never_reserved = RELKVANU_NEVER_RESERVED,
+    relkvanu_fenced_no_names = RELKVANU_NO_NAMES,
+    relkvanu_fenced_has_names = RELKVANU_HAS_NAMES,
+    relkvanu_fenced_name_in_use = RELKVANU_NAME_IN_USE
+};
+
 /* The argument that is outside its limits. */
 enum relkvanu_argument {
     relkvanu_argument_already_open = RELKVANU_ALREADY_OPEN,
@@ -324,7 +365,8 @@ enum relkvanu_argument {
     relkvanu_argument_bad_moment = RELKVANU_BAD_MOMENT,
     relkvanu_argument_bad_first = RELKVANU_BAD_FIRST,
     relkvanu_argument_bad_kind = RELKVANU_BAD_KIND,
-    relkvanu_argument_bad_image = RELKVANU_BAD_IMAGE
+    relkvanu_argument_bad_image = RELKVANU_BAD_IMAGE,
+    relkvanu_argument_bad_name = RELKVANU_BAD_NAME
 };
 
 /* What is wrong with a line: the first fault from the left. */
@@ -541,7 +583,8 @@ RELKVANU_NODISCARD relkvanu_answer relkvanu_opening_lines(const relkvanu_setting
  * image answers every list of calls as this one would.
  *
  * RELKVANU_SAVED; RELKVANU_TOO_SHORT, and a is its number of bytes: call again with a buffer of that many. Only RELKVANU_SAVED
- * changes the buffer, and nothing else changes. Takes memory, even if the buffer is too short. */
+ * changes the buffer, and nothing else changes. Takes memory, even if the buffer is too short. An image has no names yet: a handle
+ * with names returns RELKVANU_FENCED with RELKVANU_HAS_NAMES. */
 RELKVANU_NODISCARD relkvanu_answer relkvanu_save(relkvanu *handle, uint8_t *image, size_t image_len);
 
 /* Opens the coordinator that an image describes in a closed handle. The two words have the meaning that they have in
@@ -582,6 +625,81 @@ relkvanu_answer relkvanu_waiting_file(relkvanu *handle, size_t place);
  *
  * RELKVANU_FILES; RELKVANU_TOO_SHORT. Visits each file that waits or was fetched. Takes memory. */
 RELKVANU_NODISCARD relkvanu_answer relkvanu_taken_files(relkvanu *handle, uint64_t *files, size_t files_len);
+
+/* Terms and names. A handle with names gives out the numbers of the files that tasks will write, each once, and tells in which term
+ * the tasks run. Each accepted restore and cancel ends the term. What a task of an ended term sends is refused, and changes nothing.
+ * So what it wrote and never acknowledged can be told from what is in use: relkvanu_garbage does.
+ *
+ * Conditions for the caller:
+ * - Whoever restarts the tasks reads the term after the restore, and tells each of them. A task never asks for the term: one that
+ *   should be dead would learn the new one.
+ * - A log has all calls on names, with their terms, and in their order. A reservation is in the durable log before a task uses
+ *   one of its names, and so is a restore before the tasks learn the term that it began. Otherwise a crash forgets them, and the
+ *   names are given out again.
+ *
+ * On a handle with names a call without a term has the term 0, which none has: relkvanu_ack and relkvanu_decline are refused with
+ * RELKVANU_OLD_TERM, and so are the lines of such calls. relkvanu_restore and relkvanu_cancel end the term; after 2^62 terms they are
+ * refused with RELKVANU_TERMS_USED_UP. relkvanu_save has no names yet, and refuses such a handle. All other functions work as without.
+ *
+ * RELKVANU_FENCED and its reasons come before any RELKVANU_REFUSED. */
+
+/* Opens a coordinator as relkvanu_open does, in term 1. The first name that it gives out is first_name, 1 to 2^62: all numbers of files
+ * that were used before are below it.
+ *
+ * RELKVANU_OPENED; or RELKVANU_BAD_ARGUMENT, and the handle stays as it was: RELKVANU_ALREADY_OPEN, RELKVANU_BAD_CONFIG,
+ * RELKVANU_BAD_SHAPE, RELKVANU_BAD_NAME, RELKVANU_BAD_MOMENT, RELKVANU_BAD_FIRST, checked in this order. Takes memory: after
+ * RELKVANU_NO_MEMORY the handle is closed, as before. */
+RELKVANU_NODISCARD relkvanu_answer relkvanu_open_fenced(relkvanu *handle, const relkvanu_settings *settings, const uint64_t *shape, size_t shape_len, uint64_t now, uint64_t first, uint64_t first_name, uint64_t first_word, uint64_t second_word);
+
+/* Gives a coordinator names, from first_name on, 1 to 2^62, in term 1. All numbers of files that were used before have to be below it, those
+ * of files that nobody acknowledged too: numbers below it count as given out. Make the call between the end of all tasks and their
+ * restart, since a task that began before it has no term.
+ *
+ * RELKVANU_NAMED. RELKVANU_FENCED with RELKVANU_HAS_NAMES; RELKVANU_BAD_ARGUMENT with RELKVANU_BAD_NAME; RELKVANU_FENCED with
+ * RELKVANU_NAME_IN_USE, checked in this order. Takes memory, and visits all files of the coordinator: it is called once in the life of a
+ * job. */
+RELKVANU_NODISCARD relkvanu_answer relkvanu_fence(relkvanu *handle, uint64_t first_name);
+
+/* RELKVANU_TERM: the term that runs, and the next name that is given out. RELKVANU_FENCED with RELKVANU_NO_NAMES. Changes nothing, and
+ * takes no memory. */
+relkvanu_answer relkvanu_term(relkvanu *handle);
+
+/* A task of this term reserves names for files that it will write, 1 to 65536 of them.
+ *
+ * RELKVANU_RESERVED. RELKVANU_FENCED: RELKVANU_NO_NAMES, RELKVANU_OLD_TERM, RELKVANU_ENDED, RELKVANU_BAD_COUNT, RELKVANU_NAMES_USED_UP,
+ * checked in this order. Takes memory only if it reserves. */
+RELKVANU_NODISCARD relkvanu_answer relkvanu_reserve(relkvanu *handle, uint64_t term, uint64_t count);
+
+/* A task of this term gives up names that it will not acknowledge, such as those of a failed upload: their files are garbage then. Names
+ * that the term does not hold are passed over, so the call can be repeated.
+ *
+ * RELKVANU_FORFEITED. RELKVANU_FENCED: RELKVANU_NO_NAMES, RELKVANU_OLD_TERM. The call first copies the list, which takes memory. */
+RELKVANU_NODISCARD relkvanu_answer relkvanu_forfeit(relkvanu *handle, uint64_t term, const uint64_t *names, size_t names_len);
+
+/* relkvanu_ack of a task of this term. An accepted acknowledgement spends the names of its fresh files.
+ *
+ * As relkvanu_ack, and before its refusals RELKVANU_FENCED: RELKVANU_NO_NAMES, RELKVANU_OLD_TERM, and for the first fresh file whose
+ * name the term does not hold RELKVANU_SPENT or RELKVANU_NEVER_RESERVED. An acknowledgement that is sent twice is RELKVANU_SPENT the
+ * second time, if it has fresh files: then an accepted one has named them. So a task does not delete a file for RELKVANU_SPENT. */
+RELKVANU_NODISCARD relkvanu_answer relkvanu_ack_in(relkvanu *handle, uint64_t term, uint64_t now, uint64_t id, uint16_t vertex, uint16_t index, const uint64_t *fresh, size_t fresh_len, const uint64_t *reused, size_t reused_len);
+
+/* relkvanu_decline of a task of this term.
+ *
+ * As relkvanu_decline, and before its refusals RELKVANU_FENCED: RELKVANU_NO_NAMES, RELKVANU_OLD_TERM. Takes no memory. */
+RELKVANU_NODISCARD relkvanu_answer relkvanu_decline_in(relkvanu *handle, uint64_t term, uint64_t now, uint64_t id, uint16_t vertex, uint16_t index);
+
+/* Writes those of these files that are garbage to the start of garbage, in their order: each name was given out, no live record uses
+ * the file, it does not wait for deletion and was not fetched for it, and no task of the term that runs may write it. Garbage stays garbage
+ * for good, so it may be deleted at any time. Writes those whose names were not given out to the start of unissued: such a
+ * file is not of this job, or its log was lost, and nobody deletes it.
+ *
+ * RELKVANU_GARBAGE. RELKVANU_FENCED with RELKVANU_NO_NAMES. RELKVANU_TOO_SHORT unless both buffers have a place for each file.
+ * Only RELKVANU_GARBAGE changes the buffers, and nothing else changes. Takes no memory. Ask a coordinator whose calls are durable: one that
+ * forgot a call also forgets which files are in use. */
+RELKVANU_NODISCARD relkvanu_answer relkvanu_garbage(relkvanu *handle, const uint64_t *files, size_t files_len, uint64_t *garbage, size_t garbage_len, uint64_t *unissued, size_t unissued_len);
+
+/* relkvanu_refusal_text for the numbers of RELKVANU_FENCED, such as "OldTerm". */
+size_t relkvanu_fenced_text(uint32_t what, uint8_t *text, size_t text_len);
 
 /* Null pointers. The symbols of the library take none. In a program that includes this header, the names of the symbols
  * stand for the functions below. For an empty list or buffer these pass the address of an element that nobody reads. */
@@ -676,6 +794,26 @@ static inline RELKVANU_NODISCARD relkvanu_answer relkvanu_pins_of_nullable(relkv
     return relkvanu_pins_of(handle, id, relkvanu_places_of(files, files_len), files_len);
 }
 
+static inline RELKVANU_NODISCARD relkvanu_answer relkvanu_open_fenced_nullable(relkvanu *handle, const relkvanu_settings *settings, const uint64_t *shape, size_t shape_len, uint64_t now, uint64_t first, uint64_t first_name, uint64_t first_word, uint64_t second_word) {
+    return relkvanu_open_fenced(handle, settings, relkvanu_list_of(shape, shape_len), shape_len, now, first, first_name, first_word, second_word);
+}
+
+static inline RELKVANU_NODISCARD relkvanu_answer relkvanu_forfeit_nullable(relkvanu *handle, uint64_t term, const uint64_t *names, size_t names_len) {
+    return relkvanu_forfeit(handle, term, relkvanu_list_of(names, names_len), names_len);
+}
+
+static inline RELKVANU_NODISCARD relkvanu_answer relkvanu_ack_in_nullable(relkvanu *handle, uint64_t term, uint64_t now, uint64_t id, uint16_t vertex, uint16_t index, const uint64_t *fresh, size_t fresh_len, const uint64_t *reused, size_t reused_len) {
+    return relkvanu_ack_in(handle, term, now, id, vertex, index, relkvanu_list_of(fresh, fresh_len), fresh_len, relkvanu_list_of(reused, reused_len), reused_len);
+}
+
+static inline RELKVANU_NODISCARD relkvanu_answer relkvanu_garbage_nullable(relkvanu *handle, const uint64_t *files, size_t files_len, uint64_t *garbage, size_t garbage_len, uint64_t *unissued, size_t unissued_len) {
+    return relkvanu_garbage(handle, relkvanu_list_of(files, files_len), files_len, relkvanu_places_of(garbage, garbage_len), garbage_len, relkvanu_places_of(unissued, unissued_len), unissued_len);
+}
+
+static inline size_t relkvanu_fenced_text_nullable(uint32_t what, uint8_t *text, size_t text_len) {
+    return relkvanu_fenced_text(what, relkvanu_bytes_of(text, text_len), text_len);
+}
+
 static inline RELKVANU_NODISCARD relkvanu_answer relkvanu_taken_files_nullable(relkvanu *handle, uint64_t *files, size_t files_len) {
     return relkvanu_taken_files(handle, relkvanu_places_of(files, files_len), files_len);
 }
@@ -698,6 +836,11 @@ static inline RELKVANU_NODISCARD relkvanu_answer relkvanu_taken_files_nullable(r
 #define relkvanu_files_of relkvanu_files_of_nullable
 #define relkvanu_pins_of relkvanu_pins_of_nullable
 #define relkvanu_taken_files relkvanu_taken_files_nullable
+#define relkvanu_open_fenced relkvanu_open_fenced_nullable
+#define relkvanu_forfeit relkvanu_forfeit_nullable
+#define relkvanu_ack_in relkvanu_ack_in_nullable
+#define relkvanu_garbage relkvanu_garbage_nullable
+#define relkvanu_fenced_text relkvanu_fenced_text_nullable
 
 #ifdef __cplusplus
 }

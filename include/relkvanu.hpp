@@ -84,6 +84,7 @@ enum class error : int {
     bad_first = RELKVANU_BAD_ARGUMENT << 8 | RELKVANU_BAD_FIRST, /* The number of the first record is not within 1 to 2^62 - 1. */
     bad_kind = RELKVANU_BAD_ARGUMENT << 8 | RELKVANU_BAD_KIND, /* The kind of a call that is to be written. */
     bad_image = RELKVANU_BAD_ARGUMENT << 8 | RELKVANU_BAD_IMAGE, /* The bytes are not an image, or the state is not sound, or no coordinator could be opened so. */
+    bad_name = RELKVANU_BAD_ARGUMENT << 8 | RELKVANU_BAD_NAME, /* The first name is 0 or above 2^62. */
     too_short = RELKVANU_TOO_SHORT << 8, /* The buffer needs more places. */
     line_too_long = RELKVANU_BAD_LINE << 8 | RELKVANU_FAULT_TOO_LONG, /* A line has at most 131072 bytes. */
     line_word = RELKVANU_BAD_LINE << 8 | RELKVANU_FAULT_WORD, /* A word that does not belong there. */
@@ -91,12 +92,22 @@ enum class error : int {
     line_number = RELKVANU_BAD_LINE << 8 | RELKVANU_FAULT_NUMBER, /* Not a number, or not a subtask. */
     line_extra = RELKVANU_BAD_LINE << 8 | RELKVANU_FAULT_EXTRA, /* A word follows the last one. */
     line_no_call = RELKVANU_BAD_LINE << 8 | RELKVANU_FAULT_NO_CALL, /* A config, job, start or all line: it was read, and makes no call. */
+    fenced_old_term = RELKVANU_FENCED << 8 | RELKVANU_OLD_TERM, /* The term of the task has ended, or has not begun. */
+    fenced_ended = RELKVANU_FENCED << 8 | RELKVANU_ENDED, /* The job was cancelled, and no task runs. */
+    fenced_bad_count = RELKVANU_FENCED << 8 | RELKVANU_BAD_COUNT, /* It would reserve no name, or more than 65536. */
+    fenced_names_used_up = RELKVANU_FENCED << 8 | RELKVANU_NAMES_USED_UP, /* All names up to 2^62 - 1 were given out. */
+    fenced_terms_used_up = RELKVANU_FENCED << 8 | RELKVANU_TERMS_USED_UP, /* As many terms have ended as can be counted, 2^62. */
+    fenced_spent = RELKVANU_FENCED << 8 | RELKVANU_SPENT, /* Its name was given out, and the term does not hold it: nobody deletes it for this answer. */
+    fenced_never_reserved = RELKVANU_FENCED << 8 | RELKVANU_NEVER_RESERVED, /* Its name was not given out. */
+    fenced_no_names = RELKVANU_FENCED << 8 | RELKVANU_NO_NAMES, /* The handle has no names. */
+    fenced_has_names = RELKVANU_FENCED << 8 | RELKVANU_HAS_NAMES, /* The handle has names. */
+    fenced_name_in_use = RELKVANU_FENCED << 8 | RELKVANU_NAME_IN_USE, /* A file with this number or a greater one is in use, waits for deletion or was fetched. */
     unknown = 0xff << 8, /* The library is of another version. After it alone the call may have been made. */
 };
 
 /* Whether an answer with this code has a `what`. */
 constexpr bool has_what(std::uint32_t code) noexcept {
-    return code == RELKVANU_REFUSED || code == RELKVANU_BAD_ARGUMENT || code == RELKVANU_BAD_LINE;
+    return code == RELKVANU_REFUSED || code == RELKVANU_BAD_ARGUMENT || code == RELKVANU_BAD_LINE || code == RELKVANU_FENCED;
 }
 /* embed/bindings: end */
 
@@ -112,6 +123,7 @@ inline const char *message_of(error it) noexcept {
     case error::bad_first: return "BadFirst";
     case error::bad_kind: return "BadKind";
     case error::bad_image: return "BadImage";
+    case error::bad_name: return "BadName";
     case error::too_short: return "the buffer is too short";
     case error::line_too_long: return "TooLong";
     case error::line_word: return "Word";
@@ -119,6 +131,16 @@ inline const char *message_of(error it) noexcept {
     case error::line_number: return "Number";
     case error::line_extra: return "Extra";
     case error::line_no_call: return "NoCall";
+    case error::fenced_old_term: return "OldTerm";
+    case error::fenced_ended: return "Ended";
+    case error::fenced_bad_count: return "BadCount";
+    case error::fenced_names_used_up: return "NamesUsedUp";
+    case error::fenced_terms_used_up: return "TermsUsedUp";
+    case error::fenced_spent: return "Spent";
+    case error::fenced_never_reserved: return "NeverReserved";
+    case error::fenced_no_names: return "NoNames";
+    case error::fenced_has_names: return "HasNames";
+    case error::fenced_name_in_use: return "NameInUse";
     default: return "unknown";
     }
 }

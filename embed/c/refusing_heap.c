@@ -3,6 +3,7 @@
 
 #include "../../include/relkvanu_alloc.h"
 
+#include <stdbool.h>
 #include <stdio.h>
 #include <stdlib.h>
 #include <string.h>
@@ -16,11 +17,17 @@ struct note {
 
 static const uint64_t MARK = 0x72656c6b76616e75;
 static uint64_t requests;
-static uint64_t refused;
+/* the first and the last request that are refused; the first is 0 if none is */
+static uint64_t refused, last_refused;
 
 void heap_refuse(uint64_t nth) {
     requests = 0;
-    refused = nth;
+    refused = last_refused = nth;
+}
+
+void heap_refuse_from(uint64_t nth) {
+    heap_refuse(nth);
+    last_refused = UINT64_MAX;
 }
 
 uint64_t heap_requests(void) {
@@ -46,7 +53,8 @@ relkvanu_block rattle_alloc(size_t size, size_t align) {
     check(align != 0 && align <= 16 && (align & (align - 1)) == 0, "an align that is no power of two up to 16");
     check(size <= SIZE_MAX / 2, "a size above 2^63 - 1");
     requests++;
-    struct note *note = requests == refused ? NULL : malloc(sizeof *note + size);
+    bool is_refused = refused != 0 && refused <= requests && requests <= last_refused;
+    struct note *note = is_refused ? NULL : malloc(sizeof *note + size);
     if (note == NULL) {
         return none;
     }

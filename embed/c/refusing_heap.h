@@ -8,6 +8,10 @@
 /* Refuses the n-th request for memory from now on, once. Refuses none if n is 0. */
 void heap_refuse(uint64_t nth);
 
+/* Refuses the n-th request and all later ones, until the next call of either function: a list that is refused room to spare may ask for
+ * less. */
+void heap_refuse_from(uint64_t nth);
+
 /* How often memory was asked for since then. */
 uint64_t heap_requests(void);
 

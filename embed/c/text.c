@@ -68,6 +68,11 @@ static const char *done_text(uint32_t what) {
     case RELKVANU_NOT_ACKNOWLEDGED: return "not acknowledged";
     case RELKVANU_WAITING: return "waiting {a}";
     case RELKVANU_NONE_WAITS: return "none waits";
+    case RELKVANU_RESERVED: return "reserved {a} {b}";
+    case RELKVANU_FORFEITED: return "forfeited";
+    case RELKVANU_TERM: return "term {a} {b}";
+    case RELKVANU_NAMED: return "named";
+    case RELKVANU_GARBAGE: return "garbage";
     default: return UNKNOWN;
     }
 }
@@ -102,6 +107,7 @@ static const char *bad_argument_text(uint32_t what) {
     case RELKVANU_BAD_FIRST: return "refused BadFirst";
     case RELKVANU_BAD_KIND: return "refused BadKind";
     case RELKVANU_BAD_IMAGE: return "refused BadImage";
+    case RELKVANU_BAD_NAME: return "refused BadName";
     default: return UNKNOWN;
     }
 }
@@ -118,6 +124,22 @@ static const char *bad_line_text(uint32_t what) {
     }
 }
 
+static const char *fenced_text(uint32_t what) {
+    switch (what) {
+    case RELKVANU_OLD_TERM: return "fenced OldTerm";
+    case RELKVANU_ENDED: return "fenced Ended";
+    case RELKVANU_BAD_COUNT: return "fenced BadCount";
+    case RELKVANU_NAMES_USED_UP: return "fenced NamesUsedUp";
+    case RELKVANU_TERMS_USED_UP: return "fenced TermsUsedUp";
+    case RELKVANU_SPENT: return "fenced Spent {a}";
+    case RELKVANU_NEVER_RESERVED: return "fenced NeverReserved {a}";
+    case RELKVANU_NO_NAMES: return "fenced NoNames";
+    case RELKVANU_HAS_NAMES: return "fenced HasNames";
+    case RELKVANU_NAME_IN_USE: return "fenced NameInUse";
+    default: return UNKNOWN;
+    }
+}
+
 static const char *text_of(uint32_t code, uint32_t what) {
     switch (code) {
     case RELKVANU_DONE: return done_text(what);
@@ -127,6 +149,7 @@ static const char *text_of(uint32_t code, uint32_t what) {
     case RELKVANU_BAD_ARGUMENT: return bad_argument_text(what);
     case RELKVANU_TOO_SHORT: return what == 0 ? "too short {a}" : UNKNOWN;
     case RELKVANU_BAD_LINE: return bad_line_text(what);
+    case RELKVANU_FENCED: return fenced_text(what);
     default: return UNKNOWN;
     }
 }

@@ -85,6 +85,7 @@ const (
 	BadFirst    BadArgument = C.RELKVANU_BAD_FIRST    // The number of the first record is not within 1 to 2^62 - 1.
 	BadKind     BadArgument = C.RELKVANU_BAD_KIND     // The kind of a call that is to be written.
 	BadImage    BadArgument = C.RELKVANU_BAD_IMAGE    // The bytes are not an image, or the state is not sound, or no coordinator could be opened so.
+	BadName     BadArgument = C.RELKVANU_BAD_NAME     // The first name is 0 or above 2^62.
 	// embed/bindings: end
 
 	BadSavepoint BadArgument = 1 << 31 // no savepoint has the number 0: only this package checks it
@@ -100,6 +101,7 @@ var arguments = map[BadArgument]string{
 	BadFirst:    "BadFirst",
 	BadKind:     "BadKind",
 	BadImage:    "BadImage",
+	BadName:     "BadName",
 	// embed/bindings: end
 }
 
@@ -142,6 +144,41 @@ func (f LineFault) String() string { return named(faults, f) }
 func (f LineFault) Error() string { return "relkvanu: the line can't be read: " + f.String() }
 
 // embed/bindings makes the other enums
+// Fenced: Why a term or the names refuse a call.
+type Fenced uint32
+
+// The numbers of Fenced.
+const (
+	FencedOldTerm       Fenced = C.RELKVANU_OLD_TERM       // The term of the task has ended, or has not begun.
+	FencedEnded         Fenced = C.RELKVANU_ENDED          // The job was cancelled, and no task runs.
+	FencedBadCount      Fenced = C.RELKVANU_BAD_COUNT      // It would reserve no name, or more than 65536.
+	FencedNamesUsedUp   Fenced = C.RELKVANU_NAMES_USED_UP  // All names up to 2^62 - 1 were given out.
+	FencedTermsUsedUp   Fenced = C.RELKVANU_TERMS_USED_UP  // As many terms have ended as can be counted, 2^62.
+	FencedSpent         Fenced = C.RELKVANU_SPENT          // Its name was given out, and the term does not hold it: nobody deletes it for this answer.
+	FencedNeverReserved Fenced = C.RELKVANU_NEVER_RESERVED // Its name was not given out.
+	FencedNoNames       Fenced = C.RELKVANU_NO_NAMES       // The handle has no names.
+	FencedHasNames      Fenced = C.RELKVANU_HAS_NAMES      // The handle has names.
+	FencedNameInUse     Fenced = C.RELKVANU_NAME_IN_USE    // A file with this number or a greater one is in use, waits for deletion or was fetched.
+)
+
+var namesFenced = map[Fenced]string{
+	FencedOldTerm:       "OldTerm",
+	FencedEnded:         "Ended",
+	FencedBadCount:      "BadCount",
+	FencedNamesUsedUp:   "NamesUsedUp",
+	FencedTermsUsedUp:   "TermsUsedUp",
+	FencedSpent:         "Spent",
+	FencedNeverReserved: "NeverReserved",
+	FencedNoNames:       "NoNames",
+	FencedHasNames:      "HasNames",
+	FencedNameInUse:     "NameInUse",
+}
+
+// String is the name, such as "OldTerm".
+func (it Fenced) String() string { return named(namesFenced, it) }
+
+func (it Fenced) Error() string { return "relkvanu: fenced: " + it.String() }
+
 // embed/bindings: end
 
 // named is the name of a number, or the number if it has none: the library is of another version.
@@ -188,6 +225,8 @@ func fault(answer C.relkvanu_answer) error {
 		return BadArgument(answer.what)
 	case C.RELKVANU_BAD_LINE:
 		return LineFault(answer.what)
+	case C.RELKVANU_FENCED:
+		return Fenced(answer.what)
 		// embed/bindings: end
 	}
 	return unknown(answer)

@@ -101,7 +101,7 @@ ends_otherwise (b ∷ bs) above =
     let big : 13 < slice_index (b ∷ bs) (length (b ∷ bs) - 1) = at (b ∷ bs) (length (b ∷ bs) - 1) above within in
     grind (arith, nat_tests, big)
 
-no_strip : (text : List ℕ) → Each (λ b. 13 < b) text → strip_carriage_return text ≡ text
+pub no_strip : (text : List ℕ) → Each (λ b. 13 < b) text → strip_carriage_return text ≡ text
 no_strip text above = rw (ends_otherwise text above) refl
 
 pub reading-written : (text : List ℕ) (words : List (List ℕ)) → IsWritten text words → length text ≤ LONGEST_LINE → reading text ≡ line_of words

@@ -156,7 +156,7 @@ reused_ones : (fresh reused : List ℕ) → filter_map reused_file (map Fresh fr
 reused_ones [] reused = all_reused reused
 reused_ones (f ∷ fresh) reused = reused_ones fresh reused
 
-stays : (files : List ℕ) → IsAscending files → ascending files ≡ files
+pub stays : (files : List ℕ) → IsAscending files → ascending files ≡ files
 stays files order = same_from_times (ascending files) files (IsAscending-ascending files) order (λ z. times-ascending z files)
 
 pub file_places-words : (fresh reused : List ℕ) → Each Fits fresh → Each Fits reused → IsAscending fresh → IsAscending reused

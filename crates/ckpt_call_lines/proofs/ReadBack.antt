@@ -19,15 +19,25 @@ use Rattle.ckpt_call_lines.specs.CallTexts.{call_text, triggers_text, limits_tex
 use Rattle.ckpt_call_lines.proofs.LineLemmas.{Each, from_all, IsPlain, IsWritten, last, next, each_next, each_before, plain_by, reading-written}
 use Rattle.ckpt_call_lines.proofs.NumberWords.{subtask_word, plain_number, plain_numbers, plain_subtask, plain_files, number_place-decimal, subtask_place-word, target_place-decimal, target_place-latest, each-numbers, file_places-words}
 
-read_as : (text : List ℕ) (words : List (List ℕ)) (read : Line) → IsWritten text words → line_of words ≡ Ok read → IsReadAs read text
-read_as text words read written is = λ short. reading-written text words written short ∙ is
+-- The text has words that are read as this line.
+pub record Says (read : Line) (text : List ℕ) : Type 0 where
+  pub words : List (List ℕ)
+  pub written : IsWritten text words
+  pub is : line_of words ≡ Ok read
+
+read_as : (text : List ℕ) (words : List (List ℕ)) (read : Line) → IsWritten text words → line_of words ≡ Ok read → Says read text
+read_as text words read written is = record { words = words; written = written; is = is }
+
+-- such a text is read as this line
+read_back : (read : Line) (text : List ℕ) → Says read text → IsReadAs read text
+read_back read text says = λ short. reading-written text says.words says.written short ∙ says.is
 
 -- the same of a text whose parts were appended one after the other
-put_together : (text parts : List ℕ) (read : Line) → text ≡ parts → IsReadAs read parts → IsReadAs read text
-put_together text parts read same is = subst (λ (t : List ℕ). IsReadAs read t) (sym same) is
+put_together : (text parts : List ℕ) (read : Line) → text ≡ parts → Says read parts → Says read text
+put_together text parts read same is = subst (λ (t : List ℕ). Says read t) (sym same) is
 
 -- one number after the first word
-one : (word : List ℕ) (n : ℕ) → IsPlain word → Fits n → IsWritten (word ++ 32 ∷ decimal n) (word ∷ decimal n ∷ [])
+pub one : (word : List ℕ) (n : ℕ) → IsPlain word → Fits n → IsWritten (word ++ 32 ∷ decimal n) (word ∷ decimal n ∷ [])
 one word n plain fits = next word (decimal n) (decimal n ∷ []) plain (last (decimal n) (plain_number n fits))
 
 number_read : (line : ℕ → Line) (n : ℕ) → Fits n → number_line line (decimal n ∷ []) ≡ Ok (line n)
@@ -35,12 +45,12 @@ unfolding number_line ended
 number_read line n fits = rw (number_place-decimal n [] fits) refl
 
 -- such a line is read as its keyword says
-numbered : (word : List ℕ) (line : ℕ → Line) (n : ℕ) → (list_all (λ b. ltb 32 b) word && ltb 0 (length word)) ≡ true → Fits n → line_of (word ∷ decimal n ∷ []) ≡ number_line line (decimal n ∷ []) → IsReadAs (line n) (word ++ 32 ∷ decimal n)
+numbered : (word : List ℕ) (line : ℕ → Line) (n : ℕ) → (list_all (λ b. ltb 32 b) word && ltb 0 (length word)) ≡ true → Fits n → line_of (word ∷ decimal n ∷ []) ≡ number_line line (decimal n ∷ []) → Says (line n) (word ++ 32 ∷ decimal n)
 numbered word line n plain fits is = read_as _ _ _ (one word n (plain_by word plain) fits) (is ∙ number_read line n fits)
 
-pub start : (now : ℕ) → Fits now → IsReadAs (line.Start now) (start_text now)
+pub says_start : (now : ℕ) → Fits now → Says (line.Start now) (start_text now)
 unfolding line_of keyword_of row start_text
-start now fits = numbered (codes "start") line.Start now refl fits refl
+says_start now fits = numbered (codes "start") line.Start now refl fits refl
 
 -- two numbers between the first word and the rest
 two : (word : List ℕ) (m n : ℕ) (rest : List ℕ) (words : List (List ℕ)) → IsPlain word → Fits m → Fits n → IsWritten rest words
@@ -50,7 +60,7 @@ two word m n rest words plain fits fits' written =
     let middle : IsWritten (decimal m ++ 32 ∷ (decimal n ++ 32 ∷ rest)) (decimal m ∷ decimal n ∷ words) = next (decimal m) _ _ (plain_number m fits) inner in
     next word _ _ plain middle
 
-pub decline : (now id : ℕ) (s : SubtaskId) → Fits now → Fits id → FitsSubtask s → IsReadAs (line.Decline now id s) (codes "decline" ++ 32 ∷ (decimal now ++ 32 ∷ (decimal id ++ 32 ∷ subtask_word s)))
+pub decline : (now id : ℕ) (s : SubtaskId) → Fits now → Fits id → FitsSubtask s → Says (line.Decline now id s) (codes "decline" ++ 32 ∷ (decimal now ++ 32 ∷ (decimal id ++ 32 ∷ subtask_word s)))
 unfolding line_of keyword_of row decline_line ended
 decline now id s now_fits id_fits s_fits =
     let sub : IsWritten (subtask_word s) (subtask_word s ∷ []) = last (subtask_word s) (plain_subtask s s_fits) in
@@ -59,7 +69,7 @@ decline now id s now_fits id_fits s_fits =
     (rw (number_place-decimal now (decimal id ∷ subtask_word s ∷ []) now_fits, number_place-decimal id (subtask_word s ∷ []) id_fits, subtask_place-word s [] s_fits) refl)
 
 pub ack : (now id : ℕ) (s : SubtaskId) (fresh reused : List ℕ) → Fits now → Fits id → FitsSubtask s → Each Fits fresh → Each Fits reused → IsAscending fresh → IsAscending reused
-    → IsReadAs (line.Ack now id s fresh reused) (codes "ack" ++ 32 ∷ (decimal now ++ 32 ∷ (decimal id ++ 32 ∷ (subtask_word s ++ (flat_map (λ f. 32 ∷ 43 ∷ decimal f) fresh ++ flat_map (λ f. 32 ∷ 61 ∷ decimal f) reused)))))
+    → Says (line.Ack now id s fresh reused) (codes "ack" ++ 32 ∷ (decimal now ++ 32 ∷ (decimal id ++ 32 ∷ (subtask_word s ++ (flat_map (λ f. 32 ∷ 43 ∷ decimal f) fresh ++ flat_map (λ f. 32 ∷ 61 ∷ decimal f) reused)))))
 unfolding line_of keyword_of row ack_line
 ack now id s fresh reused now_fits id_fits s_fits fresh_fit reused_fit order order' =
     let plus : 32 < 43 = omega arith in
@@ -78,28 +88,28 @@ restore_rest now word shape fits plain all =
     next (codes "restore") _ _ (plain_by (codes "restore") refl) (next (decimal now) _ _ (plain_number now fits) inner)
 
 pub restore_latest : (now : ℕ) (shape : List ℕ) → Fits now → Each Fits shape
-    → IsReadAs (line.Restore now target.Latest shape) (codes "restore" ++ 32 ∷ (decimal now ++ 32 ∷ (codes "latest" ++ flat_map (λ n. 32 ∷ decimal n) shape)))
+    → Says (line.Restore now target.Latest shape) (codes "restore" ++ 32 ∷ (decimal now ++ 32 ∷ (codes "latest" ++ flat_map (λ n. 32 ∷ decimal n) shape)))
 unfolding line_of keyword_of row restore_line
 restore_latest now shape fits all =
     read_as _ (codes "restore" ∷ decimal now ∷ codes "latest" ∷ map decimal shape) _ (restore_rest now (codes "latest") shape fits (plain_by (codes "latest") refl) all)
     (rw (number_place-decimal now (codes "latest" ∷ map decimal shape) fits, target_place-latest (map decimal shape), each-numbers shape all) refl)
 
 pub restore_savepoint : (now id : ℕ) (shape : List ℕ) → Fits now → Fits id → Each Fits shape
-    → IsReadAs (line.Restore now (target.Savepoint id) shape) (codes "restore" ++ 32 ∷ (decimal now ++ 32 ∷ (decimal id ++ flat_map (λ n. 32 ∷ decimal n) shape)))
+    → Says (line.Restore now (target.Savepoint id) shape) (codes "restore" ++ 32 ∷ (decimal now ++ 32 ∷ (decimal id ++ flat_map (λ n. 32 ∷ decimal n) shape)))
 unfolding line_of keyword_of row restore_line
 restore_savepoint now id shape fits fits' all =
     read_as _ (codes "restore" ∷ decimal now ∷ decimal id ∷ map decimal shape) _ (restore_rest now (decimal id) shape fits (plain_number id fits') all)
     (rw (number_place-decimal now (decimal id ∷ map decimal shape) fits, target_place-decimal id (map decimal shape) fits', each-numbers shape all) refl)
 
-pub job : (first : ℕ) (others : List ℕ) → Each Fits (first ∷ others) → IsReadAs (line.Job (first ∷ others)) (job_text (first ∷ others))
+pub says_job : (first : ℕ) (others : List ℕ) → Each Fits (first ∷ others) → Says (line.Job (first ∷ others)) (job_text (first ∷ others))
 unfolding job_text line_of keyword_of row job_line
-job first others all =
+says_job first others all =
     read_as _ (codes "job" ∷ map decimal (first ∷ others)) _ (each_next decimal (codes "job") (first ∷ others) (plain_by (codes "job") refl) (plain_numbers (first ∷ others) all))
     (rw (each-numbers (first ∷ others) all) refl)
 
-pub job_of : (shape : List ℕ) → IsShape shape → All Fits shape → IsReadAs (line.Job shape) (job_text shape)
-job_of [] is all = absurd (omega (arith, is.vertices_from))
-job_of (first ∷ others) is all = job first others (from_all Fits (first ∷ others) all)
+pub says_job_of : (shape : List ℕ) → IsShape shape → All Fits shape → Says (line.Job shape) (job_text shape)
+says_job_of [] is all = absurd (omega (arith, is.vertices_from))
+says_job_of (first ∷ others) is all = says_job first others (from_all Fits (first ∷ others) all)
 
 config_words : (i p a t f r : ℕ) (word : List ℕ) → Fits i → Fits p → Fits a → Fits t → Fits f → Fits r → IsPlain word
     → IsWritten (codes "config" ++ 32 ∷ (decimal i ++ 32 ∷ (decimal p ++ 32 ∷ (decimal a ++ 32 ∷ (decimal t ++ 32 ∷ (decimal f ++ 32 ∷ (decimal r ++ 32 ∷ word)))))))
@@ -155,9 +165,9 @@ kept_parts : (c : Configuration)
 kept_parts c =
     ap (λ (w : List ℕ). codes "config" ++ 32 ∷ (decimal c.interval ++ 32 ∷ (decimal c.pause ++ 32 ∷ (decimal c.at_once ++ 32 ∷ (decimal c.timeout ++ 32 ∷ (decimal c.tolerable ++ 32 ∷ (decimal c.retained ++ w))))))) (text_kept c.keep_on_cancel)
 
-pub config : (c : Configuration) → IsWithinLimits c → IsReadAs (line_of_config c) (config_text c)
+pub says_config : (c : Configuration) → IsWithinLimits c → Says (line_of_config c) (config_text c)
 unfolding config_text triggers_text limits_text
-config c is =
+says_config c is =
     let i : Fits c.interval = omega (arith, is.interval_to) in
     let p : Fits c.pause = omega (arith, is.pause_to) in
     let a : Fits c.at_once = omega (arith, is.at_once_to) in
@@ -199,21 +209,34 @@ savepoint_parts : (now id : ℕ) (shape : Option (List ℕ)) → call_text (call
 unfolding call_text
 savepoint_parts now id shape = parts_4 (codes "restore") (spaced now) (spaced id) (flat_map spaced (parallelisms shape))
 
-pub reads : (c : Call) → FitsCall c → IsReadAs (line_of_call c) (call_text c)
+pub says_call : (c : Call) → FitsCall c → Says (line_of_call c) (call_text c)
 unfolding call_text line_of keyword_of row
-reads (call.Tick now) fits = numbered (codes "tick") line.Tick now refl fits refl
-reads (call.Savepoint now) fits = numbered (codes "savepoint") line.Savepoint now refl fits refl
-reads (call.Ack now id s fresh reused) fits =
+says_call (call.Tick now) fits = numbered (codes "tick") line.Tick now refl fits refl
+says_call (call.Savepoint now) fits = numbered (codes "savepoint") line.Savepoint now refl fits refl
+says_call (call.Ack now id s fresh reused) fits =
     put_together _ _ _ (ack_parts now id s fresh reused)
     (ack now id s fresh reused fits.0 fits.1 fits.2 (from_all Fits fresh fits.3.0) (from_all Fits reused fits.4.0) fits.3.1 fits.4.1)
-reads (call.Decline now id s) fits = put_together _ _ _ (decline_parts now id s) (decline now id s fits.0 fits.1 fits.2)
-reads (call.Dispose id) fits = numbered (codes "dispose") line.Dispose id refl fits refl
-reads (call.Restore now target.Latest shape) fits = put_together _ _ _ (latest_parts now shape) (restore_latest now (parallelisms shape) fits.0 (from_all Fits (parallelisms shape) fits.2))
-reads (call.Restore now (target.Savepoint id) shape) fits =
+says_call (call.Decline now id s) fits = put_together _ _ _ (decline_parts now id s) (decline now id s fits.0 fits.1 fits.2)
+says_call (call.Dispose id) fits = numbered (codes "dispose") line.Dispose id refl fits refl
+says_call (call.Restore now target.Latest shape) fits = put_together _ _ _ (latest_parts now shape) (restore_latest now (parallelisms shape) fits.0 (from_all Fits (parallelisms shape) fits.2))
+says_call (call.Restore now (target.Savepoint id) shape) fits =
     put_together _ _ _ (savepoint_parts now id shape) (restore_savepoint now id (parallelisms shape) fits.0 fits.1 (from_all Fits (parallelisms shape) fits.2))
-reads (call.Cancel now) fits = numbered (codes "cancel") line.Cancel now refl fits refl
-reads (call.Take most) fits = numbered (codes "take") line.Take most refl fits refl
-reads (call.Deleted file) fits = numbered (codes "deleted") line.Deleted file refl fits refl
-reads (call.Undeleted file) fits = numbered (codes "undeleted") line.Undeleted file refl fits refl
-reads (call.Show id) fits = numbered (codes "show") line.Show id refl fits refl
-reads (call.Count file) fits = numbered (codes "count") line.Count file refl fits refl
+says_call (call.Cancel now) fits = numbered (codes "cancel") line.Cancel now refl fits refl
+says_call (call.Take most) fits = numbered (codes "take") line.Take most refl fits refl
+says_call (call.Deleted file) fits = numbered (codes "deleted") line.Deleted file refl fits refl
+says_call (call.Undeleted file) fits = numbered (codes "undeleted") line.Undeleted file refl fits refl
+says_call (call.Show id) fits = numbered (codes "show") line.Show id refl fits refl
+says_call (call.Count file) fits = numbered (codes "count") line.Count file refl fits refl
+
+-- and so it is read
+pub start : (now : ℕ) → Fits now → IsReadAs (line.Start now) (start_text now)
+start now fits = read_back (line.Start now) (start_text now) (says_start now fits)
+
+pub job_of : (shape : List ℕ) → IsShape shape → All Fits shape → IsReadAs (line.Job shape) (job_text shape)
+job_of shape is all = read_back (line.Job shape) (job_text shape) (says_job_of shape is all)
+
+pub config : (c : Configuration) → IsWithinLimits c → IsReadAs (line_of_config c) (config_text c)
+config c is = read_back (line_of_config c) (config_text c) (says_config c is)
+
+pub reads : (c : Call) → FitsCall c → IsReadAs (line_of_call c) (call_text c)
+reads c fits = read_back (line_of_call c) (call_text c) (says_call c fits)

@@ -25,8 +25,12 @@ pub fn call_line(alloc: Global, call: &Call) -> Result<String, AllocError>
     Ok(text)
 }
 
+/// Appends the line of a call, without its newline. Its contract also says what the types of the
+/// call's numbers allow, for reading them back.
+///
+/// Fails only if memory runs out, and then the text may have a part of the line at its end.
 #[tactic(auto, unfolding(crate::specs::CallTexts::call_text))]
-fn write_call(text: &mut String, call: &Call) -> Result<(), AllocError>
+pub fn write_call(text: &mut String, call: &Call) -> Result<(), AllocError>
     ensures text { OnOk result (string_bytes text.new ≡ string_bytes text.old ++ call_text call.now) }
     ensures fits { OnOk result (FitsCall call.now) }
 {

@@ -6,8 +6,10 @@ ghost use Rattle.ckpt_call_lines.specs.CallTexts.{Fits, FitsFiles, FitsSubtask, 
 use ckpt_ids::{Files, Shape, SubtaskId, Target};
 use std::alloc::AllocError;
 
-/// Appends words and a number.
-pub(crate) fn write_number(text: &mut String, words: &str, number: u64) -> Result<(), AllocError>
+/// Appends words and a number. Its contract also says what the type of the number allows.
+///
+/// Fails only if memory runs out, and then the text may have a part of them at its end.
+pub fn write_number(text: &mut String, words: &str, number: u64) -> Result<(), AllocError>
     ensures text { OnOk result (string_bytes text.new ≡ string_bytes text.old ++ words.now ++ decimal number) }
     ensures fits { Fits number }
 {

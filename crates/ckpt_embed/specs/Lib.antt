@@ -1,10 +1,12 @@
 -- The definitions that contracts cite.
 pub mod Buffers
 pub mod Calls
+pub mod Fenced
 pub mod Images
 pub mod Kept
 pub mod Lines
 pub mod Names
+pub mod Naming
 pub mod Opening
 pub mod Reads
 pub mod Recovery

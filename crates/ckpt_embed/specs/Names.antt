@@ -10,3 +10,12 @@ names =
 -- empty if no refusal has the number
 abbrev pub refusal_name : ℕ → List ℕ
 refusal_name what = get_or names what []
+
+-- and of refusals by a term or by names
+abbrev pub fenced_names : List (List ℕ)
+fenced_names =
+    [] ∷ codes "OldTerm" ∷ codes "Ended" ∷ codes "BadCount" ∷ codes "NamesUsedUp" ∷ codes "TermsUsedUp"
+    ∷ codes "Spent" ∷ codes "NeverReserved" ∷ codes "NoNames" ∷ codes "HasNames" ∷ codes "NameInUse" ∷ []
+
+abbrev pub fenced_name : ℕ → List ℕ
+fenced_name what = get_or fenced_names what []

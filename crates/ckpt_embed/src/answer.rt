@@ -36,6 +36,8 @@ pub const BAD_ARGUMENT: u32 = 4;
 pub const TOO_SHORT: u32 = 5;
 /// The line makes no call, or would be too long to be read, and nothing has changed.
 pub const BAD_LINE: u32 = 6;
+/// A term or the names refuse the call, and nothing has changed.
+pub const FENCED: u32 = 7;
 
 impl Answer {
     /// The answer to a call that was made.
@@ -124,7 +126,8 @@ impl Answer {
 
     /// A refusal, with its file if it has one.
     pub(crate) fn of_refusal(why: Refusal) -> Answer
-        ensures { result ≡ refusal_told why }
+        ensures told { result ≡ refusal_told why }
+        ensures code { result.code ≡ 1 }
     {
         match why {
             Refusal::MomentTooLarge => refused(1, 0),

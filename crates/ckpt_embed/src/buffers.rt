@@ -1,20 +1,20 @@
 //! The calls that write to a caller's buffer: take and show.
 
-ghost use Rattle.std.specs.Prelude.{◌≡◌, ◌≢◌, ◌≤◌, true, length, Some};
+ghost use Rattle.std.specs.Prelude.{◌≡◌, ◌≢◌, ◌≤◌, ℕ, true, length, Some};
 ghost use Rattle.ckpt_ids.specs.declared.call.Call.TheVariants as call;
-ghost use Rattle.ckpt_model.specs.Memory.{may_want_memory};
+ghost use Rattle.ckpt_model.specs.Memory.{answer_wants, may_want_memory};
 ghost use Rattle.ckpt_model.specs.State.{State};
 ghost use Rattle.ckpt_model.specs.Steps.{step};
 ghost use Rattle.ckpt_texts.specs.MetadataTexts.{metadata_bytes};
-ghost use Rattle.ckpt_embed.specs.Buffers.{BringsFiles, BringsJson, IsShowTold, StandsInFront, files_in, files_of_reply, json_of_reply, json_told, show_reply_told};
+ghost use Rattle.ckpt_embed.specs.Buffers.{BringsFiles, BringsJson, IsShowTold, StandsInFront, files_in, files_of_reply, json_in, json_of_reply, json_told, show_reply_told, show_told};
 ghost use Rattle.ckpt_embed.specs.Calls.{HasNoNumbers, IsAnswered, IsStepTold, StaysAsItWas, StaysClosed, WantsMemory};
-ghost use Rattle.ckpt_embed.specs.Told.{no_memory, reply_told};
+ghost use Rattle.ckpt_embed.specs.Told.{no_memory, reply_told, told};
+ghost use Rattle.ckpt_terms.specs.Machines.{core_in, names_in};
 
 use crate::answer::Answer;
-use crate::calls::of_fault;
 use crate::handle::Handle;
-use ckpt_core::Core;
-use ckpt_ids::{Call, CheckpointId, FileId, Metadata, Reply};
+use ckpt_ids::{Answer as Told, Call, CheckpointId, FileId, Metadata, Reply};
+use ckpt_terms::Machine;
 use ckpt_texts::metadata_text;
 use std::alloc::Global;
 
@@ -28,12 +28,13 @@ pub fn take(alloc: Global, handle: &mut Handle, files: &mut [u64]) -> Answer
     ensures memory { WantsMemory handle.old.value (call.Take (length files.old)) result }
     ensures numbers { HasNoNumbers result }
     ensures unchanged { StaysAsItWas handle.old.value handle.new.value result }
+    ensures names { handle.new.names ≡ handle.old.names }
 {
-    let Some(mut core) = handle.take(alloc) else {
+    let Some(mut machine) = handle.take(alloc) else {
         return Answer::closed();
     };
-    let answer = take_from(&mut core, files.len() as u64, files);
-    handle.put(alloc, core);
+    let answer = take_from(&mut machine, files.len() as u64, files);
+    handle.put(alloc, machine);
     answer
 }
 
@@ -49,37 +50,55 @@ pub fn show(alloc: Global, handle: &mut Handle, id: u64, json: &mut [u8]) -> Ans
     ensures memory { WantsMemory handle.old.value (call.Show id) result }
     ensures numbers { HasNoNumbers result }
     ensures unchanged { handle.new.value ≡ handle.old.value }
+    ensures names { handle.new.names ≡ handle.old.names }
 {
-    let Some(mut core) = handle.take(alloc) else {
+    let Some(mut machine) = handle.take(alloc) else {
         return Answer::closed();
     };
-    let answer = show_from(alloc, &mut core, id, json);
-    handle.put(alloc, core);
+    let answer = show_from(alloc, &mut machine, id, json);
+    handle.put(alloc, machine);
     answer
 }
 
 /// Fetches at most `most` files.
 ///
 /// Condition: the buffer has a place for each.
-pub(crate) fn take_from(core: &mut Core, most: u64, files: &mut [u64]) -> Answer
-    requires fits { length (files_in (step core.old (call.Take most)).1) ≤ length files.old }
-    ensures answered { IsStepTold core.old core.new (call.Take most) result }
-    ensures front { result.code ≢ no_memory → StandsInFront (files_in (step core.old (call.Take most)).1) files.old files.new }
+pub(crate) fn take_from(machine: &mut Machine, most: u64, files: &mut [u64]) -> Answer
+    requires fits { length (files_in (step (core_in machine.old) (call.Take most)).1) ≤ length files.old }
+    ensures answered { IsStepTold (core_in machine.old) (core_in machine.new) (call.Take most) result }
+    ensures front { result.code ≢ no_memory → StandsInFront (files_in (step (core_in machine.old) (call.Take most)).1) files.old files.new }
     ensures kept { result.code ≢ 0 → files.new ≡ files.old }
-    ensures memory { result.code ≡ no_memory → may_want_memory core.old (call.Take most) ≡ true }
+    ensures memory { result.code ≡ no_memory → may_want_memory (core_in machine.old) (call.Take most) ≡ true }
     ensures numbers { HasNoNumbers result }
-    ensures unchanged { result.code ≡ no_memory → core.new ≡ core.old }
+    ensures names { names_in machine.new ≡ names_in machine.old }
+    ensures unchanged { result.code ≡ no_memory → machine.new ≡ machine.old }
 {
-    match core.apply(&Call::Take { most }) {
-        Ok(reply) => with_files(&reply, files),
-        Err(fault) => of_fault(fault),
+    match machine.pass(&Call::Take { most }) {
+        Ok(answer) => with_files(&answer, files),
+        Err(_) => Answer::out_of_memory(),
+    }
+}
+
+/// The answer of the coordinator. Writes its files to the start of a buffer.
+///
+/// Condition: the buffer has a place for each.
+fn with_files(answer: &Told, files: &mut [u64]) -> Answer
+    requires fits { length (files_in answer.now) ≤ length files.old }
+    ensures told { result ≡ told answer.now }
+    ensures code { result.code ≢ no_memory }
+    ensures front { StandsInFront (files_in answer.now) files.old files.new }
+    ensures kept { result.code ≢ 0 → files.new ≡ files.old }
+{
+    match answer {
+        Told::Done(reply) => with_files_of(reply, files),
+        Told::Refused(why) => Answer::of_refusal(*why),
     }
 }
 
 /// The answer for a reply. Writes its files to the start of a buffer.
 ///
 /// Condition: the buffer has a place for each.
-fn with_files(reply: &Reply, files: &mut [u64]) -> Answer
+fn with_files_of(reply: &Reply, files: &mut [u64]) -> Answer
     requires fits { length (files_of_reply reply.now) ≤ length files.old }
     ensures told { result ≡ reply_told reply.now }
     ensures code { result.code ≡ 0 }
@@ -104,19 +123,36 @@ pub(crate) fn write_files(list: &[FileId], files: &mut [u64])
     }
 }
 
-pub(crate) fn show_from(alloc: Global, core: &mut Core, id: u64, json: &mut [u8]) -> Answer
-    ensures answered { IsShowTold core.old id (length json.old) result }
-    ensures front { BringsJson core.old id json.old json.new result }
+pub(crate) fn show_from(alloc: Global, machine: &mut Machine, id: u64, json: &mut [u8]) -> Answer
+    ensures answered { IsShowTold (core_in machine.old) id (length json.old) result }
+    ensures front { BringsJson (core_in machine.old) id json.old json.new result }
     ensures kept { result.code ≢ 0 → json.new ≡ json.old }
-    ensures memory { result.code ≡ no_memory → may_want_memory core.old (call.Show id) ≡ true }
+    ensures memory { result.code ≡ no_memory → may_want_memory (core_in machine.old) (call.Show id) ≡ true }
     ensures numbers { HasNoNumbers result }
-    ensures unchanged { core.new ≡ core.old }
+    ensures core { core_in machine.new ≡ core_in machine.old }
+    ensures names { names_in machine.new ≡ names_in machine.old }
+    ensures unchanged { result.code ≡ no_memory → machine.new ≡ machine.old }
 {
-    match core.apply(&Call::Show {
+    match machine.pass(&Call::Show {
         id: CheckpointId(id),
     }) {
-        Ok(reply) => with_json(alloc, &reply, json),
-        Err(fault) => of_fault(fault),
+        Ok(answer) => with_json_in(alloc, &answer, json),
+        Err(_) => Answer::out_of_memory(),
+    }
+}
+
+/// The answer of the coordinator. Writes its metadata to the start of the buffer if that is long
+/// enough.
+fn with_json_in(alloc: Global, answer: &Told, json: &mut [u8]) -> Answer
+    ensures told { result.code ≢ no_memory → result ≡ show_told answer.now (length json.old) }
+    ensures front { result.code ≡ 0 → StandsInFront (json_in answer.now) json.old json.new }
+    ensures kept { result.code ≢ 0 → json.new ≡ json.old }
+    ensures memory { (id : ℕ) → result.code ≡ no_memory → answer_wants (call.Show id) answer.now ≡ true }
+    ensures numbers { HasNoNumbers result }
+{
+    match answer {
+        Told::Done(reply) => with_json(alloc, reply, json),
+        Told::Refused(why) => Answer::of_refusal(*why),
     }
 }
 

@@ -3,13 +3,15 @@
 ghost use Rattle.std.specs.Prelude.{◌≡◌, ◌≢◌, ◌↔◌, true, [], None, Some, Err, IfOk};
 ghost use Rattle.ckpt_ids.specs.Ascending.{ascending};
 ghost use Rattle.ckpt_model.specs.Memory.{may_want_memory};
+ghost use Rattle.ckpt_terms.specs.Machines.{core_in, is_free, names_in, passes};
 ghost use Rattle.ckpt_embed.specs.Calls.{HasNoNumbers, IsAnswered, IsBadShape, IsRefusedAs, IsStepTold, StaysAsItWas, StaysClosed, WantsMemory, ack_of, restore_of, takes_no_memory, target_of};
-ghost use Rattle.ckpt_embed.specs.Told.{bad_shape, fault_told, no_memory};
+ghost use Rattle.ckpt_embed.specs.Fenced.{IsHandled, IsTaken, call_step};
+ghost use Rattle.ckpt_embed.specs.Told.{bad_shape, no_memory};
 
 use crate::answer::Answer;
 use crate::handle::Handle;
-use ckpt_core::{Core, CoreFault};
 use ckpt_ids::{Call, CheckpointId, FileId, Files, Shape, ShapeFault, SubtaskId, Target};
+use ckpt_terms::Machine;
 use std::alloc::{AllocError, Global};
 
 /// The bad argument of a shape outside its limits.
@@ -20,26 +22,32 @@ pub(crate) const BAD_SHAPE: u32 = 3;
 /// A closed handle stays closed. Otherwise the coordinator makes the step, and its answer is
 /// returned. Or memory runs out, and nothing has changed. `docs/RULES.md` of the repository says
 /// when each call is refused.
+///
+/// Of a handle with names a decline is refused, since it has no term, and a cancel ends the term.
 pub fn call(alloc: Global, handle: &mut Handle, call: &Call) -> Answer
     ensures closed { StaysClosed handle.old.value handle.new.value result }
-    ensures answered { IsAnswered handle.old.value handle.new.value call.now result }
+    ensures answered { passes handle.old.names call.now ≡ true → IsAnswered handle.old.value handle.new.value call.now result }
+    ensures handled { IsHandled (λ k. call_step k call.now) handle.old.value handle.old.names handle.new.value handle.new.names result }
     ensures memory { WantsMemory handle.old.value call.now result }
     ensures never { takes_no_memory call.now ≡ true → result.code ≢ no_memory }
     ensures numbers { HasNoNumbers result }
     ensures unchanged { StaysAsItWas handle.old.value handle.new.value result }
+    ensures names { passes handle.old.names call.now ≡ true → handle.new.names ≡ handle.old.names }
+    ensures names_unchanged { result.code ≡ no_memory → handle.new.names ≡ handle.old.names }
 {
-    let Some(mut core) = handle.take(alloc) else {
+    let Some(mut machine) = handle.take(alloc) else {
         return Answer::closed();
     };
-    let answer = answer(&mut core, call);
-    handle.put(alloc, core);
+    let answer = answer(&mut machine, call);
+    handle.put(alloc, machine);
     answer
 }
 
 /// Makes an acknowledgement of record `id` at the moment `now`, in milliseconds, with these files,
 /// in any order, at most 4096 together.
 ///
-/// Takes memory for a copy of the two lists, even if the call is then refused.
+/// Takes memory for a copy of the two lists, even if the call is then refused. Of a handle with
+/// names it is refused, since it has no term.
 pub fn ack(
     alloc: Global,
     handle: &mut Handle,
@@ -50,18 +58,20 @@ pub fn ack(
     reused: &[u64],
 ) -> Answer
     ensures closed { StaysClosed handle.old.value handle.new.value result }
-    ensures answered { IsAnswered handle.old.value handle.new.value (ack_of now id subtask fresh.now reused.now) result }
+    ensures answered { handle.old.names ≡ None → IsAnswered handle.old.value handle.new.value (ack_of now id subtask fresh.now reused.now) result }
+    ensures handled { IsHandled (λ k. call_step k (ack_of now id subtask fresh.now reused.now)) handle.old.value handle.old.names handle.new.value handle.new.names result }
     ensures numbers { HasNoNumbers result }
     ensures unchanged { StaysAsItWas handle.old.value handle.new.value result }
+    ensures names_unchanged { result.code ≡ no_memory → handle.new.names ≡ handle.old.names }
 {
-    let Some(mut core) = handle.take(alloc) else {
+    let Some(mut machine) = handle.take(alloc) else {
         return Answer::closed();
     };
     let answer = match ack_of(alloc, now, id, subtask, fresh, reused) {
-        Ok(call) => answer(&mut core, &call),
+        Ok(call) => answer(&mut machine, &call),
         Err(_) => Answer::out_of_memory(),
     };
-    handle.put(alloc, core);
+    handle.put(alloc, machine);
     answer
 }
 
@@ -69,7 +79,8 @@ pub fn ack(
 /// `shape` is empty for the current shape.
 ///
 /// A shape outside the limits of [`Shape`](ckpt_ids::Shape) is a bad argument, before any refusal.
-/// Takes memory for a copy of the shape, even if the call is then refused.
+/// Takes memory for a copy of the shape, even if the call is then refused. Of a handle with names it
+/// ends the term.
 pub fn restore(
     alloc: Global,
     handle: &mut Handle,
@@ -79,45 +90,40 @@ pub fn restore(
 ) -> Answer
     ensures closed { StaysClosed handle.old.value handle.new.value result }
     ensures bad_shape { IsBadShape shape.now → IsRefusedAs handle.old.value handle.new.value bad_shape result }
-    ensures answered { (IsBadShape shape.now → ⊥) → IsAnswered handle.old.value handle.new.value (restore_of now savepoint shape.now) result }
+    ensures answered { (IsBadShape shape.now → ⊥) → handle.old.names ≡ None → IsAnswered handle.old.value handle.new.value (restore_of now savepoint shape.now) result }
+    ensures handled { (IsBadShape shape.now → ⊥) → IsHandled (λ k. call_step k (restore_of now savepoint shape.now)) handle.old.value handle.old.names handle.new.value handle.new.names result }
     ensures memory { shape.now ≡ [] → result.code ≢ no_memory }
     ensures numbers { HasNoNumbers result }
     ensures unchanged { StaysAsItWas handle.old.value handle.new.value result }
+    ensures names_kept { IsBadShape shape.now → handle.new.names ≡ handle.old.names }
+    ensures names_unchanged { result.code ≡ no_memory → handle.new.names ≡ handle.old.names }
 {
-    let Some(mut core) = handle.take(alloc) else {
+    let Some(mut machine) = handle.take(alloc) else {
         return Answer::closed();
     };
     let answer = match restore_of(alloc, now, savepoint, shape) {
-        Ok(call) => answer(&mut core, &call),
+        Ok(call) => answer(&mut machine, &call),
         Err(ShapeFault::BadShape) => Answer::bad_argument(BAD_SHAPE),
         Err(ShapeFault::Memory) => Answer::out_of_memory(),
     };
-    handle.put(alloc, core);
+    handle.put(alloc, machine);
     answer
 }
 
-/// Makes a call and returns its answer.
-pub(crate) fn answer(core: &mut Core, call: &Call) -> Answer
-    ensures answered { IsStepTold core.old core.new call.now result }
-    ensures memory { result.code ≡ no_memory → may_want_memory core.old call.now ≡ true }
+/// Makes a call without a term, and returns its answer.
+pub(crate) fn answer(machine: &mut Machine, call: &Call) -> Answer
+    ensures answered { passes (names_in machine.old) call.now ≡ true → IsStepTold (core_in machine.old) (core_in machine.new) call.now result }
+    ensures handled { IsTaken (λ k. call_step k call.now) machine.old machine.new result }
+    ensures memory { result.code ≡ no_memory → may_want_memory (core_in machine.old) call.now ≡ true }
     ensures never { takes_no_memory call.now ≡ true → result.code ≢ no_memory }
     ensures numbers { HasNoNumbers result }
-    ensures unchanged { result.code ≡ no_memory → core.new ≡ core.old }
+    ensures names { passes (names_in machine.old) call.now ≡ true → names_in machine.new ≡ names_in machine.old }
+    ensures unchanged { result.code ≡ no_memory → machine.new ≡ machine.old }
 {
-    match core.apply(call) {
-        Ok(reply) => Answer::of_reply(&reply),
-        Err(fault) => of_fault(fault),
-    }
-}
-
-/// The answer if a call changed nothing.
-pub(crate) fn of_fault(fault: CoreFault) -> Answer
-    ensures { result ≡ fault_told fault }
-{
-    match fault {
-        CoreFault::Refused(why) => Answer::of_refusal(why),
-        CoreFault::Memory => Answer::out_of_memory(),
-    }
+    let Ok(answer) = machine.apply(call) else {
+        return Answer::out_of_memory();
+    };
+    Answer::of_fenced(0, &answer)
 }
 
 pub(crate) fn ack_of(
@@ -169,7 +175,7 @@ fn target_of(savepoint: u64) -> Target
 }
 
 /// The files of these numbers, in ascending order.
-fn files_of(alloc: Global, list: &[u64]) -> Result<Files, AllocError>
+pub(crate) fn files_of(alloc: Global, list: &[u64]) -> Result<Files, AllocError>
     ensures { IfOk result (λ files. files ≡ ascending list.now) }
 {
     let numbers: Vec<FileId> = list.iter().map(|number| FileId(*number)).collect(alloc)?;

@@ -1,13 +1,13 @@
 //! The handle: one pointer to a coordinator, or null.
 
-ghost use Rattle.std.specs.Prelude.{◌≡◌, Option, None, Some};
+ghost use Rattle.std.specs.Prelude.{◌≡◌, Option, None, Some, IfSome};
 ghost use Rattle.std.specs.Option.{option_map};
-ghost use Rattle.ckpt_embed.specs.Kept.{kept};
-ghost use Rattle.ckpt_core.specs.contracts.coordinator.Core.{the_row};
+ghost use Rattle.ckpt_embed.specs.Kept.{IsHeld, kept};
 ghost use Rattle.ckpt_model.specs.State.{State};
+ghost use Rattle.ckpt_terms.specs.Machines.{Issued, core_in, machine_of};
 
-use ckpt_core::Core;
 use ckpt_raw_box::RawBox;
+use ckpt_terms::Machine;
 use std::alloc::Global;
 use std::marker::Model;
 use std::mem;
@@ -20,57 +20,60 @@ pub struct Handle {
     at: *mut u8,
     /// The coordinator's state, if there is one.
     pub ghost value: { Option State },
+    /// The names that its tasks reserve, if they do.
+    pub ghost names: { Option Issued },
 }
 
 impl Model for Handle {
-    ghost also_owns = { λ h. kept the_row h.at h.value };
+    ghost also_owns = { λ h. kept h.at h.value h.names };
 }
 
 impl Handle {
     /// A handle with no coordinator.
     pub fn closed() -> Handle
-        ensures { result.value ≡ None }
+        ensures { IsHeld None result.value result.names }
     {
         Handle { at: null_mut() }
     }
 
     /// A handle that has this coordinator.
-    fn of(core: RawBox<Core, Global>) -> Handle
-        ensures { result.value ≡ Some core.value }
+    fn of(machine: RawBox<Machine, Global>) -> Handle
+        ensures { IsHeld (Some machine.value) result.value result.names }
     {
-        let RawBox { at, alloc: _ } = core;
+        let RawBox { at, alloc: _ } = machine;
         Handle { at: at as *mut u8 }
     }
 
     /// The coordinator of the handle.
-    fn into_raw(self, alloc: Global) -> Option<RawBox<Core, Global>>
-        ensures { option_map (λ core. core.value) result ≡ self.value }
+    fn into_raw(self, alloc: Global) -> Option<RawBox<Machine, Global>>
+        ensures { IsHeld (option_map (λ machine. machine.value) result) self.value self.names }
     {
         let Handle { at } = self;
         if at.is_null() {
             None
         } else {
             Some(RawBox {
-                at: at as *mut Core,
+                at: at as *mut Machine,
                 alloc,
             })
         }
     }
 
     /// Takes the coordinator out, and closes the handle.
-    pub(crate) fn take(&mut self, alloc: Global) -> Option<Box<Core>>
-        ensures value { option_map (λ core. core.value) result ≡ self.old.value }
-        ensures closed { self.new.value ≡ None }
+    pub(crate) fn take(&mut self, alloc: Global) -> Option<Box<Machine>>
+        ensures held { IsHeld (option_map (λ machine. machine.value) result) self.old.value self.old.names }
+        ensures whole { IfSome result (λ machine. machine.value ≡ machine_of (core_in machine.value) self.old.names) }
+        ensures closed { IsHeld None self.new.value self.new.names }
     {
         let raw = mem::replace(self, Handle::closed()).into_raw(alloc)?;
         Some(raw.into_box())
     }
 
     /// Gives the handle this coordinator. Drops the one that it had.
-    pub(crate) fn put(&mut self, alloc: Global, core: Box<Core>)
-        ensures { self.new.value ≡ Some core.value }
+    pub(crate) fn put(&mut self, alloc: Global, machine: Box<Machine>)
+        ensures { IsHeld (Some machine.value) self.new.value self.new.names }
     {
-        let had = mem::replace(self, Handle::of(RawBox::of(core)));
+        let had = mem::replace(self, Handle::of(RawBox::of(machine)));
         if let Some(raw) = had.into_raw(alloc) {
             drop(raw.into_box());
         }

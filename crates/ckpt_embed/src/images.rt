@@ -1,6 +1,6 @@
 //! Saves a coordinator into a caller's buffer, and opens a handle with an image.
 
-ghost use Rattle.std.specs.Prelude.{◌≡◌, ◌≢◌, Some, IfOk, IfErr, length, string_bytes};
+ghost use Rattle.std.specs.Prelude.{◌≡◌, ◌≢◌, None, Some, IfOk, IfErr, length, string_bytes};
 ghost use Rattle.core.specs.Str.{IsUtf8};
 ghost use Rattle.ckpt_model.specs.Images.{settled, state_in};
 ghost use Rattle.ckpt_model.specs.State.{State};
@@ -8,7 +8,9 @@ ghost use Rattle.ckpt_image.specs.Images.{image_read};
 ghost use Rattle.ckpt_image.specs.Written.{image_bytes};
 ghost use Rattle.ckpt_embed.specs.Buffers.{StandsInFront};
 ghost use Rattle.ckpt_embed.specs.Calls.{HasNoNumbers, StaysAsItWas, StaysClosed};
+ghost use Rattle.ckpt_embed.specs.Fenced.{has_names};
 ghost use Rattle.ckpt_embed.specs.Images.{BringsImage, IsNotOpenedSaved, IsOpenedSaved, IsSaveTold, IsWhyNotSaved, SavedWantsMemory, Tells, saved_told};
+ghost use Rattle.ckpt_terms.specs.Machines.{Issued, core_in, names_in};
 ghost use Rattle.ckpt_embed.specs.Opening.{StaysOpen};
 ghost use Rattle.ckpt_embed.specs.Told.{bad_argument};
 
@@ -18,6 +20,7 @@ use crate::opening::ALREADY_OPEN;
 use ckpt_core::{Core, Image, ImageFault};
 use ckpt_hash::Secret;
 use ckpt_image::{TextFault, image_text, parse_image};
+use ckpt_terms::Machine;
 use std::alloc::{AllocError, Global};
 
 const SAVED: u32 = 45;
@@ -27,20 +30,23 @@ const BAD_IMAGE: u32 = 7;
 /// Writes the image of the coordinator as JSON to the start of the buffer.
 ///
 /// If the buffer is too short, the answer says how many bytes the image has: call again. Takes
-/// memory.
+/// memory. An image has no names yet, so
+/// a handle with names is not saved.
 pub fn save(alloc: Global, handle: &mut Handle, image: &mut [u8]) -> Answer
     ensures closed { StaysClosed handle.old.value handle.new.value result }
-    ensures answered { (m : State) → handle.old.value ≡ Some m → IsSaveTold m (length image.old) result }
+    ensures answered { (m : State) → handle.old.value ≡ Some m → handle.old.names ≡ None → IsSaveTold m (length image.old) result }
+    ensures named { (m : State) (n : Issued) → handle.old.value ≡ Some m → handle.old.names ≡ Some n → result ≡ has_names }
     ensures front { (m : State) → handle.old.value ≡ Some m → BringsImage m image.old image.new result }
     ensures kept { result.code ≢ 0 → image.new ≡ image.old }
     ensures numbers { HasNoNumbers result }
     ensures unchanged { handle.new.value ≡ handle.old.value }
+    ensures names { handle.new.names ≡ handle.old.names }
 {
-    let Some(core) = handle.take(alloc) else {
+    let Some(machine) = handle.take(alloc) else {
         return Answer::closed();
     };
-    let answer = save_from(alloc, &core, image);
-    handle.put(alloc, core);
+    let answer = save_machine(alloc, &machine, image);
+    handle.put(alloc, machine);
     answer
 }
 
@@ -58,17 +64,32 @@ pub fn open_saved(alloc: Global, handle: &mut Handle, image: &[u8], secret: Secr
     ensures memory { SavedWantsMemory image.now result }
     ensures numbers { HasNoNumbers result }
     ensures unchanged { StaysAsItWas handle.old.value handle.new.value result }
+    ensures names { handle.new.names ≡ handle.old.names }
+    ensures plain { handle.old.value ≡ None → handle.new.names ≡ None }
 {
-    if let Some(core) = handle.take(alloc) {
-        handle.put(alloc, core);
+    if let Some(machine) = handle.take(alloc) {
+        handle.put(alloc, machine);
         return Answer::bad_argument(ALREADY_OPEN);
     }
-    match core_of(alloc, image, secret) {
-        Ok(core) => {
-            handle.put(alloc, core);
+    match plain_of(alloc, image, secret) {
+        Ok(machine) => {
+            handle.put(alloc, machine);
             Answer::done(0, 0, 0)
         }
         Err(why) => why,
+    }
+}
+
+fn save_machine(alloc: Global, machine: &Machine, image: &mut [u8]) -> Answer
+    ensures told { names_in machine.now ≡ None → IsSaveTold (core_in machine.now) (length image.old) result }
+    ensures named { (n : Issued) → names_in machine.now ≡ Some n → result ≡ has_names }
+    ensures front { BringsImage (core_in machine.now) image.old image.new result }
+    ensures kept { result.code ≢ 0 → image.new ≡ image.old }
+    ensures numbers { HasNoNumbers result }
+{
+    match machine {
+        Machine::Plain(core) => save_from(alloc, core, image),
+        Machine::Fenced(_) => Answer::has_names(),
     }
 }
 
@@ -106,15 +127,16 @@ fn write_text(text: &str, image: &mut [u8]) -> Answer
     Answer::done(SAVED, needed as u64, 0)
 }
 
-fn core_of(alloc: Global, image: &[u8], secret: Secret) -> Result<Box<Core>, Answer>
-    ensures value { IfOk result (λ core. Tells image.now core.value) }
+fn plain_of(alloc: Global, image: &[u8], secret: Secret) -> Result<Box<Machine>, Answer>
+    ensures value { IfOk result (λ machine. Tells image.now (core_in machine.value)) }
+    ensures names { IfOk result (λ machine. names_in machine.value ≡ None) }
     ensures fault { IfErr result (IsWhyNotSaved image.now) }
     ensures memory { IfErr result (SavedWantsMemory image.now) }
     ensures numbers { IfErr result HasNoNumbers }
 {
     let image = image_of(alloc, image)?;
     match Core::from_image(alloc, &image, secret) {
-        Ok(core) => Box::new(alloc, core).map_err(|_| Answer::out_of_memory()),
+        Ok(core) => Box::new(alloc, Machine::Plain(core)).map_err(|_| Answer::out_of_memory()),
         Err(ImageFault::Damaged) => Err(Answer::bad_argument(BAD_IMAGE)),
         Err(ImageFault::Memory) => Err(Answer::out_of_memory()),
     }

@@ -1,13 +1,17 @@
 //! Makes the call of a script's line through a handle, and says which kind of line it is.
 
-ghost use Rattle.std.specs.Prelude.{◌≡◌, ◌≢◌, ◌||◌, true, length, Ok, Err, Some, IfOk, IfErr};
+ghost use Rattle.std.specs.Prelude.{◌≡◌, ◌≢◌, ◌||◌, true, false, is_none, length, Ok, Err, Some, IfOk, IfErr};
+ghost use Rattle.ckpt_ids.specs.declared.call.Call.{Call};
 ghost use Rattle.ckpt_ids.specs.declared.call.Call.TheVariants as call;
 ghost use Rattle.ckpt_model.specs.Memory.{may_want_memory};
 ghost use Rattle.ckpt_model.specs.State.{State};
 ghost use Rattle.ckpt_model.specs.Steps.{step};
+ghost use Rattle.ckpt_lines.specs.declared.meaning.Meaning.TheVariants as meant;
 ghost use Rattle.ckpt_lines.specs.Reading as lines;
+ghost use Rattle.ckpt_terms.specs.Machines.{core_in, is_free, names_in, passes};
 ghost use Rattle.ckpt_embed.specs.Buffers.{StandsInFront};
 ghost use Rattle.ckpt_embed.specs.Calls.{HasNoNumbers, StaysAsItWas, StaysClosed};
+ghost use Rattle.ckpt_embed.specs.Fenced.{IsHandled, IsTaken, call_step, is_free_line};
 ghost use Rattle.ckpt_embed.specs.Lines.{BringsLineFiles, IsLineAnswered, IsLineTold, LineWantsMemory, call_files, call_made, fault_told, fetched, line_numbers, line_number, numbers_told, reading_wants, said, said_wants, says_numbers, says_told, bad_line};
 ghost use Rattle.ckpt_embed.specs.Buffers.{files_in};
 ghost use Rattle.ckpt_embed.specs.Told.{no_memory};
@@ -19,6 +23,7 @@ use crate::handle::Handle;
 use ckpt_core::Core;
 use ckpt_ids::{Call, ShapeFault};
 use ckpt_lines::{Line, LineFault, Meaning, parse_line};
+use ckpt_terms::Machine;
 use std::alloc::Global;
 
 // what the answer is
@@ -58,34 +63,42 @@ pub(crate) const FAULT_NO_CALL: u32 = 6;
 /// restore in a bad shape returns what [`restore`](crate::restore) returns.
 ///
 /// Takes memory for the lists of a line, even if the call is then refused, and for the call.
+///
+/// A line has no term. So of a handle with names an `ack` and a `decline` are refused, and a
+/// `restore` and a `cancel` end the term.
 pub fn line(alloc: Global, handle: &mut Handle, line: &[u8], files: &mut [u64]) -> Answer
     ensures closed { StaysClosed handle.old.value handle.new.value result }
-    ensures answered { IsLineAnswered handle.old.value handle.new.value line.now (length files.old) result }
+    ensures answered { (is_free_line (said line.now) || is_none handle.old.names) ≡ true → IsLineAnswered handle.old.value handle.new.value line.now (length files.old) result }
+    ensures handled { (call : Call) → said line.now ≡ Ok (meant.Call call) → is_free call ≡ false → IsHandled (λ k. call_step k call) handle.old.value handle.old.names handle.new.value handle.new.names result }
     ensures front { (m : State) → handle.old.value ≡ Some m → BringsLineFiles m line.now files.old files.new result }
     ensures kept { result.code ≢ 0 → files.new ≡ files.old }
     ensures memory { LineWantsMemory handle.old.value line.now result }
     ensures numbers { HasNoNumbers result }
     ensures unchanged { StaysAsItWas handle.old.value handle.new.value result }
+    ensures names { is_free_line (said line.now) ≡ true → handle.new.names ≡ handle.old.names }
+    ensures names_unchanged { result.code ≡ no_memory → handle.new.names ≡ handle.old.names }
 {
-    let Some(mut core) = handle.take(alloc) else {
+    let Some(mut machine) = handle.take(alloc) else {
         return Answer::closed();
     };
-    let answer = make_line(alloc, &mut core, line, files);
-    handle.put(alloc, core);
+    let answer = make_line(alloc, &mut machine, line, files);
+    handle.put(alloc, machine);
     answer
 }
 
 #[tactic(auto, unfolding(crate::specs::Lines::said_made))]
-fn make_line(alloc: Global, core: &mut Core, line: &[u8], files: &mut [u64]) -> Answer
-    ensures answered { IsLineTold core.old core.new line.now (length files.old) result }
-    ensures front { BringsLineFiles core.old line.now files.old files.new result }
+fn make_line(alloc: Global, machine: &mut Machine, line: &[u8], files: &mut [u64]) -> Answer
+    ensures answered { (is_free_line (said line.now) || is_none (names_in machine.old)) ≡ true → IsLineTold (core_in machine.old) (core_in machine.new) line.now (length files.old) result }
+    ensures handled { (call : Call) → said line.now ≡ Ok (meant.Call call) → is_free call ≡ false → IsTaken (λ k. call_step k call) machine.old machine.new result }
+    ensures front { BringsLineFiles (core_in machine.old) line.now files.old files.new result }
     ensures kept { result.code ≢ 0 → files.new ≡ files.old }
-    ensures memory { result.code ≡ no_memory → (reading_wants line.now || said_wants core.old (said line.now)) ≡ true }
+    ensures memory { result.code ≡ no_memory → (reading_wants line.now || said_wants (core_in machine.old) (said line.now)) ≡ true }
     ensures numbers { HasNoNumbers result }
-    ensures unchanged { result.code ≡ no_memory → core.new ≡ core.old }
+    ensures names { is_free_line (said line.now) ≡ true → names_in machine.new ≡ names_in machine.old }
+    ensures unchanged { result.code ≡ no_memory → machine.new ≡ machine.old }
 {
     match said(alloc, line) {
-        Ok(Meaning::Call(call)) => make_call(alloc, core, &call, files),
+        Ok(Meaning::Call(call)) => make_call(alloc, machine, &call, files),
         Ok(Meaning::Skip) => Answer::done(SKIPPED, 0, 0),
         Ok(_) => Answer::bad_line(FAULT_NO_CALL),
         Err(answer) => answer,
@@ -93,37 +106,40 @@ fn make_line(alloc: Global, core: &mut Core, line: &[u8], files: &mut [u64]) -> 
 }
 
 #[tactic(auto, unfolding(crate::specs::Lines::call_made))]
-fn make_call(alloc: Global, core: &mut Core, call: &Call, files: &mut [u64]) -> Answer
-    ensures new { result.code ≢ no_memory → core.new ≡ (call_made core.old (length files.old) call.now).0 }
-    ensures told { result.code ≢ no_memory → result ≡ (call_made core.old (length files.old) call.now).1 }
-    ensures front { result.code ≡ 0 → StandsInFront (call_files core.old call.now) files.old files.new }
+fn make_call(alloc: Global, machine: &mut Machine, call: &Call, files: &mut [u64]) -> Answer
+    ensures new { passes (names_in machine.old) call.now ≡ true → result.code ≢ no_memory → core_in machine.new ≡ (call_made (core_in machine.old) (length files.old) call.now).0 }
+    ensures told { passes (names_in machine.old) call.now ≡ true → result.code ≢ no_memory → result ≡ (call_made (core_in machine.old) (length files.old) call.now).1 }
+    ensures handled { is_free call.now ≡ false → IsTaken (λ k. call_step k call.now) machine.old machine.new result }
+    ensures front { result.code ≡ 0 → StandsInFront (call_files (core_in machine.old) call.now) files.old files.new }
     ensures kept { result.code ≢ 0 → files.new ≡ files.old }
-    ensures memory { result.code ≡ no_memory → may_want_memory core.old call.now ≡ true }
+    ensures memory { result.code ≡ no_memory → may_want_memory (core_in machine.old) call.now ≡ true }
     ensures numbers { HasNoNumbers result }
-    ensures unchanged { result.code ≡ no_memory → core.new ≡ core.old }
+    ensures names { passes (names_in machine.old) call.now ≡ true → names_in machine.new ≡ names_in machine.old }
+    ensures unchanged { result.code ≡ no_memory → machine.new ≡ machine.old }
 {
     match call {
-        Call::Take { most } => take_that_fits(core, *most, files),
-        Call::Show { id } => show_from(alloc, core, id.0, &mut []),
-        _ => answer(core, call),
+        Call::Take { most } => take_that_fits(machine, *most, files),
+        Call::Show { id } => show_from(alloc, machine, id.0, &mut []),
+        _ => answer(machine, call),
     }
 }
 
 /// Fetches at most `most` files, or none if the buffer has too few places for them.
-fn take_that_fits(core: &mut Core, most: u64, files: &mut [u64]) -> Answer
-    ensures new { result.code ≢ no_memory → core.new ≡ (fetched core.old (length files.old) (step core.old (call.Take most))).0 }
-    ensures told { result.code ≢ no_memory → result ≡ (fetched core.old (length files.old) (step core.old (call.Take most))).1 }
-    ensures front { result.code ≡ 0 → StandsInFront (files_in (step core.old (call.Take most)).1) files.old files.new }
+fn take_that_fits(machine: &mut Machine, most: u64, files: &mut [u64]) -> Answer
+    ensures new { result.code ≢ no_memory → core_in machine.new ≡ (fetched (core_in machine.old) (length files.old) (step (core_in machine.old) (call.Take most))).0 }
+    ensures told { result.code ≢ no_memory → result ≡ (fetched (core_in machine.old) (length files.old) (step (core_in machine.old) (call.Take most))).1 }
+    ensures front { result.code ≡ 0 → StandsInFront (files_in (step (core_in machine.old) (call.Take most)).1) files.old files.new }
     ensures kept { result.code ≢ 0 → files.new ≡ files.old }
-    ensures memory { result.code ≡ no_memory → may_want_memory core.old (call.Take most) ≡ true }
+    ensures memory { result.code ≡ no_memory → may_want_memory (core_in machine.old) (call.Take most) ≡ true }
     ensures numbers { HasNoNumbers result }
-    ensures unchanged { result.code ≡ no_memory → core.new ≡ core.old }
+    ensures names { names_in machine.new ≡ names_in machine.old }
+    ensures unchanged { result.code ≡ no_memory → machine.new ≡ machine.old }
 {
-    let needed = fetchable(core, most);
+    let needed = fetchable(machine.core(), most);
     if (files.len() as u64) < needed {
         return Answer::too_short(needed);
     }
-    take_from(core, most, files)
+    take_from(machine, most, files)
 }
 
 /// How many files a take of at most `most` would fetch.

@@ -5,6 +5,7 @@ ghost use Rattle.ckpt_ids.specs.Configuration.{is_within_limits};
 ghost use Rattle.ckpt_ids.specs.Shapes.{is_shape};
 ghost use Rattle.ckpt_embed.specs.Calls.{HasNoNumbers, StaysAsItWas};
 ghost use Rattle.ckpt_embed.specs.Opening.{configuration_of, opening_of, IsNotOpened, IsOpened, IsOpening, IsWhyNot, OpeningWantsMemory, StaysOpen};
+ghost use Rattle.ckpt_terms.specs.Machines.{core_in, names_in};
 ghost use Rattle.ckpt_embed.specs.Told.{bad_argument, bad_config, bad_shape, no_memory};
 
 use crate::answer::Answer;
@@ -13,6 +14,7 @@ use crate::handle::Handle;
 use ckpt_core::{Core, OpenFault};
 use ckpt_hash::Secret;
 use ckpt_ids::{Config, Shape, ShapeFault};
+use ckpt_terms::Machine;
 use std::alloc::Global;
 
 pub(crate) const ALREADY_OPEN: u32 = 1;
@@ -21,7 +23,7 @@ const BAD_CONFIG: u32 = 2;
 
 pub(crate) const BAD_MOMENT: u32 = 4;
 
-const BAD_FIRST: u32 = 5;
+pub(crate) const BAD_FIRST: u32 = 5;
 
 /// How a job takes checkpoints. `docs/RULES.md` of the repository has the limits of each value.
 #[repr(C)]
@@ -68,14 +70,16 @@ pub fn open(
     ensures memory { OpeningWantsMemory (opening_of settings.now shape.now now first) result }
     ensures numbers { HasNoNumbers result }
     ensures unchanged { StaysAsItWas handle.old.value handle.new.value result }
+    ensures names { handle.new.names ≡ handle.old.names }
+    ensures plain { handle.old.value ≡ None → handle.new.names ≡ None }
 {
-    if let Some(core) = handle.take(alloc) {
-        handle.put(alloc, core);
+    if let Some(machine) = handle.take(alloc) {
+        handle.put(alloc, machine);
         return Answer::bad_argument(ALREADY_OPEN);
     }
-    match core_of(alloc, settings, shape, now, first, secret) {
-        Ok(core) => {
-            handle.put(alloc, core);
+    match plain_of(alloc, settings, shape, now, first, secret) {
+        Ok(machine) => {
+            handle.put(alloc, machine);
             Answer::done(0, 0, 0)
         }
         Err(why) => why,
@@ -84,20 +88,22 @@ pub fn open(
 
 /// Drops the coordinator, and frees all its memory. A closed handle stays closed.
 pub fn close(alloc: Global, handle: &mut Handle)
-    ensures { handle.new.value ≡ None }
+    ensures value { handle.new.value ≡ None }
+    ensures names { handle.new.names ≡ None }
 {
     drop(handle.take(alloc));
 }
 
-fn core_of(
+fn plain_of(
     alloc: Global,
     settings: &Settings,
     shape: &[u64],
     now: u64,
     first: u64,
     secret: Secret,
-) -> Result<Box<Core>, Answer>
-    ensures value { IfOk result (λ core. IsOpening (opening_of settings.now shape.now now first) core.value) }
+) -> Result<Box<Machine>, Answer>
+    ensures value { IfOk result (λ machine. IsOpening (opening_of settings.now shape.now now first) (core_in machine.value)) }
+    ensures names { IfOk result (λ machine. names_in machine.value ≡ None) }
     ensures fault { IfErr result (IsWhyNot (opening_of settings.now shape.now now first)) }
     ensures memory { IfErr result (OpeningWantsMemory (opening_of settings.now shape.now now first)) }
     ensures numbers { IfErr result HasNoNumbers }
@@ -105,7 +111,7 @@ fn core_of(
     let config = config_of(settings)?;
     let shape = job_of(alloc, shape)?;
     match Core::keyed(alloc, config, shape, now, first, secret) {
-        Ok(core) => Box::new(alloc, core).map_err(|_| Answer::out_of_memory()),
+        Ok(core) => Box::new(alloc, Machine::Plain(core)).map_err(|_| Answer::out_of_memory()),
         Err(OpenFault::MomentTooLarge) => Err(Answer::bad_argument(BAD_MOMENT)),
         Err(OpenFault::BadFirst) => Err(Answer::bad_argument(BAD_FIRST)),
     }

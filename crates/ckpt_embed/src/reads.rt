@@ -64,12 +64,13 @@ pub fn mode(alloc: Global, handle: &mut Handle) -> Answer
     ensures answered { (m : State) → handle.old.value ≡ Some m → result ≡ mode_told m.mode }
     ensures sound { (m : State) → handle.old.value ≡ Some m → IsSound m }
     ensures unchanged { handle.new.value ≡ handle.old.value }
+    ensures names { handle.new.names ≡ handle.old.names }
 {
-    let Some(core) = handle.take(alloc) else {
+    let Some(machine) = handle.take(alloc) else {
         return Answer::closed();
     };
-    let answer = of_mode(core.mode());
-    handle.put(alloc, core);
+    let answer = of_mode(machine.core().mode());
+    handle.put(alloc, machine);
     answer
 }
 
@@ -78,12 +79,13 @@ pub fn moment(alloc: Global, handle: &mut Handle) -> Answer
     ensures closed { StaysClosed handle.old.value handle.new.value result }
     ensures answered { (m : State) → handle.old.value ≡ Some m → result ≡ moment_told m.latest }
     ensures unchanged { handle.new.value ≡ handle.old.value }
+    ensures names { handle.new.names ≡ handle.old.names }
 {
-    let Some(core) = handle.take(alloc) else {
+    let Some(machine) = handle.take(alloc) else {
         return Answer::closed();
     };
-    let answer = Answer::done(MOMENT, core.moment(), 0);
-    handle.put(alloc, core);
+    let answer = Answer::done(MOMENT, machine.core().moment(), 0);
+    handle.put(alloc, machine);
     answer
 }
 
@@ -95,12 +97,13 @@ pub fn due(alloc: Global, handle: &mut Handle) -> Answer
     ensures before { (m : State) → handle.old.value ≡ Some m → NoneTriggersBefore m result.a }
     ensures from { (m : State) → handle.old.value ≡ Some m → NoneIsEarlyFrom m result.a }
     ensures unchanged { handle.new.value ≡ handle.old.value }
+    ensures names { handle.new.names ≡ handle.old.names }
 {
-    let Some(core) = handle.take(alloc) else {
+    let Some(machine) = handle.take(alloc) else {
         return Answer::closed();
     };
-    let answer = Answer::done(DUE, core.due(), 0);
-    handle.put(alloc, core);
+    let answer = Answer::done(DUE, machine.core().due(), 0);
+    handle.put(alloc, machine);
     answer
 }
 
@@ -111,12 +114,13 @@ pub fn oldest_expiry(alloc: Global, handle: &mut Handle) -> Answer
     ensures answered { (m : State) → handle.old.value ≡ Some m → result ≡ expiry_told (expiry_in result) }
     ensures moment { (m : State) → handle.old.value ≡ Some m → IsNextExpiry m (expiry_in result) }
     ensures unchanged { handle.new.value ≡ handle.old.value }
+    ensures names { handle.new.names ≡ handle.old.names }
 {
-    let Some(core) = handle.take(alloc) else {
+    let Some(machine) = handle.take(alloc) else {
         return Answer::closed();
     };
-    let answer = of_expiry(core.oldest_expiry());
-    handle.put(alloc, core);
+    let answer = of_expiry(machine.core().oldest_expiry());
+    handle.put(alloc, machine);
     answer
 }
 
@@ -125,12 +129,13 @@ pub fn choice(alloc: Global, handle: &mut Handle) -> Answer
     ensures closed { StaysClosed handle.old.value handle.new.value result }
     ensures answered { (m : State) → handle.old.value ≡ Some m → result ≡ choice_told (choice_of m) }
     ensures unchanged { handle.new.value ≡ handle.old.value }
+    ensures names { handle.new.names ≡ handle.old.names }
 {
-    let Some(core) = handle.take(alloc) else {
+    let Some(machine) = handle.take(alloc) else {
         return Answer::closed();
     };
-    let answer = of_choice(core.choice());
-    handle.put(alloc, core);
+    let answer = of_choice(machine.core().choice());
+    handle.put(alloc, machine);
     answer
 }
 
@@ -140,12 +145,13 @@ pub fn live(alloc: Global, handle: &mut Handle, place: usize) -> Answer
     ensures closed { StaysClosed handle.old.value handle.new.value result }
     ensures answered { (m : State) → handle.old.value ≡ Some m → result ≡ live_told (option_map live_of (slice_get m.records place)) }
     ensures unchanged { handle.new.value ≡ handle.old.value }
+    ensures names { handle.new.names ≡ handle.old.names }
 {
-    let Some(core) = handle.take(alloc) else {
+    let Some(machine) = handle.take(alloc) else {
         return Answer::closed();
     };
-    let answer = of_live(core.live(place));
-    handle.put(alloc, core);
+    let answer = of_live(machine.core().live(place));
+    handle.put(alloc, machine);
     answer
 }
 
@@ -154,12 +160,13 @@ pub fn missing(alloc: Global, handle: &mut Handle, id: u64) -> Answer
     ensures closed { StaysClosed handle.old.value handle.new.value result }
     ensures answered { (m : State) → handle.old.value ≡ Some m → result ≡ missing_told (option_map missing (pending_of m.records id)) }
     ensures unchanged { handle.new.value ≡ handle.old.value }
+    ensures names { handle.new.names ≡ handle.old.names }
 {
-    let Some(core) = handle.take(alloc) else {
+    let Some(machine) = handle.take(alloc) else {
         return Answer::closed();
     };
-    let answer = of_missing(core.missing(CheckpointId(id)));
-    handle.put(alloc, core);
+    let answer = of_missing(machine.core().missing(CheckpointId(id)));
+    handle.put(alloc, machine);
     answer
 }
 
@@ -168,8 +175,9 @@ pub fn file_counts(alloc: Global, handle: &mut Handle) -> FileCounts
     ensures closed { handle.old.value ≡ None → result ≡ no_counts }
     ensures answered { (m : State) → handle.old.value ≡ Some m → result ≡ counts_of m }
     ensures unchanged { handle.new.value ≡ handle.old.value }
+    ensures names { handle.new.names ≡ handle.old.names }
 {
-    let Some(core) = handle.take(alloc) else {
+    let Some(machine) = handle.take(alloc) else {
         return FileCounts {
             code: CLOSED,
             in_use: 0,
@@ -179,11 +187,11 @@ pub fn file_counts(alloc: Global, handle: &mut Handle) -> FileCounts
     };
     let counts = FileCounts {
         code: DONE,
-        in_use: core.files_in_use(),
-        waiting: core.files_waiting(),
-        taken: core.files_taken(),
+        in_use: machine.core().files_in_use(),
+        waiting: machine.core().files_waiting(),
+        taken: machine.core().files_taken(),
     };
-    handle.put(alloc, core);
+    handle.put(alloc, machine);
     counts
 }
 

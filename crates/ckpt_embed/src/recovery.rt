@@ -42,12 +42,13 @@ pub fn live_from(alloc: Global, handle: &mut Handle, id: u64) -> Answer
     ensures closed { StaysClosed handle.old.value handle.new.value result }
     ensures answered { (m : State) → handle.old.value ≡ Some m → result ≡ live_told (option_map live_of (find (λ r. nat_le id r.id) m.records)) }
     ensures unchanged { handle.new.value ≡ handle.old.value }
+    ensures names { handle.new.names ≡ handle.old.names }
 {
-    let Some(core) = handle.take(alloc) else {
+    let Some(machine) = handle.take(alloc) else {
         return Answer::closed();
     };
-    let answer = of_live(core.live_from(CheckpointId(id)));
-    handle.put(alloc, core);
+    let answer = of_live(machine.core().live_from(CheckpointId(id)));
+    handle.put(alloc, machine);
     answer
 }
 
@@ -57,12 +58,13 @@ pub fn standing(alloc: Global, handle: &mut Handle, id: u64) -> Answer
     ensures closed { StaysClosed handle.old.value handle.new.value result }
     ensures answered { (m : State) → handle.old.value ≡ Some m → result ≡ standing_told (standing m id) }
     ensures unchanged { handle.new.value ≡ handle.old.value }
+    ensures names { handle.new.names ≡ handle.old.names }
 {
-    let Some(core) = handle.take(alloc) else {
+    let Some(machine) = handle.take(alloc) else {
         return Answer::closed();
     };
-    let answer = of_standing(core.standing(CheckpointId(id)));
-    handle.put(alloc, core);
+    let answer = of_standing(machine.core().standing(CheckpointId(id)));
+    handle.put(alloc, machine);
     answer
 }
 
@@ -83,12 +85,13 @@ pub fn files_of(
     ensures front { (m : State) → handle.old.value ≡ Some m → BringsList (files_acked (acked_in m id subtask)) files.old files.new result }
     ensures kept { result.code ≢ 0 → files.new ≡ files.old }
     ensures unchanged { handle.new.value ≡ handle.old.value }
+    ensures names { handle.new.names ≡ handle.old.names }
 {
-    let Some(core) = handle.take(alloc) else {
+    let Some(machine) = handle.take(alloc) else {
         return Answer::closed();
     };
-    let answer = write_acked(&core, id, subtask, files);
-    handle.put(alloc, core);
+    let answer = write_acked(machine.core(), id, subtask, files);
+    handle.put(alloc, machine);
     answer
 }
 
@@ -105,12 +108,13 @@ pub fn pins_of(alloc: Global, handle: &mut Handle, id: u64, files: &mut [u64]) -
     ensures memory { (m : State) → handle.old.value ≡ Some m → result.code ≡ no_memory → IsSome (pending_of m.records id) }
     ensures numbers { HasNoNumbers result }
     ensures unchanged { handle.new.value ≡ handle.old.value }
+    ensures names { handle.new.names ≡ handle.old.names }
 {
-    let Some(core) = handle.take(alloc) else {
+    let Some(machine) = handle.take(alloc) else {
         return Answer::closed();
     };
-    let answer = write_found(core.pins_of(CheckpointId(id)), files);
-    handle.put(alloc, core);
+    let answer = write_found(machine.core().pins_of(CheckpointId(id)), files);
+    handle.put(alloc, machine);
     answer
 }
 
@@ -120,12 +124,13 @@ pub fn waiting_file(alloc: Global, handle: &mut Handle, place: usize) -> Answer
     ensures closed { StaysClosed handle.old.value handle.new.value result }
     ensures answered { (m : State) → handle.old.value ≡ Some m → result ≡ waiting_told (slice_get m.waiting place) }
     ensures unchanged { handle.new.value ≡ handle.old.value }
+    ensures names { handle.new.names ≡ handle.old.names }
 {
-    let Some(core) = handle.take(alloc) else {
+    let Some(machine) = handle.take(alloc) else {
         return Answer::closed();
     };
-    let answer = of_waiting(core.waiting_file(place));
-    handle.put(alloc, core);
+    let answer = of_waiting(machine.core().waiting_file(place));
+    handle.put(alloc, machine);
     answer
 }
 
@@ -141,12 +146,13 @@ pub fn taken_files(alloc: Global, handle: &mut Handle, files: &mut [u64]) -> Ans
     ensures kept { result.code ≢ 0 → files.new ≡ files.old }
     ensures numbers { HasNoNumbers result }
     ensures unchanged { handle.new.value ≡ handle.old.value }
+    ensures names { handle.new.names ≡ handle.old.names }
 {
-    let Some(core) = handle.take(alloc) else {
+    let Some(machine) = handle.take(alloc) else {
         return Answer::closed();
     };
-    let answer = write_found(core.taken_files(), files);
-    handle.put(alloc, core);
+    let answer = write_found(machine.core().taken_files(), files);
+    handle.put(alloc, machine);
     answer
 }
 

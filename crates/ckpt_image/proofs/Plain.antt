@@ -6,12 +6,12 @@ use Rattle.ckpt_ids.specs.Configuration.{Configuration}
 use Rattle.ckpt_ids.specs.Records.{Record}
 use Rattle.ckpt_model.specs.State.{Opening, State}
 use Rattle.ckpt_texts.proofs.NoFloats.{no_floats, numbers}
-use Rattle.ckpt_texts.specs.MetadataTexts.{natural}
+use Rattle.ckpt_texts.specs.MetadataTexts.{members, natural}
 use Rattle.serde_json.specs.Data.{Data, null, boolean, number, string, array, object, Members, member, no_members, depth, items_depth, members_depth}
 use Rattle.serde_json.specs.Read.{max_depth}
 use Rattle.serde_json.specs.View.{items_of}
 use Rattle.serde_json.specs.Written.{has_float}
-use Rattle.ckpt_image.specs.Written.{ack_data, clock_data, config_data, image_data, naturals, opening_data, optional, outbox_data, record_data}
+use Rattle.ckpt_image.specs.Written.{ack_data, clock_data, config_data, image_data, image_members, naturals, opening_data, optional, outbox_data, record_data}
 
 -- ---- no float
 
@@ -43,16 +43,19 @@ outbox : (m : State) → has_float (outbox_data m) ≡ false
 unfolding outbox_data
 outbox m = rw (numbers m.taken, numbers m.waiting) refl
 
+pub members_have_no_float : (format : ℕ) (m : State) → has_float (object (members (image_members format m))) ≡ false
+members_have_no_float format m = rw (optionals m.base, clock m, opening m.opening, outbox m, no_floats record_data m.records one_record, numbers m.shape) refl
+
 pub image_has_no_float : (m : State) → has_float (image_data m) ≡ false
 unfolding image_data
-image_has_no_float m = rw (optionals m.base, clock m, opening m.opening, outbox m, no_floats record_data m.records one_record, numbers m.shape) refl
+image_has_no_float m = members_have_no_float 1 m
 
 -- ---- how deep
 
 most : (a b k : ℕ) → a ≤ k → b ≤ k → max a b ≤ k
 most a b k h i = omega arith
 
-shallow_items : {X : Type 0} (k : ℕ) (shown : X → Data) (xs : List X) → ((x : X) → depth (shown x) ≤ k) → items_depth (items_of (map shown xs)) ≤ k
+pub shallow_items : {X : Type 0} (k : ℕ) (shown : X → Data) (xs : List X) → ((x : X) → depth (shown x) ≤ k) → items_depth (items_of (map shown xs)) ≤ k
 shallow_items k shown [] h = omega arith
 shallow_items k shown (x ∷ xs) h = most (depth (shown x)) (items_depth (items_of (map shown xs))) k (h x) (shallow_items k shown xs h)
 
@@ -114,10 +117,10 @@ outbox_depth m = deeper (members_depth (members_in (outbox_data m))) 5 (shallow_
 records_depth : (rs : List Record) → items_depth (items_of (map record_data rs)) ≤ 5
 records_depth rs = shallow_items 5 record_data rs (λ r. let four : depth (record_data r) ≤ 4 = record_depth r in omega arith)
 
-image_depth : (m : State) → depth (image_data m) ≤ 7
-unfolding image_data
-image_depth m =
-    deeper (members_depth (members_in (image_data m))) 6 (shallow_members 6 (members_in (image_data m)) (optional_depth m.base 6, (clock_depth m, (none_deep 6, (none_deep 6, (none_deep 6, (opening_depth m.opening, (outbox_depth m, (deeper (items_depth (items_of (map record_data m.records))) 5 (records_depth m.records), (list_depth m.shape 5, (none_deep 6, tt)))))))))))
+pub image_depth : (format : ℕ) (m : State) → depth (object (members (image_members format m))) ≤ 7
+image_depth format m =
+    deeper (members_depth (members (image_members format m))) 6 (shallow_members 6 (members (image_members format m)) (optional_depth m.base 6, (clock_depth m, (none_deep 6, (none_deep 6, (none_deep 6, (opening_depth m.opening, (outbox_depth m, (deeper (items_depth (items_of (map record_data m.records))) 5 (records_depth m.records), (list_depth m.shape 5, (none_deep 6, tt)))))))))))
 
 pub image_is_shallow : (m : State) → depth (image_data m) ≤ max_depth
-image_is_shallow m = let seven : depth (image_data m) ≤ 7 = image_depth m in omega arith
+unfolding image_data
+image_is_shallow m = let seven : depth (image_data m) ≤ 7 = image_depth 1 m in omega arith

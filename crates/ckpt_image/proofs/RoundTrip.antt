@@ -18,20 +18,20 @@ use Rattle.ckpt_ids.proofs.AscendingLemmas.{ascending_already}
 use Rattle.ckpt_model.specs.declared.mode.Mode.{Mode}
 use Rattle.ckpt_model.specs.declared.mode.Mode.TheVariants.{Running, Failed, Cancelled}
 use Rattle.ckpt_model.specs.State.{Opening, State}
-use Rattle.ckpt_texts.specs.MetadataTexts.{kind_name, list, natural, state_name}
-use Rattle.serde_json.specs.Data.{Data, string}
+use Rattle.ckpt_texts.specs.MetadataTexts.{kind_name, list, members, natural, state_name}
+use Rattle.serde_json.specs.Data.{Data, object, string}
 use Rattle.serde_json.specs.View.{items_of}
 use Rattle.ckpt_image.specs.Fits.{AckFits, Fits, RecordFits}
-use Rattle.ckpt_image.specs.Images.{image_of}
+use Rattle.ckpt_image.specs.Images.{image_of, image_of_any_version}
 use Rattle.ckpt_image.specs.Members.{ack_of, acks_of, are_in_subtask_order, clock_of, config_of, each, files_of, kind_of, list_of, mode_of, number_below, number_of, only, opening_of, optional_of, outbox_of, saved_of, shape_of, state_of, version_of}
-use Rattle.ckpt_image.specs.Written.{ack_data, clock_data, config_data, image_data, mode_name, naturals, opening_data, optional, outbox_data, record_data}
+use Rattle.ckpt_image.specs.Written.{ack_data, clock_data, config_data, image_data, image_members, mode_name, naturals, opening_data, optional, outbox_data, record_data}
 
 -- ---- values
 
 passes : {X : Type 0} (test : X → Bool) (x : X) → test x ≡ true → only test x ≡ Some x
 passes test x held = rw held refl
 
-all : {X : Type 0} (one : Data → Option X) (shown : X → Data) (xs : List X) → ((x : X) → IsIn x xs → one (shown x) ≡ Some x) → each one (items_of (map shown xs)) ≡ Some xs
+pub all : {X : Type 0} (one : Data → Option X) (shown : X → Data) (xs : List X) → ((x : X) → IsIn x xs → one (shown x) ≡ Some x) → each one (items_of (map shown xs)) ≡ Some xs
 all one shown [] h = refl
 all {X} one shown (x ∷ xs) h =
     ap (λ (o : Option X). option_and_then (λ y. option_map (λ ys. y ∷ ys) (each one (items_of (map shown xs)))) o) (h x (inl refl))
@@ -135,11 +135,10 @@ this_version : version_of (natural 1) ≡ Some 1
 unfolding version_of
 this_version = refl
 
-pub image_reads_back : (m : State) → Fits m → image_of (image_data m) ≡ Some m
-unfolding image_of image_data
-image_reads_back m fits =
+pub members_read_back : (format : ℕ) (m : State) → Fits m → image_of_any_version (object (members (image_members format m))) ≡ Some m
+unfolding image_of_any_version
+members_read_back format m fits =
     rw (
-      this_version,
       optionals m.base,
       clock m,
       below (2 ^ 32) m.failures fits.failures,
@@ -149,3 +148,7 @@ image_reads_back m fits =
       all saved_of record_data m.records (λ r there. one_record r (fits.records r there)),
       shapes m.shape fits.shape,
     ) refl
+
+pub image_reads_back : (m : State) → Fits m → image_of (image_data m) ≡ Some m
+unfolding image_of image_data
+image_reads_back m fits = rw (this_version) (members_read_back 1 m fits)

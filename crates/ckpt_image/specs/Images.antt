@@ -7,10 +7,9 @@ use Rattle.ckpt_image.specs.Members.{clock_of, list_of, mode_of, number_below, n
 use Rattle.serde_json.specs.Data.{Data}
 use Rattle.serde_json.specs.Read.{read}
 
--- the state that this JSON is an image of
-unfoldable pub image_of : Data → Option State
-image_of d =
-    with_key (codes "version") version_of d (λ version.
+-- the state that these members describe, whatever the format
+unfoldable pub image_of_any_version : Data → Option State
+image_of_any_version d =
     with_key (codes "base") optional_of d (λ base.
     with_key (codes "clock") clock_of d (λ clock.
     with_key (codes "failures") (number_below (2 ^ 32)) d (λ failures.
@@ -33,7 +32,11 @@ image_of d =
       records = records;
       waiting = outbox.waiting;
       taken = outbox.taken;
-    })))))))))))
+    }))))))))))
+
+-- the state that this JSON is an image of
+unfoldable pub image_of : Data → Option State
+image_of d = with_key (codes "version") version_of d (λ version. image_of_any_version d)
 
 -- the state that this text is an image of
 unfoldable pub image_read : List ℕ → Option State

@@ -11,7 +11,7 @@ use Rattle.ckpt_texts.specs.MetadataTexts.{kind_name, list, members, natural, st
 use Rattle.serde_json.specs.Data.{Data, null, boolean, string, object}
 use Rattle.serde_json.specs.Written.{compact_text}
 
--- the format that this page describes
+-- the format of an image, as this page describes it
 abbrev pub version : ℕ
 version = 1
 
@@ -92,11 +92,14 @@ later_members m =
     ∷ (codes "outbox", outbox_data m)
     ∷ (codes "records", list (map record_data m.records))
     ∷ (codes "shape", naturals m.shape)
-    ∷ (codes "version", natural version)
     ∷ []
 
+-- the members of an image in this format
+abbrev pub image_members : ℕ → State → List (List ℕ × Data)
+image_members format m = early_members m ++ later_members m ++ (codes "version", natural format) ∷ []
+
 unfoldable pub image_data : State → Data
-image_data m = object (members (early_members m ++ later_members m))
+image_data m = object (members (image_members version m))
 
 -- the image as JSON without spaces
 unfoldable pub image_bytes : State → List ℕ

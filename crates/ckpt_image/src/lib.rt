@@ -14,5 +14,7 @@ mod values;
 mod writing;
 
 pub use fault::TextFault;
-pub use reading::parse_image;
-pub use writing::image_text;
+pub use members::VERSION;
+pub use reading::{fault_of, image_of_any_version, parse_image};
+pub use values::{member, number, number_at};
+pub use writing::{image_object, image_text};

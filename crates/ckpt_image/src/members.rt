@@ -2,8 +2,8 @@
 
 use ckpt_ids::{Config, Files, Handed, Shape};
 
-/// The format that is written, and the only one that is read.
-pub(crate) const VERSION: u64 = 1;
+/// The number of the format of an image.
+pub const VERSION: u64 = 1;
 
 /// The moments of a coordinator, in milliseconds.
 #[derive(Clone, Copy)]

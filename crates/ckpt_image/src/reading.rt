@@ -2,7 +2,7 @@
 
 ghost use Rattle.std.specs.Prelude.{◌≡◌, ◌≢◌, Some, None, Err, IfOk, IfErr, option_and_then};
 ghost use Rattle.ckpt_model.specs.Images.{state_in};
-ghost use Rattle.ckpt_image.specs.Images.{Reads, image_of, image_read};
+ghost use Rattle.ckpt_image.specs.Images.{Reads, image_of, image_of_any_version, image_read};
 ghost use Rattle.ckpt_image.specs.Members.{clock_of, opening_in, opening_of, outbox_of};
 ghost use Rattle.serde_json.specs.Data.{Data};
 ghost use Rattle.serde_json.specs.Errors.{IsMemory};
@@ -37,7 +37,8 @@ pub fn parse_image(alloc: Global, text: &str) -> Result<Image, TextFault>
     }
 }
 
-fn fault_of(error: &Error) -> TextFault
+/// Why no JSON was read.
+pub fn fault_of(error: &Error) -> TextFault
     ensures memory { IsMemory error.now → result ≡ TextFault.Memory }
     ensures text { (IsMemory error.now → ⊥) → result ≡ TextFault.NotJson }
 {
@@ -53,6 +54,15 @@ fn image(alloc: Global, value: &Value) -> Result<Image, TextFault>
     ensures { Reads state_in result (image_of (view value.now)) }
 {
     let _ = version(value, "version")?;
+    image_of_any_version(alloc, value)
+}
+
+/// The image that an object describes, whatever the number of its format. Returns only
+/// [`TextFault::NoImage`] and, if memory runs out, [`TextFault::Memory`].
+#[tactic(auto, unfolding(crate::specs::Images::image_of_any_version))]
+pub fn image_of_any_version(alloc: Global, value: &Value) -> Result<Image, TextFault>
+    ensures { Reads state_in result (image_of_any_version (view value.now)) }
+{
     let base = optional(value, "base")?.map(|id| CheckpointId(id));
     let clock = clock(value, "clock")?;
     let failures = half_number(value, "failures")?;

@@ -15,7 +15,7 @@ use ckpt_ids::{Config, Kind};
 use serde_json::Value;
 
 /// The member of an object under this key.
-pub(crate) fn member<'v>(value: &'v Value, key: &str) -> Result<&'v Value, TextFault>
+pub fn member<'v>(value: &'v Value, key: &str) -> Result<&'v Value, TextFault>
     ensures { Reads (λ found. view found.now) result (get key.now (view value.now)) }
 {
     match value.get(key) {
@@ -25,13 +25,14 @@ pub(crate) fn member<'v>(value: &'v Value, key: &str) -> Result<&'v Value, TextF
 }
 
 /// An integer of at most 2^64 - 1.
-pub(crate) fn number(value: &Value) -> Result<u64, TextFault>
+pub fn number(value: &Value) -> Result<u64, TextFault>
     ensures { Reads (λ number. number) result (number_of (view value.now)) }
 {
     value.as_u64().ok_or(NoImage)
 }
 
-pub(crate) fn number_at(value: &Value, key: &str) -> Result<u64, TextFault>
+/// The member of an object under this key, if it is an integer of at most 2^64 - 1.
+pub fn number_at(value: &Value, key: &str) -> Result<u64, TextFault>
     ensures { Reads (λ number. number) result (option_and_then number_of (get key.now (view value.now))) }
 {
     number(member(value, key)?)

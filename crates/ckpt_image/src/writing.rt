@@ -1,6 +1,6 @@
 //! The text of an image.
 
-ghost use Rattle.std.specs.Prelude.{◌≡◌, ◌<◌, ◌^◌, ◌++◌, map, Some, IfOk, OnOk, string_bytes};
+ghost use Rattle.std.specs.Prelude.{◌≡◌, ◌<◌, ◌^◌, map, Some, IfOk, OnOk, string_bytes};
 ghost use Rattle.ckpt_ids.specs.declared.ack.Acked.{Acked};
 ghost use Rattle.ckpt_ids.specs.Acknowledged.{AreInSubtaskOrder};
 ghost use Rattle.ckpt_ids.specs.Ascending.{IsAscending};
@@ -14,7 +14,7 @@ ghost use Rattle.serde_json.specs.Data.{no_members};
 ghost use Rattle.serde_json.specs.View.{members_view, view};
 ghost use Rattle.ckpt_image.specs.Fits.{AckFits, Fits, RecordFits};
 ghost use Rattle.ckpt_image.specs.Images.{image_read};
-ghost use Rattle.ckpt_image.specs.Written.{ack_data, clock_data, config_data, early_members, image_bytes, image_data, later_members, mode_name, naturals, opening_data, optional, outbox_data, record_data};
+ghost use Rattle.ckpt_image.specs.Written.{ack_data, clock_data, config_data, image_bytes, image_data, image_members, later_members, mode_name, naturals, opening_data, optional, outbox_data, record_data};
 
 use crate::members::VERSION;
 use ckpt_core::{Image, Mode, Saved};
@@ -39,13 +39,25 @@ fn image_value(alloc: Global, image: &Image) -> Result<Value, AllocError>
     ensures value { IfOk result (λ value. view value ≡ image_data (state_in image.now)) }
     ensures fits { OnOk result (Fits (state_in image.now)) }
 {
-    let mut object = Map::new(alloc);
-    put_later(&mut object, alloc, image)?;
-    put_early(&mut object, alloc, image)?;
-    Ok(Value::Object(object))
+    Ok(Value::Object(image_object(alloc, image, VERSION)?))
 }
 
-/// Puts the members from `opening` on, from the last to the first.
+/// The members of the image in a format that has this number. Fails only if memory runs out.
+pub fn image_object(
+    alloc: Global,
+    image: &Image,
+    format: u64,
+) -> Result<Map<String, Value>, AllocError>
+    ensures value { IfOk result (λ object. members_view object.entries ≡ members (image_members format (state_in image.now))) }
+    ensures fits { OnOk result (Fits (state_in image.now)) }
+{
+    let mut object = Map::new(alloc);
+    put_later(&mut object, alloc, image)?;
+    put_others(&mut object, alloc, image, format)?;
+    Ok(object)
+}
+
+/// Puts the members from `opening` to `shape`, from the last to the first.
 ///
 /// Condition: there are no members yet.
 fn put_later(
@@ -60,7 +72,6 @@ fn put_later(
     ensures records { OnOk result ((r : Record) → IsIn r (map record_in image.now.records.items) → RecordFits r) }
     ensures taken { OnOk result (IsAscending image.now.taken) }
 {
-    put(object, alloc, "version", Value::from(VERSION))?;
     put(object, alloc, "shape", shape_value(alloc, &image.shape)?)?;
     image.shape.recall();
     put(
@@ -73,19 +84,21 @@ fn put_later(
     put(object, alloc, "opening", opening_value(alloc, image)?)
 }
 
-/// Puts the members up to `next`, from the last to the first, before the others.
+/// Puts `version` behind those members, and the members up to `next` before them, from the last to
+/// the first.
 ///
-/// Condition: exactly the others are there.
-fn put_early(
+/// Condition: exactly those members are there.
+fn put_others(
     object: &mut Map<String, Value>,
     alloc: Global,
     image: &Image,
+    format: u64,
 ) -> Result<(), AllocError>
     requires { members_view object.old.entries ≡ members (later_members (state_in image.now)) }
-    ensures value { OnOk result (members_view object.new.entries
-        ≡ members (early_members (state_in image.now) ++ later_members (state_in image.now))) }
+    ensures value { OnOk result (members_view object.new.entries ≡ members (image_members format (state_in image.now))) }
     ensures failures { OnOk result (image.now.failures < 2 ^ 32) }
 {
+    put(object, alloc, "version", Value::from(format))?;
     put(object, alloc, "next", Value::from(image.next))?;
     let mode = Value::try_from_str(alloc, mode_name(image.mode))?;
     put(object, alloc, "mode", mode)?;

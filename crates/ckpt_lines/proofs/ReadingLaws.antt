@@ -18,14 +18,14 @@ use Rattle.ckpt_lines.specs.Reading.{◌>>=◌, is_memory, place, number_place, 
 use Rattle.ckpt_lines.specs.Values.{number, subtask, retention, target_of, savepoint, file_word, signed, number_of, subtask_of}
 use Rattle.ckpt_lines.specs.Words.{words_of}
 
-abbrev NoMemory : {X : Type 0} → Result X LineFault → Type 0
+abbrev pub NoMemory : {X : Type 0} → Result X LineFault → Type 0
 NoMemory read = IfErr read (λ why. is_memory why ≡ false)
 
-bind : {A B : Type 0} (read : Result A LineFault) (f : A → Result B LineFault) → NoMemory read → ((x : A) → NoMemory (f x)) → NoMemory (read >>= f)
+pub bind : {A B : Type 0} (read : Result A LineFault) (f : A → Result B LineFault) → NoMemory read → ((x : A) → NoMemory (f x)) → NoMemory (read >>= f)
 bind (Ok x) f first next = next x
 bind (Err why) f first next = first
 
-either : {X : Type 0} (b : Bool) (x y : Result X LineFault) → NoMemory x → NoMemory y → NoMemory (cond b x y)
+pub either : {X : Type 0} (b : Bool) (x y : Result X LineFault) → NoMemory x → NoMemory y → NoMemory (cond b x y)
 either true x y p q = p
 either false x y p q = q
 
@@ -82,16 +82,16 @@ target_place-no_memory : (words : List (List ℕ)) → NoMemory (target_place wo
 unfolding target_place
 target_place-no_memory words = place-no_memory target_of target-no_memory words
 
-numbers-no_memory : (words : List (List ℕ)) → NoMemory (each number words)
+pub numbers-no_memory : (words : List (List ℕ)) → NoMemory (each number words)
 numbers-no_memory words = each-no_memory number (λ word. number-no_memory (number_of word)) words
 
-ended-no_memory : (words : List (List ℕ)) → NoMemory (ended words)
+pub ended-no_memory : (words : List (List ℕ)) → NoMemory (ended words)
 unfolding ended
 ended-no_memory [] = tt
 ended-no_memory (word ∷ words) = refl
 
 -- a number, and what is read after it
-number_then : {B : Type 0} (words : List (List ℕ)) (f : ℕ × List (List ℕ) → Result B LineFault) → ((x : ℕ × List (List ℕ)) → NoMemory (f x)) → NoMemory (number_place words >>= f)
+pub number_then : {B : Type 0} (words : List (List ℕ)) (f : ℕ × List (List ℕ) → Result B LineFault) → ((x : ℕ × List (List ℕ)) → NoMemory (f x)) → NoMemory (number_place words >>= f)
 number_then words f next = bind (number_place words) f (number_place-no_memory words) next
 
 -- the end, and the line
@@ -166,12 +166,12 @@ row_of-no_memory : (first : Option Keyword) (words : List (List ℕ)) → NoMemo
 row_of-no_memory None words = refl
 row_of-no_memory (Some first) words = row-no_memory first words
 
-line_of-no_memory : (words : List (List ℕ)) → NoMemory (line_of words)
+pub line_of-no_memory : (words : List (List ℕ)) → NoMemory (line_of words)
 unfolding line_of
 line_of-no_memory [] = tt
 line_of-no_memory (word ∷ words) = either (is_comment word) _ _ tt (row_of-no_memory (keyword_of word) words)
 
-reading-known : (line : List ℕ) → NoMemory (reading line)
+pub reading-known : (line : List ℕ) → NoMemory (reading line)
 unfolding reading
 reading-known line = either (is_too_long line) _ _ refl (line_of-no_memory (words_of (strip_carriage_return line)))
 

@@ -1,5 +1,7 @@
 -- The first word of a text, and the words after it.
-use Rattle.std.proofs.Common.{◌≡◌, ℕ, suc, ◌+◌, ◌<◌, Bool, true, false, cond, not, List, [], ◌∷◌, length, take, drop, filter, refl, ap, ◌∙◌, arith}
+use Rattle.std.proofs.Common.{◌≡◌, ℕ, suc, ◌+◌, ◌<◌, Bool, true, false, cond, not, List, [], ◌∷◌, length, take, drop, filter, refl, sym, ap, ◌∙◌, arith}
+use Rattle.std.proofs.lemmas.Bool.{eqb-true}
+use Rattle.std.specs.Prelude.{◌↔◌, ◌==◌, IsTrue}
 use Rattle.std.specs.List.{slice_split, onto_first}
 use Rattle.ckpt_lines.specs.Words.{is_space, is_word, words_of, begins_with_space, first_length}
 
@@ -56,6 +58,26 @@ words_of-split (b ∷ bs) some start =
     let rest : filter is_word (parts_after (drop (first_length text) text)) ≡ words_of (drop (first_length text) text) = words_after (drop (first_length text) text) (ends_word text) in
     let whole : filter is_word (take (first_length text) text ∷ parts_after (drop (first_length text) text)) ≡ take (first_length text) text ∷ filter is_word (parts_after (drop (first_length text) text)) = rw word refl in
     parts ∙ whole ∙ ap (λ (ws : List (List ℕ)). take (first_length text) text ∷ ws) rest
+
+-- a text that begins with no space has a word, unless it is empty
+pub no_words : (text : List ℕ) → begins_with_space text ≡ false → words_of text ≡ [] → text ≡ []
+no_words [] start none = refl
+no_words (b ∷ bs) start none =
+    let text : List ℕ = b ∷ bs in
+    let some : words_of text ≡ take (first_length text) text ∷ words_of (drop (first_length text) text) = words_of-split text (omega arith) start in
+    let clash : ◌≡◌ {A = List (List ℕ)} (take (first_length text) text ∷ words_of (drop (first_length text) text)) [] = sym some ∙ none in
+    absurd cc
+
+empty_list : (text : List ℕ) → length text ≡ 0 → text ≡ []
+empty_list [] none = refl
+empty_list (b ∷ bs) none = absurd (omega (arith, none))
+
+-- so such a text is empty exactly if no word is left
+pub tells_none : (text : List ℕ) (words : List (List ℕ)) (empty : Bool) → begins_with_space text ≡ false → words_of text ≡ words → empty ≡ (length text == 0) → IsTrue empty ↔ (words ≡ [])
+tells_none text words empty start same is = (
+  λ yes. let none : text ≡ [] = empty_list text (eqb-true (length text) 0 (sym is ∙ yes)) in sym same ∙ ap words_of none,
+  λ none. let bare : text ≡ [] = no_words text start (same ∙ none) in is ∙ ap (λ (t : List ℕ). length t == 0) bare,
+)
 
 -- one word less is left
 pub fewer : (words : List (List ℕ)) (word : List ℕ) (rest : List (List ℕ)) → words ≡ word ∷ rest → length rest < length words

@@ -5,6 +5,8 @@
 //! returns the call of a line, or which other kind of line it is. `specs/Meanings.antt` defines
 //! that. [`usual_call`] returns the call of a usual line without a [`Line`], and `specs/Usual.antt`
 //! defines which lines are usual.
+//!
+//! A language with more lines reads their words by [`Words`], and the other lines by [`line_of`].
 #![tactic(auto)]
 
 mod fault;
@@ -27,5 +29,8 @@ pub use limits::LONGEST_LINE;
 pub use line::Line;
 pub use meaning::Meaning;
 pub use numbers::Numbers;
-pub use parse::parse_line;
+pub use parse::{line_of, parse_line, without_return};
+pub use rows::end;
 pub use usual::usual_call;
+pub use values::number_of;
+pub use words::Words;

@@ -12,7 +12,7 @@ use crate::words::Words;
 use std::alloc::Global;
 
 /// The text without the one carriage return at its end, if it has one.
-pub(crate) fn without_return(line: &[u8]) -> &[u8]
+pub fn without_return(line: &[u8]) -> &[u8]
     ensures { result.now ≡ strip_carriage_return line.now }
 {
     line.strip_suffix(b"\r").unwrap_or(line)
@@ -46,8 +46,8 @@ fn first_keyword(words: &mut Words<'_>) -> Result<Option<Keyword>, LineFault>
     any_keyword(words)
 }
 
-/// The line of these words.
-fn line_of(alloc: Global, words: &mut Words<'_>) -> Result<Line, LineFault>
+/// The line of these words. Reads them as [`parse_line`] does.
+pub fn line_of(alloc: Global, words: &mut Words<'_>) -> Result<Line, LineFault>
     ensures line { Reads result (line_of words.old) }
     ensures memory { result ≡ Err LineFault.Memory → begins_with_a_list words.old ≡ true }
 {

@@ -14,7 +14,7 @@ use std::alloc::Global;
 
 /// Checks that no word follows the last one.
 #[tactic(auto, unfolding(crate::specs::Reading::ended))]
-pub(crate) fn end(words: &mut Words<'_>) -> Result<(), LineFault>
+pub fn end(words: &mut Words<'_>) -> Result<(), LineFault>
     ensures { IsExact result (ended words.old) }
 {
     if words.next().is_some() {

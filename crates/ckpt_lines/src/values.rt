@@ -17,7 +17,7 @@ pub enum FileWord {
 }
 
 /// The number that the digits spell, at most 2^64 - 1. A sign is not a digit.
-pub(crate) fn number_of(word: &[u8]) -> Option<u64>
+pub fn number_of(word: &[u8]) -> Option<u64>
     ensures { result ≡ number_of word.now }
 {
     if word.is_empty() {

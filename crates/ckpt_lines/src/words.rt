@@ -1,5 +1,5 @@
 //! The words of a line, read one after the other.
-ghost use Rattle.std.specs.Prelude.{◌≡◌, ◌≤◌, ◌+◌, false, length, take};
+ghost use Rattle.std.specs.Prelude.{◌≡◌, ◌↔◌, ◌≤◌, ◌+◌, [], false, IsTrue, length, take};
 ghost use Rattle.std.specs.Option.{option_map};
 ghost use Rattle.ckpt_lines.specs.Reading.{Gives, Takes, file_place, number_place};
 ghost use Rattle.ckpt_lines.specs.Values.{number_of};
@@ -19,7 +19,7 @@ const FITTING: usize = 19;
 
 /// The words of a line that are not read yet. One or more spaces separate two words.
 #[derive(Drop)]
-pub(crate) struct Words<'a> {
+pub struct Words<'a> {
     rest: &'a [u8],
 }
 
@@ -113,10 +113,17 @@ fn first_number(text: &[u8]) -> Option<(u64, usize)>
 
 impl<'a> Words<'a> {
     /// The words of this text.
-    pub(crate) fn of(text: &'a [u8]) -> Words<'a>
+    pub fn of(text: &'a [u8]) -> Words<'a>
         ensures { result ≡ words_of text.now }
     {
         Words { rest: text }
+    }
+
+    /// Whether no word is left.
+    pub fn is_empty(&self) -> bool
+        ensures { IsTrue result ↔ (self.now ≡ []) }
+    {
+        without_spaces(self.rest).is_empty()
     }
 
     /// Takes the next word if it is a keyword that most lines begin with, with no space before it
@@ -143,7 +150,7 @@ impl<'a> Words<'a> {
     }
 
     /// The next word as a number. Reads its bytes once, both for its end and for its value.
-    pub(crate) fn number(&mut self) -> Result<u64, LineFault>
+    pub fn number(&mut self) -> Result<u64, LineFault>
         ensures { Gives result self.new (number_place self.old) }
     {
         let text = without_spaces(self.rest);

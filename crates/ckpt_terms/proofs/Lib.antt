@@ -1,6 +1,11 @@
 -- The lemmas that the proofs use.
 pub mod Classes
+pub mod Counted
+pub mod Crossings
 pub mod Fences
+pub mod Imaged
+pub mod KnownFiles
+pub mod MachineLemmas
 pub mod Known
 pub mod Modes
 pub mod OnceIssued

@@ -23,7 +23,7 @@ names_append [] ys = refl
 names_append (x ∷ xs) ys = ap (λ zs. row x ++ zs) (names_append xs ys) ∙ sym (append_assoc (row x) (names_in xs) (names_in ys))
 
 -- the names before a range, its own, and those behind it
-names_at : (xs : List Span) (i : ℕ) (d : Span) → i < length xs → names_in xs ≡ names_in (take i xs) ++ (row (get_or xs i d) ++ names_in (drop (i + 1) xs))
+pub names_at : (xs : List Span) (i : ℕ) (d : Span) → i < length xs → names_in xs ≡ names_in (take i xs) ++ (row (get_or xs i d) ++ names_in (drop (i + 1) xs))
 names_at xs i d h = ap names_in (sym (take-append-drop i xs)) ∙ names_append (take i xs) (drop i xs) ∙ ap (λ ys. names_in (take i xs) ++ ys) (ranges_at xs i d h)
 
 names_from : (xs : List Span) (i : ℕ) (d : Span) (f : ℕ) → i < length xs → IsIn f (row (get_or xs i d)) → IsIn f (names_in xs)
@@ -33,7 +33,7 @@ names_from xs i d f h k =
     let behind : List ℕ = names_in (drop (i + 1) xs) in
     subst In (sym (names_at xs i d h)) (IsIn-append_right f (names_in (take i xs)) (its ++ behind) (IsIn-append_left f its behind k))
 
-length-row : (a n : ℕ) → length (range_with_len a n) ≡ n
+pub length-row : (a n : ℕ) → length (range_with_len a n) ≡ n
 length-row a zero = refl
 length-row a (suc n) = ap suc (length-row (a + 1) n)
 

@@ -134,7 +134,7 @@ settled_known m f h =
     (IsIn-append_cases f m.waiting (ascending m.taken) (IsIn-from_test f (m.waiting ++ ascending m.taken) k))))
     (or_cases (is_present (uses m.records) f) (in_outbox (settled m) f) h)
 
-settled_fenced : (m : Fenced) → IsSound (settled m.core) → IsFenced m → IsFenced (fenced_settled m)
+pub settled_fenced : (m : Fenced) → IsSound (settled m.core) → IsFenced m → IsFenced (fenced_settled m)
 settled_fenced m sound i = record {
   core = sound;
   term_from = i.term_from;

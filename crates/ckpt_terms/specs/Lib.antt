@@ -2,7 +2,9 @@
 pub mod FencedExamples
 pub mod Fencing
 pub mod FencedLaws
+pub mod Machines
 pub mod Spans
+pub mod Spent
 pub mod TermsImages
 pub mod TermsOpening
 pub mod Wants

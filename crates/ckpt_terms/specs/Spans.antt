@@ -2,6 +2,7 @@
 use Rattle.std.specs.Prelude.{◌≡◌, ℕ, ◌+◌, ◌-◌, ◌<◌, ◌≤◌, Bool, ◌&&◌, nat_lt, nat_le, List, [], ◌∷◌, flat_map, length}
 use Rattle.std.specs.List.{All, HoldsAt, range_with_len}
 use Rattle.ckpt_ids.specs.Ascending.{IsAscendingSet}
+use Rattle.ckpt_ids.specs.Ordered.{IsIn}
 use Rattle.ckpt_terms.specs.declared.names.Span.{Span}
 use Rattle.ckpt_terms.specs.Fencing.{without_all}
 
@@ -25,6 +26,12 @@ pub record AreKept (spans : List Span) (held len room : ℕ) : Type 0 where
   pub ranges : AreRanges spans
   pub names : length (names_in spans) ≡ held
   pub fits : held + len ≤ room + room
+
+-- ranges with this many names, all of them below an end
+pub record AreRangesBelow (spans : List Span) (end held : ℕ) : Type 0 where
+  pub ranges : AreRanges spans
+  pub names : length (names_in spans) ≡ held
+  pub below : (f : ℕ) → IsIn f (names_in spans) → f < end
 
 -- the range at this place has the name
 pub record HasAt (spans : List Span) (place : ℕ) (s : Span) (name : ℕ) : Type 0 where

@@ -1,10 +1,12 @@
 -- What an image has of a fenced state: everything but the order in which files were fetched, which no call returns.
 use Rattle.std.specs.Prelude.{◌≡◌, List, [], ◌∷◌, ◌++◌}
-use Rattle.ckpt_model.specs.Images.{CanHold, settled}
+use Rattle.ckpt_model.specs.Images.{CanHold, settled, state_in}
 use Rattle.ckpt_terms.specs.declared.call.FencedCall.{FencedCall}
 use Rattle.ckpt_terms.specs.declared.call.FencedAnswer.{FencedAnswer}
+use Rattle.ckpt_terms.specs.declared.image.TermsImage.{TermsImage}
 use Rattle.ckpt_terms.specs.Fencing.{Fenced, FencedStepped, fenced_step, fenced_replay}
 use Rattle.ckpt_terms.specs.FencedLaws.{IsFenced}
+use Rattle.ckpt_terms.specs.Spans.{AreRanges, names_in}
 
 -- the answers to a list of calls
 abbrev pub fenced_answers : Fenced → List FencedCall → List FencedAnswer
@@ -28,6 +30,16 @@ pub record FencedGoesOnAs (m n : Fenced) (calls : List FencedCall) : Type 0 wher
 pub record CanHoldFenced (m : Fenced) : Type 0 where
   pub core : CanHold m.core
   pub fenced : IsFenced m
+
+-- the state of an image
+abbrev pub fenced_in : TermsImage → Fenced
+fenced_in i = record { core = state_in i.core; term = i.term; next_name = i.next_name; unspent = names_in i.unspent.items }
+
+-- An image that a coordinator can be made from: its ranges are in ascending order and none is empty, and its state is one
+-- that an image may have.
+pub record CanOpenFenced (i : TermsImage) : Type 0 where
+  pub ranges : AreRanges i.unspent.items
+  pub state : CanHoldFenced (fenced_in i)
 
 -- The image after the first calls of a log, and the calls after it, give what the whole log gives: the same answers, and a
 -- state that is alike.

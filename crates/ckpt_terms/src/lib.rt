@@ -7,10 +7,15 @@
 #![tactic(auto)]
 
 pub mod call;
+pub mod image;
 pub mod laws;
+pub mod machine;
 pub mod names;
+mod scan;
 pub mod terms;
 
 pub use call::{FencedAnswer, FencedCall, FencedRefusal};
+pub use image::TermsImage;
+pub use machine::{FenceFault, Machine};
 pub use names::{Names, Span};
 pub use terms::Terms;

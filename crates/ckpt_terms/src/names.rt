@@ -1,11 +1,11 @@
 //! The names that tasks hold, as ranges.
 
-ghost use Rattle.std.specs.Prelude.{◌≡◌, ◌<◌, ◌≤◌, ◌+◌, ◌^◌, ℕ, [], ◌∷◌, ◌++◌, length, find, nat_le, not, true, false, None, IfSome, OnOk, OnErr, vec_capacity, vec_len};
+ghost use Rattle.std.specs.Prelude.{◌≡◌, ◌<◌, ◌≤◌, ◌+◌, ◌^◌, ℕ, [], ◌∷◌, ◌++◌, length, find, nat_le, not, true, false, None, IfOk, IfSome, OnOk, OnErr, vec_capacity, vec_len};
 ghost use Rattle.std.specs.List.{list_any, range_with_len};
 ghost use Rattle.std.specs.Prelude.{◌==◌};
 ghost use Rattle.ckpt_ids.specs.Ordered.{IsIn};
 ghost use Rattle.ckpt_terms.specs.Fencing.{without_all};
-ghost use Rattle.ckpt_terms.specs.Spans.{AreRanges, HasAt, IsCut, in_span, names_in};
+ghost use Rattle.ckpt_terms.specs.Spans.{AreRanges, AreRangesBelow, HasAt, IsCut, in_span, names_in};
 
 use ckpt_ids::{FileId, Files};
 use std::alloc::{AllocError, Global};
@@ -74,11 +74,40 @@ impl Names {
         }
     }
 
+    /// The names in these ranges, of which there are this many. Fails only if memory runs out.
+    ///
+    /// Condition: the ranges are in ascending order, and none is empty.
+    pub(crate) fn of(alloc: Global, ranges: &[Span], held: u64) -> Result<Names, AllocError>
+        requires ranges { AreRanges ranges.now }
+        requires held { length (names_in ranges.now) ≡ held }
+        ensures { IfOk result (λ names. names ≡ names_in ranges.now) }
+    {
+        let mut spans = copy_of(alloc, ranges)?;
+        make_room(&mut spans, held)?;
+        Ok(Names { alloc, spans, held })
+    }
+
+    /// The ranges of the names.
+    pub fn ranges(&self) -> &[Span]
+        ensures names { names_in result.now ≡ self.now }
+        ensures ranges { AreRanges result.now }
+    {
+        &self.spans
+    }
+
+    /// A copy of the ranges. Fails only if memory runs out.
+    pub fn copied_ranges(&self) -> Result<Vec<Span>, AllocError>
+        ensures names { IfOk result (λ spans. names_in spans.items ≡ self.now) }
+        ensures ranges { IfOk result (λ spans. AreRanges spans.items) }
+    {
+        copy_of(self.alloc, &self.spans)
+    }
+
     /// Whether the name is one of them. Makes a binary search among the ranges.
     pub fn contains(&self, name: FileId) -> bool
         ensures { result ≡ list_any (λ g. name == g) self.now }
     {
-        range_with(&self.spans, name.0).is_some()
+        hold(&self.spans, name)
     }
 
     /// The first of the files whose name is not one of these.
@@ -131,6 +160,46 @@ impl Names {
             self.held -= 1;
         }
     }
+}
+
+/// A list of these ranges. Fails only if memory runs out.
+fn copy_of(alloc: Global, ranges: &[Span]) -> Result<Vec<Span>, AllocError>
+    ensures { IfOk result (λ spans. spans.items ≡ ranges.now) }
+{
+    let mut spans = Vec::new(alloc);
+    spans.extend_from_slice(ranges)?;
+    Ok(spans)
+}
+
+/// How many names these ranges have, or `None` if they are not in ascending order, if one is empty,
+/// or if one has a name from `end` on.
+pub(crate) fn count_names(ranges: &[Span], end: u64) -> Option<u64>
+    ensures some { IfSome result (λ held. AreRangesBelow ranges.now end held) }
+    ensures none { result ≡ None → AreRanges ranges.now → ((f : ℕ) → IsIn f (names_in ranges.now) → f < end) → ⊥ }
+{
+    let mut held = 0;
+    let mut last = 0;
+    for span in ranges {
+        if span.from < last {
+            return None;
+        }
+        if span.to <= span.from {
+            return None;
+        }
+        held += span.to - span.from;
+        last = span.to;
+    }
+    if last <= end { Some(held) } else { None }
+}
+
+/// Whether one of the ranges has the name. Makes a binary search.
+///
+/// Condition: the ranges are in ascending order, and none is empty.
+pub(crate) fn hold(ranges: &[Span], name: FileId) -> bool
+    requires { AreRanges ranges.now }
+    ensures { result ≡ list_any (λ g. name == g) (names_in ranges.now) }
+{
+    range_with(ranges, name.0).is_some()
 }
 
 /// The range that has this name with its place, if there is one. Makes a binary search.

@@ -7,11 +7,12 @@ ghost use Rattle.ckpt_model.specs.Soundness.{IsCall};
 ghost use Rattle.ckpt_terms.specs.declared.call.FencedCall.TheVariants.{Reserve, Forfeit, Make};
 ghost use Rattle.ckpt_terms.specs.Fencing.{ends_the_term, fence, fenced, fenced_step, fresh_of, is_garbage, is_unspent, is_of_task, not_held, not_reserved, unspent_after};
 ghost use Rattle.ckpt_terms.specs.FencedLaws.{IsFenced, IsFencedCall};
+ghost use Rattle.ckpt_terms.specs.Spans.{AreRanges, names_in};
 ghost use Rattle.ckpt_terms.specs.TermsOpening.{terms_fault};
 ghost use Rattle.ckpt_terms.specs.Wants.{wants_memory};
 
 use crate::call::{FencedAnswer, FencedCall, FencedRefusal, LAST_TERM, MOST_NAMES, NAMES_END};
-use crate::names::Names;
+use crate::names::{Names, Span};
 use ckpt_core::{Core, CoreFault, Mode, OpenFault, Secret};
 use ckpt_ids::{Answer, Call, Config, FileId, Files, Shape};
 use std::alloc::{AllocError, Global};
@@ -142,7 +143,8 @@ impl Terms {
         FencedAnswer::Forfeited
     }
 
-    fn make(&mut self, term: u64, call: &Call) -> Result<FencedAnswer, AllocError>
+    /// Makes a call of the coordinator, as [`Terms::apply`] makes [`FencedCall::Make`].
+    pub fn make(&mut self, term: u64, call: &Call) -> Result<FencedAnswer, AllocError>
         ensures done { IfOk result (λ answer. fenced_step self.old (Make term call.now) ≡ (self.new, answer)) }
         ensures memory { OnErr result (wants_memory self.old (Make term call.now) ≡ true) }
         ensures unchanged { OnErr result (self.new ≡ self.old) }
@@ -222,6 +224,43 @@ impl Terms {
         ensures { result.now ≡ self.now.core }
     {
         &self.core
+    }
+
+    /// The first name that was never reserved.
+    pub fn next_name(&self) -> u64
+        ensures { result ≡ self.now.next_name }
+    {
+        self.next_name
+    }
+
+    /// The names that the running term holds: ranges in ascending order, none of them empty.
+    pub fn unspent(&self) -> &[Span]
+        ensures names { names_in result.now ≡ self.now.unspent }
+        ensures ranges { AreRanges result.now }
+    {
+        self.unspent.ranges()
+    }
+
+    pub(crate) fn names(&self) -> &Names
+        ensures { result.now ≡ self.now.unspent }
+    {
+        &self.unspent
+    }
+
+    /// A coordinator of these parts.
+    ///
+    /// Condition: together they are sound.
+    pub(crate) fn of(alloc: Global, core: Core, term: u64, next_name: u64, unspent: Names) -> Terms
+        requires { IsFenced (record { core = core; term = term; next_name = next_name; unspent = unspent }) }
+        ensures { result ≡ record { core = core; term = term; next_name = next_name; unspent = unspent } }
+    {
+        Terms {
+            alloc,
+            core,
+            term,
+            next_name,
+            unspent,
+        }
     }
 }
 

@@ -5,6 +5,7 @@ ghost use Rattle.ckpt_ids.specs.declared.call.Call.TheVariants as call;
 ghost use Rattle.ckpt_model.specs.Coordinator.{State};
 ghost use Rattle.ckpt_embed.specs.Buffers.{BringsFiles, BringsJson, IsShowTold, StandsInFront};
 ghost use Rattle.ckpt_embed.specs.Calls.{HasNoNumbers, IsAnswered, IsBadShape, IsMade, IsRefusedAs, StaysAsItWas, StaysClosed, WantsMemory, ack_of, restore_of};
+ghost use Rattle.ckpt_embed.specs.Fenced.{IsHandled, call_step};
 ghost use Rattle.ckpt_embed.specs.Names.{refusal_name};
 ghost use Rattle.ckpt_embed.specs.Opening.{opening_of, IsNotOpened, IsOpened, OpeningWantsMemory, StaysOpen};
 ghost use Rattle.ckpt_embed.specs.Told.{bad_shape, no_memory};
@@ -32,6 +33,8 @@ pub extern "C" fn relkvanu_open(
     ensures memory { OpeningWantsMemory (opening_of settings.now shape.now now first) result }
     ensures numbers { HasNoNumbers result }
     ensures unchanged { StaysAsItWas handle.old.value handle.new.value result }
+    ensures names { handle.new.names ≡ handle.old.names }
+    ensures plain { handle.old.value ≡ None → handle.new.names ≡ None }
 {
     let secret = Secret::of(first_word, second_word);
     ckpt_embed::open(alloc, handle, settings, shape, now, first, secret)
@@ -40,7 +43,8 @@ pub extern "C" fn relkvanu_open(
 /// Closes the coordinator.
 #[unsafe(no_mangle)]
 pub extern "C" fn relkvanu_close(alloc: Global, handle: &mut Handle)
-    ensures { handle.new.value ≡ None }
+    ensures value { handle.new.value ≡ None }
+    ensures names { handle.new.names ≡ None }
 {
     ckpt_embed::close(alloc, handle)
 }
@@ -53,6 +57,7 @@ pub extern "C" fn relkvanu_tick(alloc: Global, handle: &mut Handle, now: u64) ->
     ensures memory { WantsMemory handle.old.value (call.Tick now) result }
     ensures numbers { HasNoNumbers result }
     ensures unchanged { StaysAsItWas handle.old.value handle.new.value result }
+    ensures names { handle.new.names ≡ handle.old.names }
 {
     ckpt_embed::call(alloc, handle, &Call::Tick { now })
 }
@@ -65,6 +70,7 @@ pub extern "C" fn relkvanu_savepoint(alloc: Global, handle: &mut Handle, now: u6
     ensures memory { WantsMemory handle.old.value (call.Savepoint now) result }
     ensures numbers { HasNoNumbers result }
     ensures unchanged { StaysAsItWas handle.old.value handle.new.value result }
+    ensures names { handle.new.names ≡ handle.old.names }
 {
     ckpt_embed::call(alloc, handle, &Call::Savepoint { now })
 }
@@ -82,9 +88,11 @@ pub extern "C" fn relkvanu_ack(
     reused: &[u64],
 ) -> Answer
     ensures closed { StaysClosed handle.old.value handle.new.value result }
-    ensures answered { IsAnswered handle.old.value handle.new.value (ack_of now id (record { vertex = vertex; index = index }) fresh.now reused.now) result }
+    ensures answered { handle.old.names ≡ None → IsAnswered handle.old.value handle.new.value (ack_of now id (record { vertex = vertex; index = index }) fresh.now reused.now) result }
+    ensures handled { IsHandled (λ k. call_step k (ack_of now id (record { vertex = vertex; index = index }) fresh.now reused.now)) handle.old.value handle.old.names handle.new.value handle.new.names result }
     ensures numbers { HasNoNumbers result }
     ensures unchanged { StaysAsItWas handle.old.value handle.new.value result }
+    ensures names_unchanged { result.code ≡ no_memory → handle.new.names ≡ handle.old.names }
 {
     let subtask = SubtaskId { vertex, index };
     ckpt_embed::ack(alloc, handle, now, id, subtask, fresh, reused)
@@ -101,7 +109,8 @@ pub extern "C" fn relkvanu_decline(
     index: u16,
 ) -> Answer
     ensures closed { StaysClosed handle.old.value handle.new.value result }
-    ensures answered { IsMade handle.old.value handle.new.value (call.Decline now id (record { vertex = vertex; index = index })) result }
+    ensures answered { handle.old.names ≡ None → IsMade handle.old.value handle.new.value (call.Decline now id (record { vertex = vertex; index = index })) result }
+    ensures handled { IsHandled (λ k. call_step k (call.Decline now id (record { vertex = vertex; index = index }))) handle.old.value handle.old.names handle.new.value handle.new.names result }
     ensures memory { result.code ≢ no_memory }
 {
     let call = Call::Decline {
@@ -118,6 +127,7 @@ pub extern "C" fn relkvanu_dispose(alloc: Global, handle: &mut Handle, id: u64) 
     ensures closed { StaysClosed handle.old.value handle.new.value result }
     ensures answered { IsMade handle.old.value handle.new.value (call.Dispose id) result }
     ensures memory { result.code ≢ no_memory }
+    ensures names { handle.new.names ≡ handle.old.names }
 {
     ckpt_embed::call(
         alloc,
@@ -139,10 +149,13 @@ pub extern "C" fn relkvanu_restore(
 ) -> Answer
     ensures closed { StaysClosed handle.old.value handle.new.value result }
     ensures bad_shape { IsBadShape shape.now → IsRefusedAs handle.old.value handle.new.value bad_shape result }
-    ensures answered { (IsBadShape shape.now → ⊥) → IsAnswered handle.old.value handle.new.value (restore_of now savepoint shape.now) result }
+    ensures answered { (IsBadShape shape.now → ⊥) → handle.old.names ≡ None → IsAnswered handle.old.value handle.new.value (restore_of now savepoint shape.now) result }
+    ensures handled { (IsBadShape shape.now → ⊥) → IsHandled (λ k. call_step k (restore_of now savepoint shape.now)) handle.old.value handle.old.names handle.new.value handle.new.names result }
     ensures memory { shape.now ≡ [] → result.code ≢ no_memory }
     ensures numbers { HasNoNumbers result }
     ensures unchanged { StaysAsItWas handle.old.value handle.new.value result }
+    ensures names_kept { IsBadShape shape.now → handle.new.names ≡ handle.old.names }
+    ensures names_unchanged { result.code ≡ no_memory → handle.new.names ≡ handle.old.names }
 {
     ckpt_embed::restore(alloc, handle, now, savepoint, shape)
 }
@@ -151,7 +164,8 @@ pub extern "C" fn relkvanu_restore(
 #[unsafe(no_mangle)]
 pub extern "C" fn relkvanu_cancel(alloc: Global, handle: &mut Handle, now: u64) -> Answer
     ensures closed { StaysClosed handle.old.value handle.new.value result }
-    ensures answered { IsMade handle.old.value handle.new.value (call.Cancel now) result }
+    ensures answered { handle.old.names ≡ None → IsMade handle.old.value handle.new.value (call.Cancel now) result }
+    ensures handled { IsHandled (λ k. call_step k (call.Cancel now)) handle.old.value handle.old.names handle.new.value handle.new.names result }
     ensures memory { result.code ≢ no_memory }
 {
     ckpt_embed::call(alloc, handle, &Call::Cancel { now })
@@ -167,6 +181,7 @@ pub extern "C" fn relkvanu_take(alloc: Global, handle: &mut Handle, files: &mut 
     ensures memory { WantsMemory handle.old.value (call.Take (length files.old)) result }
     ensures numbers { HasNoNumbers result }
     ensures unchanged { StaysAsItWas handle.old.value handle.new.value result }
+    ensures names { handle.new.names ≡ handle.old.names }
 {
     ckpt_embed::take(alloc, handle, files)
 }
@@ -177,6 +192,7 @@ pub extern "C" fn relkvanu_deleted(alloc: Global, handle: &mut Handle, file: u64
     ensures closed { StaysClosed handle.old.value handle.new.value result }
     ensures answered { IsMade handle.old.value handle.new.value (call.Deleted file) result }
     ensures memory { result.code ≢ no_memory }
+    ensures names { handle.new.names ≡ handle.old.names }
 {
     ckpt_embed::call(alloc, handle, &Call::Deleted { file: FileId(file) })
 }
@@ -187,6 +203,7 @@ pub extern "C" fn relkvanu_undeleted(alloc: Global, handle: &mut Handle, file: u
     ensures closed { StaysClosed handle.old.value handle.new.value result }
     ensures answered { IsMade handle.old.value handle.new.value (call.Undeleted file) result }
     ensures memory { result.code ≢ no_memory }
+    ensures names { handle.new.names ≡ handle.old.names }
 {
     ckpt_embed::call(alloc, handle, &Call::Undeleted { file: FileId(file) })
 }
@@ -206,6 +223,7 @@ pub extern "C" fn relkvanu_show(
     ensures memory { WantsMemory handle.old.value (call.Show id) result }
     ensures numbers { HasNoNumbers result }
     ensures unchanged { handle.new.value ≡ handle.old.value }
+    ensures names { handle.new.names ≡ handle.old.names }
 {
     ckpt_embed::show(alloc, handle, id, json)
 }
@@ -216,6 +234,7 @@ pub extern "C" fn relkvanu_count(alloc: Global, handle: &mut Handle, file: u64) 
     ensures closed { StaysClosed handle.old.value handle.new.value result }
     ensures answered { IsMade handle.old.value handle.new.value (call.Count file) result }
     ensures memory { result.code ≢ no_memory }
+    ensures names { handle.new.names ≡ handle.old.names }
 {
     ckpt_embed::call(alloc, handle, &Call::Count { file: FileId(file) })
 }

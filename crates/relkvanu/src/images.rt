@@ -1,10 +1,12 @@
 //! The exports that save a coordinator, and open a handle with an image.
 
-ghost use Rattle.std.specs.Prelude.{◌≡◌, ◌≢◌, Some, length};
+ghost use Rattle.std.specs.Prelude.{◌≡◌, ◌≢◌, None, Some, length};
 ghost use Rattle.ckpt_model.specs.State.{State};
 ghost use Rattle.ckpt_embed.specs.Calls.{HasNoNumbers, StaysAsItWas, StaysClosed};
+ghost use Rattle.ckpt_embed.specs.Fenced.{has_names};
 ghost use Rattle.ckpt_embed.specs.Images.{BringsImage, IsNotOpenedSaved, IsOpenedSaved, IsSaveTold, SavedWantsMemory};
 ghost use Rattle.ckpt_embed.specs.Opening.{StaysOpen};
+ghost use Rattle.ckpt_terms.specs.Machines.{Issued};
 
 use ckpt_embed::{Answer, Handle};
 use ckpt_hash::Secret;
@@ -14,11 +16,13 @@ use std::alloc::Global;
 #[unsafe(no_mangle)]
 pub extern "C" fn relkvanu_save(alloc: Global, handle: &mut Handle, image: &mut [u8]) -> Answer
     ensures closed { StaysClosed handle.old.value handle.new.value result }
-    ensures answered { (m : State) → handle.old.value ≡ Some m → IsSaveTold m (length image.old) result }
+    ensures answered { (m : State) → handle.old.value ≡ Some m → handle.old.names ≡ None → IsSaveTold m (length image.old) result }
+    ensures named { (m : State) (n : Issued) → handle.old.value ≡ Some m → handle.old.names ≡ Some n → result ≡ has_names }
     ensures front { (m : State) → handle.old.value ≡ Some m → BringsImage m image.old image.new result }
     ensures kept { result.code ≢ 0 → image.new ≡ image.old }
     ensures numbers { HasNoNumbers result }
     ensures unchanged { handle.new.value ≡ handle.old.value }
+    ensures names { handle.new.names ≡ handle.old.names }
 {
     ckpt_embed::save(alloc, handle, image)
 }
@@ -39,6 +43,8 @@ pub extern "C" fn relkvanu_open_saved(
     ensures memory { SavedWantsMemory image.now result }
     ensures numbers { HasNoNumbers result }
     ensures unchanged { StaysAsItWas handle.old.value handle.new.value result }
+    ensures names { handle.new.names ≡ handle.old.names }
+    ensures plain { handle.old.value ≡ None → handle.new.names ≡ None }
 {
     ckpt_embed::open_saved(alloc, handle, image, Secret::of(first_word, second_word))
 }

@@ -4,6 +4,7 @@
 #![tactic(auto)]
 
 mod exports;
+mod fencing;
 mod images;
 mod lines;
 mod reads;

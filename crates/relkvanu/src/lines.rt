@@ -1,10 +1,14 @@
 //! Lines of a script through C: what a line says, the call of a line, and the line of a call.
 
-ghost use Rattle.std.specs.Prelude.{◌≡◌, ◌≢◌, true, Some, IsOk, length};
+ghost use Rattle.std.specs.Prelude.{◌≡◌, ◌≢◌, ◌||◌, true, false, is_none, Ok, Some, IsOk, length};
+ghost use Rattle.ckpt_ids.specs.declared.call.Call.{Call};
 ghost use Rattle.ckpt_model.specs.Coordinator.{State};
+ghost use Rattle.ckpt_lines.specs.declared.meaning.Meaning.TheVariants as meant;
+ghost use Rattle.ckpt_terms.specs.Machines.{is_free};
 ghost use Rattle.ckpt_lines.specs.Reading.{may_want_memory, reading};
 ghost use Rattle.ckpt_embed.specs.Buffers.{StandsInFront};
 ghost use Rattle.ckpt_embed.specs.Calls.{HasNoNumbers, StaysAsItWas, StaysClosed};
+ghost use Rattle.ckpt_embed.specs.Fenced.{IsHandled, call_step, is_free_line};
 ghost use Rattle.ckpt_embed.specs.Lines.{BringsLineFiles, IsLineAnswered, LineWantsMemory, reading_wants, said, says_numbers, says_told};
 ghost use Rattle.ckpt_embed.specs.Opening.{OpeningWantsMemory, opening_of};
 ghost use Rattle.ckpt_embed.specs.Saying.{BringsCallList, BringsFields, GivesBack, first_of, meant_told, says_call, second_of};
@@ -23,12 +27,15 @@ pub extern "C" fn relkvanu_line(
     files: &mut [u64],
 ) -> Answer
     ensures closed { StaysClosed handle.old.value handle.new.value result }
-    ensures answered { IsLineAnswered handle.old.value handle.new.value line.now (length files.old) result }
+    ensures answered { (is_free_line (said line.now) || is_none handle.old.names) ≡ true → IsLineAnswered handle.old.value handle.new.value line.now (length files.old) result }
+    ensures handled { (call : Call) → said line.now ≡ Ok (meant.Call call) → is_free call ≡ false → IsHandled (λ k. call_step k call) handle.old.value handle.old.names handle.new.value handle.new.names result }
     ensures front { (m : State) → handle.old.value ≡ Some m → BringsLineFiles m line.now files.old files.new result }
     ensures kept { result.code ≢ 0 → files.new ≡ files.old }
     ensures memory { LineWantsMemory handle.old.value line.now result }
     ensures numbers { HasNoNumbers result }
     ensures unchanged { StaysAsItWas handle.old.value handle.new.value result }
+    ensures names { is_free_line (said line.now) ≡ true → handle.new.names ≡ handle.old.names }
+    ensures names_unchanged { result.code ≡ no_memory → handle.new.names ≡ handle.old.names }
 {
     ckpt_embed::line(alloc, handle, line, files)
 }

@@ -17,6 +17,7 @@ pub extern "C" fn relkvanu_mode(alloc: Global, handle: &mut Handle) -> Answer
     ensures answered { (m : State) → handle.old.value ≡ Some m → result ≡ mode_told m.mode }
     ensures sound { (m : State) → handle.old.value ≡ Some m → IsSound m }
     ensures unchanged { handle.new.value ≡ handle.old.value }
+    ensures names { handle.new.names ≡ handle.old.names }
 {
     ckpt_embed::mode(alloc, handle)
 }
@@ -27,6 +28,7 @@ pub extern "C" fn relkvanu_moment(alloc: Global, handle: &mut Handle) -> Answer
     ensures closed { StaysClosed handle.old.value handle.new.value result }
     ensures answered { (m : State) → handle.old.value ≡ Some m → result ≡ moment_told m.latest }
     ensures unchanged { handle.new.value ≡ handle.old.value }
+    ensures names { handle.new.names ≡ handle.old.names }
 {
     ckpt_embed::moment(alloc, handle)
 }
@@ -39,6 +41,7 @@ pub extern "C" fn relkvanu_due(alloc: Global, handle: &mut Handle) -> Answer
     ensures before { (m : State) → handle.old.value ≡ Some m → NoneTriggersBefore m result.a }
     ensures from { (m : State) → handle.old.value ≡ Some m → NoneIsEarlyFrom m result.a }
     ensures unchanged { handle.new.value ≡ handle.old.value }
+    ensures names { handle.new.names ≡ handle.old.names }
 {
     ckpt_embed::due(alloc, handle)
 }
@@ -50,6 +53,7 @@ pub extern "C" fn relkvanu_oldest_expiry(alloc: Global, handle: &mut Handle) -> 
     ensures answered { (m : State) → handle.old.value ≡ Some m → result ≡ expiry_told (expiry_in result) }
     ensures moment { (m : State) → handle.old.value ≡ Some m → IsNextExpiry m (expiry_in result) }
     ensures unchanged { handle.new.value ≡ handle.old.value }
+    ensures names { handle.new.names ≡ handle.old.names }
 {
     ckpt_embed::oldest_expiry(alloc, handle)
 }
@@ -60,6 +64,7 @@ pub extern "C" fn relkvanu_choice(alloc: Global, handle: &mut Handle) -> Answer
     ensures closed { StaysClosed handle.old.value handle.new.value result }
     ensures answered { (m : State) → handle.old.value ≡ Some m → result ≡ choice_told (choice_of m) }
     ensures unchanged { handle.new.value ≡ handle.old.value }
+    ensures names { handle.new.names ≡ handle.old.names }
 {
     ckpt_embed::choice(alloc, handle)
 }
@@ -70,6 +75,7 @@ pub extern "C" fn relkvanu_live(alloc: Global, handle: &mut Handle, place: usize
     ensures closed { StaysClosed handle.old.value handle.new.value result }
     ensures answered { (m : State) → handle.old.value ≡ Some m → result ≡ live_told (option_map live_of (slice_get m.records place)) }
     ensures unchanged { handle.new.value ≡ handle.old.value }
+    ensures names { handle.new.names ≡ handle.old.names }
 {
     ckpt_embed::live(alloc, handle, place)
 }
@@ -80,6 +86,7 @@ pub extern "C" fn relkvanu_missing(alloc: Global, handle: &mut Handle, id: u64) 
     ensures closed { StaysClosed handle.old.value handle.new.value result }
     ensures answered { (m : State) → handle.old.value ≡ Some m → result ≡ missing_told (option_map missing (pending_of m.records id)) }
     ensures unchanged { handle.new.value ≡ handle.old.value }
+    ensures names { handle.new.names ≡ handle.old.names }
 {
     ckpt_embed::missing(alloc, handle, id)
 }
@@ -90,6 +97,7 @@ pub extern "C" fn relkvanu_file_counts(alloc: Global, handle: &mut Handle) -> Fi
     ensures closed { handle.old.value ≡ None → result ≡ no_counts }
     ensures answered { (m : State) → handle.old.value ≡ Some m → result ≡ counts_of m }
     ensures unchanged { handle.new.value ≡ handle.old.value }
+    ensures names { handle.new.names ≡ handle.old.names }
 {
     ckpt_embed::file_counts(alloc, handle)
 }

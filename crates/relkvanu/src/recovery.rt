@@ -19,6 +19,7 @@ pub extern "C" fn relkvanu_live_from(alloc: Global, handle: &mut Handle, id: u64
     ensures closed { StaysClosed handle.old.value handle.new.value result }
     ensures answered { (m : State) → handle.old.value ≡ Some m → result ≡ live_told (option_map live_of (find (λ r. nat_le id r.id) m.records)) }
     ensures unchanged { handle.new.value ≡ handle.old.value }
+    ensures names { handle.new.names ≡ handle.old.names }
 {
     ckpt_embed::live_from(alloc, handle, id)
 }
@@ -29,6 +30,7 @@ pub extern "C" fn relkvanu_standing(alloc: Global, handle: &mut Handle, id: u64)
     ensures closed { StaysClosed handle.old.value handle.new.value result }
     ensures answered { (m : State) → handle.old.value ≡ Some m → result ≡ standing_told (standing m id) }
     ensures unchanged { handle.new.value ≡ handle.old.value }
+    ensures names { handle.new.names ≡ handle.old.names }
 {
     ckpt_embed::standing(alloc, handle, id)
 }
@@ -48,6 +50,7 @@ pub extern "C" fn relkvanu_files_of(
     ensures front { (m : State) → handle.old.value ≡ Some m → BringsList (files_acked (acked_by m id vertex index)) files.old files.new result }
     ensures kept { result.code ≢ 0 → files.new ≡ files.old }
     ensures unchanged { handle.new.value ≡ handle.old.value }
+    ensures names { handle.new.names ≡ handle.old.names }
 {
     ckpt_embed::files_of(alloc, handle, id, SubtaskId { vertex, index }, files)
 }
@@ -67,6 +70,7 @@ pub extern "C" fn relkvanu_pins_of(
     ensures memory { (m : State) → handle.old.value ≡ Some m → result.code ≡ no_memory → IsSome (pending_of m.records id) }
     ensures numbers { HasNoNumbers result }
     ensures unchanged { handle.new.value ≡ handle.old.value }
+    ensures names { handle.new.names ≡ handle.old.names }
 {
     ckpt_embed::pins_of(alloc, handle, id, files)
 }
@@ -77,6 +81,7 @@ pub extern "C" fn relkvanu_waiting_file(alloc: Global, handle: &mut Handle, plac
     ensures closed { StaysClosed handle.old.value handle.new.value result }
     ensures answered { (m : State) → handle.old.value ≡ Some m → result ≡ waiting_told (slice_get m.waiting place) }
     ensures unchanged { handle.new.value ≡ handle.old.value }
+    ensures names { handle.new.names ≡ handle.old.names }
 {
     ckpt_embed::waiting_file(alloc, handle, place)
 }
@@ -94,6 +99,7 @@ pub extern "C" fn relkvanu_taken_files(
     ensures kept { result.code ≢ 0 → files.new ≡ files.old }
     ensures numbers { HasNoNumbers result }
     ensures unchanged { handle.new.value ≡ handle.old.value }
+    ensures names { handle.new.names ≡ handle.old.names }
 {
     ckpt_embed::taken_files(alloc, handle, files)
 }

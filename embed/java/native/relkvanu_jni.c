@@ -371,3 +371,90 @@ JNIEXPORT void JNICALL Java_relkvanu_Native_takenFiles(JNIEnv *env, jclass of, j
     close_room(&of_files);
     tell_relkvanu_answer(env, out, told);
 }
+
+JNIEXPORT void JNICALL Java_relkvanu_Native_openFenced(JNIEnv *env, jclass of, jlong handle, jlongArray settings, jlongArray shape, jlong now, jlong first, jlong first_name, jlong first_word, jlong second_word, jlongArray out) {
+    (void)of;
+    jlong of_settings[7];
+    (*env)->GetLongArrayRegion(env, settings, 0, 7, of_settings);
+    relkvanu_settings in_settings = {(uint64_t)of_settings[0], (uint64_t)of_settings[1], (uint64_t)of_settings[2], (uint64_t)of_settings[3], (uint64_t)of_settings[4], (uint64_t)of_settings[5], (bool)of_settings[6]};
+    struct room of_shape;
+    relkvanu_answer told = {RELKVANU_NO_MEMORY, 0, 0, 0};
+    if (longs_in(env, &of_shape, shape)) {
+        told = relkvanu_open_fenced((relkvanu *)(uintptr_t)handle, &in_settings, of_shape.at, of_shape.len, (uint64_t)now, (uint64_t)first, (uint64_t)first_name, (uint64_t)first_word, (uint64_t)second_word);
+    }
+    close_room(&of_shape);
+    tell_relkvanu_answer(env, out, told);
+}
+
+JNIEXPORT void JNICALL Java_relkvanu_Native_fence(JNIEnv *env, jclass of, jlong handle, jlong first_name, jlongArray out) {
+    (void)of;
+    tell_relkvanu_answer(env, out, relkvanu_fence((relkvanu *)(uintptr_t)handle, (uint64_t)first_name));
+}
+
+JNIEXPORT void JNICALL Java_relkvanu_Native_term(JNIEnv *env, jclass of, jlong handle, jlongArray out) {
+    (void)of;
+    tell_relkvanu_answer(env, out, relkvanu_term((relkvanu *)(uintptr_t)handle));
+}
+
+JNIEXPORT void JNICALL Java_relkvanu_Native_reserve(JNIEnv *env, jclass of, jlong handle, jlong term, jlong count, jlongArray out) {
+    (void)of;
+    tell_relkvanu_answer(env, out, relkvanu_reserve((relkvanu *)(uintptr_t)handle, (uint64_t)term, (uint64_t)count));
+}
+
+JNIEXPORT void JNICALL Java_relkvanu_Native_forfeit(JNIEnv *env, jclass of, jlong handle, jlong term, jlongArray names, jlongArray out) {
+    (void)of;
+    struct room of_names;
+    relkvanu_answer told = {RELKVANU_NO_MEMORY, 0, 0, 0};
+    if (longs_in(env, &of_names, names)) {
+        told = relkvanu_forfeit((relkvanu *)(uintptr_t)handle, (uint64_t)term, of_names.at, of_names.len);
+    }
+    close_room(&of_names);
+    tell_relkvanu_answer(env, out, told);
+}
+
+JNIEXPORT void JNICALL Java_relkvanu_Native_ackIn(JNIEnv *env, jclass of, jlong handle, jlong term, jlong now, jlong id, jint vertex, jint index, jlongArray fresh, jlongArray reused, jlongArray out) {
+    (void)of;
+    struct room of_fresh;
+    struct room of_reused;
+    relkvanu_answer told = {RELKVANU_NO_MEMORY, 0, 0, 0};
+    if (longs_in(env, &of_fresh, fresh) & longs_in(env, &of_reused, reused)) {
+        told = relkvanu_ack_in((relkvanu *)(uintptr_t)handle, (uint64_t)term, (uint64_t)now, (uint64_t)id, (uint16_t)vertex, (uint16_t)index, of_fresh.at, of_fresh.len, of_reused.at, of_reused.len);
+    }
+    close_room(&of_fresh);
+    close_room(&of_reused);
+    tell_relkvanu_answer(env, out, told);
+}
+
+JNIEXPORT void JNICALL Java_relkvanu_Native_declineIn(JNIEnv *env, jclass of, jlong handle, jlong term, jlong now, jlong id, jint vertex, jint index, jlongArray out) {
+    (void)of;
+    tell_relkvanu_answer(env, out, relkvanu_decline_in((relkvanu *)(uintptr_t)handle, (uint64_t)term, (uint64_t)now, (uint64_t)id, (uint16_t)vertex, (uint16_t)index));
+}
+
+JNIEXPORT void JNICALL Java_relkvanu_Native_garbage(JNIEnv *env, jclass of, jlong handle, jlongArray files, jlongArray garbage, jlongArray unissued, jlongArray out) {
+    (void)of;
+    struct room of_files;
+    struct room of_garbage;
+    struct room of_unissued;
+    relkvanu_answer told = {RELKVANU_NO_MEMORY, 0, 0, 0};
+    if (longs_in(env, &of_files, files) & longs_room(env, &of_garbage, garbage) & longs_room(env, &of_unissued, unissued)) {
+        told = relkvanu_garbage((relkvanu *)(uintptr_t)handle, of_files.at, of_files.len, of_garbage.at, of_garbage.len, of_unissued.at, of_unissued.len);
+    }
+    longs_out(env, &of_garbage, garbage, told.code == RELKVANU_DONE && told.what == RELKVANU_GARBAGE ? told.a : 0);
+    longs_out(env, &of_unissued, unissued, told.code == RELKVANU_DONE && told.what == RELKVANU_GARBAGE ? told.b : 0);
+    close_room(&of_files);
+    close_room(&of_garbage);
+    close_room(&of_unissued);
+    tell_relkvanu_answer(env, out, told);
+}
+
+JNIEXPORT jlong JNICALL Java_relkvanu_Native_fencedText(JNIEnv *env, jclass of, jint what, jbyteArray text) {
+    (void)of;
+    struct room of_text;
+    size_t told = 0;
+    if (bytes_room(env, &of_text, text)) {
+        told = relkvanu_fenced_text((uint32_t)what, of_text.at, of_text.len);
+    }
+    bytes_out(env, &of_text, text, told);
+    close_room(&of_text);
+    return (jlong)told;
+}

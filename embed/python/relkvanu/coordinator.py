@@ -28,6 +28,7 @@ NAMES: Dict[int, Dict[int, str]] = {
         header.BAD_FIRST: "BadFirst",
         header.BAD_KIND: "BadKind",
         header.BAD_IMAGE: "BadImage",
+        header.BAD_NAME: "BadName",
     },
     header.BAD_LINE: {
         header.FAULT_TOO_LONG: "TooLong",
@@ -36,6 +37,18 @@ NAMES: Dict[int, Dict[int, str]] = {
         header.FAULT_NUMBER: "Number",
         header.FAULT_EXTRA: "Extra",
         header.FAULT_NO_CALL: "NoCall",
+    },
+    header.FENCED: {
+        header.OLD_TERM: "OldTerm",
+        header.ENDED: "Ended",
+        header.BAD_COUNT: "BadCount",
+        header.NAMES_USED_UP: "NamesUsedUp",
+        header.TERMS_USED_UP: "TermsUsedUp",
+        header.SPENT: "Spent",
+        header.NEVER_RESERVED: "NeverReserved",
+        header.NO_NAMES: "NoNames",
+        header.HAS_NAMES: "HasNames",
+        header.NAME_IN_USE: "NameInUse",
     },
 }
 # embed/bindings: end

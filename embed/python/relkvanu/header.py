@@ -13,6 +13,7 @@ CLOSED = 3
 BAD_ARGUMENT = 4
 TOO_SHORT = 5
 BAD_LINE = 6
+FENCED = 7
 OPENED = 0
 TICK_TRIGGERED = 1
 TICK_HELD_INTERVAL = 2
@@ -69,6 +70,11 @@ FILES = 51
 NOT_ACKNOWLEDGED = 52
 WAITING = 53
 NONE_WAITS = 54
+RESERVED = 56
+FORFEITED = 57
+TERM = 58
+NAMED = 59
+GARBAGE = 60
 MOMENT_TOO_LARGE = 1
 NOT_RUNNING = 2
 TOO_MANY_FILES = 3
@@ -84,6 +90,16 @@ TOO_MANY_SAVEPOINTS = 12
 NOT_TAKEN = 13
 NO_SUCH_RECORD = 14
 IDS_USED_UP = 15
+OLD_TERM = 1
+ENDED = 2
+BAD_COUNT = 3
+NAMES_USED_UP = 4
+TERMS_USED_UP = 5
+SPENT = 6
+NEVER_RESERVED = 7
+NO_NAMES = 8
+HAS_NAMES = 9
+NAME_IN_USE = 10
 ALREADY_OPEN = 1
 BAD_CONFIG = 2
 BAD_SHAPE = 3
@@ -91,6 +107,7 @@ BAD_MOMENT = 4
 BAD_FIRST = 5
 BAD_KIND = 6
 BAD_IMAGE = 7
+BAD_NAME = 8
 FAULT_TOO_LONG = 1
 FAULT_WORD = 2
 FAULT_MISSING = 3
@@ -198,4 +215,13 @@ FUNCTIONS: Dict[str, Tuple[Any, List[Any]]] = {
     "relkvanu_pins_of": (relkvanu_answer, [POINTER(relkvanu), c_uint64, POINTER(c_uint64), c_size_t]),
     "relkvanu_waiting_file": (relkvanu_answer, [POINTER(relkvanu), c_size_t]),
     "relkvanu_taken_files": (relkvanu_answer, [POINTER(relkvanu), POINTER(c_uint64), c_size_t]),
+    "relkvanu_open_fenced": (relkvanu_answer, [POINTER(relkvanu), POINTER(relkvanu_settings), POINTER(c_uint64), c_size_t, c_uint64, c_uint64, c_uint64, c_uint64, c_uint64]),
+    "relkvanu_fence": (relkvanu_answer, [POINTER(relkvanu), c_uint64]),
+    "relkvanu_term": (relkvanu_answer, [POINTER(relkvanu)]),
+    "relkvanu_reserve": (relkvanu_answer, [POINTER(relkvanu), c_uint64, c_uint64]),
+    "relkvanu_forfeit": (relkvanu_answer, [POINTER(relkvanu), c_uint64, POINTER(c_uint64), c_size_t]),
+    "relkvanu_ack_in": (relkvanu_answer, [POINTER(relkvanu), c_uint64, c_uint64, c_uint64, c_uint16, c_uint16, POINTER(c_uint64), c_size_t, POINTER(c_uint64), c_size_t]),
+    "relkvanu_decline_in": (relkvanu_answer, [POINTER(relkvanu), c_uint64, c_uint64, c_uint64, c_uint16, c_uint16]),
+    "relkvanu_garbage": (relkvanu_answer, [POINTER(relkvanu), POINTER(c_uint64), c_size_t, POINTER(c_uint64), c_size_t, POINTER(c_uint64), c_size_t]),
+    "relkvanu_fenced_text": (c_size_t, [c_uint32, POINTER(c_uint8), c_size_t]),
 }

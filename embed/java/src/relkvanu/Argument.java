@@ -15,7 +15,9 @@ public enum Argument {
     /** The kind of a call that is to be written. */
     BAD_KIND(Header.BAD_KIND),
     /** The bytes are not an image, or the state is not sound, or no coordinator could be opened so. */
-    BAD_IMAGE(Header.BAD_IMAGE);
+    BAD_IMAGE(Header.BAD_IMAGE),
+    /** The first name is 0 or above 2<sup>62</sup>. */
+    BAD_NAME(Header.BAD_NAME);
 
     private static final Argument[] ALL = values();
     private final int what;

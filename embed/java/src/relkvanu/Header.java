@@ -18,10 +18,12 @@ final class Header {
     static final int CLOSED = 3;
     /** nothing has changed: what is an argument */
     static final int BAD_ARGUMENT = 4;
-    /** nothing has changed: the buffer needs a places; what is 0, and b too but in relkvanu_line_call */
+    /** nothing has changed: the buffer needs a places, and a second one b; what is 0 */
     static final int TOO_SHORT = 5;
     /** nothing has changed: what is a fault of a line */
     static final int BAD_LINE = 6;
+    /** nothing has changed: what says why the term or the names refuse the call */
+    static final int FENCED = 7;
     static final int OPENED = 0;
     /** a: expired records, b: number. A checkpoint was triggered */
     static final int TICK_TRIGGERED = 1;
@@ -130,6 +132,15 @@ final class Header {
     static final int WAITING = 53;
     /** there are fewer waiting files */
     static final int NONE_WAITS = 54;
+    /** a: the first name, b: how many: the others follow it */
+    static final int RESERVED = 56;
+    static final int FORFEITED = 57;
+    /** a: the term that runs, b: the next name */
+    static final int TERM = 58;
+    /** the handle has names now */
+    static final int NAMED = 59;
+    /** of relkvanu_garbage a, b: the files at the start of garbage and of unissued */
+    static final int GARBAGE = 60;
     /** the moment is above its limit */
     static final int MOMENT_TOO_LARGE = 1;
     /** the job has failed or was cancelled */
@@ -160,6 +171,26 @@ final class Header {
     static final int NO_SUCH_RECORD = 14;
     /** no number is left for another record */
     static final int IDS_USED_UP = 15;
+    /** the term of the task has ended, or has not begun */
+    static final int OLD_TERM = 1;
+    /** the job was cancelled, and no task runs */
+    static final int ENDED = 2;
+    /** it would reserve no name, or more than 65536 */
+    static final int BAD_COUNT = 3;
+    /** all names up to 2^62 - 1 were given out */
+    static final int NAMES_USED_UP = 4;
+    /** as many terms have ended as can be counted, 2^62 */
+    static final int TERMS_USED_UP = 5;
+    /** a: file; its name was given out, and the term does not hold it: nobody deletes it for this answer */
+    static final int SPENT = 6;
+    /** a: file; its name was not given out */
+    static final int NEVER_RESERVED = 7;
+    /** the handle has no names */
+    static final int NO_NAMES = 8;
+    /** the handle has names */
+    static final int HAS_NAMES = 9;
+    /** a file with this number or a greater one is in use, waits for deletion or was fetched */
+    static final int NAME_IN_USE = 10;
     /** the handle has a coordinator already */
     static final int ALREADY_OPEN = 1;
     /** a value of the settings is outside its limits */
@@ -174,6 +205,8 @@ final class Header {
     static final int BAD_KIND = 6;
     /** the bytes are not an image, or the state is not sound, or no coordinator could be opened so */
     static final int BAD_IMAGE = 7;
+    /** the first name is 0 or above 2^62 */
+    static final int BAD_NAME = 8;
     /** a line has at most 131072 bytes */
     static final int FAULT_TOO_LONG = 1;
     /** a word that does not belong there */

@@ -85,4 +85,22 @@ final class Native {
     static native void waitingFile(long handle, long place, long[] out);
 
     static native void takenFiles(long handle, long[] files, long[] out);
+
+    static native void openFenced(long handle, long[] settings, long[] shape, long now, long first, long firstName, long firstWord, long secondWord, long[] out);
+
+    static native void fence(long handle, long firstName, long[] out);
+
+    static native void term(long handle, long[] out);
+
+    static native void reserve(long handle, long term, long count, long[] out);
+
+    static native void forfeit(long handle, long term, long[] names, long[] out);
+
+    static native void ackIn(long handle, long term, long now, long id, int vertex, int index, long[] fresh, long[] reused, long[] out);
+
+    static native void declineIn(long handle, long term, long now, long id, int vertex, int index, long[] out);
+
+    static native void garbage(long handle, long[] files, long[] garbage, long[] unissued, long[] out);
+
+    static native long fencedText(int what, byte[] text);
 }

@@ -15,10 +15,12 @@ pub const RELKVANU_NO_MEMORY: u32 = 2;
 pub const RELKVANU_CLOSED: u32 = 3;
 /// nothing has changed: what is an argument
 pub const RELKVANU_BAD_ARGUMENT: u32 = 4;
-/// nothing has changed: the buffer needs a places; what is 0, and b too but in relkvanu_line_call
+/// nothing has changed: the buffer needs a places, and a second one b; what is 0
 pub const RELKVANU_TOO_SHORT: u32 = 5;
 /// nothing has changed: what is a fault of a line
 pub const RELKVANU_BAD_LINE: u32 = 6;
+/// nothing has changed: what says why the term or the names refuse the call
+pub const RELKVANU_FENCED: u32 = 7;
 pub const RELKVANU_OPENED: u32 = 0;
 /// a: expired records, b: number. A checkpoint was triggered
 pub const RELKVANU_TICK_TRIGGERED: u32 = 1;
@@ -127,6 +129,15 @@ pub const RELKVANU_NOT_ACKNOWLEDGED: u32 = 52;
 pub const RELKVANU_WAITING: u32 = 53;
 /// there are fewer waiting files
 pub const RELKVANU_NONE_WAITS: u32 = 54;
+/// a: the first name, b: how many: the others follow it
+pub const RELKVANU_RESERVED: u32 = 56;
+pub const RELKVANU_FORFEITED: u32 = 57;
+/// a: the term that runs, b: the next name
+pub const RELKVANU_TERM: u32 = 58;
+/// the handle has names now
+pub const RELKVANU_NAMED: u32 = 59;
+/// of relkvanu_garbage a, b: the files at the start of garbage and of unissued
+pub const RELKVANU_GARBAGE: u32 = 60;
 /// the moment is above its limit
 pub const RELKVANU_MOMENT_TOO_LARGE: u32 = 1;
 /// the job has failed or was cancelled
@@ -157,6 +168,26 @@ pub const RELKVANU_NOT_TAKEN: u32 = 13;
 pub const RELKVANU_NO_SUCH_RECORD: u32 = 14;
 /// no number is left for another record
 pub const RELKVANU_IDS_USED_UP: u32 = 15;
+/// the term of the task has ended, or has not begun
+pub const RELKVANU_OLD_TERM: u32 = 1;
+/// the job was cancelled, and no task runs
+pub const RELKVANU_ENDED: u32 = 2;
+/// it would reserve no name, or more than 65536
+pub const RELKVANU_BAD_COUNT: u32 = 3;
+/// all names up to 2^62 - 1 were given out
+pub const RELKVANU_NAMES_USED_UP: u32 = 4;
+/// as many terms have ended as can be counted, 2^62
+pub const RELKVANU_TERMS_USED_UP: u32 = 5;
+/// a: file; its name was given out, and the term does not hold it: nobody deletes it for this answer
+pub const RELKVANU_SPENT: u32 = 6;
+/// a: file; its name was not given out
+pub const RELKVANU_NEVER_RESERVED: u32 = 7;
+/// the handle has no names
+pub const RELKVANU_NO_NAMES: u32 = 8;
+/// the handle has names
+pub const RELKVANU_HAS_NAMES: u32 = 9;
+/// a file with this number or a greater one is in use, waits for deletion or was fetched
+pub const RELKVANU_NAME_IN_USE: u32 = 10;
 /// the handle has a coordinator already
 pub const RELKVANU_ALREADY_OPEN: u32 = 1;
 /// a value of the settings is outside its limits
@@ -171,6 +202,8 @@ pub const RELKVANU_BAD_FIRST: u32 = 5;
 pub const RELKVANU_BAD_KIND: u32 = 6;
 /// the bytes are not an image, or the state is not sound, or no coordinator could be opened so
 pub const RELKVANU_BAD_IMAGE: u32 = 7;
+/// the first name is 0 or above 2^62
+pub const RELKVANU_BAD_NAME: u32 = 8;
 /// a line has at most 131072 bytes
 pub const RELKVANU_FAULT_TOO_LONG: u32 = 1;
 /// a word that does not belong there
@@ -413,7 +446,7 @@ extern "C" {
         lines_len: usize,
     ) -> relkvanu_answer;
 
-    /// Writes the image of the coordinator, all of its state, as JSON without a zero at its end. A handle that is opened with the image answers every list of calls as this one would. RELKVANU_SAVED; RELKVANU_TOO_SHORT, and a is its number of bytes: call again with a buffer of that many. Only RELKVANU_SAVED changes the buffer, and nothing else changes. Takes memory, even if the buffer is too short.
+    /// Writes the image of the coordinator, all of its state, as JSON without a zero at its end. A handle that is opened with the image answers every list of calls as this one would. RELKVANU_SAVED; RELKVANU_TOO_SHORT, and a is its number of bytes: call again with a buffer of that many. Only RELKVANU_SAVED changes the buffer, and nothing else changes. Takes memory, even if the buffer is too short. An image has no names yet: a handle with names returns RELKVANU_FENCED with RELKVANU_HAS_NAMES.
     pub fn relkvanu_save(
         handle: *mut relkvanu,
         image: *mut u8,
@@ -462,4 +495,72 @@ extern "C" {
         files: *mut u64,
         files_len: usize,
     ) -> relkvanu_answer;
+
+    /// Opens a coordinator as relkvanu_open does, in term 1. The first name that it gives out is first_name, 1 to 2^62: all numbers of files that were used before are below it. RELKVANU_OPENED; or RELKVANU_BAD_ARGUMENT, and the handle stays as it was: RELKVANU_ALREADY_OPEN, RELKVANU_BAD_CONFIG, RELKVANU_BAD_SHAPE, RELKVANU_BAD_NAME, RELKVANU_BAD_MOMENT, RELKVANU_BAD_FIRST, checked in this order. Takes memory: after RELKVANU_NO_MEMORY the handle is closed, as before.
+    pub fn relkvanu_open_fenced(
+        handle: *mut relkvanu,
+        settings: *const relkvanu_settings,
+        shape: *const u64,
+        shape_len: usize,
+        now: u64,
+        first: u64,
+        first_name: u64,
+        first_word: u64,
+        second_word: u64,
+    ) -> relkvanu_answer;
+
+    /// Gives a coordinator names, from first_name on, 1 to 2^62, in term 1. All numbers of files that were used before have to be below it, those of files that nobody acknowledged too: numbers below it count as given out. Make the call between the end of all tasks and their restart, since a task that began before it has no term. RELKVANU_NAMED. RELKVANU_FENCED with RELKVANU_HAS_NAMES; RELKVANU_BAD_ARGUMENT with RELKVANU_BAD_NAME; RELKVANU_FENCED with RELKVANU_NAME_IN_USE, checked in this order. Takes memory, and visits all files of the coordinator: it is called once in the life of a job.
+    pub fn relkvanu_fence(handle: *mut relkvanu, first_name: u64) -> relkvanu_answer;
+
+    /// RELKVANU_TERM: the term that runs, and the next name that is given out. RELKVANU_FENCED with RELKVANU_NO_NAMES. Changes nothing, and takes no memory.
+    pub fn relkvanu_term(handle: *mut relkvanu) -> relkvanu_answer;
+
+    /// A task of this term reserves names for files that it will write, 1 to 65536 of them. RELKVANU_RESERVED. RELKVANU_FENCED: RELKVANU_NO_NAMES, RELKVANU_OLD_TERM, RELKVANU_ENDED, RELKVANU_BAD_COUNT, RELKVANU_NAMES_USED_UP, checked in this order. Takes memory only if it reserves.
+    pub fn relkvanu_reserve(handle: *mut relkvanu, term: u64, count: u64) -> relkvanu_answer;
+
+    /// A task of this term gives up names that it will not acknowledge, such as those of a failed upload: their files are garbage then. Names that the term does not hold are passed over, so the call can be repeated. RELKVANU_FORFEITED. RELKVANU_FENCED: RELKVANU_NO_NAMES, RELKVANU_OLD_TERM. The call first copies the list, which takes memory.
+    pub fn relkvanu_forfeit(
+        handle: *mut relkvanu,
+        term: u64,
+        names: *const u64,
+        names_len: usize,
+    ) -> relkvanu_answer;
+
+    /// relkvanu_ack of a task of this term. An accepted acknowledgement spends the names of its fresh files. As relkvanu_ack, and before its refusals RELKVANU_FENCED: RELKVANU_NO_NAMES, RELKVANU_OLD_TERM, and for the first fresh file whose name the term does not hold RELKVANU_SPENT or RELKVANU_NEVER_RESERVED. An acknowledgement that is sent twice is RELKVANU_SPENT the second time, if it has fresh files: then an accepted one has named them. So a task does not delete a file for RELKVANU_SPENT.
+    pub fn relkvanu_ack_in(
+        handle: *mut relkvanu,
+        term: u64,
+        now: u64,
+        id: u64,
+        vertex: u16,
+        index: u16,
+        fresh: *const u64,
+        fresh_len: usize,
+        reused: *const u64,
+        reused_len: usize,
+    ) -> relkvanu_answer;
+
+    /// relkvanu_decline of a task of this term. As relkvanu_decline, and before its refusals RELKVANU_FENCED: RELKVANU_NO_NAMES, RELKVANU_OLD_TERM. Takes no memory.
+    pub fn relkvanu_decline_in(
+        handle: *mut relkvanu,
+        term: u64,
+        now: u64,
+        id: u64,
+        vertex: u16,
+        index: u16,
+    ) -> relkvanu_answer;
+
+    /// Writes those of these files that are garbage to the start of garbage, in their order: each name was given out, no live record uses the file, it does not wait for deletion and was not fetched for it, and no task of the term that runs may write it. Garbage stays garbage for good, so it may be deleted at any time. Writes those whose names were not given out to the start of unissued: such a file is not of this job, or its log was lost, and nobody deletes it. RELKVANU_GARBAGE. RELKVANU_FENCED with RELKVANU_NO_NAMES. RELKVANU_TOO_SHORT unless both buffers have a place for each file. Only RELKVANU_GARBAGE changes the buffers, and nothing else changes. Takes no memory. Ask a coordinator whose calls are durable: one that forgot a call also forgets which files are in use.
+    pub fn relkvanu_garbage(
+        handle: *mut relkvanu,
+        files: *const u64,
+        files_len: usize,
+        garbage: *mut u64,
+        garbage_len: usize,
+        unissued: *mut u64,
+        unissued_len: usize,
+    ) -> relkvanu_answer;
+
+    /// relkvanu_refusal_text for the numbers of RELKVANU_FENCED, such as "OldTerm".
+    pub fn relkvanu_fenced_text(what: u32, text: *mut u8, text_len: usize) -> usize;
 }

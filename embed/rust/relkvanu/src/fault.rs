@@ -117,6 +117,94 @@ impl Refusal {
         ]
     }
 }
+
+/// Why a term or the names refuse a call.
+#[derive(Clone, Copy, Debug, PartialEq, Eq, Hash)]
+#[non_exhaustive]
+pub enum Fenced {
+    /// The term of the task has ended, or has not begun.
+    OldTerm,
+    /// The job was cancelled, and no task runs.
+    Ended,
+    /// It would reserve no name, or more than 65536.
+    BadCount,
+    /// All names up to 2^62 - 1 were given out.
+    NamesUsedUp,
+    /// As many terms have ended as can be counted, 2^62.
+    TermsUsedUp,
+    /// Its name was given out, and the term does not hold it: nobody deletes it for this answer.
+    Spent(u64),
+    /// Its name was not given out.
+    NeverReserved(u64),
+    /// The handle has no names.
+    NoNames,
+    /// The handle has names.
+    HasNames,
+    /// A file with this number or a greater one is in use, waits for deletion or was fetched.
+    NameInUse,
+    /// A number that this crate does not know: the library is of another version.
+    Unknown(u32),
+}
+
+impl Fenced {
+    pub(crate) fn of(told: sys::relkvanu_answer) -> Fenced {
+        match told.what {
+            sys::RELKVANU_OLD_TERM => Fenced::OldTerm,
+            sys::RELKVANU_ENDED => Fenced::Ended,
+            sys::RELKVANU_BAD_COUNT => Fenced::BadCount,
+            sys::RELKVANU_NAMES_USED_UP => Fenced::NamesUsedUp,
+            sys::RELKVANU_TERMS_USED_UP => Fenced::TermsUsedUp,
+            sys::RELKVANU_SPENT => Fenced::Spent(told.a),
+            sys::RELKVANU_NEVER_RESERVED => Fenced::NeverReserved(told.a),
+            sys::RELKVANU_NO_NAMES => Fenced::NoNames,
+            sys::RELKVANU_HAS_NAMES => Fenced::HasNames,
+            sys::RELKVANU_NAME_IN_USE => Fenced::NameInUse,
+            other => Fenced::Unknown(other),
+        }
+    }
+
+    /// The number in the header.
+    pub fn number(&self) -> u32 {
+        match self {
+            Fenced::OldTerm => sys::RELKVANU_OLD_TERM,
+            Fenced::Ended => sys::RELKVANU_ENDED,
+            Fenced::BadCount => sys::RELKVANU_BAD_COUNT,
+            Fenced::NamesUsedUp => sys::RELKVANU_NAMES_USED_UP,
+            Fenced::TermsUsedUp => sys::RELKVANU_TERMS_USED_UP,
+            Fenced::Spent(_) => sys::RELKVANU_SPENT,
+            Fenced::NeverReserved(_) => sys::RELKVANU_NEVER_RESERVED,
+            Fenced::NoNames => sys::RELKVANU_NO_NAMES,
+            Fenced::HasNames => sys::RELKVANU_HAS_NAMES,
+            Fenced::NameInUse => sys::RELKVANU_NAME_IN_USE,
+            Fenced::Unknown(what) => *what,
+        }
+    }
+
+    /// The file that it names, if there is one.
+    pub fn file(&self) -> Option<u64> {
+        match self {
+            Fenced::Spent(of) | Fenced::NeverReserved(of) => Some(*of),
+            _ => None,
+        }
+    }
+
+    /// Each, with this file if it names one.
+    #[allow(dead_code)]
+    pub(crate) fn all(file: u64) -> [Fenced; 10] {
+        [
+            Fenced::OldTerm,
+            Fenced::Ended,
+            Fenced::BadCount,
+            Fenced::NamesUsedUp,
+            Fenced::TermsUsedUp,
+            Fenced::Spent(file),
+            Fenced::NeverReserved(file),
+            Fenced::NoNames,
+            Fenced::HasNames,
+            Fenced::NameInUse,
+        ]
+    }
+}
 // embed/bindings: end
 
 impl Refusal {
@@ -171,10 +259,14 @@ pub enum Fault {
     BadKind,
     /// The bytes are not an image, or the state is not sound, or no coordinator could be opened so.
     BadImage,
+    /// The first name is 0 or above 2^62.
+    BadName,
     /// A `take` line would fetch this many files, and the buffer has fewer places.
     TooShort { places: u64 },
     /// A line of a script can't be read, or the line of a call would be too long.
     BadLine(LineFault),
+    /// Nothing has changed: what says why the term or the names refuse the call.
+    Fenced(Fenced),
     /// The library that is linked has this version, which does not fit the crate's.
     OtherLibrary { library: &'static str },
     /// The library gave an answer that this crate does not know, so it is of another version.
@@ -194,8 +286,10 @@ fn fault_of(told: sys::relkvanu_answer) -> Fault {
         (sys::RELKVANU_BAD_ARGUMENT, sys::RELKVANU_BAD_FIRST) => Fault::BadFirst,
         (sys::RELKVANU_BAD_ARGUMENT, sys::RELKVANU_BAD_KIND) => Fault::BadKind,
         (sys::RELKVANU_BAD_ARGUMENT, sys::RELKVANU_BAD_IMAGE) => Fault::BadImage,
+        (sys::RELKVANU_BAD_ARGUMENT, sys::RELKVANU_BAD_NAME) => Fault::BadName,
         (sys::RELKVANU_TOO_SHORT, _) => Fault::TooShort { places: told.a },
         (sys::RELKVANU_BAD_LINE, _) => Fault::BadLine(LineFault::of(told.what)),
+        (sys::RELKVANU_FENCED, _) => Fault::Fenced(Fenced::of(told)),
         _ => Fault::unknown(told),
     }
 }

@@ -7,14 +7,4 @@ use Rattle.ckpt_image.proofs.writing.image_value.Goals as goal
 
 pub returns-clause-value : goal.returns-clause-value
 unfolding image_data
-returns-clause-value c = view-Object _ ∙ ap object c.in_ok-put_early.ensures.value
-
-pub returns-clause-fits : goal.returns-clause-fits
-returns-clause-fits c = record {
-  config = c.in_ok-put_later.ensures.config;
-  first_shape = c.in_ok-put_later.ensures.shapes.0;
-  shape = c.in_ok-put_later.ensures.shapes.1;
-  failures = c.in_ok-put_early.ensures.failures;
-  records = c.in_ok-put_later.ensures.records;
-  taken = c.in_ok-put_later.ensures.taken;
-}
+returns-clause-value c = view-Object _ ∙ ap object c.in_ok-image_object.ensures.value

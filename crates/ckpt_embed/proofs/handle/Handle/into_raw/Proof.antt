@@ -31,6 +31,7 @@ use Rattle.std.proofs.raw_atomic.Walks.{proved_at, leaves}
 use Rattle.std_alloc.proofs.ResultValues.{and_tt}
 use Rattle.ckpt_raw_box.proofs.Words.{Apart, word as pair, word_fits, apart_in}
 use Rattle.ckpt_embed.proofs.Words.{R, word, handle_out, either}
+use Rattle.ckpt_embed.specs.Kept.{IsHeld}
 use Rattle.ckpt_embed.specs.contracts.handle.Handle as handle
 use Rattle.ckpt_embed.specs.contracts.handle.Handle.into_raw as f
 use Rattle.ckpt_embed.proofs.handle.Handle.into_raw.Statement.{statement}
@@ -46,10 +47,10 @@ into_raw_spec 𝓤 𝓛 𝓜 𝓡 wired =
     let d = z.0.3.0 in let a = z.0.3.1.0 in let Post : Val → SProp 𝓤 = (walk_of 𝓛 f.ended hs c).post z in
     let Run : List Val → SProp 𝓤 = λ ws. WpFn 𝓤 H 𝓣.C 𝓣.Λ fn ws Post in let Out : RattleType = type_at f.ended.signature.result z.0.0 in
     let h = one (layout Z) z.0.4.1.0 ((LZ.lawful 𝓛).typed a z.0.4.1.0 are.1.0) in
-    let Says : Option A.Denot → Type 0 = λ r. option_map (λ (core : A.Denot). core.value) r ≡ d.value in
+    let Says : Option A.Denot → Type 0 = λ r. IsHeld (option_map (λ (machine : A.Denot). machine.value) r) d.value d.names in
     qed 𝓛 ((‵ ftrue ⊛ ‵ (owns (types_at f.ended.signature.params z.0.0) z.0.3 z.0.4)) ∷ raw ((c z.0.0 z.0.3).requires z.1) ∷ []) ∵
     split ! $ move ! (1 ∷ []) $ fsplit ! $ handle_out ! d z.0.4.0 (λ vs. move ! (1 ∷ []) $ fsplit ! $
-    rewrite ! 0 (λ (us : List Val). ‵ (Z.own_val a us)) h.1 refl $ move ! (2 ∷ []) $ either ! d.at d.value
+    rewrite ! 0 (λ (us : List Val). ‵ (Z.own_val a us)) h.1 refl $ move ! (2 ∷ []) $ either ! d.at d.value d.names
     (λ null none. let w : Val = word (ptr_val null_ptr) in let told : z.0.4.0 ≡ w ∷ [] = vs ∙ ap (λ (p : Ptr). word (ptr_val p) ∷ []) null in
     suffices ! (Run (w ∷ h.0 ∷ [])) (subst (λ (us : List Val). ent 𝓤 (Run (w ∷ h.0 ∷ [])) (Run us)) (sym (λ i. told i ++ (h.1 i ++ []))) (id⊢ 𝓤 (Run (w ∷ h.0 ∷ [])))) $
     enter ! 𝓣.C 𝓣.Λ fn (w ∷ h.0 ∷ []) Post $ alloc_all ! (λ l. pass_all ! refl ((tt, (record { fits = lit< tt }, tt)), (h.2, tt)) $ let locals = env fn.locals l in
@@ -58,7 +59,7 @@ into_raw_spec 𝓤 𝓛 𝓜 𝓡 wired =
     (λ _. sets_last ! (agg ! (and_then ! (lit ! tt) (no_more !))) refl (tt, (record { fits = lit< tt }, tt)) $
     exec ! 𝓣.C 𝓣.Λ locals (after 3 fn.body) (at_ret locals Post) $ sets ! (of_opd ! (get ! refl)) refl (tt, (record { fits = lit< tt }, tt)) $
     use0 𝓛 (‵ (Out.own_val None (live 0 vnil ∷ []))) (none_of 𝓛 A) $
-    use0 𝓛 (raw (fact 𝓤 (Says None))) (fact_i 𝓤 (Says None) (emp 𝓤) (sym none)) $
+    use0 𝓛 (raw (fact 𝓤 (Says None))) (fact_i 𝓤 (Says None) (emp 𝓤) none) $
     nothing ! $ nothing ! $ fjoin ! $ nothing ! $ fjoin ! $
     returns ! (look_at ! 0 refl) $ free_all ! refl $ keep ! (5 ∷ 0 ∷ 2 ∷ 1 ∷ []) $
     by ! (leaves 𝓛 f.ended hs c z (live 0 vnil) None (tt, (tt, tt)) (tt, (tt, tt)))) (λ wrong. absurd wrong)))
@@ -76,7 +77,7 @@ into_raw_spec 𝓤 𝓛 𝓜 𝓡 wired =
     exec ! 𝓣.C 𝓣.Λ locals (after 3 fn.body) (at_ret locals Post) $ sets ! (of_opd ! (get ! refl)) refl good $
     apart_in R Z LZ ghosts ! b o h.0 a x $
     use1 𝓛 (‵ (Out.own_val (Some r) (v₁ ∷ []))) (Some-of 𝓛 A r made) $
-    use0 𝓛 (raw (fact 𝓤 (Says (Some r)))) (fact_i 𝓤 (Says (Some r)) (emp 𝓤) (sym some)) $
+    use0 𝓛 (raw (fact 𝓤 (Says (Some r)))) (fact_i 𝓤 (Says (Some r)) (emp 𝓤) some) $
     nothing ! $ nothing ! $ fjoin ! $ nothing ! $ fjoin ! $
     returns ! (look_at ! 0 refl) $ free_all ! refl $ keep ! (4 ∷ 0 ∷ 2 ∷ 1 ∷ []) $
     by ! (leaves 𝓛 f.ended hs c z v₁ (Some r) (tt, (tt, tt)) (tt, (tt, tt))))))))

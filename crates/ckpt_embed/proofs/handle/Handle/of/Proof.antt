@@ -1,5 +1,5 @@
 -- `of` keeps the pointer of the box. The allocator takes no bytes, and there is only one.
-use Rattle.std.proofs.Common.{◌≡◌, List, [], ◌∷◌, ◌++◌, refl, sym, subst}
+use Rattle.std.proofs.Common.{List, [], ◌∷◌, ◌++◌, refl, sym, subst}
 use mir.Val.{Val, vptr}
 use base.Logic.{SProp, ent, emp, id⊢}
 use base.Fml.{ftrue}
@@ -23,8 +23,10 @@ use Rattle.std.specs.declared.option.Option.TheVariants.{Some}
 use Rattle.std.specs.contracts.impls.GlobalAllocator.TheImpl.{ghosts}
 use Rattle.std.proofs.raw_atomic.Walks.{proved_at, leaves}
 use Rattle.ckpt_raw_box.proofs.Words.{Apart, word as pair, word_fits, apart_out}
-use Rattle.ckpt_embed.specs.Kept.{kept}
-use Rattle.ckpt_embed.proofs.Words.{R, word, handle_in}
+use Rattle.ckpt_model.specs.State.{State}
+use Rattle.ckpt_terms.specs.Machines.{Issued, core_in, names_in}
+use Rattle.ckpt_embed.specs.Kept.{IsHeld, kept}
+use Rattle.ckpt_embed.proofs.Words.{R, word, handle_in, keeps}
 use Rattle.ckpt_embed.specs.contracts.handle.Handle.of as f
 use Rattle.ckpt_embed.proofs.handle.Handle.of.Statement.{statement}
 use Rattle.ckpt_embed.proofs.handle.Handle.of.Code as code
@@ -38,6 +40,7 @@ of_spec 𝓤 𝓛 𝓜 𝓡 wired =
     f.Key.name fn (code.unfolded 𝓤 H 𝓜 𝓡 wired) (λ z are.
     let d = z.0.3.0 in let Post : Val → SProp 𝓤 = (walk_of 𝓛 f.ended hs c).post z in
     let Run : List Val → SProp 𝓤 = λ ws. WpFn 𝓤 H 𝓣.C 𝓣.Λ fn ws Post in let k : Option R.Denot = Some d.value in
+    let had : Option State = Some (core_in d.value) in let names : Option Issued = names_in d.value in
     qed 𝓛 ((‵ ftrue ⊛ ‵ (owns (types_at f.ended.signature.params z.0.0) z.0.3 z.0.4)) ∷ raw ((c z.0.0 z.0.3).requires z.1) ∷ []) ∵
     split ! $ move ! (1 ∷ []) $ fsplit ! $ apart_out R Z LZ ghosts ! d z.0.4.0 (λ b o v at vs good.
     let w : Val = pair b o v in
@@ -46,7 +49,7 @@ of_spec 𝓤 𝓛 𝓜 𝓡 wired =
     sets ! (of_opd ! (get_in ! (fld ! refl (stop !)) (sub ! 0 refl (whole !)))) refl (tt, tt) $
     sets ! (of_opd ! (get ! refl)) refl (tt, tt) $
     sets ! (agg ! (and_then ! (get ! refl) (no_more !))) refl (tt, (tt, tt)) $
-    use1 𝓛 (‵ (kept R (block_ptr b o) k)) (id⊢ 𝓤 _) $ handle_in ! (block_ptr b o) k $
-    use0 𝓛 (raw (fact 𝓤 (k ≡ k))) (fact_i 𝓤 (k ≡ k) (emp 𝓤) refl) $ nothing ! $ nothing ! $ fjoin ! $
+    use1 𝓛 (‵ (kept (block_ptr b o) had names)) (keeps 𝓛 (block_ptr b o) d.value) $ handle_in ! (block_ptr b o) had names $
+    use0 𝓛 (raw (fact 𝓤 (IsHeld k had names))) (fact_i 𝓤 (IsHeld k had names) (emp 𝓤) (refl, refl)) $ nothing ! $ nothing ! $ fjoin ! $
     returns ! (look_at ! 0 refl) $ free_all ! refl $ keep ! (5 ∷ 0 ∷ 2 ∷ 1 ∷ []) $
-    by ! (leaves 𝓛 f.ended hs c z (word (vptr b o)) (record { at = block_ptr b o; value = k }) (tt, tt) (tt, tt)))))
+    by ! (leaves 𝓛 f.ended hs c z (word (vptr b o)) (record { at = block_ptr b o; value = had; names = names }) (tt, tt) (tt, tt)))))

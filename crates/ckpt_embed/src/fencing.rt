@@ -1,0 +1,280 @@
+//! Opens a coordinator with names, gives names to one that has none, and makes the calls of tasks
+//! with their term.
+
+ghost use Rattle.std.specs.Prelude.{◌≡◌, ◌≢◌, true, Some, None, IfOk, IfErr};
+ghost use Rattle.ckpt_ids.specs.declared.call.Call.TheVariants as call;
+ghost use Rattle.ckpt_ids.specs.Ascending.{ascending};
+ghost use Rattle.ckpt_model.specs.State.{State};
+ghost use Rattle.ckpt_terms.specs.declared.call.FencedCall.TheVariants as fencing;
+ghost use Rattle.ckpt_terms.specs.declared.machine.Machine.TheVariants as machine;
+ghost use Rattle.ckpt_terms.specs.Machines.{names_in};
+ghost use Rattle.ckpt_terms.specs.Wants.{wants_memory};
+ghost use Rattle.ckpt_embed.specs.Calls.{HasNoNumbers, StaysAsItWas, StaysClosed, ack_of};
+ghost use Rattle.ckpt_embed.specs.Fenced.{IsHandled, IsTaken, WantsNames, count_of, fence_step, term_step, term_told, term_wants};
+ghost use Rattle.ckpt_embed.specs.Naming.{IsNamedOpening, IsNotOpenedNamed, IsOpenedNamed, IsWhyNotNamed};
+ghost use Rattle.ckpt_embed.specs.Opening.{OpeningWantsMemory, StaysOpen, opening_of};
+ghost use Rattle.ckpt_embed.specs.Told.{no_memory};
+
+use crate::answer::Answer;
+use crate::calls::{ack_of, files_of};
+use crate::fenced::{BAD_NAME, NAMED, TERM};
+use crate::handle::Handle;
+use crate::opening::{ALREADY_OPEN, BAD_FIRST, BAD_MOMENT, Settings, config_of, job_of};
+use ckpt_core::OpenFault;
+use ckpt_hash::Secret;
+use ckpt_ids::{Call, CheckpointId, SubtaskId};
+use ckpt_terms::call::NAMES_END;
+use ckpt_terms::{FencedCall, Machine, Terms};
+use std::alloc::Global;
+
+/// Opens a coordinator as [`open`](crate::open) does, whose tasks reserve the names of their files,
+/// in term 1. The first name that it gives out will be `first_name`, 1 to 2^62: all names that were
+/// used before must be below it.
+///
+/// The first of these that applies is a bad argument: the handle is open, or the settings, the
+/// shape, the first name, the moment or the first number are outside their limits.
+pub fn open_fenced(
+    alloc: Global,
+    handle: &mut Handle,
+    settings: &Settings,
+    shape: &[u64],
+    now: u64,
+    first: u64,
+    first_name: u64,
+    secret: Secret,
+) -> Answer
+    ensures open { StaysOpen handle.old.value handle.new.value result }
+    ensures refused { IsNotOpenedNamed handle.old.value handle.new.value (opening_of settings.now shape.now now first) first_name result }
+    ensures opened { IsOpenedNamed handle.old.value handle.new.value handle.new.names (opening_of settings.now shape.now now first) first_name result }
+    ensures memory { OpeningWantsMemory (opening_of settings.now shape.now now first) result }
+    ensures numbers { HasNoNumbers result }
+    ensures unchanged { StaysAsItWas handle.old.value handle.new.value result }
+    ensures names { result.code ≢ 0 → handle.new.names ≡ handle.old.names }
+{
+    if let Some(machine) = handle.take(alloc) {
+        handle.put(alloc, machine);
+        return Answer::bad_argument(ALREADY_OPEN);
+    }
+    match named_of(alloc, settings, shape, now, first, first_name, secret) {
+        Ok(machine) => {
+            handle.put(alloc, machine);
+            Answer::done(0, 0, 0)
+        }
+        Err(why) => why,
+    }
+}
+
+fn named_of(
+    alloc: Global,
+    settings: &Settings,
+    shape: &[u64],
+    now: u64,
+    first: u64,
+    first_name: u64,
+    secret: Secret,
+) -> Result<Box<Machine>, Answer>
+    ensures value { IfOk result (λ made. IsNamedOpening (opening_of settings.now shape.now now first) first_name made.value) }
+    ensures fault { IfErr result (IsWhyNotNamed (opening_of settings.now shape.now now first) first_name) }
+    ensures memory { IfErr result (OpeningWantsMemory (opening_of settings.now shape.now now first)) }
+    ensures numbers { IfErr result HasNoNumbers }
+    ensures code { IfErr result (λ answer. answer.code ≢ 0) }
+{
+    let config = config_of(settings)?;
+    let shape = job_of(alloc, shape)?;
+    if first_name == 0 || first_name > NAMES_END {
+        return Err(Answer::bad_argument(BAD_NAME));
+    }
+    match Terms::keyed(alloc, config, shape, now, first, first_name, secret) {
+        Ok(terms) => {
+            Box::new(alloc, Machine::Fenced(terms)).map_err(|_| Answer::out_of_memory())
+        }
+        Err(OpenFault::MomentTooLarge) => Err(Answer::bad_argument(BAD_MOMENT)),
+        Err(OpenFault::BadFirst) => Err(Answer::bad_argument(BAD_FIRST)),
+    }
+}
+
+/// Gives the coordinator names, from this one on, in term 1: from now on its tasks reserve the names
+/// of their files. All names that were used before must be below it, those of files that nobody
+/// acknowledged too.
+///
+/// The first of these that applies is the answer: the handle has names, the name is outside 1 to
+/// 2^62, or a known file has this number or a greater one. Then nothing has changed. Takes memory
+/// for an image of the state, and visits all of it.
+pub fn fence(alloc: Global, handle: &mut Handle, first_name: u64) -> Answer
+    ensures closed { StaysClosed handle.old.value handle.new.value result }
+    ensures handled { IsHandled (λ k. fence_step k first_name) handle.old.value handle.old.names handle.new.value handle.new.names result }
+    ensures memory { result.code ≡ no_memory → handle.old.names ≡ None }
+    ensures numbers { HasNoNumbers result }
+    ensures unchanged { StaysAsItWas handle.old.value handle.new.value result }
+    ensures names_unchanged { result.code ≡ no_memory → handle.new.names ≡ handle.old.names }
+{
+    let Some(mut machine) = handle.take(alloc) else {
+        return Answer::closed();
+    };
+    let answer = fence_machine(alloc, &mut machine, first_name);
+    handle.put(alloc, machine);
+    answer
+}
+
+/// The term that runs, and the next name that will be given out. Whoever restarts tasks tells them
+/// the term: a task must not ask for it.
+pub fn term(alloc: Global, handle: &mut Handle) -> Answer
+    ensures closed { StaysClosed handle.old.value handle.new.value result }
+    ensures answered { (m : State) → handle.old.value ≡ Some m → result ≡ term_told handle.old.names }
+    ensures unchanged { handle.new.value ≡ handle.old.value }
+    ensures names { handle.new.names ≡ handle.old.names }
+{
+    let Some(machine) = handle.take(alloc) else {
+        return Answer::closed();
+    };
+    let answer = term_of(&machine);
+    handle.put(alloc, machine);
+    answer
+}
+
+/// A task of this term reserves `count` names for files that it will write, 1 to 65536. The answer
+/// has the first: the others follow it.
+///
+/// A caller whose calls are kept in a log keeps this one before it uses a name.
+pub fn reserve(alloc: Global, handle: &mut Handle, term: u64, count: u64) -> Answer
+    ensures closed { StaysClosed handle.old.value handle.new.value result }
+    ensures handled { IsHandled (λ k. term_step k (fencing.Reserve term count)) handle.old.value handle.old.names handle.new.value handle.new.names result }
+    ensures memory { WantsNames handle.old.value handle.old.names (fencing.Reserve term count) result }
+    ensures numbers { HasNoNumbers result }
+    ensures unchanged { StaysAsItWas handle.old.value handle.new.value result }
+    ensures names_unchanged { result.code ≡ no_memory → handle.new.names ≡ handle.old.names }
+{
+    let Some(mut machine) = handle.take(alloc) else {
+        return Answer::closed();
+    };
+    let answer = in_term(&mut machine, &FencedCall::Reserve { term, count });
+    handle.put(alloc, machine);
+    answer
+}
+
+/// A task of this term gives up names that it will not acknowledge. Names that the term does not
+/// hold are passed over, so the call can be repeated. Takes memory for a copy of the list.
+pub fn forfeit(alloc: Global, handle: &mut Handle, term: u64, names: &[u64]) -> Answer
+    ensures closed { StaysClosed handle.old.value handle.new.value result }
+    ensures handled { IsHandled (λ k. term_step k (fencing.Forfeit term (ascending names.now))) handle.old.value handle.old.names handle.new.value handle.new.names result }
+    ensures numbers { HasNoNumbers result }
+    ensures unchanged { StaysAsItWas handle.old.value handle.new.value result }
+    ensures names_unchanged { result.code ≡ no_memory → handle.new.names ≡ handle.old.names }
+{
+    let Some(mut machine) = handle.take(alloc) else {
+        return Answer::closed();
+    };
+    let answer = match files_of(alloc, names) {
+        Ok(names) => in_term(&mut machine, &FencedCall::Forfeit { term, names }),
+        Err(_) => Answer::out_of_memory(),
+    };
+    handle.put(alloc, machine);
+    answer
+}
+
+/// Makes an acknowledgement as [`ack`](crate::ack) does, of a task of this term.
+pub fn ack_in(
+    alloc: Global,
+    handle: &mut Handle,
+    term: u64,
+    now: u64,
+    id: u64,
+    subtask: SubtaskId,
+    fresh: &[u64],
+    reused: &[u64],
+) -> Answer
+    ensures closed { StaysClosed handle.old.value handle.new.value result }
+    ensures handled { IsHandled (λ k. term_step k (fencing.Make term (ack_of now id subtask fresh.now reused.now))) handle.old.value handle.old.names handle.new.value handle.new.names result }
+    ensures numbers { HasNoNumbers result }
+    ensures unchanged { StaysAsItWas handle.old.value handle.new.value result }
+    ensures names_unchanged { result.code ≡ no_memory → handle.new.names ≡ handle.old.names }
+{
+    let Some(mut machine) = handle.take(alloc) else {
+        return Answer::closed();
+    };
+    let answer = match ack_of(alloc, now, id, subtask, fresh, reused) {
+        Ok(call) => in_term(&mut machine, &FencedCall::Make { term, call }),
+        Err(_) => Answer::out_of_memory(),
+    };
+    handle.put(alloc, machine);
+    answer
+}
+
+/// A task of this term could not take its part of a record.
+pub fn decline_in(
+    alloc: Global,
+    handle: &mut Handle,
+    term: u64,
+    now: u64,
+    id: u64,
+    subtask: SubtaskId,
+) -> Answer
+    ensures closed { StaysClosed handle.old.value handle.new.value result }
+    ensures handled { IsHandled (λ k. term_step k (fencing.Make term (call.Decline now id subtask))) handle.old.value handle.old.names handle.new.value handle.new.names result }
+    ensures memory { result.code ≢ no_memory }
+{
+    let Some(mut machine) = handle.take(alloc) else {
+        return Answer::closed();
+    };
+    let id = CheckpointId(id);
+    let call = Call::Decline { now, id, subtask };
+    let answer = in_term(&mut machine, &FencedCall::Make { term, call });
+    handle.put(alloc, machine);
+    answer
+}
+
+/// Makes a call with a term, and returns its answer.
+fn in_term(machine: &mut Machine, call: &FencedCall) -> Answer
+    ensures handled { IsTaken (λ k. term_step k call.now) machine.old machine.new result }
+    ensures memory { result.code ≡ no_memory → term_wants machine.old call.now ≡ true }
+    ensures numbers { HasNoNumbers result }
+    ensures unchanged { result.code ≡ no_memory → machine.new ≡ machine.old }
+{
+    match machine {
+        Machine::Plain(_) => Answer::no_names(),
+        Machine::Fenced(terms) => make(terms, call),
+    }
+}
+
+fn make(terms: &mut Terms, call: &FencedCall) -> Answer
+    ensures handled { result.code ≢ no_memory → (machine.Fenced terms.new ≡ (term_step (machine.Fenced terms.old) call.now).0) × (result ≡ (term_step (machine.Fenced terms.old) call.now).1) }
+    ensures memory { result.code ≡ no_memory → wants_memory terms.old call.now ≡ true }
+    ensures numbers { HasNoNumbers result }
+    ensures unchanged { result.code ≡ no_memory → terms.new ≡ terms.old }
+{
+    match terms.apply(call) {
+        Ok(answer) => Answer::of_fenced(count_of(call), &answer),
+        Err(_) => Answer::out_of_memory(),
+    }
+}
+
+/// How many names the call asks for.
+fn count_of(call: &FencedCall) -> u64
+    ensures { result ≡ count_of call.now }
+{
+    match call {
+        FencedCall::Reserve { term: _, count } => *count,
+        _ => 0,
+    }
+}
+
+fn term_of(machine: &Machine) -> Answer
+    ensures { result ≡ term_told (names_in machine.now) }
+{
+    match machine {
+        Machine::Plain(_) => Answer::no_names(),
+        Machine::Fenced(terms) => Answer::done(TERM, terms.term(), terms.next_name()),
+    }
+}
+
+fn fence_machine(alloc: Global, machine: &mut Machine, first_name: u64) -> Answer
+    ensures handled { IsTaken (λ k. fence_step k first_name) machine.old machine.new result }
+    ensures memory { result.code ≡ no_memory → names_in machine.old ≡ None }
+    ensures numbers { HasNoNumbers result }
+    ensures unchanged { result.code ≡ no_memory → machine.new ≡ machine.old }
+{
+    match machine.fence(alloc, first_name) {
+        Ok(()) => Answer::done(NAMED, 0, 0),
+        Err(why) => Answer::of_fence_fault(why),
+    }
+}

@@ -1,0 +1,115 @@
+-- The text that is written for a state with names is read as that state, and not as one without names.
+use Rattle.std.proofs.Common.{◌≡◌, ◌↔◌, ℕ, ◌≤◌, Bool, true, false, eqb, map, refl, ap, ⊎_elim, arith, Option, Some, None, cond, codes}
+use Rattle.std.specs.Prelude.{option_and_then, option_map}
+use Rattle.std.proofs.lemmas.Bool.{cases_Bool}
+use Rattle.ckpt_model.specs.State.{State}
+use Rattle.ckpt_image.specs.Fits.{Fits}
+use Rattle.ckpt_image.specs.Images.{image_of, image_of_any_version}
+use Rattle.ckpt_image.specs.Members.{number_of, only, version_of}
+use Rattle.ckpt_image.specs.Written.{image_members}
+use Rattle.ckpt_image.proofs.RoundTrip.{all, members_read_back}
+use Rattle.ckpt_image.proofs.Plain.{image_depth, members_have_no_float, shallow_items}
+use Rattle.ckpt_names_image.specs.Named.{Fenced, Named, Plain, Saved, named_data, named_of, names_data, names_of, saved_of, span_data, span_of}
+use Rattle.ckpt_names_image.proofs.Placed.{depth_put, float_put}
+use Rattle.ckpt_terms.specs.declared.names.Span.{Span}
+use Rattle.ckpt_texts.specs.MetadataTexts.{members}
+use Rattle.ckpt_texts.proofs.NoFloats.{no_floats}
+use Rattle.serde_json.specs.Data.{Data, object, put, depth, items_depth, members_depth}
+use Rattle.serde_json.specs.Find.{get}
+use Rattle.serde_json.specs.Read.{max_depth}
+use Rattle.serde_json.specs.View.{items_of}
+use Rattle.serde_json.specs.Written.{has_float}
+
+-- ---- it is read back
+
+span_back : (s : Span) → span_of (span_data s) ≡ Some s
+unfolding span_of
+span_back s = refl
+
+names_back : (m : Named) → names_of (names_data m) ≡ Some (record { next = m.next_name; term = m.term; unspent = m.unspent })
+unfolding names_of names_data
+names_back m = rw (all span_of span_data m.unspent (λ s there. span_back s)) refl
+
+-- no other member is read otherwise
+same_image : (m : State) (d : Data) → image_of_any_version (object (put (codes "names") d (members (image_members 2 m)))) ≡ image_of_any_version (object (members (image_members 2 m)))
+unfolding image_of_any_version
+same_image m d = refl
+
+named_back : (m : Named) → Fits m.core → named_of (named_data m) ≡ Some m
+unfolding named_of named_data
+named_back m fits = rw (names_back m, same_image m.core (names_data m), members_read_back 2 m.core fits) refl
+
+version_is : (m : Named) → option_and_then number_of (get (codes "version") (named_data m)) ≡ Some 2
+unfolding named_data
+version_is m = refl
+
+pub saved_back : (m : Named) → Fits m.core → saved_of (named_data m) ≡ Some (Fenced m)
+unfolding saved_of
+saved_back m fits = rw (version_is m, named_back m fits) refl
+
+-- ---- without names
+
+pub is_no_plain : (m : Named) → image_of (named_data m) ≡ None
+unfolding image_of named_data version_of
+is_no_plain m = refl
+
+-- ---- no float, and not deep
+
+names_float : (m : Named) → has_float (names_data m) ≡ false
+unfolding names_data
+names_float m = rw (no_floats span_data m.unspent (λ s. refl)) refl
+
+pub named_has_no_float : (m : Named) → has_float (named_data m) ≡ false
+unfolding named_data
+named_has_no_float m = float_put (codes "names") (names_data m) (members (image_members 2 m.core)) (names_float m) (members_have_no_float 2 m.core)
+
+names_depth : (m : Named) → depth (names_data m) ≤ 3
+unfolding names_data
+names_depth m = let spans : items_depth (items_of (map span_data m.unspent)) ≤ 1 = shallow_items 1 span_data m.unspent (λ s. omega arith) in omega arith
+
+pub named_is_shallow : (m : Named) → depth (named_data m) ≤ max_depth
+unfolding named_data
+named_is_shallow m =
+    let names : depth (names_data m) ≤ 3 = names_depth m in
+    let image : depth (object (members (image_members 2 m.core))) ≤ 7 = image_depth 2 m.core in
+    let both : members_depth (put (codes "names") (names_data m) (members (image_members 2 m.core))) ≤ 6 = depth_put (codes "names") (names_data m) (members (image_members 2 m.core)) 6 (omega arith) (omega arith) in
+    omega arith
+
+-- ---- an image without names is read as ever
+
+abbrev plain_in : Option Saved → Option State
+plain_in None = None
+plain_in (Some (Plain m)) = Some m
+plain_in (Some (Fenced m)) = None
+
+from_plain : (any : Option State) (m : State) → option_map (λ k. Plain k) any ≡ Some (Plain m) → any ≡ Some m
+from_plain None m e = ap plain_in e
+from_plain (Some k) m e = ap plain_in e
+
+no_plain : (named : Option Named) (m : State) → option_map (λ k. Fenced k) named ≡ Some (Plain m) → ⊥
+no_plain None m e = let f : None ≡ Some m = ap plain_in e in absurd (cc)
+no_plain (Some k) m e = let f : None ≡ Some m = ap plain_in e in absurd (cc)
+
+by_version : (n : ℕ) (any : Option State) (named : Option Named) (m : State) → (cond (eqb n 1) (option_map (λ k. Plain k) any) (cond (eqb n 2) (option_map (λ k. Fenced k) named) None) ≡ Some (Plain m)) ↔ (option_and_then (λ _. any) (only (λ k. eqb k 1) n) ≡ Some m)
+by_version n any named m =
+    ⊎_elim
+    (λ (e : eqb n 1 ≡ true). rw (e) (λ h. from_plain any m h, λ h. ap (option_map (λ k. Plain k)) h))
+    (λ (e : eqb n 1 ≡ false). rw (e) (λ h. absurd (by_two (eqb n 2) h), λ h. absurd (cc)))
+    (cases_Bool (eqb n 1))
+  where
+    by_two : (b : Bool) → cond b (option_map (λ k. Fenced k) named) None ≡ Some (Plain m) → ⊥
+    by_two true h = no_plain named m h
+    by_two false h = absurd (cc)
+
+by_number : (o : Option ℕ) (any : Option State) (named : Option Named) (m : State) → (option_and_then (λ n. cond (eqb n 1) (option_map (λ k. Plain k) any) (cond (eqb n 2) (option_map (λ k. Fenced k) named) None)) o ≡ Some (Plain m)) ↔ (option_and_then (λ _. any) (option_and_then (only (λ k. eqb k 1)) o) ≡ Some m)
+by_number None any named m = (λ h. absurd (cc), λ h. absurd (cc))
+by_number (Some n) any named m = by_version n any named m
+
+by_member : (o : Option Data) (any : Option State) (named : Option Named) (m : State) → (option_and_then (λ n. cond (eqb n 1) (option_map (λ k. Plain k) any) (cond (eqb n 2) (option_map (λ k. Fenced k) named) None)) (option_and_then number_of o) ≡ Some (Plain m)) ↔ (option_and_then (λ _. any) (option_and_then version_of o) ≡ Some m)
+unfolding version_of
+by_member None any named m = (λ h. absurd (cc), λ h. absurd (cc))
+by_member (Some d) any named m = by_number (number_of d) any named m
+
+pub plain_as_ever : (d : Data) (m : State) → (saved_of d ≡ Some (Plain m)) ↔ (image_of d ≡ Some m)
+unfolding saved_of image_of
+plain_as_ever d m = by_member (get (codes "version") d) (image_of_any_version d) (named_of d) m

@@ -1,0 +1,8 @@
+-- The loop invariants of `spans`.
+use Rattle.std.proofs.Common.{◌≡◌}
+use Rattle.ckpt_image.proofs.Items.{left, with_front}
+use Rattle.ckpt_names_image.specs.Named.{span_of}
+use Rattle.ckpt_names_image.proofs.reading.spans.Given as goal
+
+abbrev pub invariant-loop-item : goal.invariant-loop-item
+invariant-loop-item l = with_front l.list.items (left span_of l.item-items l.item-index) ≡ left span_of l.item-items 0

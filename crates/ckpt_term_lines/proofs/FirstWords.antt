@@ -1,0 +1,90 @@
+-- What the first word says: a line that scripts do not have is none of a script.
+use Rattle.std.proofs.Common.{◌≡◌, ℕ, Bool, true, false, cond, List, [], ◌∷◌, Option, Some, None, Result, Ok, Err, refl, sym, ap, ◌∙◌}
+use Rattle.std.specs.Prelude.{find}
+use Rattle.std.specs.Str.{bytes_eq}
+use Rattle.std.specs.Str.Lines.{strip_carriage_return}
+use Rattle.std.proofs.lemmas.Slice.Eq.{bytes_eq-Decides}
+use Rattle.ckpt_lines.specs.declared.fault.LineFault.{LineFault}
+use Rattle.ckpt_lines.specs.declared.fault.LineFault.TheVariants as fault
+use Rattle.ckpt_lines.specs.declared.line.Line.{Line}
+use Rattle.ckpt_lines.specs.Keywords.{keyword_of}
+use Rattle.ckpt_lines.specs.Reading.{begins_with_a_list, is_too_long, line_of, number_place, reading}
+use Rattle.ckpt_lines.specs.Values.{number_of}
+use Rattle.ckpt_lines.specs.Words.{words_of}
+use Rattle.ckpt_term_lines.specs.declared.keyword.TermKeyword.{TermKeyword}
+use Rattle.ckpt_term_lines.specs.declared.keyword.TermKeyword.TheVariants.{Fence, Reserve, Forfeit, In}
+use Rattle.ckpt_term_lines.specs.declared.line.TermLine.TheVariants.{Plain}
+use Rattle.ckpt_term_lines.specs.TermKeywords.{term_keyword_of, term_keywords, term_spelling}
+use Rattle.ckpt_term_lines.specs.TermReading.{TermBegins, in_takes_memory, plain_row, term_line_of, term_reading}
+
+-- what is found passes the test
+passes : {X : Type 0} (p : X → Bool) (xs : List X) (x : X) → find p xs ≡ Some x → p x ≡ true
+passes {X} p [] x found = let none : ◌≡◌ {A = Option X} None (Some x) = found in absurd cc
+passes {X} p (y ∷ ys) x found = by (p y) refl (λ (among : find p ys ≡ Some x). passes p ys x among)
+  where
+    by : (b : Bool) → p y ≡ b → (find p ys ≡ Some x → p x ≡ true) → p x ≡ true
+    by true is others =
+        let some : ◌≡◌ {A = Option X} (Some y) (Some x) = ap (λ (b : Bool). cond b (Some y) (find p ys)) (sym is) ∙ found in
+        let same : y ≡ x = cc in
+        ap p (sym same) ∙ is
+    by false is others = others (ap (λ (b : Bool). cond b (Some y) (find p ys)) (sym is) ∙ found)
+
+-- the word is spelled as its keyword is
+spelled : (word : List ℕ) (first : TermKeyword) → term_keyword_of word ≡ Some first → term_spelling first ≡ word
+unfolding term_keyword_of
+spelled word first is = (bytes_eq-Decides (term_spelling first) word).0 (passes (λ keyword. bytes_eq (term_spelling keyword) word) term_keywords first is)
+
+-- a script has no such line
+no_line : (first : TermKeyword) (words : List (List ℕ)) → line_of (term_spelling first ∷ words) ≡ Err fault.Word
+unfolding line_of keyword_of
+no_line Fence words = refl
+no_line Reserve words = refl
+no_line Forfeit words = refl
+no_line In words = refl
+
+-- the words of a script's line are read as that line
+pub as_script : (words : List (List ℕ)) (read : Line) → line_of words ≡ Ok read → term_line_of words ≡ Ok (Plain read)
+unfolding term_line_of plain_row
+as_script [] read is = rw is refl
+as_script (word ∷ words) read is = by (term_keyword_of word) refl
+  where
+    by : (first : Option TermKeyword) → term_keyword_of word ≡ first → term_line_of (word ∷ words) ≡ Ok (Plain read)
+    by None e = rw (e, is) refl
+    by (Some first) e =
+        let none : line_of (word ∷ words) ≡ Err fault.Word = ap (λ (w : List ℕ). line_of (w ∷ words)) (sym (spelled word first e)) ∙ no_line first words in
+        let clash : ◌≡◌ {A = Result Line LineFault} (Err fault.Word) (Ok read) = sym none ∙ is in
+        absurd cc
+
+extends_by : (line : List ℕ) (read : Line) (b : Bool) → is_too_long line ≡ b → reading line ≡ Ok read → term_reading line ≡ Ok (Plain read)
+unfolding reading term_reading
+extends_by line read true long is =
+    let clash : ◌≡◌ {A = Result Line LineFault} (Err fault.TooLong) (Ok read) = rw long at is in
+    absurd cc
+extends_by line read false short is =
+    let words : line_of (words_of (strip_carriage_return line)) ≡ Ok read = rw short at is in
+    rw short (as_script (words_of (strip_carriage_return line)) read words)
+
+-- and a line of a script as the same line
+pub extends_line : (line : List ℕ) (read : Line) → reading line ≡ Ok read → term_reading line ≡ Ok (Plain read)
+extends_line line read is = extends_by line read (is_too_long line) refl is
+
+-- what is found of the first word says what the words are read as
+pub begins : (first : Option TermKeyword) (word : List ℕ) (before after : List (List ℕ)) → before ≡ word ∷ after → first ≡ term_keyword_of word → TermBegins first before after
+unfolding term_line_of
+begins None word before after split is = rw (split, ← is) (refl, refl)
+begins (Some first) word before after split is = rw (split, ← is) (refl, refl)
+
+-- the words after a number that was read
+pub after_term : (words after : List (List ℕ)) (term : ℕ) → number_place words ≡ Ok (term, after) → in_takes_memory words ≡ begins_with_a_list after
+unfolding number_place
+after_term [] after term is = let none : ◌≡◌ {A = Result (ℕ × List (List ℕ)) LineFault} (Err fault.Missing) (Ok (term, after)) = is in absurd cc
+after_term (word ∷ words) after term is = by (number_of word) refl
+  where
+    by : (found : Option ℕ) → number_of word ≡ found → begins_with_a_list words ≡ begins_with_a_list after
+    by (Some n) e =
+        let same : ◌≡◌ {A = Result (ℕ × List (List ℕ)) LineFault} (Ok (n, words)) (Ok (term, after)) = rw e at is in
+        let pair : ◌≡◌ {A = ℕ × List (List ℕ)} (n, words) (term, after) = cc in
+        ap (λ (p : ℕ × List (List ℕ)). begins_with_a_list p.1) pair
+    by None e =
+        let none : ◌≡◌ {A = Result (ℕ × List (List ℕ)) LineFault} (Err fault.Number) (Ok (term, after)) = rw e at is in
+        absurd cc

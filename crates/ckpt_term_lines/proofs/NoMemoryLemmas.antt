@@ -1,0 +1,62 @@
+-- The reading of a line never says that memory ran out.
+use Rattle.std.proofs.Common.{◌≡◌, ◌≢◌, ℕ, false, List, [], ◌∷◌, Option, Some, None, Err, refl}
+use Rattle.std.specs.Str.Lines.{strip_carriage_return}
+use Rattle.ckpt_lines.specs.declared.fault.LineFault.TheVariants as fault
+use Rattle.ckpt_lines.specs.Reading.{each, ended, is_memory, is_too_long, line_of}
+use Rattle.ckpt_lines.specs.Values.{number}
+use Rattle.ckpt_lines.specs.Words.{words_of}
+use Rattle.ckpt_lines.proofs.ReadingLaws.{NoMemory, bind, either, ended-no_memory, line_of-no_memory, number_then, numbers-no_memory}
+use Rattle.ckpt_term_lines.specs.declared.keyword.TermKeyword.{TermKeyword}
+use Rattle.ckpt_term_lines.specs.declared.keyword.TermKeyword.TheVariants as keyword
+use Rattle.ckpt_term_lines.specs.TermKeywords.{term_keyword_of}
+use Rattle.ckpt_term_lines.specs.TermReading.{fence_row, forfeit_row, in_row, name_places, plain_row, reserve_row, some_line, term_line_of, term_reading, term_row, term_row_of}
+
+fence-no_memory : (words : List (List ℕ)) → NoMemory (fence_row words)
+unfolding fence_row
+fence-no_memory words = number_then words _ (λ first. bind (ended first.1) _ (ended-no_memory first.1) (λ _. tt))
+
+reserve-no_memory : (words : List (List ℕ)) → NoMemory (reserve_row words)
+unfolding reserve_row
+reserve-no_memory words = number_then words _ (λ term. number_then term.1 _ (λ count. bind (ended count.1) _ (ended-no_memory count.1) (λ _. tt)))
+
+names-no_memory : (words : List (List ℕ)) → NoMemory (name_places words)
+names-no_memory words = bind (each number words) _ (numbers-no_memory words) (λ names. tt)
+
+forfeit-no_memory : (words : List (List ℕ)) → NoMemory (forfeit_row words)
+unfolding forfeit_row
+forfeit-no_memory words = number_then words _ (λ term. bind (name_places term.1) _ (names-no_memory term.1) (λ names. tt))
+
+some-no_memory : (words : List (List ℕ)) → NoMemory (some_line words)
+some-no_memory [] = refl
+some-no_memory (word ∷ words) = line_of-no_memory (word ∷ words)
+
+in-no_memory : (words : List (List ℕ)) → NoMemory (in_row words)
+unfolding in_row
+in-no_memory words = number_then words _ (λ term. bind (some_line term.1) _ (some-no_memory term.1) (λ line. tt))
+
+plain-no_memory : (words : List (List ℕ)) → NoMemory (plain_row words)
+unfolding plain_row
+plain-no_memory words = bind (line_of words) _ (line_of-no_memory words) (λ line. tt)
+
+row-no_memory : (first : TermKeyword) (words : List (List ℕ)) → NoMemory (term_row first words)
+unfolding term_row
+row-no_memory keyword.Fence words = fence-no_memory words
+row-no_memory keyword.Reserve words = reserve-no_memory words
+row-no_memory keyword.Forfeit words = forfeit-no_memory words
+row-no_memory keyword.In words = in-no_memory words
+
+row_of-no_memory : (first : Option TermKeyword) (all words : List (List ℕ)) → NoMemory (term_row_of first all words)
+row_of-no_memory None all words = plain-no_memory all
+row_of-no_memory (Some first) all words = row-no_memory first words
+
+term_line_of-no_memory : (words : List (List ℕ)) → NoMemory (term_line_of words)
+unfolding term_line_of
+term_line_of-no_memory [] = plain-no_memory []
+term_line_of-no_memory (word ∷ words) = row_of-no_memory (term_keyword_of word) (word ∷ words) words
+
+reading-known : (line : List ℕ) → NoMemory (term_reading line)
+unfolding term_reading
+reading-known line = either (is_too_long line) _ _ refl (term_line_of-no_memory (words_of (strip_carriage_return line)))
+
+pub term_reading-no_memory : (line : List ℕ) → term_reading line ≢ Err fault.Memory
+term_reading-no_memory line = λ e. let known : NoMemory (term_reading line) = reading-known line in let bad : is_memory fault.Memory ≡ false = rw e at known in cc

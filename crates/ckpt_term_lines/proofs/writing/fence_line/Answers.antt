@@ -1,0 +1,11 @@
+-- Answers the goals of `fence_line`.
+use Rattle.std.proofs.Common.{rules}
+use Rattle.ckpt_term_lines.specs.TermTexts.{fence_text}
+use Rattle.ckpt_term_lines.proofs.TermReadBack.{reads_fence}
+use Rattle.ckpt_term_lines.proofs.writing.fence_line.Goals as goal
+
+pub returns-clause-read : goal.returns-clause-read
+unfolding fence_text
+returns-clause-read c =
+    let read = reads_fence c.args.first c.write_number.ensures.fits in
+    search (rules, read, c.write_number.ensures.text)

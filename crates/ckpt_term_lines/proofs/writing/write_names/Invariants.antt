@@ -1,0 +1,9 @@
+-- The loop invariants of `write_names`.
+use Rattle.std.proofs.Common.{◌≡◌, ◌++◌, take, string_bytes}
+use Rattle.std.specs.Prelude.{All, flat_map}
+use Rattle.ckpt_texts.specs.Texts.{spaced}
+use Rattle.ckpt_call_lines.specs.CallTexts.{Fits}
+use Rattle.ckpt_term_lines.proofs.writing.write_names.Given as goal
+
+abbrev pub invariant-loop-place : goal.invariant-loop-place
+invariant-loop-place l = (string_bytes l.text ≡ string_bytes l.fn.text ++ flat_map spaced (take l.place l.names)) × All Fits (take l.place l.names)

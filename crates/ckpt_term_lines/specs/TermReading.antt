@@ -1,0 +1,103 @@
+-- What a line of a log says whose job gives out names: one of four kinds of line, or a line of a script.
+use Rattle.std.specs.Prelude.{◌≡◌, ℕ, Bool, true, false, not, ◌&&◌, List, [], ◌∷◌, if◌then◌else◌, Option, Some, None, Result, Ok, Err}
+use Rattle.std.specs.Str.Lines.{strip_carriage_return}
+use Rattle.ckpt_ids.specs.Ascending.{ascending}
+use Rattle.ckpt_lines.specs.declared.fault.LineFault.{LineFault}
+use Rattle.ckpt_lines.specs.declared.fault.LineFault.TheVariants as fault
+use Rattle.ckpt_lines.specs.declared.line.Line.{Line}
+use Rattle.ckpt_lines.specs.Reading.{◌>>=◌, begins_with_a_list, each, ended, is_too_long, line_of, number_place}
+use Rattle.ckpt_lines.specs.Values.{number}
+use Rattle.ckpt_lines.specs.Words.{words_of}
+use Rattle.ckpt_term_lines.specs.declared.keyword.TermKeyword.{TermKeyword}
+use Rattle.ckpt_term_lines.specs.declared.keyword.TermKeyword.TheVariants as keyword
+use Rattle.ckpt_term_lines.specs.declared.line.TermLine.{TermLine}
+use Rattle.ckpt_term_lines.specs.declared.line.TermLine.TheVariants.{Fence, Reserve, Forfeit, In, Plain}
+use Rattle.ckpt_term_lines.specs.TermKeywords.{term_keyword_of}
+
+unfoldable pub fence_row : List (List ℕ) → Result TermLine LineFault
+fence_row words = do
+  first ← number_place words
+  _ ← ended first.1
+  Ok (Fence first.0)
+
+unfoldable pub reserve_row : List (List ℕ) → Result TermLine LineFault
+reserve_row words = do
+  term ← number_place words
+  count ← number_place term.1
+  _ ← ended count.1
+  Ok (Reserve term.0 count.0)
+
+-- all words that are left, in any order
+abbrev pub name_places : List (List ℕ) → Result (List ℕ) LineFault
+name_places words = do
+  names ← each number words
+  Ok (ascending names)
+
+unfoldable pub forfeit_row : List (List ℕ) → Result TermLine LineFault
+forfeit_row words = do
+  term ← number_place words
+  names ← name_places term.1
+  Ok (Forfeit term.0 names)
+
+-- the line of a script that these words are; there must be one
+abbrev pub some_line : List (List ℕ) → Result Line LineFault
+some_line [] = Err fault.Missing
+some_line (word ∷ words) = line_of (word ∷ words)
+
+unfoldable pub in_row : List (List ℕ) → Result TermLine LineFault
+in_row words = do
+  term ← number_place words
+  line ← some_line term.1
+  Ok (In term.0 line)
+
+unfoldable pub plain_row : List (List ℕ) → Result TermLine LineFault
+plain_row words = do
+  line ← line_of words
+  Ok (Plain line)
+
+-- the words after the first
+unfoldable pub term_row : TermKeyword → List (List ℕ) → Result TermLine LineFault
+term_row keyword.Fence words = fence_row words
+term_row keyword.Reserve words = reserve_row words
+term_row keyword.Forfeit words = forfeit_row words
+term_row keyword.In words = in_row words
+
+-- what the first word says, with all words, and with those after the first
+abbrev pub term_row_of : Option TermKeyword → List (List ℕ) → List (List ℕ) → Result TermLine LineFault
+term_row_of None all words = plain_row all
+term_row_of (Some first) all words = term_row first words
+
+unfoldable pub term_line_of : List (List ℕ) → Result TermLine LineFault
+term_line_of [] = plain_row []
+term_line_of (word ∷ words) = term_row_of (term_keyword_of word) (word ∷ words) words
+
+unfoldable pub term_reading : List ℕ → Result TermLine LineFault
+term_reading line = if is_too_long line then Err fault.TooLong else term_line_of (words_of (strip_carriage_return line))
+
+-- the words after the term of an `in` begin a line with a list
+abbrev pub in_takes_memory : List (List ℕ) → Bool
+in_takes_memory [] = false
+in_takes_memory (term ∷ words) = begins_with_a_list words
+
+-- the words after the first may have a list
+abbrev pub term_row_takes_memory : TermKeyword → List (List ℕ) → Bool
+term_row_takes_memory keyword.Forfeit words = true
+term_row_takes_memory keyword.In words = in_takes_memory words
+term_row_takes_memory first words = false
+
+abbrev pub row_takes_memory : Option TermKeyword → List (List ℕ) → List (List ℕ) → Bool
+row_takes_memory None all words = begins_with_a_list all
+row_takes_memory (Some first) all words = term_row_takes_memory first words
+
+abbrev pub term_takes_memory : List (List ℕ) → Bool
+term_takes_memory [] = false
+term_takes_memory (word ∷ words) = row_takes_memory (term_keyword_of word) (word ∷ words) words
+
+-- `forfeit`, and the lines of a script with lists
+unfoldable pub term_may_want_memory : List ℕ → Bool
+term_may_want_memory line = not (is_too_long line) && term_takes_memory (words_of (strip_carriage_return line))
+
+-- What the first word says, and the words after it if it begins a line that scripts do not have.
+abbrev pub TermBegins : Option TermKeyword → List (List ℕ) → List (List ℕ) → Type 0
+TermBegins (Some first) before after = (term_line_of before ≡ term_row first after) × (term_takes_memory before ≡ term_row_takes_memory first after)
+TermBegins None before after = (term_line_of before ≡ plain_row before) × (term_takes_memory before ≡ begins_with_a_list before)

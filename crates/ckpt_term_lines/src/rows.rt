@@ -1,0 +1,89 @@
+//! The lines that scripts do not have, from the words after their first.
+ghost use Rattle.std.specs.Prelude.{◌≡◌, true};
+ghost use Rattle.ckpt_lines.specs.Reading.{begins_with_a_list, line_of, IsExact, Reads};
+ghost use Rattle.ckpt_term_lines.specs.TermReading.{fence_row, forfeit_row, in_row, in_takes_memory, name_places, reserve_row, some_line, term_row, term_row_takes_memory};
+
+use crate::keyword::TermKeyword;
+use crate::line::TermLine;
+use ckpt_ids::{FileId, Files};
+use ckpt_lines::{Line, LineFault, Words, end, line_of, number_of};
+use std::alloc::Global;
+
+#[tactic(auto, unfolding(crate::specs::TermReading::fence_row))]
+fn fence(words: &mut Words<'_>) -> Result<TermLine, LineFault>
+    ensures { IsExact result (fence_row words.old) }
+{
+    let first = words.number()?;
+    end(words)?;
+    Ok(TermLine::Fence { first })
+}
+
+#[tactic(auto, unfolding(crate::specs::TermReading::reserve_row))]
+fn reserve(words: &mut Words<'_>) -> Result<TermLine, LineFault>
+    ensures { IsExact result (reserve_row words.old) }
+{
+    let term = words.number()?;
+    let count = words.number()?;
+    end(words)?;
+    Ok(TermLine::Reserve { term, count })
+}
+
+/// The names up to the end of the line.
+fn names(alloc: Global, words: &mut Words<'_>) -> Result<Files, LineFault>
+    ensures { Reads result (name_places words.old) }
+{
+    let mut list = Vec::new(alloc);
+    while let Some(word) = words.next() {
+        let name = number_of(word).ok_or(LineFault::Number)?;
+        list.push(FileId(name))?;
+    }
+    Ok(Files::of(list))
+}
+
+#[tactic(auto, unfolding(crate::specs::TermReading::forfeit_row))]
+fn forfeit(alloc: Global, words: &mut Words<'_>) -> Result<TermLine, LineFault>
+    ensures { Reads result (forfeit_row words.old) }
+{
+    let term = words.number()?;
+    let names = names(alloc, words)?;
+    Ok(TermLine::Forfeit { term, names })
+}
+
+/// The line of a script that these words are. There must be one.
+fn some_line(alloc: Global, words: &mut Words<'_>) -> Result<Line, LineFault>
+    ensures line { Reads result (some_line words.old) }
+    ensures memory { result ≡ Err LineFault.Memory → begins_with_a_list words.old ≡ true }
+{
+    if words.is_empty() {
+        return Err(LineFault::Missing);
+    }
+    line_of(alloc, words)
+}
+
+#[tactic(auto, unfolding(crate::specs::TermReading::in_row))]
+fn in_term(alloc: Global, words: &mut Words<'_>) -> Result<TermLine, LineFault>
+    ensures line { Reads result (in_row words.old) }
+    ensures memory { result ≡ Err LineFault.Memory → in_takes_memory words.old ≡ true }
+{
+    let term = words.number()?;
+    let line = some_line(alloc, words)?;
+    Ok(TermLine::In { term, line })
+}
+
+/// The line of this kind, from the words after the first.
+#[tactic(auto, unfolding(crate::specs::TermReading::term_row))]
+pub(crate) fn row(
+    alloc: Global,
+    keyword: TermKeyword,
+    words: &mut Words<'_>,
+) -> Result<TermLine, LineFault>
+    ensures line { Reads result (term_row keyword words.old) }
+    ensures memory { result ≡ Err LineFault.Memory → term_row_takes_memory keyword words.old ≡ true }
+{
+    match keyword {
+        TermKeyword::Fence => fence(words),
+        TermKeyword::Reserve => reserve(words),
+        TermKeyword::Forfeit => forfeit(alloc, words),
+        TermKeyword::In => in_term(alloc, words),
+    }
+}

@@ -1,0 +1,23 @@
+-- Names that were given out, and that no task holds: those of known files.
+use Rattle.std.specs.Prelude.{ℕ, Bool, ◌&&◌, not, nat_lt}
+use Rattle.std.specs.List.{list_all}
+use Rattle.ckpt_ids.specs.Records.{Record}
+use Rattle.ckpt_model.specs.Images.{record_in}
+use Rattle.ckpt_terms.specs.declared.image.TermsImage.{TermsImage}
+use Rattle.ckpt_terms.specs.Fencing.{Fenced, is_unspent}
+use Rattle.ckpt_terms.specs.TermsImages.{fenced_in}
+
+-- a name that was given out, and that no task holds
+abbrev pub is_spent : Fenced → ℕ → Bool
+is_spent m f = nat_lt f m.next_name && not (is_unspent m f)
+
+-- each file of the record has such a name
+abbrev pub record_is_spent : Fenced → Record → Bool
+record_is_spent m r = list_all (λ a. list_all (is_spent m) a.files) r.acks && list_all (is_spent m) r.pins
+
+-- and so has each that is in use, waits for deletion or was fetched
+abbrev pub files_are_spent : TermsImage → Bool
+files_are_spent i =
+    list_all (λ s. record_is_spent (fenced_in i) (record_in s)) i.core.records.items
+    && list_all (is_spent (fenced_in i)) i.core.waiting
+    && list_all (is_spent (fenced_in i)) i.core.taken

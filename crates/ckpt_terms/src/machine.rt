@@ -1,0 +1,188 @@
+//! A coordinator with or without names: what a handle has.
+
+ghost use Rattle.std.specs.Prelude.{◌≡◌, ◌≢◌, true, Some, None, Err, IfOk, IfSome, OnOk, OnErr};
+ghost use Rattle.std.specs.Result.{result_err};
+ghost use Rattle.ckpt_model.specs.Memory.{may_want_memory};
+ghost use Rattle.ckpt_model.specs.Steps.{step};
+ghost use Rattle.ckpt_terms.specs.Fencing.{Fenced};
+ghost use Rattle.ckpt_terms.specs.declared.machine.FenceFault.TheVariants as fault;
+ghost use Rattle.ckpt_terms.specs.declared.machine.Machine.TheVariants as machine;
+ghost use Rattle.ckpt_terms.specs.Machines.{MakesStep, core_in, fence_fault, first_names, is_free, machine_of, machine_step, names_in, passes};
+
+use crate::call::{FencedAnswer, NAMES_END};
+use crate::names::Names;
+use crate::scan::has_known_from;
+use crate::terms::Terms;
+use ckpt_core::{Core, CoreFault};
+use ckpt_ids::{Answer, Call};
+use core::mem::replace_with;
+use std::alloc::{AllocError, Global};
+
+/// A coordinator whose tasks reserve the names of their files, or one that takes any names.
+#[derive(Debug, Drop)]
+pub enum Machine {
+    /// It takes any names.
+    Plain(Core),
+    /// Its tasks reserve them.
+    Fenced(Terms),
+}
+
+/// Why a coordinator gets no names: the first of these that applies. Nothing changed.
+#[derive(Clone, Copy, Debug, PartialEq, Eq)]
+pub enum FenceFault {
+    /// It has names.
+    HasNames,
+    /// The first name is 0 or above 2^62.
+    BadName,
+    /// A live record uses a file with this number or a greater one, or such a file waits for
+    /// deletion, or was fetched for it.
+    NameInUse,
+    /// Memory ran out.
+    Memory,
+}
+
+impl Machine {
+    /// The coordinator.
+    pub fn core(&self) -> &Core
+        ensures { result.now ≡ core_in self.now }
+    {
+        match self {
+            Machine::Plain(core) => core,
+            Machine::Fenced(terms) => terms.core(),
+        }
+    }
+
+    /// The names, if it has some.
+    pub fn terms(&self) -> Option<&Terms>
+        ensures some { IfSome result (λ terms. self.now ≡ machine.Fenced terms.now) }
+        ensures none { result ≡ None → names_in self.now ≡ None }
+    {
+        match self {
+            Machine::Plain(_) => None,
+            Machine::Fenced(terms) => Some(terms),
+        }
+    }
+
+    /// Makes a call without a term, and returns its answer. Fails only if memory runs out, and then
+    /// nothing has changed.
+    ///
+    /// Where tasks reserve names, an acknowledgement and a decline have to have the term that runs,
+    /// so without one they are refused. Without names, the term of the answer is 0.
+    pub fn apply(&mut self, call: &Call) -> Result<FencedAnswer, AllocError>
+        ensures done { IfOk result (λ answer. machine_step self.old call.now ≡ (self.new, answer)) }
+        ensures passes { IfOk result (λ answer. passes (names_in self.old) call.now ≡ true → MakesStep self.old self.new call.now answer) }
+        ensures memory { OnErr result (may_want_memory (core_in self.old) call.now ≡ true) }
+        ensures unchanged { OnErr result (self.new ≡ self.old) }
+    {
+        match self {
+            Machine::Plain(core) => make(core, call),
+            Machine::Fenced(terms) => terms.make(0, call),
+        }
+    }
+
+    /// Makes a call on which no term bears, and returns its answer. Fails only if memory runs out,
+    /// and then nothing has changed.
+    ///
+    /// Condition: it is no acknowledgement, decline, restore or cancel.
+    pub fn pass(&mut self, call: &Call) -> Result<Answer, AllocError>
+        requires { is_free call.now ≡ true }
+        ensures done { IfOk result (λ answer. step (core_in self.old) call.now ≡ (core_in self.new, answer)) }
+        ensures names { names_in self.new ≡ names_in self.old }
+        ensures memory { OnErr result (may_want_memory (core_in self.old) call.now ≡ true) }
+        ensures unchanged { OnErr result (self.new ≡ self.old) }
+    {
+        match self.apply(call)? {
+            FencedAnswer::Made { term: _, answer } => Ok(answer),
+            FencedAnswer::Reserved(_) | FencedAnswer::Forfeited | FencedAnswer::Fenced(_) => {
+                unreachable!()
+            }
+        }
+    }
+
+    /// Gives the coordinator names, from this one on, in term 1. All names that were used before
+    /// must be below it, those of files that nobody acknowledged too.
+    ///
+    /// Fails for each [`FenceFault`], and then nothing has changed. Takes memory for an image of the
+    /// state, and visits each use of a file by a live record and each file of the outbox: it is for
+    /// one call in the life of a job.
+    pub fn fence(&mut self, alloc: Global, first_name: u64) -> Result<(), FenceFault>
+        ensures fault { result_err result ≢ Some fault.Memory → result_err result ≡ fence_fault self.old first_name }
+        ensures memory { result ≡ Err fault.Memory → names_in self.old ≡ None }
+        ensures done { OnOk result (self.new ≡ machine_of (core_in self.old) (Some (first_names first_name))) }
+        ensures unchanged { OnErr result (self.new ≡ self.old) }
+    {
+        self.can_fence(first_name)?;
+        replace_with(self, (alloc, first_name), with_names);
+        Ok(())
+    }
+
+    fn can_fence(&self, first_name: u64) -> Result<(), FenceFault>
+        ensures fault { result_err result ≢ Some fault.Memory → result_err result ≡ fence_fault self.now first_name }
+        ensures memory { result ≡ Err fault.Memory → names_in self.now ≡ None }
+    {
+        match self {
+            Machine::Plain(core) => test_name(core, first_name),
+            Machine::Fenced(_) => Err(FenceFault::HasNames),
+        }
+    }
+}
+
+/// Makes a call of a coordinator without names.
+fn make(core: &mut Core, call: &Call) -> Result<FencedAnswer, AllocError>
+    ensures done { IfOk result (λ answer. machine_step (machine.Plain core.old) call.now ≡ (machine.Plain core.new, answer)) }
+    ensures memory { OnErr result (may_want_memory core.old call.now ≡ true) }
+    ensures unchanged { OnErr result (core.new ≡ core.old) }
+{
+    match core.apply(call) {
+        Ok(reply) => Ok(FencedAnswer::Made {
+            term: 0,
+            answer: Answer::Done(reply),
+        }),
+        Err(CoreFault::Refused(why)) => Ok(FencedAnswer::Made {
+            term: 0,
+            answer: Answer::Refused(why),
+        }),
+        Err(CoreFault::Memory) => Err(AllocError),
+    }
+}
+
+fn test_name(core: &Core, first_name: u64) -> Result<(), FenceFault>
+    ensures { result_err result ≢ Some fault.Memory → result_err result ≡ fence_fault (machine.Plain core.now) first_name }
+{
+    if first_name == 0 || first_name > NAMES_END {
+        return Err(FenceFault::BadName);
+    }
+    let Ok(image) = core.image() else {
+        return Err(FenceFault::Memory);
+    };
+    if has_known_from(&image, first_name) {
+        return Err(FenceFault::NameInUse);
+    }
+    Ok(())
+}
+
+/// The coordinator with names, and an allocator for them.
+///
+/// Condition: it can have them.
+fn with_names(plain: Machine, given: (Global, u64)) -> (Machine, ())
+    requires { fence_fault plain given.1 ≡ None }
+    ensures { result.0 ≡ machine_of (core_in plain) (Some (first_names given.1)) }
+{
+    let (alloc, first_name) = given;
+    match plain {
+        Machine::Plain(core) => (Machine::Fenced(terms_over(alloc, core, first_name)), ()),
+        Machine::Fenced(_) => unreachable!(),
+    }
+}
+
+/// The coordinator with names from this one on.
+///
+/// Condition: it can have them.
+fn terms_over(alloc: Global, core: Core, first_name: u64) -> Terms
+    requires { fence_fault (machine.Plain core) first_name ≡ None }
+    ensures { machine.Fenced result ≡ machine_of core (Some (first_names first_name)) }
+{
+    // The contract of this read says that the coordinator is sound.
+    let _ = core.mode();
+    Terms::of(alloc, core, 1, first_name, Names::new(alloc))
+}
