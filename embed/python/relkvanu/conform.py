@@ -266,10 +266,11 @@ class Checker:
         """Files that stay although no record uses them, and that no discarder will ever be given."""
         if self.world.processes.get(self.world.newest) is None:
             return
-        for ending in (Coordinator.restore, Coordinator.cancel):
+        endings: Tuple[Callable[[Coordinator], Reply], ...] = (lambda core: core.restore(core.moment()), lambda core: core.cancel(core.moment()))
+        for ending in endings:
             with Coordinator.open_saved(self.world.core().save()) as core:
                 try:
-                    ending(core, core.moment())
+                    ending(core)
                 except Error:
                     continue
                 gone = drained(core)

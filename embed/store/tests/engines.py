@@ -12,14 +12,14 @@ import tempfile
 import time
 
 from relkvanu import Settings
-from relkvanu.store import Store
+from relkvanu.store import Store, StoreError
 
 TASKS = int(os.environ.get("TASKS", 3))
 MARKER = os.environ.get("MARKER", ".relkvanu-job")
 
 
 def known(folder):
-    """The files in use, those that wait or are taken, and the number of the next record."""
+    """The files in use, those that wait, those that are taken, and the number of the last record."""
     storage = None if "MARKER" in os.environ else folder / "state"
     with Store(folder / "job.db", Settings(interval=10), [TASKS], storage=storage) as job, job.read() as reads:
         used, place, last = set(), 0, 0
@@ -30,8 +30,21 @@ def known(folder):
                 used.update(reads.files_of(live.id, 0, index) or ())
         counts = reads.file_counts()
         assert counts.in_use == len(used), (counts, used)
-        released = {reads.waiting_file(it) for it in range(counts.waiting)} | set(reads.taken_files())
-    return used, released, last
+        waiting, taken = {reads.waiting_file(it) for it in range(counts.waiting)}, set(reads.taken_files())
+    return used, waiting, taken, last
+
+
+def has_job(folder):
+    """Whether a killed process has made the job. Its file comes first, and may be empty."""
+    if not (folder / "job.db").exists() or not (folder / "state" / MARKER).exists():
+        return False
+    try:
+        known(folder)
+    except StoreError as error:
+        if error.name == "Absent":
+            return False
+        raise
+    return True
 
 
 def listed(folder):
@@ -59,17 +72,18 @@ def main(kills, *command):
                 process.send_signal(signal.SIGKILL)
                 _, told = process.communicate()
             assert process.returncode == -signal.SIGKILL, (process.returncode, told)
-            if (folder / "job.db").exists() and (folder / "state" / MARKER).exists():
-                used, _, last = known(folder)
+            if has_job(folder):
+                used, _, _, last = known(folder)
                 assert used <= listed(folder), used - listed(folder)
                 reached.append(last)
         last = max(reached, default=0) + 20
         ran = subprocess.run([*command, folder, str(last)], stderr=subprocess.PIPE, text=True, timeout=120)
         assert ran.returncode == 0, ran.stderr
-        used, released, _ = known(folder)
-        assert listed(folder) == used | released and len(used) >= TASKS, (listed(folder), used, released)
+        used, waiting, taken, _ = known(folder)
+        assert not taken, f"nobody deletes {taken}"  # what a process took that was killed, too
+        assert listed(folder) == used | waiting and len(used) >= TASKS, (listed(folder), used, waiting)
         assert reached and max(reached) > 3, f"no checkpoint was completed: {reached}"
-        print(f"{kills} kills, {last} checkpoints, {len(used)} files in use, {len(released)} released")
+        print(f"{kills} kills, {last} checkpoints, {len(used)} files in use, {len(waiting)} waiting")
 
 
 if __name__ == "__main__":
