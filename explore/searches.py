@@ -1,4 +1,5 @@
 """Runs the explorer and the reader of traces, each as a process of its own."""
+import ast
 import pathlib
 import re
 import subprocess
@@ -63,6 +64,12 @@ def explore(program, words, seconds=600):
     trace = "".join(line + "\n" for line in lines if not RESULT.match(line))
     found = re.search(r"^# fault ([a-z]+ [0-9]+)", told, re.M)
     return Explored(ran.returncode, trace, found.group(1) if found else "", told)
+
+
+def rules():
+    """The rules as relkvanu-conform says them."""
+    words = "import relkvanu.conform; print(relkvanu.conform.RULES)"
+    return ast.literal_eval(subprocess.run([sys.executable, "-c", words], cwd=PYTHON, stdout=subprocess.PIPE, text=True, check=True).stdout)
 
 
 def conform(trace):

@@ -9,16 +9,17 @@ from relkvanu.replies import AckLate, DeclineLate, Reply, RestoredCheckpoint, Re
 from relkvanu.storage import unknown
 from relkvanu.trace import Event, NoTrace, Task, World, drained, live_files, read
 
+# As docs/PROTOCOL.md says them: explore/run compares.
 RULES = {
     1: "sync the log before anybody acts on the answer of a call",
-    2: "sync a file and its folder before you acknowledge it",
+    2: "a task syncs a file and its folder before it acknowledges the file",
     3: "accept no message of a task that was replaced",
     4: "start a task anew only with a restore",
     5: "one process at a time appends to the log",
     6: "a task deletes no file that it has acknowledged",
     7: "give a file's name to no other file",
     8: "sweep after a restore and before tasks start",
-    9: "report a file as deleted when that is durable",
+    9: "report a file as deleted when that is durable, in a storage that is there",
     10: "write only into the storage of the job",
 }
 
