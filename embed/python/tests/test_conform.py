@@ -5,7 +5,9 @@ import pathlib
 import tempfile
 import unittest
 
+from relkvanu import Coordinator, Settings, lines
 from relkvanu.conform import RULES, check, main
+from relkvanu.storage import Folder
 from relkvanu.trace import NoTrace
 
 OPENING = ["process 1 starts", "config 10 0 1 1000 0 1 delete", "job 1", "start 0", "log synced", "task 0.0 1 starts"]
@@ -162,6 +164,71 @@ class Damaged(unittest.TestCase):
     def test_a_process_that_has_ended(self):
         self.refuses([*OPENING, "process 1 ends", "tick 10"], 8)
         self.refuses([*OPENING, "process 1 ends", "process 1 goes on"], 8)
+
+
+class AnEngine(unittest.TestCase):
+    """A job of two tasks over a folder, which is restored once, tells what it does. So a test of an engine can."""
+
+    def setUp(self):
+        temporary = tempfile.TemporaryDirectory()
+        self.addCleanup(temporary.cleanup)
+        self.trace = []
+        self.files = Folder(temporary.name, "job", is_new=True)
+        self.addCleanup(self.files.close)
+        self.core = Coordinator(Settings(interval=10), [2], 0)
+        self.addCleanup(self.core.close)
+        self.tell("process 1 starts", *lines.opening_lines(Settings(interval=10), [2], 0).splitlines(), "log synced")
+        self.starts, self.last = 0, 0
+
+    def tell(self, *told):
+        self.trace += told
+
+    def call(self, line):
+        reply = self.core.line(line.encode())
+        self.tell(line, "log synced")  # here the log is the trace
+        return reply
+
+    def start(self):
+        self.starts += 1
+        self.tell(*(f"task 0.{index} {self.starts} starts" for index in range(2)))
+
+    def take_part(self, index, record, syncs):
+        task, self.last = f"0.{index} {self.starts}", self.last + 1
+        self.tell(f"barrier {record} to {task}")
+        self.files.put(self.last, b"state")
+        self.tell(f"task {task} writes {self.last}", *[f"task {task} syncs {self.last}"] * syncs, f"task {task} sends ack {record} +{self.last}",
+                  f"from {task}")
+        self.call(lines.ack_line(10 * record, record, 0, index, [self.last]))
+        self.tell(f"answer to {task} accepted")
+
+    def discard(self):
+        taken = self.call(lines.take_line(64)).files
+        self.assertEqual(self.files.delete(taken), {})
+        self.tell("discarder unlinks" + "".join(f" {file}" for file in taken), "folder synced")
+        for file in taken:
+            self.call(lines.deleted_line(file))
+
+    def run_job(self, syncs=True):
+        self.start()
+        for record in range(1, 6):
+            self.call(lines.tick_line(10 * record))
+            for index in range(2):
+                self.take_part(index, record, syncs)
+            self.discard()
+            if record == 3:
+                self.call(lines.restore_line(10 * record))
+                self.start()
+        return check(self.trace)
+
+    def test_it_obeys(self):
+        self.assertEqual(self.run_job(), [])
+        self.assertEqual(sorted(sum(self.files.pages(), [])), [9, 10])
+        self.assertEqual(sum(line.startswith("ack ") for line in self.trace), 10)
+
+    def test_it_acknowledges_before_it_syncs(self):
+        findings = self.run_job(syncs=False)
+        self.assertEqual({it.rule for it in findings if it.rule}, {2})
+        self.assertEqual(len([it for it in findings if it.rule]), 10)
 
 
 class Command(unittest.TestCase):
