@@ -218,6 +218,15 @@ public:
         return store_code(relkvanu_store_discard(store_, batch, delete_files, &gone));
     }
 
+    /* State files in the storage folder, by their numbers: relkvanu_store.h has the conditions. `left`: files that a sweep could not delete. */
+    [[nodiscard]] std::error_code put(std::uint64_t file, std::string_view contents) noexcept {
+        return store_code(relkvanu_store_put(store_, file, contents.data(), contents.size()));
+    }
+    [[nodiscard]] std::error_code sweep(std::size_t &left) noexcept { return store_code(relkvanu_store_sweep(store_, &left)); }
+    [[nodiscard]] std::error_code discard_files(std::size_t batch = 0) noexcept {
+        return store_code(relkvanu_store_discard(store_, batch, relkvanu_store_delete_files, store_));
+    }
+
     void stop() noexcept { relkvanu_store_stop(store_); }
 
     [[nodiscard]] relkvanu_store_counts counts() noexcept {

@@ -1,4 +1,4 @@
-/* store FOLDER: the class ckpt::Store of include/relkvanu_store.hpp: calls, refusals, errors, moves, reads that throw, submits and a discarder. */
+/* store FOLDER: the class ckpt::Store of include/relkvanu_store.hpp: calls, refusals, errors, moves, reads that throw, submits, a discarder and state files. */
 #include "../../../include/relkvanu_store.hpp"
 
 #include <chrono>
@@ -8,6 +8,7 @@
 #include <thread>
 
 #include <poll.h>
+#include <sys/stat.h>
 #include <unistd.h>
 
 #define CHECK(condition)                                                        \
@@ -142,6 +143,34 @@ static void discarder(const std::string &path) {
     CHECK(why(job.await_tick(1000)) == ckpt::store_error::stopped);
 }
 
+/* State files: two checkpoints, a file that nobody knows, a discarder and a sweep. */
+static void files(const std::string &path) {
+    const std::string folder = path + "-state";
+    CHECK(mkdir(folder.c_str(), 0700) == 0);
+    relkvanu_store_options with = options(RELKVANU_STORE_CREATE);
+    with.storage = folder.c_str();
+    auto opening = ckpt::Store::open(path + "5", with);
+    ckpt::Store job = std::move(std::get<ckpt::Store>(opening));
+    for (std::uint64_t file : {1, 2, 11, 12, 77}) {
+        CHECK(!job.put(file, "state"));
+    }
+    CHECK(job.put(77, "another") == ckpt::store_error::present);
+    std::size_t left = 1;
+    CHECK(job.sweep(left) == ckpt::store_error::not_now && left == 0);
+    complete(job, 1);
+    complete(job, 11);
+    std::error_code ended;
+    std::thread thread([&] { ended = job.discard_files(); });
+    while (access((folder + "/1").c_str(), F_OK) == 0 || access((folder + "/2").c_str(), F_OK) == 0) {
+        std::this_thread::sleep_for(std::chrono::milliseconds(5));
+    }
+    job.stop();
+    thread.join();
+    CHECK(ended == ckpt::store_error::stopped);
+    CHECK(std::holds_alternative<ckpt::restored>(job.restore()));
+    CHECK(!job.sweep(left) && left == 0 && access((folder + "/77").c_str(), F_OK) != 0 && access((folder + "/12").c_str(), F_OK) == 0);
+}
+
 int main(int argc, char **argv) {
     CHECK(argc == 2);
     std::string path = std::string(argv[1]) + "/x.db";
@@ -150,5 +179,6 @@ int main(int argc, char **argv) {
     recovery(path);
     submits(path);
     discarder(path);
+    files(path);
     return 0;
 }
