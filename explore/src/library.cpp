@@ -62,8 +62,9 @@ std::string Library::line(u32 image, const Call &call) {
     const std::vector<u64> reused = list_of(call.reused);
     const relkvanu_call said = {kinds[call.kind], 0, call.subtask, moment_of(facts(image), call.kind), number};
     u8 text[512];
-    const relkvanu_answer written =
-        relkvanu_call_line(&said, fresh, call.kind == ACK && call.file ? 1 : 0, reused.data(), call.kind == ACK ? reused.size() : 0, text, sizeof text);
+    const bool has_files = call.kind == ACK;
+    const relkvanu_answer written = relkvanu_call_line(&said, fresh, has_files && call.file ? 1 : 0, reused.data(), has_files ? reused.size() : 0,
+                                                       text, sizeof text);
     if (written.code != RELKVANU_DONE) {
         die("the library writes no line");
     }
@@ -219,8 +220,14 @@ void Library::grow() {
     }
 }
 
+// The call in one word: 4, 1, 8, 6, 32 and 13 bits.
+static u64 code_of(const Call &call) {
+    const u64 numbers = call.kind | u64(call.subtask) << 4 | u64(call.record) << 5 | u64(call.file) << 13;
+    return numbers | u64(call.reused) << 19 | u64(call.term) << 51;
+}
+
 Answer Library::call(u32 image, const Call &call) {
-    const u64 code = call.kind | u64(call.subtask) << 4 | u64(call.record) << 5 | u64(call.file) << 13 | u64(call.reused) << 19 | u64(call.term) << 51;
+    const u64 code = code_of(call);
     if (Edge *edge = place_of(image + 1, code); edge->from != 0) {
         return edge->answer;
     }

@@ -118,8 +118,8 @@ int run_randomly() {
             return 1;
         }
     }
-    printf("# holds runs %llu steps %llu replays %llu calls %llu\n", static_cast<unsigned long long>(scope.runs), static_cast<unsigned long long>(made),
-           static_cast<unsigned long long>(replays), static_cast<unsigned long long>(library.made()));
+    const auto number = [](u64 it) { return static_cast<unsigned long long>(it); };
+    printf("# holds runs %llu steps %llu replays %llu calls %llu\n", number(scope.runs), number(made), number(replays), number(library.made()));
     print_seen();
     return 0;
 }

@@ -77,8 +77,20 @@ static u64 number_of(const std::string &text) {
     return number;
 }
 
+static const char OPTIONS[] = R"(explore [OPTION..] [LIMIT=N..]: searches all states of a scope for a fault.
+Its status is 0 (there is none), 1 (a fault) or 2 (its own).
+  --off RULE        without this rule; may come several times
+  --subtasks N, --at-once N, --retained N, --tolerable N   of the job
+  --names           the coordinator has terms and gives the names of files
+  --no-leaks        files that stay are no fault
+  --no-keep         no task keeps a file for a later record
+  --states N        ends a search that has found so many states
+  --runs N, --seed N, --length N   random runs instead, of so many steps
+  --trace           a random run prints its trace
+)";
+
 static void print_words() {
-    printf("explore [OPTION..] [LIMIT=N..]: rules that --off takes\n");
+    printf("%srules\n", OPTIONS);
     for (const Named &rule : RULE) {
         printf("  %-17s %s\n", rule.name, rule.words);
     }
