@@ -8,6 +8,9 @@
  * While a store is open no other program or connection can read PATH, and nobody may copy it. Use a local file system, not NFS.
  *
  * Conditions for the caller:
+ * - A failed job is restored by the engine: when the mode is failed (relkvanu_store_await_tick tells it, and so do the answers) it ends all tasks,
+ *   restores, sweeps, tells the sinks again and starts the tasks. A task that ends while the job runs needs the same: no task starts alone.
+ * - An engine that reads the coordinator's files from another thread than the one that called sees committed calls only.
  * - Nobody acts on an answer unless the status is RELKVANU_STORE_OK and its code is RELKVANU_DONE: no file is deleted or kept, no barrier
  *   is sent. With any other status each answer is RELKVANU_STORE_NOT_MADE.
  * - From RELKVANU_STORE_FAILED on a status closes the store: each later call returns RELKVANU_STORE_CLOSED. Calls that returned it may or may not
@@ -59,7 +62,7 @@ typedef struct relkvanu_store relkvanu_store;
 #define RELKVANU_STORE_RECOVER 0u       /* there has to be a job: a wrong path makes no new one */
 #define RELKVANU_STORE_CREATE 1u        /* makes a job if there is none */
 #define RELKVANU_STORE_CREATE_ONLY 2u   /* makes a job, and there may be none */
-#define RELKVANU_STORE_ADOPT 4u         /* makes a job also if the storage folder has files. A later sweep finds them to be unknown */
+#define RELKVANU_STORE_ADOPT 4u         /* makes a job also if the storage folder has files. THE NEXT SWEEP DELETES THEM ALL, if their names are numbers */
 #define RELKVANU_STORE_EARLIER_IMAGE 8u /* begins with the image before the last one, which is damaged. The log after it is whole */
 
 /* A moment of a call: that of the store's clock. The clock goes on from the greatest moment of the log, and never jumps. */
@@ -74,17 +77,19 @@ typedef struct {
     uint32_t patience;          /* ms for which a commit tries again if the disk is full, SQLite has no memory or a lock is held */
     uint64_t image_calls;       /* an image after so many calls; 0: 10000. RELKVANU_STORE_NO_IMAGES: none, and the log is never cut */
     uint64_t most_ahead;        /* a moment may be so many ms ahead of the greatest one, or of what a timer waits for; 0: one day */
-    const char *storage;        /* the folder of the state files, which has to exist; NULL: the engine looks after it */
+    const char *storage;        /* the folder of the state files, which has to exist; NULL: see relkvanu_store_open */
     relkvanu_settings settings; /* of a new job. A recovered job keeps its own; report.settings_differ compares them */
     const uint64_t *shape;
     size_t shape_len;
     uint64_t reserved[4]; /* 0 */
 } relkvanu_store_options;
 
-/* What an engine has to do after an opening, in this order. */
+/* What an engine has to do after an opening, in this order. Before START_TASKS and DISCARD it also tells its sinks once more which record
+ * is complete (the choice): the last process may have ended between the commit and the message. A sink takes the same message twice. A
+ * savepoint publishes as a checkpoint does. What a sink prepared for records after the choice, or after that of a restore, is given up. */
 #define RELKVANU_STORE_END_TASKS 1u   /* make sure that no earlier task runs, and that no message of one arrives */
 #define RELKVANU_STORE_RESTORE 2u     /* make a RELKVANU_CALL_RESTORE: its answer says where the job begins again */
-#define RELKVANU_STORE_SWEEP 3u       /* delete the files of the storage that relkvanu_store_unknown returns */
+#define RELKVANU_STORE_SWEEP 3u       /* relkvanu_store_sweep; or delete the files that relkvanu_store_unknown returns */
 #define RELKVANU_STORE_START_TASKS 4u /* start tasks, a timer (relkvanu_store_await_tick) and a discarder (relkvanu_store_discard) */
 #define RELKVANU_STORE_DISCARD 5u     /* start a discarder alone: the job is cancelled */
 #define RELKVANU_STORE_MOST_STEPS 8
@@ -94,7 +99,7 @@ typedef struct {
     bool settings_differ; /* the job was made with other settings or another shape, and keeps them */
     uint32_t steps[RELKVANU_STORE_MOST_STEPS];
     size_t steps_len;
-    uint64_t epoch;       /* 1 for a new job, and 1 more at each opening. Put it into messages, so that those of earlier tasks are dropped */
+    uint64_t epoch;       /* 1 for a new job, and 1 more at each opening, not at a restore: it fences openings only. See docs/PROTOCOL.md, rule 3 */
     uint64_t job[2];      /* the identity of the job, random. The marker of the storage folder has it */
     uint64_t image_place; /* how many calls the image covers */
     uint64_t replayed;    /* how many calls were made again */
@@ -109,8 +114,14 @@ typedef struct {
  * *store is NULL unless the status is RELKVANU_STORE_OK. The lock is kept until relkvanu_store_close or the end of the process.
  *
  * With options.storage a new job puts its marker, the file .relkvanu-job (.relkvanu-job.new while it is written), into the folder, and a recovery
- * looks for it. So it refuses a folder of another job and one that is not mounted. The marker names the last opening, so an older copy of
- * PATH is refused too: it does not know the files of later calls. */
+ * looks for it. So it refuses a folder of another job and one that is not mounted. The marker names the last opening, so a copy of
+ * PATH from before that opening is refused too: it does not know the files of later calls. NEVER PUT BACK A COPY OR SNAPSHOT THAT WAS TAKEN SINCE THE
+ * LAST OPENING (of the file, its disk or its machine): it can't be told from the file itself, and its sweep deletes the files of all calls
+ * that it lacks.
+ *
+ * With options.storage NULL none of this is there: no marker (a folder that is not mounted is not noticed), no refusal of an older copy, no
+ * refusal to begin a new job over old files (RELKVANU_STORE_CREATE after PATH was lost begins at epoch 1, and its sweep deletes all), and no sync
+ * of the folder in relkvanu_store_discard. The engine does each of them itself (docs/EMBEDDING.md, section 15). */
 int relkvanu_store_open(relkvanu_store **store, const char *path, const relkvanu_store_options *options, relkvanu_store_report *report);
 
 /* Waits for the group under way and for each submit, makes an image, so that the next opening replays nothing, and closes. NULL is
@@ -169,14 +180,16 @@ uint64_t relkvanu_store_now(const relkvanu_store *store);
 int relkvanu_store_next_tick(relkvanu_store *store, uint64_t *wait);
 
 /* A timer, as a loop in a thread of the engine: sleeps until a tick is due, at most longest ms, and makes it. Each commit wakes it.
- * RELKVANU_STORE_TIMED_OUT: no tick was due. RELKVANU_STORE_STOPPED. */
+ * RELKVANU_STORE_TIMED_OUT: no tick was due. RELKVANU_STORE_STOPPED.
+ * While the job is not running, no tick is due: then RELKVANU_STORE_TIMED_OUT comes with the answer RELKVANU_REFUSED, RELKVANU_NOT_RUNNING. It comes at once when the
+ * job has failed or was cancelled, to one caller, and then after longest. Read the mode: a failed job is restored, a cancelled one swept. */
 int relkvanu_store_await_tick(relkvanu_store *store, uint64_t longest, relkvanu_store_call *tick);
 
 /* The sweep of a recovery: moves those of the files that the coordinator does not know (neither in use, pinned, waiting nor taken) to the
  * front, and writes how many they are. The engine deletes exactly these.
  *
- * RELKVANU_STORE_NOT_NOW unless the job was restored, or is cancelled, and no checkpoint was triggered or acknowledged since: a task may have
- * written a file whose acknowledgement is on its way. */
+ * RELKVANU_STORE_NOT_NOW unless the job was restored and no checkpoint was triggered or acknowledged since, or it is cancelled: a task may have
+ * written a file whose acknowledgement is on its way. The engine has ended all tasks before: this can't be seen here. */
 int relkvanu_store_unknown(relkvanu_store *store, uint64_t *files, size_t *files_len);
 
 /* The folder options.storage, which stays open: delete by unlinkat in it, so that no deletion reaches a folder that is mounted over it. -1
@@ -189,7 +202,8 @@ typedef void (*relkvanu_store_delete)(void *with, const uint64_t *files, size_t 
 /* The discarder, as a loop in a thread of the engine: takes up to batch files (1 to 4095; 0: 256), has them deleted, syncs the folder
  * options.storage, reports each, and takes again. It begins with the files that were taken and not reported. A file that is not gone waits
  * again. After a batch of which none is gone it waits longer each time, up to a minute, and never gives up. Without the marker in the
- * folder no file counts as gone. Runs until relkvanu_store_stop, or until the store is closed by a failed commit. */
+ * folder it deletes nothing, and no file counts as gone. Runs until relkvanu_store_stop, or until the store is closed by a failed commit, or until
+ * the marker names a later opening or another job: RELKVANU_STORE_STORAGE. Then another process has the folder: end this one. */
 int relkvanu_store_discard(relkvanu_store *store, size_t batch, relkvanu_store_delete delete_files, void *with);
 
 /* State files in the folder options.storage, by their numbers: file 7 has the name 7, and 7.part while it is not whole. An engine may name
@@ -199,7 +213,7 @@ int relkvanu_store_discard(relkvanu_store *store, size_t batch, relkvanu_store_d
 /* Makes a file: writes it beside its name, syncs it, gives it the name, and syncs the folder. After RELKVANU_STORE_OK a loss of power does not
  * take it, and a task may acknowledge it. After any other status the task declines. The number is not given again: a sweep deletes what is left.
  *
- * RELKVANU_STORE_PRESENT: there is a file of this number, or a part of one; RELKVANU_STORE_STORAGE: the folder lacks its marker;
+ * RELKVANU_STORE_PRESENT: there is a file of this number, or a part of one; RELKVANU_STORE_STORAGE: the folder lacks its marker, or another opening has it;
  * RELKVANU_STORE_NOT_PUT. */
 int relkvanu_store_put(relkvanu_store *store, uint64_t file, const void *contents, size_t len);
 
@@ -207,10 +221,11 @@ int relkvanu_store_put(relkvanu_store *store, uint64_t file, const void *content
  * relkvanu_store_delete_files, store). That syncs the folder, and looks for the marker. */
 void relkvanu_store_delete_files(void *store, const uint64_t *files, size_t files_len, uint8_t *is_gone);
 
-/* The sweep of a recovery: deletes the files of the folder that relkvanu_store_unknown returns, also what is there in part, and syncs the
+/* The sweep of a recovery, of each restore and of a cancelled job: deletes the files of the folder that relkvanu_store_unknown returns, also what is there in part, and syncs the
  * folder. Writes how many it could not delete: the next recovery tries them again.
  *
- * RELKVANU_STORE_NOT_NOW as relkvanu_store_unknown; RELKVANU_STORE_STORAGE: the folder lacks its marker, or can't be read or synced. */
+ * RELKVANU_STORE_NOT_NOW as relkvanu_store_unknown; RELKVANU_STORE_STORAGE: the folder lacks its marker, another opening has it, or it can't be
+ * read or synced. */
 int relkvanu_store_sweep(relkvanu_store *store, size_t *left);
 
 /* Lets relkvanu_store_await_tick and relkvanu_store_discard return RELKVANU_STORE_STOPPED, now and later. What was taken is reported first. */

@@ -23,7 +23,7 @@ type StoreOptions struct {
 
 	Create       bool // makes a job if there is none
 	CreateOnly   bool // makes a job, and there may be none
-	Adopt        bool // makes a job also if the storage has files. A later sweep finds them to be unknown
+	Adopt        bool // makes a job also if the storage has files. The next sweep deletes them all, if their names are numbers
 	EarlierImage bool // begins with the image before the last one, which is damaged. The log after it is whole
 
 	Patience   time.Duration // for which a commit tries again if the disk is full, SQLite has no memory or a lock is held

@@ -44,7 +44,7 @@ class Step(enum.Enum):
 
     END_TASKS = 1  # make sure that no earlier task runs, and that no message of one arrives
     RESTORE = 2  # call restore(): its reply says where the job begins again
-    SWEEP = 3  # delete the files of the storage that unknown() returns
+    SWEEP = 3  # call sweep(), or delete the files of the storage that unknown() returns
     START_TASKS = 4  # start tasks, a timer (await_tick) and a discarder (discard)
     DISCARD = 5  # start a discarder alone: the job is cancelled
 
@@ -423,6 +423,14 @@ class Store:
         with self._use() as store:
             self._check(_library.relkvanu_store_unknown(store, words, ctypes.byref(length)))
         return list(words[: length.value])
+
+    def sweep(self) -> int:
+        """The sweep of a recovery, of each restore and of a cancelled job, after all tasks have ended: deletes the files of the storage folder
+        that the coordinator does not know, and syncs it. Returns how many could not be deleted. Raises StoreError("NotNow") as unknown()."""
+        left = ctypes.c_size_t()
+        with self._use() as store:
+            self._check(_library.relkvanu_store_sweep(store, ctypes.byref(left)))
+        return left.value
 
     def folder(self) -> Optional[int]:
         """The descriptor of the storage folder, for os.unlink(.., dir_fd=..), which reaches no folder that is mounted over it."""

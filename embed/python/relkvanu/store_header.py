@@ -129,6 +129,7 @@ FUNCTIONS: Dict[str, Tuple[Any, List[Any]]] = {
     "relkvanu_store_next_tick": (c_int, [c_void_p, POINTER(c_uint64)]),
     "relkvanu_store_await_tick": (c_int, [c_void_p, c_uint64, POINTER(relkvanu_store_call)]),
     "relkvanu_store_unknown": (c_int, [c_void_p, POINTER(c_uint64), POINTER(c_size_t)]),
+    "relkvanu_store_sweep": (c_int, [c_void_p, POINTER(c_size_t)]),
     "relkvanu_store_folder": (c_int, [c_void_p]),
     "relkvanu_store_discard": (c_int, [c_void_p, c_size_t, relkvanu_store_delete, c_void_p]),
     "relkvanu_store_stop": (None, [c_void_p]),

@@ -63,14 +63,19 @@ static int await_files(relkvanu_store *s) {
     return status;
 }
 
-/* Has the files deleted. Without its marker the folder may be another one, and no missing file counts as gone; after a sync that failed
- * none does either. */
-static void delete_batch(struct discarder *d) {
+/* Has the files deleted. Without its marker the folder may be another one: nothing is deleted, and no missing file counts as gone; after a
+ * sync that failed none does either. If another opening has taken the folder, its files are no longer this one's to delete. */
+static int delete_batch(struct discarder *d) {
     memset(d->is_gone, 0, d->batch);
-    d->delete_files(d->with, d->files, d->files_len, d->is_gone);
-    if (d->s->folder >= 0 && (!rks_has_marker(d->s) || fsync(d->s->folder) != 0)) {
+    int owner = rks_owner(d->s);
+    if (owner == RELKVANU_STORE_OK) {
+        d->delete_files(d->with, d->files, d->files_len, d->is_gone);
+        owner = rks_owner(d->s);
+    }
+    if (owner != RELKVANU_STORE_OK || (d->s->folder >= 0 && fsync(d->s->folder) != 0)) {
         memset(d->is_gone, 0, d->batch);
     }
+    return owner == RELKVANU_STORE_STORAGE ? owner : RELKVANU_STORE_OK;
 }
 
 /* Reports the batch, and takes the next one in the same list, unless the discarder is to end or to wait. */
@@ -106,7 +111,10 @@ static bool any_gone(const struct discarder *d) {
 
 /* Deletes the batch, reports it, and has the next one, or none. */
 static int discard_batch(struct discarder *d) {
-    delete_batch(d);
+    int owner = delete_batch(d);
+    if (owner != RELKVANU_STORE_OK) {
+        return owner; /* the batch stays taken: whoever has the job settles it */
+    }
     bool is_gone = any_gone(d), goes_on = is_gone && !is_stopped(d->s);
     int status = report(d, goes_on);
     if (status != RELKVANU_STORE_OK || is_gone) {
@@ -163,8 +171,8 @@ static int settle(struct discarder *d) {
     for (size_t at = 0; status == RELKVANU_STORE_OK && at < len; at += d->batch) {
         d->files_len = len - at < d->batch ? len - at : d->batch;
         memcpy(d->files, files + at, d->files_len * sizeof *files);
-        delete_batch(d);
-        status = report(d, false);
+        status = delete_batch(d);
+        status = status == RELKVANU_STORE_OK ? report(d, false) : status;
         status = status == RELKVANU_STORE_OK && is_stopped(d->s) ? RELKVANU_STORE_STOPPED : status;
     }
     free(files);

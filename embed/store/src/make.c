@@ -41,10 +41,12 @@ static void note(relkvanu_store *s, relkvanu_answer answer) {
     } else if (ends_a_record(answer)) {
         s->is_held = false;
     }
-    if (answer.what >= RELKVANU_RESTORED_CHECKPOINT && answer.what <= RELKVANU_RESTORED_FRESH) {
-        s->may_sweep = true;
-    } else if (answer.what == RELKVANU_TICK_TRIGGERED || answer.what == RELKVANU_CANCELLED ||
-               (answer.what >= RELKVANU_SAVEPOINT_TRIGGERED && answer.what <= RELKVANU_ACK_LATE)) {
+    uint32_t mode = relkvanu_mode(&s->handle).what;
+    s->tells_mode = mode != RELKVANU_MODE_RUNNING && (s->tells_mode || mode != s->last_mode);
+    s->last_mode = mode;
+    if (mode == RELKVANU_MODE_CANCELLED || (answer.what >= RELKVANU_RESTORED_CHECKPOINT && answer.what <= RELKVANU_RESTORED_FRESH)) {
+        s->may_sweep = true; /* after a cancel late acknowledgements may still come, until the engine has ended its tasks */
+    } else if (answer.what == RELKVANU_TICK_TRIGGERED || (answer.what >= RELKVANU_SAVEPOINT_TRIGGERED && answer.what <= RELKVANU_ACK_LATE)) {
         s->may_sweep = false; /* a task may have written a file whose acknowledgement is on its way */
     }
 }

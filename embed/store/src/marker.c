@@ -108,17 +108,42 @@ int rks_write_marker(relkvanu_store *s, const char *folder, uint64_t epoch) {
     return RELKVANU_STORE_OK;
 }
 
-/* A marker without an epoch is one of an earlier version of the library. */
+/* Reads a marker. One without an epoch is of an earlier version of the library. Returns false if it names no job. */
+static bool parses(int file, char identity[RKS_IDENTITY + 1], uint64_t *epoch) {
+    char found[MARKER_LEN] = "";
+    ssize_t len = read(file, found, sizeof found - 1);
+    *epoch = 0;
+    return len >= 0 && sscanf(found, "relkvanu job %32s epoch %" SCNu64, identity, epoch) >= 1;
+}
+
+int rks_owner(const relkvanu_store *s) {
+    char identity[RKS_IDENTITY + 1] = "";
+    uint64_t marked = 0;
+    if (s->folder < 0) {
+        return RELKVANU_STORE_OK;
+    }
+    int file = openat(s->folder, MARKER, O_RDONLY | O_CLOEXEC);
+    if (file < 0) {
+        return RELKVANU_STORE_NOT_NOW;
+    }
+    bool is_marker = parses(file, identity, &marked);
+    close(file);
+    if (!is_marker) {
+        return RELKVANU_STORE_NOT_NOW;
+    }
+    return strcmp(s->identity, identity) == 0 && marked <= s->epoch ? RELKVANU_STORE_OK : RELKVANU_STORE_STORAGE;
+}
+
 int rks_check_marker(relkvanu_store *s, const char *folder, uint64_t epoch) {
-    char found[MARKER_LEN] = "", identity[RKS_IDENTITY + 1] = "";
+    char identity[RKS_IDENTITY + 1] = "";
     uint64_t marked = 0;
     int file = openat(s->folder, MARKER, O_RDONLY | O_CLOEXEC);
     if (file < 0) {
         return storage_fault(s, folder, errno == ENOENT ? "it has no marker: is the storage mounted?" : strerror(errno), "");
     }
-    ssize_t len = read(file, found, sizeof found - 1);
+    bool is_marker = parses(file, identity, &marked);
     close(file);
-    if (len < 0 || sscanf(found, "relkvanu job %32s epoch %" SCNu64, identity, &marked) < 1 || strcmp(s->identity, identity) != 0) {
+    if (!is_marker || strcmp(s->identity, identity) != 0) {
         return storage_fault(s, folder, "it has the marker of another job than ", s->identity);
     }
     return marked <= epoch ? RELKVANU_STORE_OK : storage_fault(s, folder, "a later opening of the job has used it, and the job's file is an older copy", "");

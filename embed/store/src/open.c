@@ -212,7 +212,7 @@ static void set_steps(relkvanu_store_report *report) {
 }
 
 static void fill(relkvanu_store *s, const struct job *job, relkvanu_store_report *report) {
-    report->epoch = (uint64_t)job->epoch + 1;
+    s->epoch = report->epoch = (uint64_t)job->epoch + 1;
     sscanf(s->identity, "%16" SCNx64 "%16" SCNx64, &report->job[0], &report->job[1]);
     report->taken = relkvanu_file_counts(&s->handle).taken;
     report->moment = relkvanu_moment(&s->handle).a;
@@ -220,6 +220,8 @@ static void fill(relkvanu_store *s, const struct job *job, relkvanu_store_report
     report->choice = relkvanu_choice(&s->handle);
     set_steps(report);
     s->clock_offset = report->moment - rks_clock_ns() / 1000000;
+    s->last_mode = report->mode.what;
+    s->tells_mode = s->last_mode != RELKVANU_MODE_RUNNING;
     s->may_sweep = report->is_recovered && report->mode.what == RELKVANU_MODE_CANCELLED;
     s->next_image = s->image_place + s->options.image_calls;
 }

@@ -66,6 +66,7 @@ struct relkvanu_store {
     int lock, shm, folder;
     struct stat path_is, wal_is;
     char identity[RKS_IDENTITY + 1]; /* of the job, in hexadecimal digits */
+    uint64_t epoch;                  /* of this opening */
 
     /* SQLite and the log: only of the thread that leads */
     sqlite3 *db;
@@ -81,6 +82,8 @@ struct relkvanu_store {
     char fault[RKS_MESSAGE];  /* its words */
     bool is_held;             /* the last tick was held because of the checkpoints that are pending */
     bool may_sweep;
+    bool tells_mode;          /* the job has stopped running, and no timer was told yet */
+    uint32_t last_mode;
     uint64_t tick_after;      /* the moment before which no tick is made again after one without memory */
     relkvanu_store_counts led; /* counts of the leaders */
 
@@ -131,6 +134,10 @@ int rks_check_new_folder(relkvanu_store *s, const char *folder);
 int rks_write_marker(relkvanu_store *s, const char *folder, uint64_t epoch);
 int rks_check_marker(relkvanu_store *s, const char *folder, uint64_t epoch);
 bool rks_has_marker(const relkvanu_store *s);
+
+/* Whose folder it is: RELKVANU_STORE_OK: this opening's, or there is none; RELKVANU_STORE_NOT_NOW: the marker can't be read; RELKVANU_STORE_STORAGE: it
+ * names another job or a later opening. */
+int rks_owner(const relkvanu_store *s);
 
 /* lite.c */
 int rks_fault(relkvanu_store *s, const char *what);

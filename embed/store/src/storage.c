@@ -58,7 +58,7 @@ int relkvanu_store_put(relkvanu_store *s, uint64_t file, const void *contents, s
     if (s->folder < 0) {
         return RELKVANU_STORE_BAD_ARGUMENT;
     }
-    if (!rks_has_marker(s)) {
+    if (rks_owner(s) != RELKVANU_STORE_OK) {
         return RELKVANU_STORE_STORAGE;
     }
     name_of(file, PART, part);
@@ -131,7 +131,7 @@ int relkvanu_store_sweep(relkvanu_store *s, size_t *left) {
     if (s->folder < 0) {
         return RELKVANU_STORE_BAD_ARGUMENT;
     }
-    int copy = rks_has_marker(s) ? openat(s->folder, ".", O_RDONLY | O_DIRECTORY | O_CLOEXEC) : -1;
+    int copy = rks_owner(s) == RELKVANU_STORE_OK ? openat(s->folder, ".", O_RDONLY | O_DIRECTORY | O_CLOEXEC) : -1;
     DIR *listing = copy < 0 ? NULL : fdopendir(copy);
     if (listing == NULL) {
         if (copy >= 0) {

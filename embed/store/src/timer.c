@@ -60,25 +60,35 @@ static uint64_t tick_moment(relkvanu_store *s) {
     return next < s->tick_after ? s->tick_after : next;
 }
 
-static int wait_of(relkvanu_store *s, uint64_t *wait, uint64_t *seen) {
+/* What a timer has to know. */
+struct timer {
+    uint64_t wait, seen;
+    bool is_running, is_news; /* of the job; whether it has stopped running since a timer was told */
+};
+
+static int look(relkvanu_store *s, struct timer *timer, bool tells) {
     relkvanu *handle;
     int status = relkvanu_store_read(s, &handle);
     if (status != RELKVANU_STORE_OK) {
         return status;
     }
     pthread_mutex_lock(&s->mutex);
-    *seen = s->version;
+    timer->seen = s->version;
     status = s->is_stopped ? RELKVANU_STORE_STOPPED : RELKVANU_STORE_OK;
     pthread_mutex_unlock(&s->mutex);
     uint64_t next = tick_moment(s), now = relkvanu_store_now(s);
-    *wait = next == UINT64_MAX ? UINT64_MAX : next > now ? next - now : 0;
+    timer->wait = next == UINT64_MAX ? UINT64_MAX : next > now ? next - now : 0;
+    timer->is_running = relkvanu_mode(&s->handle).what == RELKVANU_MODE_RUNNING;
+    timer->is_news = s->tells_mode;
+    s->tells_mode = s->tells_mode && !tells;
     relkvanu_store_read_end(s);
     return status;
 }
 
 int relkvanu_store_next_tick(relkvanu_store *s, uint64_t *wait) {
-    uint64_t seen;
-    int status = wait_of(s, wait, &seen);
+    struct timer timer = {0};
+    int status = look(s, &timer, false);
+    *wait = timer.wait;
     return status == RELKVANU_STORE_STOPPED ? RELKVANU_STORE_OK : status;
 }
 
@@ -91,20 +101,23 @@ static uint64_t after(uint64_t ms) {
 int relkvanu_store_await_tick(relkvanu_store *s, uint64_t longest, relkvanu_store_call *tick) {
     *tick = (relkvanu_store_call){.call = {.kind = RELKVANU_CALL_TICK, .now = RELKVANU_STORE_NOW}};
     for (uint64_t end = after(longest);;) {
-        uint64_t wait, seen;
-        int status = wait_of(s, &wait, &seen);
-        if (status == RELKVANU_STORE_OK && wait == 0) {
+        struct timer timer = {0};
+        int status = look(s, &timer, true);
+        if (status == RELKVANU_STORE_OK && timer.wait == 0) {
             return relkvanu_store_calls(s, tick, 1);
         }
-        if (status == RELKVANU_STORE_OK && rks_clock_ns() >= end) {
+        if (status == RELKVANU_STORE_OK && (timer.is_news || rks_clock_ns() >= end)) {
             status = RELKVANU_STORE_TIMED_OUT;
         }
         if (status == RELKVANU_STORE_OK) {
-            uint64_t due = after(wait);
-            status = rks_await(s, seen, due < end ? due : end);
+            uint64_t due = after(timer.wait);
+            status = rks_await(s, timer.seen, due < end ? due : end);
         }
         if (status != RELKVANU_STORE_OK) {
             rks_drop_answers(tick, 1);
+            if (status == RELKVANU_STORE_TIMED_OUT && !timer.is_running) {
+                tick->answer = (relkvanu_answer){.code = RELKVANU_REFUSED, .what = RELKVANU_NOT_RUNNING};
+            }
             return status;
         }
     }

@@ -113,7 +113,11 @@ static void the_next_tick(void) {
     relkvanu_store_call again = {.call = {.kind = RELKVANU_CALL_DECLINE, .now = 120000, .number = 1}};
     CHECK(relkvanu_store_calls(store, &again, 1) == RELKVANU_STORE_OK && again.answer.what == RELKVANU_DECLINE_FAILED, "fails over");
     CHECK(wait_of(store) == UINT64_MAX, "ticks are refused");
-    CHECK(relkvanu_store_await_tick(store, 30, &tick) == RELKVANU_STORE_TIMED_OUT, "await");
+    const uint64_t longest[] = {600000, 30}; /* told at once, and then it does not spin */
+    for (size_t i = 0; i < 2; i++) {
+        CHECK(relkvanu_store_await_tick(store, longest[i], &tick) == RELKVANU_STORE_TIMED_OUT && tick.answer.code == RELKVANU_REFUSED &&
+                  tick.answer.what == RELKVANU_NOT_RUNNING, "await: what %" PRIu32, tick.answer.what);
+    }
     done(store, RELKVANU_CALL_RESTORE, 120000, 0);
     wait = wait_of(store);
     CHECK(wait > 110000 && wait <= 120000, "it is restored, and due after %" PRIu64, wait);

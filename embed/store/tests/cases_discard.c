@@ -161,10 +161,8 @@ static void without_marker(void) {
     start(&d, store, 16);
     checkpoint(store, 1);
     checkpoint(store, 101);
-    for (int i = 0; i < 1000 && d.asked < 32; i++) {
-        usleep(10000);
-    }
-    CHECK(d.asked >= 32, "%u asked", d.asked);
+    usleep(300000);
+    CHECK(d.asked == 0, "%u asked in a folder that may be another one", d.asked);
     stop(&d);
     relkvanu_counts counts = counts_of(store);
     CHECK(counts.waiting == 16 && counts.taken == 0, "%" PRIu64 " wait, %" PRIu64 " are taken", counts.waiting, counts.taken);
@@ -172,5 +170,36 @@ static void without_marker(void) {
     relkvanu_store_close(store);
 }
 
+static void write_marker(relkvanu_store *store, uint64_t job, uint64_t epoch) {
+    int file = openat(relkvanu_store_folder(store), ".relkvanu-job", O_WRONLY | O_TRUNC);
+    CHECK(file >= 0 && dprintf(file, "relkvanu job %016" PRIx64 "%016" PRIx64 "\nepoch %" PRIu64 "\n", job, report.job[1], epoch) > 0 && close(file) == 0, "marker");
+}
+
+/* Another host has opened a copy of the job, or has given the folder to another job: nothing of it is deleted any more. */
+static void another_opening(void) {
+    relkvanu_store_options options = storage_options(RELKVANU_STORE_CREATE, 0);
+    relkvanu_store *store = opens(&options, RELKVANU_STORE_OK);
+    struct discarding d = {.store = store, .batch = 16};
+    size_t left;
+    checkpoint_with_files(store, 1);
+    checkpoint_with_files(store, 101); /* releases 1 to 16 */
+    done(store, RELKVANU_CALL_RESTORE, RELKVANU_STORE_NOW, 0);
+    for (uint64_t later = 0; later < 2; later++) {
+        write_marker(store, report.job[0] + 1 - later, report.epoch + later);
+        for (int again = 0; again < 2; again++) { /* a take; then what is taken */
+            discards(&d);
+            CHECK(d.status == RELKVANU_STORE_STORAGE && d.asked == 0 && has_file(store, 1), "status %d, %u asked", d.status, d.asked);
+        }
+        CHECK(relkvanu_store_put(store, 999, "x", 1) == RELKVANU_STORE_STORAGE && !has_file(store, 999), "a put");
+        CHECK(relkvanu_store_sweep(store, &left) == RELKVANU_STORE_STORAGE, "a sweep");
+    }
+    write_marker(store, report.job[0], report.epoch);
+    start(&d, store, 16);
+    await_released(store, 0);
+    CHECK(!has_file(store, 1) && has_file(store, 101), "the files");
+    stop(&d);
+    relkvanu_store_close(store);
+}
+
 const struct test discard_cases[] = {{"deletes_and_reports", deletes_and_reports}, {"never_gives_up", never_gives_up}, {"settles", settles},
-    {"without_marker", without_marker}, {NULL, NULL}};
+    {"without_marker", without_marker}, {"another_opening", another_opening}, {NULL, NULL}};

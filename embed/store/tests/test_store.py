@@ -68,6 +68,22 @@ class Calls(Folder):
             made = job.tick(job.now() + 20)
             self.assertEqual((made.reply, made.choice), (Triggered(0, 2), Chosen(1, Kind.CHECKPOINT)))
 
+    def test_sweep(self):
+        with self.open() as job:
+            self.raises("BadArgument", job.sweep)  # no folder
+        for it in self.folder.glob("job.db*"):
+            it.unlink()
+        with self.open(storage=self.storage) as job:
+            self.complete(job, 1)
+            for file in (1, 2, 3):
+                (self.storage / str(file)).touch()
+            self.raises("NotNow", job.sweep)
+            job.restore()
+            self.assertEqual((job.sweep(), sorted(os.listdir(self.storage))), (0, [".relkvanu-job", "1", "2"]))
+            (self.storage / "9").mkdir()
+            job.cancel()
+            self.assertEqual(job.sweep(), 1)
+
     def test_lists(self):
         with self.open() as job:
             self.complete(job, 1)

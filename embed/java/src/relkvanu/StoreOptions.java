@@ -9,7 +9,7 @@ import java.util.Optional;
  *
  * @param opening whether it may make a job
  * @param storage the folder of the state files, which has to exist; empty if the engine looks after it
- * @param adopts whether a new job may have a storage with files, which a later sweep finds to be unknown
+ * @param adopts whether a new job may have a storage with files, all of which the next sweep deletes if their names are numbers
  * @param fromEarlierImage whether to begin with the image before the last one, which is damaged; the log after it is whole
  * @param patience for how long a commit is tried again if the disk is full, SQLite has no memory or a lock is held
  * @param imageCalls after how many calls an image is written; 0 is 10,000, and -1 never: then the log is never cut
