@@ -22,6 +22,7 @@ const (
 	StoreForked      StoreFault = C.RELKVANU_STORE_FORKED        // this process is a child of the one that opened the store
 	StoreNotNow      StoreFault = C.RELKVANU_STORE_NOT_NOW       // Unknown: no sweep is safe now; Discard: another goroutine discards
 	StoreStopped     StoreFault = C.RELKVANU_STORE_STOPPED       // Stop was called, or Close
+	StoreNotPut      StoreFault = C.RELKVANU_STORE_NOT_PUT       // a state file was not made
 	StoreFailed      StoreFault = C.RELKVANU_STORE_FAILED        // a read, write or sync failed
 	StoreFull        StoreFault = C.RELKVANU_STORE_FULL          // the disk is full
 	StoreReadOnly    StoreFault = C.RELKVANU_STORE_READ_ONLY     // the file, its folder or the file system is read-only
@@ -32,7 +33,7 @@ const (
 var storeFaults = map[StoreFault]string{
 	StoreBadArgument: "BadArgument", StoreInUse: "InUse", StoreAbsent: "Absent", StorePresent: "Present", StoreNotAStore: "NotAStore",
 	StoreDiffers: "Differs", StoreDamaged: "Damaged", StoreStorage: "Storage", StoreClosed: "Closed", StoreForked: "Forked",
-	StoreNotNow: "NotNow", StoreStopped: "Stopped", StoreFailed: "Failed", StoreFull: "Full", StoreReadOnly: "ReadOnly", StoreBusy: "Busy",
+	StoreNotNow: "NotNow", StoreStopped: "Stopped", StoreNotPut: "NotPut", StoreFailed: "Failed", StoreFull: "Full", StoreReadOnly: "ReadOnly", StoreBusy: "Busy",
 	StoreNoMemory: "OutOfMemory",
 }
 

@@ -26,6 +26,8 @@ public enum StoreFault {
     NOT_NOW(13),
     /** The store was stopped. */
     STOPPED(14),
+    /** A state file was not made. */
+    NOT_PUT(15),
     /** A read, write or sync failed. */
     FAILED(16),
     /** The disk is full. */
