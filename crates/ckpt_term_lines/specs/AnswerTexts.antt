@@ -11,13 +11,13 @@ use Rattle.ckpt_texts.specs.Texts.{answer_bytes, spaced}
 
 -- why a call did not reach the coordinator, and the file that is to blame
 unfoldable pub fence_refusal_bytes : FencedRefusal → List ℕ
-fence_refusal_bytes OldTerm = codes "old term"
-fence_refusal_bytes Ended = codes "ended"
-fence_refusal_bytes BadCount = codes "bad count"
-fence_refusal_bytes NamesUsedUp = codes "names used up"
-fence_refusal_bytes TermsUsedUp = codes "terms used up"
-fence_refusal_bytes (Spent file) = codes "spent" ++ spaced file
-fence_refusal_bytes (NeverReserved file) = codes "never reserved" ++ spaced file
+fence_refusal_bytes OldTerm = codes "OldTerm"
+fence_refusal_bytes Ended = codes "Ended"
+fence_refusal_bytes BadCount = codes "BadCount"
+fence_refusal_bytes NamesUsedUp = codes "NamesUsedUp"
+fence_refusal_bytes TermsUsedUp = codes "TermsUsedUp"
+fence_refusal_bytes (Spent file) = codes "Spent" ++ spaced file
+fence_refusal_bytes (NeverReserved file) = codes "NeverReserved" ++ spaced file
 
 -- A restore and a cancel that were accepted ended the term. The one that runs after the call has a line of its own.
 abbrev pub new_term_bytes : ℕ → Answer → List ℕ
@@ -30,4 +30,4 @@ unfoldable pub fenced_answer_bytes : FencedAnswer → List ℕ
 fenced_answer_bytes (Reserved first) = codes "reserved" ++ spaced first ++ codes "\n"
 fenced_answer_bytes Forfeited = codes "forfeited\n"
 fenced_answer_bytes (Made term answer) = answer_bytes answer ++ new_term_bytes term answer
-fenced_answer_bytes (Fenced why) = codes "fenced: " ++ fence_refusal_bytes why ++ codes "\n"
+fenced_answer_bytes (Fenced why) = codes "fenced " ++ fence_refusal_bytes why ++ codes "\n"

@@ -128,14 +128,14 @@ pub term_stays : fenced_answer_bytes (Made 2 (Refused refusal.NotRunning)) ≡ c
 unfolding fenced_answer_bytes answer_bytes refusal_bytes
 term_stays = refl
 
-pub old_term : fenced_answer_bytes (Fenced OldTerm) ≡ codes "fenced: old term\n"
+pub old_term : fenced_answer_bytes (Fenced OldTerm) ≡ codes "fenced OldTerm\n"
 unfolding fenced_answer_bytes fence_refusal_bytes
 old_term = refl
 
-pub spent : fenced_answer_bytes (Fenced (Spent 41)) ≡ codes "fenced: spent " ++ (decimal 41 ++ codes "\n")
+pub spent : fenced_answer_bytes (Fenced (Spent 41)) ≡ codes "fenced Spent " ++ (decimal 41 ++ codes "\n")
 unfolding fenced_answer_bytes fence_refusal_bytes
 spent = refl
 
-pub never_reserved : fenced_answer_bytes (Fenced (NeverReserved 41)) ≡ codes "fenced: never reserved " ++ (decimal 41 ++ codes "\n")
+pub never_reserved : fenced_answer_bytes (Fenced (NeverReserved 41)) ≡ codes "fenced NeverReserved " ++ (decimal 41 ++ codes "\n")
 unfolding fenced_answer_bytes fence_refusal_bytes
 never_reserved = refl

@@ -51,10 +51,10 @@ fn write_new_term(text: &mut String, term: u64, answer: &Answer) -> Result<(), A
 
 /// Appends why a call did not reach the coordinator, with a newline.
 fn write_refusal(text: &mut String, why: FencedRefusal) -> Result<(), AllocError>
-    ensures text { OnOk result (string_bytes text.new ≡ string_bytes text.old ++ codes "fenced: " ++ fence_refusal_bytes why ++ codes "\n") }
+    ensures text { OnOk result (string_bytes text.new ≡ string_bytes text.old ++ codes "fenced " ++ fence_refusal_bytes why ++ codes "\n") }
     ensures front { KeepsFront (string_bytes text.old) (string_bytes text.new) }
 {
-    text.push_str("fenced: ")?;
+    text.push_str("fenced ")?;
     write_reason(text, why)?;
     text.push('\n')
 }
@@ -65,12 +65,12 @@ fn write_reason(text: &mut String, why: FencedRefusal) -> Result<(), AllocError>
     ensures front { KeepsFront (string_bytes text.old) (string_bytes text.new) }
 {
     match why {
-        FencedRefusal::OldTerm => text.push_str("old term"),
-        FencedRefusal::Ended => text.push_str("ended"),
-        FencedRefusal::BadCount => text.push_str("bad count"),
-        FencedRefusal::NamesUsedUp => text.push_str("names used up"),
-        FencedRefusal::TermsUsedUp => text.push_str("terms used up"),
-        FencedRefusal::Spent(file) => write_number(text, "spent ", file.0),
-        FencedRefusal::NeverReserved(file) => write_number(text, "never reserved ", file.0),
+        FencedRefusal::OldTerm => text.push_str("OldTerm"),
+        FencedRefusal::Ended => text.push_str("Ended"),
+        FencedRefusal::BadCount => text.push_str("BadCount"),
+        FencedRefusal::NamesUsedUp => text.push_str("NamesUsedUp"),
+        FencedRefusal::TermsUsedUp => text.push_str("TermsUsedUp"),
+        FencedRefusal::Spent(file) => write_number(text, "Spent ", file.0),
+        FencedRefusal::NeverReserved(file) => write_number(text, "NeverReserved ", file.0),
     }
 }

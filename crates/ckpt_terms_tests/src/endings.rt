@@ -23,52 +23,50 @@ fn restored() -> Reply {
 
 /// The tasks of the first term change nothing, whatever they call.
 fn fences_the_first_term(rt: &impl Abort, job: &mut Job) -> Result<(), Fail> {
-    assert_eq!(rt; job.reserve(1, 1)?, Fenced(OldTerm));
-    assert_eq!(rt; job.forfeit(1, &[5])?, Fenced(OldTerm));
-    assert_eq!(rt; job.ack(1, 1, 0, &[5])?, Fenced(OldTerm));
-    assert_eq!(rt; job.ack(1, 1, 0, &[])?, Fenced(OldTerm));
-    assert_eq!(rt; job.decline(1, 1, 0)?, Fenced(OldTerm));
+    job.reserve(rt, 1, 1, Fenced(OldTerm))?;
+    job.forfeit(rt, 1, &[5], Fenced(OldTerm))?;
+    job.ack(rt, 1, 1, 0, &[5], Fenced(OldTerm))?;
+    job.ack(rt, 1, 1, 0, &[], Fenced(OldTerm))?;
+    job.decline(rt, 1, 1, 0, Fenced(OldTerm))?;
     Ok(())
 }
 
 #[test]
 fn a_restore_ends_the_term(rt: HostRuntime) -> Result<(), Fail> {
     let mut job = Job::open(rt.alloc(), 1, 5)?;
-    assert_eq!(rt; job.reserve(1, 3)?, Reserved(FileId(5)));
-    assert_eq!(rt;
-        job.restore(Target::Savepoint(CheckpointId(1)))?,
-        refused(1, Refusal::NoSuchSavepoint)
-    );
-    assert_eq!(rt; job.garbage(), 0b11111);
-    assert_eq!(rt; job.restore(Target::Latest)?, made(2, restored()));
-    assert_eq!(rt; job.garbage(), 0b1111_1111);
+    job.reserve(&rt, 1, 3, Reserved(FileId(5)))?;
+    job.restore(
+        &rt,
+        Target::Savepoint(CheckpointId(1)),
+        refused(1, Refusal::NoSuchSavepoint),
+    )?;
+    job.has_garbage(&rt, 0b11111);
+    job.restore(&rt, Target::Latest, made(2, restored()))?;
+    job.has_garbage(&rt, 0b1111_1111);
     fences_the_first_term(&rt, &mut job)?;
-    assert_eq!(rt; job.ack(2, 1, 0, &[5])?, Fenced(Spent(FileId(5))));
-    assert_eq!(rt; job.reserve(2, 1)?, Reserved(FileId(8)));
-    assert_eq!(rt; job.restore(Target::Latest)?, made(3, restored()));
-    assert_eq!(rt; job.reserve(2, 1)?, Fenced(OldTerm));
-    assert_eq!(rt; job.reserve(3, 1)?, Reserved(FileId(9)));
+    job.ack(&rt, 2, 1, 0, &[5], Fenced(Spent(FileId(5))))?;
+    job.reserve(&rt, 2, 1, Reserved(FileId(8)))?;
+    job.restore(&rt, Target::Latest, made(3, restored()))?;
+    job.reserve(&rt, 2, 1, Fenced(OldTerm))?;
+    job.reserve(&rt, 3, 1, Reserved(FileId(9)))?;
     Ok(())
 }
 
 #[test]
 fn a_cancel_ends_the_term(rt: HostRuntime) -> Result<(), Fail> {
     let mut job = Job::open(rt.alloc(), 1, 5)?;
-    assert_eq!(rt; job.reserve(1, 3)?, Reserved(FileId(5)));
-    assert_eq!(rt; job.tick(1000)?, made(1, triggered(1)));
+    job.reserve(&rt, 1, 3, Reserved(FileId(5)))?;
+    job.tick(&rt, 1000, made(1, triggered(1)))?;
     let cancelled = Reply::Cancelled {
         dropped: 1,
         released: 0,
     };
-    assert_eq!(rt; job.cancel()?, made(2, cancelled));
-    assert_eq!(rt; job.garbage(), 0b1111_1111);
+    job.cancel(&rt, made(2, cancelled))?;
+    job.has_garbage(&rt, 0b1111_1111);
     fences_the_first_term(&rt, &mut job)?;
-    assert_eq!(rt; job.cancel()?, refused(2, Refusal::NotRunning));
-    assert_eq!(rt;
-        job.restore(Target::Latest)?,
-        refused(2, Refusal::NotRunning)
-    );
-    assert_eq!(rt; job.decline(2, 1, 0)?, made(2, Reply::DeclineLate));
+    job.cancel(&rt, refused(2, Refusal::NotRunning))?;
+    job.restore(&rt, Target::Latest, refused(2, Refusal::NotRunning))?;
+    job.decline(&rt, 2, 1, 0, made(2, Reply::DeclineLate))?;
     Ok(())
 }
 
@@ -76,15 +74,15 @@ fn a_cancel_ends_the_term(rt: HostRuntime) -> Result<(), Fail> {
 #[test]
 fn a_decline_of_an_old_term_aborts_nothing(rt: HostRuntime) -> Result<(), Fail> {
     let mut job = Job::open(rt.alloc(), 1, 5)?;
-    assert_eq!(rt; job.restore(Target::Latest)?, made(2, restored()));
-    assert_eq!(rt; job.tick(1000)?, made(2, triggered(1)));
+    job.restore(&rt, Target::Latest, made(2, restored()))?;
+    job.tick(&rt, 1000, made(2, triggered(1)))?;
     fences_the_first_term(&rt, &mut job)?;
-    assert_eq!(rt; job.reserve(2, 1)?, Reserved(FileId(5)));
+    job.reserve(&rt, 2, 1, Reserved(FileId(5)))?;
     let completed = Reply::AckCompleted {
         dropped: 0,
         released: 0,
     };
-    assert_eq!(rt; job.ack(2, 1, 0, &[5])?, made(2, completed));
+    job.ack(&rt, 2, 1, 0, &[5], made(2, completed))?;
     Ok(())
 }
 
@@ -92,14 +90,14 @@ fn a_decline_of_an_old_term_aborts_nothing(rt: HostRuntime) -> Result<(), Fail> 
 #[test]
 fn a_failure_ends_no_term(rt: HostRuntime) -> Result<(), Fail> {
     let mut job = Job::open(rt.alloc(), 2, 5)?;
-    assert_eq!(rt; job.reserve(1, 3)?, Reserved(FileId(5)));
-    assert_eq!(rt; job.tick(1000)?, made(1, triggered(1)));
-    assert_eq!(rt; job.ack(1, 1, 0, &[5])?, made(1, Reply::AckPending(1)));
-    assert_eq!(rt; job.decline(1, 1, 1)?, made(1, Reply::DeclineFailed(1)));
-    assert_eq!(rt; job.ack(1, 1, 1, &[6])?, made(1, Reply::AckLate(1)));
-    assert_eq!(rt; job.garbage(), 0b11111);
-    assert_eq!(rt; job.restore(Target::Latest)?, made(2, restored()));
-    assert_eq!(rt; job.garbage(), 0b1001_1111);
-    assert_eq!(rt; job.take(9)?, 2);
+    job.reserve(&rt, 1, 3, Reserved(FileId(5)))?;
+    job.tick(&rt, 1000, made(1, triggered(1)))?;
+    job.ack(&rt, 1, 1, 0, &[5], made(1, Reply::AckPending(1)))?;
+    job.decline(&rt, 1, 1, 1, made(1, Reply::DeclineFailed(1)))?;
+    job.ack(&rt, 1, 1, 1, &[6], made(1, Reply::AckLate(1)))?;
+    job.has_garbage(&rt, 0b11111);
+    job.restore(&rt, Target::Latest, made(2, restored()))?;
+    job.has_garbage(&rt, 0b1001_1111);
+    job.take(&rt, 9, 2)?;
     Ok(())
 }

@@ -11,7 +11,7 @@ fn triggers(rt: &impl Abort, job: &mut Job, now: u64, id: u64) -> Result<(), Fai
         expired: 0,
         end: TickEnd::Triggered(CheckpointId(id)),
     };
-    assert_eq!(rt; job.tick(now)?, made(1, ticked));
+    job.tick(rt, now, made(1, ticked))?;
     Ok(())
 }
 
@@ -25,7 +25,7 @@ fn completes(
     released: u64,
 ) -> Result<(), Fail> {
     let completed = Reply::AckCompleted { dropped, released };
-    assert_eq!(rt; job.ack(1, id, 0, &[file])?, made(1, completed));
+    job.ack(rt, 1, id, 0, &[file], made(1, completed))?;
     Ok(())
 }
 
@@ -34,24 +34,24 @@ fn completes(
 #[test]
 fn a_file_that_is_known_is_no_garbage(rt: HostRuntime) -> Result<(), Fail> {
     let mut job = Job::open(rt.alloc(), 1, 1)?;
-    assert_eq!(rt; job.garbage(), 1);
-    assert_eq!(rt; job.reserve(1, 3)?, Reserved(FileId(1)));
-    assert_eq!(rt; job.garbage(), 1);
+    job.has_garbage(&rt, 1);
+    job.reserve(&rt, 1, 3, Reserved(FileId(1)))?;
+    job.has_garbage(&rt, 1);
     triggers(&rt, &mut job, 1000, 1)?;
     completes(&rt, &mut job, 1, 1, 0, 0)?;
     triggers(&rt, &mut job, 2000, 2)?;
     triggers(&rt, &mut job, 3000, 3)?;
     completes(&rt, &mut job, 2, 2, 1, 0)?;
-    assert_eq!(rt; job.garbage(), 1);
+    job.has_garbage(&rt, 1);
     completes(&rt, &mut job, 3, 3, 1, 2)?;
-    assert_eq!(rt; job.garbage(), 1);
-    assert_eq!(rt; job.take(1)?, 1);
-    assert_eq!(rt; job.garbage(), 1);
-    assert_eq!(rt; job.undeleted(1)?, made(1, Reply::Undeleted(FileId(1))));
-    assert_eq!(rt; job.garbage(), 1);
-    assert_eq!(rt; job.take(2)?, 2);
-    assert_eq!(rt; job.deleted(1)?, made(1, Reply::Deleted(FileId(1))));
-    assert_eq!(rt; job.garbage(), 0b11);
+    job.has_garbage(&rt, 1);
+    job.take(&rt, 1, 1)?;
+    job.has_garbage(&rt, 1);
+    job.undeleted(&rt, 1, made(1, Reply::Undeleted(FileId(1))))?;
+    job.has_garbage(&rt, 1);
+    job.take(&rt, 2, 2)?;
+    job.deleted(&rt, 1, made(1, Reply::Deleted(FileId(1))))?;
+    job.has_garbage(&rt, 0b11);
     Ok(())
 }
 
@@ -60,16 +60,16 @@ fn a_file_that_is_known_is_no_garbage(rt: HostRuntime) -> Result<(), Fail> {
 #[test]
 fn what_is_held_is_garbage_once_its_term_ends(rt: HostRuntime) -> Result<(), Fail> {
     let mut job = Job::open(rt.alloc(), 1, 2)?;
-    assert_eq!(rt; job.reserve(1, 4)?, Reserved(FileId(2)));
+    job.reserve(&rt, 1, 4, Reserved(FileId(2)))?;
     triggers(&rt, &mut job, 1000, 1)?;
     completes(&rt, &mut job, 1, 2, 0, 0)?;
-    assert_eq!(rt; job.ack(1, 1, 0, &[3])?, made(1, Reply::AckLate(1)));
-    assert_eq!(rt; job.garbage(), 0b11);
+    job.ack(&rt, 1, 1, 0, &[3], made(1, Reply::AckLate(1)))?;
+    job.has_garbage(&rt, 0b11);
     let restored = Reply::Restored {
         from: Choice::Checkpoint(CheckpointId(1)),
         released: 0,
     };
-    assert_eq!(rt; job.restore(Target::Latest)?, made(2, restored));
-    assert_eq!(rt; job.garbage(), 0b11_0011);
+    job.restore(&rt, Target::Latest, made(2, restored))?;
+    job.has_garbage(&rt, 0b11_0011);
     Ok(())
 }

@@ -1,4 +1,5 @@
-//! A job whose tasks reserve the names of their files. Each call of these tests goes through it.
+//! A job whose tasks reserve the names of their files. Each call of these tests goes through it, and is compared with the answer that it
+//! must have. So the text of a failure is in one function, and a test is short.
 use ckpt_core::{Mode, Secret};
 use ckpt_ids::{
     Answer, Call, CheckpointId, Choice, Config, FileId, Files, Refusal, Reply, Shape, SubtaskId,
@@ -6,6 +7,7 @@ use ckpt_ids::{
 };
 use ckpt_terms::{FencedAnswer, FencedCall, Terms};
 use std::alloc::{AllocError, Global};
+use std::process::Abort;
 use std::test::Fail;
 
 /// A job of one vertex. A checkpoint is due each second, two may be pending, one is kept, and no
@@ -14,6 +16,8 @@ use std::test::Fail;
 pub struct Job {
     alloc: Global,
     terms: Terms,
+    // How many calls were made.
+    calls: u64,
 }
 
 /// What can be seen of a job with no memory.
@@ -36,45 +40,65 @@ impl Job {
         let config = Config::new(1000, 0, 2, 600_000, 0, 1, false)?;
         let shape = Shape::new(alloc, &[subtasks])?;
         let terms = Terms::keyed(alloc, config, shape, 0, 1, first_name, Secret::fixed())?;
-        Ok(Job { alloc, terms })
+        Ok(Job {
+            alloc,
+            terms,
+            calls: 0,
+        })
     }
 
-    pub fn reserve(&mut self, term: u64, count: u64) -> Result<FencedAnswer, Fail> {
-        self.apply(&FencedCall::Reserve { term, count })
+    pub fn reserve(
+        &mut self,
+        rt: &impl Abort,
+        term: u64,
+        count: u64,
+        want: FencedAnswer,
+    ) -> Result<(), Fail> {
+        self.apply(rt, &FencedCall::Reserve { term, count }, want)
     }
 
-    pub fn forfeit(&mut self, term: u64, names: &[u64]) -> Result<FencedAnswer, Fail> {
+    pub fn forfeit(
+        &mut self,
+        rt: &impl Abort,
+        term: u64,
+        names: &[u64],
+        want: FencedAnswer,
+    ) -> Result<(), Fail> {
         let names = files(self.alloc, names)?;
-        self.apply(&FencedCall::Forfeit { term, names })
+        self.apply(rt, &FencedCall::Forfeit { term, names }, want)
     }
 
-    pub fn tick(&mut self, now: u64) -> Result<FencedAnswer, Fail> {
-        self.make(0, Call::Tick { now })
+    pub fn tick(&mut self, rt: &impl Abort, now: u64, want: FencedAnswer) -> Result<(), Fail> {
+        self.make(rt, 0, Call::Tick { now }, want)
     }
 
-    pub fn savepoint(&mut self) -> Result<FencedAnswer, Fail> {
-        self.make(0, Call::Savepoint { now: 0 })
+    pub fn savepoint(&mut self, rt: &impl Abort, want: FencedAnswer) -> Result<(), Fail> {
+        self.make(rt, 0, Call::Savepoint { now: 0 }, want)
     }
 
     /// The subtask with this index acknowledges with new files.
     pub fn ack(
         &mut self,
+        rt: &impl Abort,
         term: u64,
         id: u64,
         index: u16,
         fresh: &[u64],
-    ) -> Result<FencedAnswer, Fail> {
-        self.ack_reusing(term, id, index, fresh, &[])
+        want: FencedAnswer,
+    ) -> Result<(), Fail> {
+        self.ack_reusing(rt, term, id, index, fresh, &[], want)
     }
 
     pub fn ack_reusing(
         &mut self,
+        rt: &impl Abort,
         term: u64,
         id: u64,
         index: u16,
         fresh: &[u64],
         reused: &[u64],
-    ) -> Result<FencedAnswer, Fail> {
+        want: FencedAnswer,
+    ) -> Result<(), Fail> {
         let call = Call::Ack {
             now: 0,
             id: CheckpointId(id),
@@ -82,62 +106,88 @@ impl Job {
             fresh: files(self.alloc, fresh)?,
             reused: files(self.alloc, reused)?,
         };
-        self.make(term, call)
+        self.make(rt, term, call, want)
     }
 
-    pub fn decline(&mut self, term: u64, id: u64, index: u16) -> Result<FencedAnswer, Fail> {
+    pub fn decline(
+        &mut self,
+        rt: &impl Abort,
+        term: u64,
+        id: u64,
+        index: u16,
+        want: FencedAnswer,
+    ) -> Result<(), Fail> {
         let call = Call::Decline {
             now: 0,
             id: CheckpointId(id),
             subtask: SubtaskId { vertex: 0, index },
         };
-        self.make(term, call)
+        self.make(rt, term, call, want)
     }
 
-    pub fn restore(&mut self, target: Target) -> Result<FencedAnswer, Fail> {
+    pub fn restore(
+        &mut self,
+        rt: &impl Abort,
+        target: Target,
+        want: FencedAnswer,
+    ) -> Result<(), Fail> {
         let call = Call::Restore {
             now: 0,
             target,
             shape: None,
         };
-        self.make(0, call)
+        self.make(rt, 0, call, want)
     }
 
     /// Restores the job with this many subtasks.
-    pub fn rescale(&mut self, subtasks: u64) -> Result<FencedAnswer, Fail> {
+    pub fn rescale(
+        &mut self,
+        rt: &impl Abort,
+        subtasks: u64,
+        want: FencedAnswer,
+    ) -> Result<(), Fail> {
         let call = Call::Restore {
             now: 0,
             target: Target::Latest,
             shape: Some(Shape::new(self.alloc, &[subtasks])?),
         };
-        self.make(0, call)
+        self.make(rt, 0, call, want)
     }
 
-    pub fn cancel(&mut self) -> Result<FencedAnswer, Fail> {
-        self.make(0, Call::Cancel { now: 0 })
+    pub fn cancel(&mut self, rt: &impl Abort, want: FencedAnswer) -> Result<(), Fail> {
+        self.make(rt, 0, Call::Cancel { now: 0 }, want)
     }
 
-    /// Fetches at most so many files, and returns how many it fetched.
-    pub fn take(&mut self, most: u64) -> Result<usize, Fail> {
-        match &self.make(0, Call::Take { most })? {
-            FencedAnswer::Made {
-                answer: Answer::Done(Reply::Taken(files)),
-                ..
-            } => Ok(files.len()),
-            _ => Err(Fail::new("no files were fetched")),
-        }
+    /// Fetches at most so many files, and finds so many.
+    pub fn take(&mut self, rt: &impl Abort, most: u64, want: usize) -> Result<(), Fail> {
+        let call = FencedCall::Make {
+            term: 0,
+            call: Call::Take { most },
+        };
+        let answer = self.answer(&call)?;
+        assert!(rt; fetched(&answer) == Some(want), "call {}", self.calls);
+        Ok(())
     }
 
-    pub fn deleted(&mut self, file: u64) -> Result<FencedAnswer, Fail> {
-        self.make(0, Call::Deleted { file: FileId(file) })
+    pub fn deleted(&mut self, rt: &impl Abort, file: u64, want: FencedAnswer) -> Result<(), Fail> {
+        self.make(rt, 0, Call::Deleted { file: FileId(file) }, want)
     }
 
-    pub fn undeleted(&mut self, file: u64) -> Result<FencedAnswer, Fail> {
-        self.make(0, Call::Undeleted { file: FileId(file) })
+    pub fn undeleted(
+        &mut self,
+        rt: &impl Abort,
+        file: u64,
+        want: FencedAnswer,
+    ) -> Result<(), Fail> {
+        self.make(rt, 0, Call::Undeleted { file: FileId(file) }, want)
     }
 
-    /// The numbers below 64 that are garbage, as bits.
-    pub fn garbage(&self) -> u64 {
+    /// The numbers below 64 that are garbage, as bits, are these.
+    pub fn has_garbage(&self, rt: &impl Abort, want: u64) {
+        assert_eq!(rt; self.garbage(), want, "after call {}", self.calls);
+    }
+
+    fn garbage(&self) -> u64 {
         let mut bits = 0;
         for name in 0..64u64 {
             if self.terms.is_garbage(FileId(name)) {
@@ -147,12 +197,30 @@ impl Job {
         bits
     }
 
-    fn make(&mut self, term: u64, call: Call) -> Result<FencedAnswer, Fail> {
-        self.apply(&FencedCall::Make { term, call })
+    fn make(
+        &mut self,
+        rt: &impl Abort,
+        term: u64,
+        call: Call,
+        want: FencedAnswer,
+    ) -> Result<(), Fail> {
+        self.apply(rt, &FencedCall::Make { term, call }, want)
+    }
+
+    fn apply(
+        &mut self,
+        rt: &impl Abort,
+        call: &FencedCall,
+        want: FencedAnswer,
+    ) -> Result<(), Fail> {
+        let answer = self.answer(call)?;
+        assert_eq!(rt; answer, want, "call {}", self.calls);
+        Ok(())
     }
 
     /// Makes a call. If it runs out of memory, nothing may have changed, and it is made again.
-    fn apply(&mut self, call: &FencedCall) -> Result<FencedAnswer, Fail> {
+    fn answer(&mut self, call: &FencedCall) -> Result<FencedAnswer, Fail> {
+        self.calls = self.calls.wrapping_add(1);
         let before = self.seen();
         if let Ok(answer) = self.terms.apply(call) {
             return Ok(answer);
@@ -176,6 +244,17 @@ impl Job {
             taken: core.files_taken(),
             garbage: self.garbage(),
         }
+    }
+}
+
+/// How many files the call fetched.
+fn fetched(answer: &FencedAnswer) -> Option<usize> {
+    match answer {
+        FencedAnswer::Made {
+            answer: Answer::Done(Reply::Taken(files)),
+            ..
+        } => Some(files.len()),
+        _ => None,
     }
 }
 

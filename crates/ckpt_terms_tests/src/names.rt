@@ -12,7 +12,7 @@ fn triggers(rt: &impl Abort, job: &mut Job, now: u64, id: u64) -> Result<(), Fai
         expired: 0,
         end: TickEnd::Triggered(CheckpointId(id)),
     };
-    assert_eq!(rt; job.tick(now)?, made(1, ticked));
+    job.tick(rt, now, made(1, ticked))?;
     Ok(())
 }
 
@@ -27,10 +27,10 @@ fn completed() -> Reply {
 #[test]
 fn gives_each_name_out_once(rt: HostRuntime) -> Result<(), Fail> {
     let mut job = Job::open(rt.alloc(), 1, 5)?;
-    assert_eq!(rt; job.reserve(1, 3)?, Reserved(FileId(5)));
-    assert_eq!(rt; job.reserve(1, 65_536)?, Reserved(FileId(8)));
-    assert_eq!(rt; job.forfeit(1, &[5, 6, 7, 8])?, Forfeited);
-    assert_eq!(rt; job.reserve(1, 1)?, Reserved(FileId(65_544)));
+    job.reserve(&rt, 1, 3, Reserved(FileId(5)))?;
+    job.reserve(&rt, 1, 65_536, Reserved(FileId(8)))?;
+    job.forfeit(&rt, 1, &[5, 6, 7, 8], Forfeited)?;
+    job.reserve(&rt, 1, 1, Reserved(FileId(65_544)))?;
     Ok(())
 }
 
@@ -39,19 +39,16 @@ fn gives_each_name_out_once(rt: HostRuntime) -> Result<(), Fail> {
 #[test]
 fn an_accepted_acknowledgement_spends_its_names(rt: HostRuntime) -> Result<(), Fail> {
     let mut job = Job::open(rt.alloc(), 2, 5)?;
-    assert_eq!(rt; job.reserve(1, 4)?, Reserved(FileId(5)));
+    job.reserve(&rt, 1, 4, Reserved(FileId(5)))?;
     triggers(&rt, &mut job, 1000, 1)?;
-    assert_eq!(rt;
-        job.ack(1, 1, 2, &[5])?,
-        refused(1, Refusal::UnknownSubtask)
-    );
-    assert_eq!(rt; job.ack(1, 1, 0, &[5])?, made(1, Reply::AckPending(1)));
-    assert_eq!(rt; job.ack(1, 1, 1, &[7, 8])?, made(1, completed()));
-    assert_eq!(rt; job.ack(1, 1, 0, &[6])?, made(1, Reply::AckLate(1)));
+    job.ack(&rt, 1, 1, 2, &[5], refused(1, Refusal::UnknownSubtask))?;
+    job.ack(&rt, 1, 1, 0, &[5], made(1, Reply::AckPending(1)))?;
+    job.ack(&rt, 1, 1, 1, &[7, 8], made(1, completed()))?;
+    job.ack(&rt, 1, 1, 0, &[6], made(1, Reply::AckLate(1)))?;
     for name in 5..9 {
-        assert_eq!(rt; job.ack(1, 1, 0, &[name])?, Fenced(Spent(FileId(name))));
+        job.ack(&rt, 1, 1, 0, &[name], Fenced(Spent(FileId(name))))?;
     }
-    assert_eq!(rt; job.ack(1, 1, 0, &[9])?, Fenced(NeverReserved(FileId(9))));
+    job.ack(&rt, 1, 1, 0, &[9], Fenced(NeverReserved(FileId(9))))?;
     Ok(())
 }
 
@@ -60,18 +57,15 @@ fn an_accepted_acknowledgement_spends_its_names(rt: HostRuntime) -> Result<(), F
 #[test]
 fn tells_a_repeated_acknowledgement(rt: HostRuntime) -> Result<(), Fail> {
     let mut job = Job::open(rt.alloc(), 2, 5)?;
-    assert_eq!(rt; job.reserve(1, 1)?, Reserved(FileId(5)));
+    job.reserve(&rt, 1, 1, Reserved(FileId(5)))?;
     triggers(&rt, &mut job, 1000, 1)?;
-    assert_eq!(rt; job.ack(1, 1, 0, &[5])?, made(1, Reply::AckPending(1)));
-    assert_eq!(rt; job.ack(1, 1, 0, &[5])?, Fenced(Spent(FileId(5))));
-    assert_eq!(rt;
-        job.ack(1, 1, 0, &[])?,
-        refused(1, Refusal::AlreadyAcknowledged)
-    );
-    assert_eq!(rt; job.ack_reusing(1, 1, 1, &[], &[5])?, made(1, completed()));
-    assert_eq!(rt; job.ack(1, 1, 0, &[5])?, Fenced(Spent(FileId(5))));
-    assert_eq!(rt; job.ack(1, 1, 0, &[])?, made(1, Reply::AckLate(0)));
-    assert_eq!(rt; job.garbage(), 0b11111);
+    job.ack(&rt, 1, 1, 0, &[5], made(1, Reply::AckPending(1)))?;
+    job.ack(&rt, 1, 1, 0, &[5], Fenced(Spent(FileId(5))))?;
+    job.ack(&rt, 1, 1, 0, &[], refused(1, Refusal::AlreadyAcknowledged))?;
+    job.ack_reusing(&rt, 1, 1, 1, &[], &[5], made(1, completed()))?;
+    job.ack(&rt, 1, 1, 0, &[5], Fenced(Spent(FileId(5))))?;
+    job.ack(&rt, 1, 1, 0, &[], made(1, Reply::AckLate(0)))?;
+    job.has_garbage(&rt, 0b11111);
     Ok(())
 }
 
@@ -80,15 +74,15 @@ fn tells_a_repeated_acknowledgement(rt: HostRuntime) -> Result<(), Fail> {
 #[test]
 fn gives_names_up(rt: HostRuntime) -> Result<(), Fail> {
     let mut job = Job::open(rt.alloc(), 1, 4)?;
-    assert_eq!(rt; job.reserve(1, 4)?, Reserved(FileId(4)));
-    assert_eq!(rt; job.reserve(1, 4)?, Reserved(FileId(8)));
+    job.reserve(&rt, 1, 4, Reserved(FileId(4)))?;
+    job.reserve(&rt, 1, 4, Reserved(FileId(8)))?;
     triggers(&rt, &mut job, 1000, 1)?;
-    assert_eq!(rt; job.forfeit(1, &[4, 6, 11, 12, 1, 6])?, Forfeited);
-    assert_eq!(rt; job.garbage(), 0b1000_0101_1111);
-    assert_eq!(rt; job.forfeit(1, &[4, 6, 11, 12, 1, 6])?, Forfeited);
-    assert_eq!(rt; job.ack(1, 1, 0, &[5, 6, 7])?, Fenced(Spent(FileId(6))));
-    assert_eq!(rt; job.ack(1, 1, 0, &[10, 11])?, Fenced(Spent(FileId(11))));
-    assert_eq!(rt; job.ack(1, 1, 0, &[5, 7, 8, 9, 10])?, made(1, completed()));
-    assert_eq!(rt; job.garbage(), 0b1000_0101_1111);
+    job.forfeit(&rt, 1, &[4, 6, 11, 12, 1, 6], Forfeited)?;
+    job.has_garbage(&rt, 0b1000_0101_1111);
+    job.forfeit(&rt, 1, &[4, 6, 11, 12, 1, 6], Forfeited)?;
+    job.ack(&rt, 1, 1, 0, &[5, 6, 7], Fenced(Spent(FileId(6))))?;
+    job.ack(&rt, 1, 1, 0, &[10, 11], Fenced(Spent(FileId(11))))?;
+    job.ack(&rt, 1, 1, 0, &[5, 7, 8, 9, 10], made(1, completed()))?;
+    job.has_garbage(&rt, 0b1000_0101_1111);
     Ok(())
 }

@@ -11,14 +11,14 @@ const LAST: u64 = (1 << 62) - 1;
 
 /// A job with one name left, which refuses each other reservation.
 fn without_names(rt: &impl Abort, job: &mut Job) -> Result<(), Fail> {
-    assert_eq!(rt; job.reserve(2, 0)?, Fenced(OldTerm));
-    assert_eq!(rt; job.reserve(0, 1)?, Fenced(OldTerm));
-    assert_eq!(rt; job.reserve(1, 0)?, Fenced(BadCount));
-    assert_eq!(rt; job.reserve(1, 65_537)?, Fenced(BadCount));
-    assert_eq!(rt; job.reserve(1, 65_536)?, Fenced(NamesUsedUp));
-    assert_eq!(rt; job.reserve(1, 2)?, Fenced(NamesUsedUp));
-    assert_eq!(rt; job.reserve(1, 1)?, Reserved(FileId(LAST)));
-    assert_eq!(rt; job.reserve(1, 1)?, Fenced(NamesUsedUp));
+    job.reserve(rt, 2, 0, Fenced(OldTerm))?;
+    job.reserve(rt, 0, 1, Fenced(OldTerm))?;
+    job.reserve(rt, 1, 0, Fenced(BadCount))?;
+    job.reserve(rt, 1, 65_537, Fenced(BadCount))?;
+    job.reserve(rt, 1, 65_536, Fenced(NamesUsedUp))?;
+    job.reserve(rt, 1, 2, Fenced(NamesUsedUp))?;
+    job.reserve(rt, 1, 1, Reserved(FileId(LAST)))?;
+    job.reserve(rt, 1, 1, Fenced(NamesUsedUp))?;
     Ok(())
 }
 
@@ -30,12 +30,12 @@ fn refuses_reservations_in_order(rt: HostRuntime) -> Result<(), Fail> {
         dropped: 0,
         released: 0,
     };
-    assert_eq!(rt; job.cancel()?, made(2, cancelled));
-    assert_eq!(rt; job.reserve(1, 0)?, Fenced(OldTerm));
-    assert_eq!(rt; job.reserve(2, 0)?, Fenced(Ended));
-    assert_eq!(rt; job.reserve(2, 1)?, Fenced(Ended));
-    assert_eq!(rt; job.forfeit(1, &[LAST])?, Fenced(OldTerm));
-    assert_eq!(rt; job.forfeit(2, &[LAST])?, Forfeited);
+    job.cancel(&rt, made(2, cancelled))?;
+    job.reserve(&rt, 1, 0, Fenced(OldTerm))?;
+    job.reserve(&rt, 2, 0, Fenced(Ended))?;
+    job.reserve(&rt, 2, 1, Fenced(Ended))?;
+    job.forfeit(&rt, 1, &[LAST], Fenced(OldTerm))?;
+    job.forfeit(&rt, 2, &[LAST], Forfeited)?;
     Ok(())
 }
 
@@ -43,27 +43,22 @@ fn refuses_reservations_in_order(rt: HostRuntime) -> Result<(), Fail> {
 #[test]
 fn refuses_acknowledgements_in_order(rt: HostRuntime) -> Result<(), Fail> {
     let mut job = Job::open(rt.alloc(), 1, 5)?;
-    assert_eq!(rt; job.reserve(1, 2)?, Reserved(FileId(5)));
-    assert_eq!(rt; job.ack(2, 9, 0, &[7])?, Fenced(OldTerm));
-    assert_eq!(rt; job.ack(0, 9, 0, &[5])?, Fenced(OldTerm));
-    assert_eq!(rt; job.ack(1, 9, 0, &[5, 7, 4])?, Fenced(Spent(FileId(4))));
-    assert_eq!(rt;
-        job.ack(1, 9, 0, &[5, 7, 8])?,
-        Fenced(NeverReserved(FileId(7)))
-    );
-    assert_eq!(rt;
-        job.ack_reusing(1, 9, 0, &[7], &[7])?,
-        Fenced(NeverReserved(FileId(7)))
-    );
-    assert_eq!(rt;
-        job.ack_reusing(1, 9, 0, &[5], &[5])?,
-        refused(1, Refusal::RepeatedFile)
-    );
-    assert_eq!(rt;
-        job.ack(1, 9, 0, &[5, 6])?,
-        refused(1, Refusal::UnknownCheckpoint)
-    );
-    assert_eq!(rt; job.garbage(), 0b11111);
+    job.reserve(&rt, 1, 2, Reserved(FileId(5)))?;
+    job.ack(&rt, 2, 9, 0, &[7], Fenced(OldTerm))?;
+    job.ack(&rt, 0, 9, 0, &[5], Fenced(OldTerm))?;
+    job.ack(&rt, 1, 9, 0, &[5, 7, 4], Fenced(Spent(FileId(4))))?;
+    job.ack(&rt, 1, 9, 0, &[5, 7, 8], Fenced(NeverReserved(FileId(7))))?;
+    job.ack_reusing(&rt, 1, 9, 0, &[7], &[7], Fenced(NeverReserved(FileId(7))))?;
+    job.ack_reusing(&rt, 1, 9, 0, &[5], &[5], refused(1, Refusal::RepeatedFile))?;
+    job.ack(
+        &rt,
+        1,
+        9,
+        0,
+        &[5, 6],
+        refused(1, Refusal::UnknownCheckpoint),
+    )?;
+    job.has_garbage(&rt, 0b11111);
     Ok(())
 }
 
@@ -71,12 +66,9 @@ fn refuses_acknowledgements_in_order(rt: HostRuntime) -> Result<(), Fail> {
 #[test]
 fn refuses_declines_of_another_term(rt: HostRuntime) -> Result<(), Fail> {
     let mut job = Job::open(rt.alloc(), 1, 1)?;
-    assert_eq!(rt; job.decline(0, 9, 0)?, Fenced(OldTerm));
-    assert_eq!(rt; job.decline(2, 9, 0)?, Fenced(OldTerm));
-    assert_eq!(rt;
-        job.decline(1, 9, 0)?,
-        refused(1, Refusal::UnknownCheckpoint)
-    );
-    assert_eq!(rt; job.deleted(1)?, refused(1, Refusal::NotTaken));
+    job.decline(&rt, 0, 9, 0, Fenced(OldTerm))?;
+    job.decline(&rt, 2, 9, 0, Fenced(OldTerm))?;
+    job.decline(&rt, 1, 9, 0, refused(1, Refusal::UnknownCheckpoint))?;
+    job.deleted(&rt, 1, refused(1, Refusal::NotTaken))?;
     Ok(())
 }
