@@ -4,7 +4,7 @@
  *
  * Make one call or read at a time for each coordinator. A read takes the state out of its handle and puts it back, so reads
  * are not const. Threads share a coordinator under the engine's own mutex. Functions whose result has a string or a vector may
- * throw std::bad_alloc. open and open_saved throw what std::random_device throws. All others are noexcept.
+ * throw std::bad_alloc. open, open_fenced and open_saved throw what std::random_device throws. All others are noexcept.
  *
  * The process is aborted, with or without NDEBUG, if a closed coordinator is read, since no answer would be right: a count of 0 lets a
  * caller delete a file that is in use. If the library gives an answer that this header does not have, because it is of another version, a
