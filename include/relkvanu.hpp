@@ -508,7 +508,7 @@ public:
     }
 
     /* The term that runs, and the next name that is given out. Whoever restarts the tasks reads it after the restore, and tells each of
-     * them. A task never asks for it: one that should be dead would learn the new term. */
+     * them once the restore is in the durable log. A task never asks for it: one that should be dead would learn the new term. */
     [[nodiscard]] term_answer term() noexcept {
         relkvanu_answer told = relkvanu_term(&handle_);
         return is_reply(told, RELKVANU_TERM) ? term_answer(running_term{told.a, told.b}) : refusal(told);

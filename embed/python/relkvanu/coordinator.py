@@ -439,7 +439,7 @@ class Coordinator:
 
     def term(self) -> RunningTerm:
         """The term that runs, and the next name that is given out. Whoever restarts the tasks reads it after the restore, and tells
-        each of them. A task never asks for it: one that should be dead would learn the new term."""
+        each of them once the restore is in the durable log. A task never asks for it: one that should be dead would learn the new term."""
         answer = _told(self._call("term"), header.TERM)
         return RunningTerm(answer.a, answer.b)
 

@@ -340,8 +340,8 @@ impl Coordinator {
         reply(told, sys::RELKVANU_NAMED).map(|_| ())
     }
 
-    /// The term that runs, and the next name. Whoever restarts the tasks reads it after the restore, and tells each of them. A
-    /// task never asks for it: one that should be dead would learn the new term.
+    /// The term that runs, and the next name. Whoever restarts the tasks reads it after the restore, and tells each of them once
+    /// the restore is in the durable log. A task never asks for it: one that should be dead would learn the new term.
     pub fn term(&self) -> Result<RunningTerm, Fault> {
         // SAFETY: as in `count`.
         let told = unsafe { sys::relkvanu_term(self.read_handle()) };
