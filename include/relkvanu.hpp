@@ -4,7 +4,7 @@
  *
  * Make one call or read at a time for each coordinator. A read takes the state out of its handle and puts it back, so reads
  * are not const. Threads share a coordinator under the engine's own mutex. Functions whose result has a string or a vector may
- * throw std::bad_alloc. open and open_saved throw what std::random_device throws. All others are noexcept.
+ * throw std::bad_alloc. open, open_fenced and open_saved throw what std::random_device throws. All others are noexcept.
  *
  * The process is aborted, with or without NDEBUG, if a closed coordinator is read, since no answer would be right: a count of 0 lets a
  * caller delete a file that is in use. If the library gives an answer that this header does not have, because it is of another version, a
@@ -176,8 +176,8 @@ inline std::error_code make_error_code(error it) noexcept {
     return std::error_code(static_cast<int>(it), error_category());
 }
 
-/* Nothing has changed. For name_taken and file_gone, file is the file that the refusal names; otherwise it is 0. For too_short, places is
- * how many places the buffer needs; otherwise it is 0. */
+/* Nothing has changed. For name_taken, file_gone, fenced_spent and fenced_never_reserved, file is the file that the refusal names;
+ * otherwise it is 0. For too_short, places is how many places the buffer needs; otherwise it is 0. */
 struct refused {
     std::error_code why;
     std::uint64_t file = 0, places = 0;
@@ -190,7 +190,8 @@ constexpr bool is_reply(relkvanu_answer told, std::uint32_t what) noexcept { ret
 inline refused refusal(relkvanu_answer told) noexcept {
     bool is_value = told.code != RELKVANU_DONE && told.code < 0xff && told.what <= 0xff;
     error why = is_value ? static_cast<error>(told.code << 8 | (has_what(told.code) ? told.what : 0)) : error::unknown;
-    return refused{make_error_code(why), told.code == RELKVANU_REFUSED ? told.a : 0, told.code == RELKVANU_TOO_SHORT ? told.a : 0};
+    bool may_name_file = told.code == RELKVANU_REFUSED || told.code == RELKVANU_FENCED;
+    return refused{make_error_code(why), may_name_file ? told.a : 0, told.code == RELKVANU_TOO_SHORT ? told.a : 0};
 }
 
 /* embed/bindings makes the replies */
@@ -231,6 +232,18 @@ using cancel_answer = std::variant<cancelled, refused>;
 using take_answer = std::variant<files, refused>;
 using report_answer = std::variant<reported, refused>;
 using show_answer = std::variant<std::string, refused>;
+
+/* The replies of calls on terms and names. */
+struct fenced {}; /* The coordinator has names now. */
+struct running_term { std::uint64_t term, next_name; };
+struct reserved { std::uint64_t first, count; }; /* The names are first and those that follow it. */
+struct forfeited {};
+struct sorted_files { std::vector<std::uint64_t> garbage, unissued; }; /* Garbage may be deleted. Nobody deletes the unissued ones. */
+using fence_answer = std::variant<fenced, refused>;
+using term_answer = std::variant<running_term, refused>;
+using reserve_answer = std::variant<reserved, refused>;
+using forfeit_answer = std::variant<forfeited, refused>;
+using garbage_answer = std::variant<sorted_files, refused>;
 
 /* What a line of a script did: nothing; a call, with the answer of its function in relkvanu.h; a take; a show. */
 struct skipped {};
@@ -381,6 +394,15 @@ public:
         });
     }
 
+    /* Opens a coordinator with names, in term 1. The first name that it gives out is first_name: all numbers of files that were used
+     * before are below it. ack and decline are refused then: its tasks call ack_in and decline_in. */
+    [[nodiscard]] static std::variant<Coordinator, refused> open_fenced(
+        const relkvanu_settings &settings, shape of, std::uint64_t now, std::uint64_t first, std::uint64_t first_name) {
+        return opened([&](relkvanu *handle, std::uint64_t word, std::uint64_t other) {
+            return relkvanu_open_fenced(handle, &settings, of.data(), of.size(), now, first, first_name, word, other);
+        });
+    }
+
     /* Opens the coordinator that an image describes. It answers every list of calls as the saved one would. */
     [[nodiscard]] static std::variant<Coordinator, refused> open_saved(std::string_view image) {
         return opened([&](relkvanu *handle, std::uint64_t word, std::uint64_t other) {
@@ -474,6 +496,69 @@ public:
     report_answer deleted(std::uint64_t file) noexcept { return report(relkvanu_deleted(&handle_, file)); }
 
     report_answer undeleted(std::uint64_t file) noexcept { return report(relkvanu_undeleted(&handle_, file)); }
+
+    /* Terms and names. Each accepted restore and cancel ends the term. What a task of an ended term sends is refused as
+     * error::fenced_old_term, and changes nothing. A coordinator without names refuses these calls as error::fenced_no_names. */
+
+    /* Gives the coordinator names, from first_name on, in term 1. All numbers of files that were used before are below it, those of files
+     * that nobody acknowledged too. Make the call between the end of all tasks and their restart. */
+    fence_answer fence(std::uint64_t first_name) noexcept {
+        relkvanu_answer told = relkvanu_fence(&handle_, first_name);
+        return is_reply(told, RELKVANU_NAMED) ? fence_answer(fenced{}) : refusal(told);
+    }
+
+    /* The term that runs, and the next name that is given out. Whoever restarts the tasks reads it after the restore, and tells each of
+     * them once the restore is in the durable log. A task never asks for it: one that should be dead would learn the new term. */
+    [[nodiscard]] term_answer term() noexcept {
+        relkvanu_answer told = relkvanu_term(&handle_);
+        return is_reply(told, RELKVANU_TERM) ? term_answer(running_term{told.a, told.b}) : refusal(told);
+    }
+
+    /* A task of this term reserves 1 to 65536 names for files that it will write. The reservation is in the durable log before the task
+     * uses one of them. */
+    [[nodiscard]] reserve_answer reserve(std::uint64_t term, std::uint64_t count) noexcept {
+        relkvanu_answer told = relkvanu_reserve(&handle_, term, count);
+        return is_reply(told, RELKVANU_RESERVED) ? reserve_answer(reserved{told.a, told.b}) : refusal(told);
+    }
+
+    /* A task of this term gives up names that it will not acknowledge, such as those of a failed upload. Names that the term does not
+     * hold are passed over, so the call can be repeated. */
+    forfeit_answer forfeit(std::uint64_t term, files names) noexcept {
+        relkvanu_answer told = relkvanu_forfeit(&handle_, term, names.data(), names.size());
+        return is_reply(told, RELKVANU_FORFEITED) ? forfeit_answer(forfeited{}) : refusal(told);
+    }
+
+    /* ack of a task of this term. If it is accepted, it spends the names of the fresh files. The same acknowledgement once more is
+     * refused as error::fenced_spent, if it has fresh files: a task deletes no file for that answer. */
+    [[nodiscard]] ack_answer ack_in(
+        std::uint64_t term, std::uint64_t now, std::uint64_t id, std::uint16_t vertex, std::uint16_t index, files fresh, files reused = {}) noexcept {
+        if (is_ahead(now)) {
+            return too_large();
+        }
+        return ack_of(relkvanu_ack_in(&handle_, term, now, id, vertex, index, fresh.data(), fresh.size(), reused.data(), reused.size()));
+    }
+
+    /* decline of a task of this term. */
+    decline_answer decline_in(std::uint64_t term, std::uint64_t now, std::uint64_t id, std::uint16_t vertex, std::uint16_t index) noexcept {
+        if (is_ahead(now)) {
+            return too_large();
+        }
+        return decline_of(relkvanu_decline_in(&handle_, term, now, id, vertex, index));
+    }
+
+    /* Of these files, in their order: those that are garbage, which may be deleted at any time, also while tasks run; and those whose
+     * names were not given out, which nobody deletes. Changes nothing. Ask a coordinator whose calls are durable. */
+    [[nodiscard]] garbage_answer garbage(files of) {
+        std::vector<std::uint64_t> places(of.size());
+        sorted_files it = {places, std::move(places)};
+        relkvanu_answer told = relkvanu_garbage(&handle_, of.data(), of.size(), it.garbage.data(), of.size(), it.unissued.data(), of.size());
+        if (!is_reply(told, RELKVANU_GARBAGE)) {
+            return refusal(told);
+        }
+        it.garbage.resize(static_cast<std::size_t>(told.a));
+        it.unissued.resize(static_cast<std::size_t>(told.b));
+        return it;
+    }
 
     /* The metadata of a live record, as JSON. */
     [[nodiscard]] show_answer show(std::uint64_t id) {

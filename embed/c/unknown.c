@@ -62,3 +62,13 @@ relkvanu_answer relkvanu_standing(relkvanu *handle, uint64_t id) {
     (void)handle, (void)id;
     return done();
 }
+
+relkvanu_answer relkvanu_term(relkvanu *handle) {
+    (void)handle;
+    return (relkvanu_answer){RELKVANU_FENCED, NUMBER, 1, 2};
+}
+
+relkvanu_answer relkvanu_reserve(relkvanu *handle, uint64_t term, uint64_t count) {
+    (void)handle, (void)term, (void)count;
+    return done();
+}

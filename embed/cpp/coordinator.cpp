@@ -17,6 +17,7 @@ static_assert(std::is_nothrow_move_constructible_v<Coordinator> && std::is_nothr
 
 static_assert(noexcept(std::declval<Coordinator &>().ack(0, 0, 0, 0, {})) && noexcept(std::declval<Coordinator &>().count(0)));
 static_assert(!noexcept(std::declval<Coordinator &>().show(0)));
+static_assert(noexcept(std::declval<Coordinator &>().ack_in(1, 0, 0, 0, 0, {})) && noexcept(std::declval<Coordinator &>().reserve(1, 1)));
 
 /* Whether braces of a pointer and a length, or of the files 0 and 2, are taken for a list of files. */
 template <class C, class = void> struct takes_pointer : std::false_type {};
@@ -256,6 +257,66 @@ static void ahead() {
     CHECK(std::holds_alternative<ckpt::answered>(moved.line("tick 1000000000000")) && moved.moment() == 1000000000000);
 }
 
+static bool runs(Coordinator &job, std::uint64_t term, std::uint64_t next_name) {
+    ckpt::running_term told = std::get<ckpt::running_term>(job.term());
+    return told.term == term && told.next_name == next_name;
+}
+
+/* Whether the garbage and the unissued ones of these files are those. */
+static bool sorts(Coordinator &job, const list &files, const list &garbage, const list &unissued) {
+    ckpt::sorted_files told = std::get<ckpt::sorted_files>(job.garbage(files));
+    return told.garbage == garbage && told.unissued == unissued;
+}
+
+/* A task reserves the names 5 to 7, and acknowledges with two. The job is restored: the task can do nothing more, and 7 is garbage. */
+static void names() {
+    const list of{1}, two{6, 5}, seven{7}, eight{8}, nine{9}, files{9, 7, 4, 5, 6, 8};
+    Coordinator job = std::get<Coordinator>(Coordinator::open_fenced(settings(), of, 0, 1, 5));
+    CHECK(runs(job, 1, 5));
+    ckpt::reserved names = std::get<ckpt::reserved>(job.reserve(1, 3));
+    CHECK(names.first == 5 && names.count == 3 && runs(job, 1, 8));
+    CHECK(std::get<ckpt::triggered>(job.tick(1000)).id == 1);
+    CHECK(is(job.ack(1000, 1, 0, 0, two), ckpt::error::fenced_old_term) && is(job.decline(1000, 1, 0, 0), ckpt::error::fenced_old_term));
+    CHECK(is(job.ack_in(1, 1000, 1, 0, 0, eight), ckpt::error::fenced_never_reserved, 8));
+    CHECK(std::holds_alternative<ckpt::ack_completed>(job.ack_in(1, 1000, 1, 0, 0, two)));
+    CHECK(is(job.ack_in(1, 1000, 1, 0, 0, two), ckpt::error::fenced_spent, 5));
+    CHECK(std::get<ckpt::triggered>(job.tick(2000)).id == 2 && sorts(job, files, {4}, {9, 8}));
+    CHECK(std::get<ckpt::checkpoint>(std::get<ckpt::restored>(job.restore(2100)).from).id == 1 && runs(job, 2, 8));
+    CHECK(is(job.ack_in(1, 2200, 2, 0, 0, seven), ckpt::error::fenced_old_term) && is(job.decline_in(1, 2200, 2, 0, 0), ckpt::error::fenced_old_term));
+    CHECK(is(job.reserve(1, 1), ckpt::error::fenced_old_term) && is(job.forfeit(1, seven), ckpt::error::fenced_old_term));
+    CHECK(is(job.ack_in(2, 2200, 2, 0, 0, seven), ckpt::error::fenced_spent, 7) && runs(job, 2, 8));
+    CHECK(std::get<ckpt::reserved>(job.reserve(2, 2)).first == 8 && sorts(job, files, {7, 4}, {}));
+    CHECK(std::holds_alternative<ckpt::forfeited>(job.forfeit(2, eight)) && std::holds_alternative<ckpt::forfeited>(job.forfeit(2, eight)));
+    CHECK(sorts(job, files, {7, 4, 8}, {}) && sorts(job, {}, {}, {}));
+    CHECK(std::get<ckpt::triggered>(job.tick(3100)).id == 3);
+    CHECK(is(job.ack_in(2, 3100, 3, 0, 0, eight), ckpt::error::fenced_spent, 8));
+    CHECK(std::holds_alternative<ckpt::ack_completed>(job.ack_in(2, 3100, 3, 0, 0, nine, two)));
+    CHECK(std::get<ckpt::triggered>(job.tick(4100)).id == 4 && std::get<ckpt::decline_failed>(job.decline_in(2, 4100, 4, 0, 0)).released == 0);
+    Coordinator moved = std::move(job);
+    CHECK(is(job.term(), ckpt::error::closed) && is(job.garbage(files), ckpt::error::closed) && runs(moved, 2, 10));
+}
+
+/* What a coordinator with names, or one without, refuses. */
+static void fences() {
+    const list of{1}, file{5};
+    CHECK(is(Coordinator::open_fenced(settings(), of, std::uint64_t{1} << 62, 0, 0), ckpt::error::bad_name));
+    CHECK(is(Coordinator::open_fenced(settings(), of, 0, 1, (std::uint64_t{1} << 62) + 1), ckpt::error::bad_name));
+    CHECK(is(Coordinator::open_fenced(settings(), {}, 0, 1, 0), ckpt::error::bad_shape));
+    Coordinator job = opened({1});
+    CHECK(is(job.term(), ckpt::error::fenced_no_names) && is(job.reserve(0, 0), ckpt::error::fenced_no_names));
+    CHECK(is(job.forfeit(0, file), ckpt::error::fenced_no_names) && is(job.garbage(file), ckpt::error::fenced_no_names));
+    CHECK(is(job.ack_in(0, 0, 1, 0, 0, file), ckpt::error::fenced_no_names) && is(job.decline_in(0, 0, 1, 0, 0), ckpt::error::fenced_no_names));
+    CHECK(std::get<ckpt::triggered>(job.tick(1000)).id == 1 && std::holds_alternative<ckpt::ack_completed>(job.ack(1000, 1, 0, 0, file)));
+    CHECK(is(job.fence(0), ckpt::error::bad_name) && is(job.fence(5), ckpt::error::fenced_name_in_use) && is(job.fence(4), ckpt::error::fenced_name_in_use));
+    CHECK(is(job.term(), ckpt::error::fenced_no_names));
+    CHECK(std::holds_alternative<ckpt::fenced>(job.fence(6)) && runs(job, 1, 6) && is(job.fence(7), ckpt::error::fenced_has_names));
+    CHECK(is(job.reserve(1, 0), ckpt::error::fenced_bad_count) && is(job.reserve(1, 65537), ckpt::error::fenced_bad_count));
+    CHECK(std::get<ckpt::refused>(job.fence(7)).why.message() == "HasNames" && sorts(job, {4, 5, 6}, {4}, {6}));
+    const std::uint64_t late = 1000 + 5000 + std::uint64_t{48} * 60 * 60 * 1000;
+    CHECK(is(job.ack_in(1, late, 2, 0, 0, {}), ckpt::error::moment_too_large) && is(job.decline_in(1, late, 2, 0, 0), ckpt::error::moment_too_large));
+    CHECK(std::holds_alternative<ckpt::cancelled>(job.cancel(1000)) && runs(job, 2, 6) && is(job.reserve(2, 1), ckpt::error::fenced_ended));
+}
+
 int main(int argc, char **argv) {
     std::size_t calls = 0;
     for (int at = 1; at < argc; at++) {
@@ -273,6 +334,8 @@ int main(int argc, char **argv) {
     refusals();
     moved_from();
     ticks();
+    names();
+    fences();
     CHECK(std::string(relkvanu_version()) == RELKVANU_VERSION);
     return 0;
 }

@@ -19,6 +19,9 @@ static relkvanu_answer answer() { return {code, what, 0, 0}; }
 #undef relkvanu_restore
 #undef relkvanu_take
 #undef relkvanu_refusal_text
+#undef relkvanu_forfeit
+#undef relkvanu_ack_in
+#undef relkvanu_garbage
 extern "C" {
 relkvanu_answer relkvanu_open(relkvanu *handle, const relkvanu_settings *, const uint64_t *, size_t, uint64_t, uint64_t, uint64_t, uint64_t) {
     static char state;
@@ -44,6 +47,13 @@ relkvanu_answer relkvanu_choice(relkvanu *) { return answer(); }
 relkvanu_answer relkvanu_live(relkvanu *, size_t) { return answer(); }
 relkvanu_answer relkvanu_live_from(relkvanu *, uint64_t) { return answer(); }
 relkvanu_answer relkvanu_standing(relkvanu *, uint64_t) { return answer(); }
+relkvanu_answer relkvanu_fence(relkvanu *, uint64_t) { return answer(); }
+relkvanu_answer relkvanu_term(relkvanu *) { return answer(); }
+relkvanu_answer relkvanu_reserve(relkvanu *, uint64_t, uint64_t) { return answer(); }
+relkvanu_answer relkvanu_forfeit(relkvanu *, uint64_t, const uint64_t *, size_t) { return answer(); }
+relkvanu_answer relkvanu_ack_in(relkvanu *, uint64_t, uint64_t, uint64_t, uint16_t, uint16_t, const uint64_t *, size_t, const uint64_t *, size_t) { return answer(); }
+relkvanu_answer relkvanu_decline_in(relkvanu *, uint64_t, uint64_t, uint64_t, uint16_t, uint16_t) { return answer(); }
+relkvanu_answer relkvanu_garbage(relkvanu *, const uint64_t *, size_t, uint64_t *, size_t, uint64_t *, size_t) { return answer(); }
 size_t relkvanu_refusal_text(uint32_t, uint8_t *, size_t) { return 0; }
 }
 
@@ -59,10 +69,12 @@ static int unknown(ckpt::Coordinator &job) {
     std::uint64_t places[1];
     int refused = is_unknown(job.tick(0)) + is_unknown(job.savepoint(0)) + is_unknown(job.ack(0, 1, 0, 0, {})) + is_unknown(job.decline(0, 1, 0, 0)) +
                   is_unknown(job.dispose(1)) + is_unknown(job.restore(0)) + is_unknown(job.cancel(0)) + is_unknown(job.take(places)) +
-                  is_unknown(job.deleted(1)) + is_unknown(job.undeleted(1));
+                  is_unknown(job.deleted(1)) + is_unknown(job.undeleted(1)) + is_unknown(job.fence(1)) + is_unknown(job.term()) +
+                  is_unknown(job.reserve(1, 1)) + is_unknown(job.forfeit(1, {})) + is_unknown(job.ack_in(1, 0, 1, 0, 0, {})) +
+                  is_unknown(job.decline_in(1, 0, 1, 0, 0)) + is_unknown(job.garbage({}));
     int said = (job.mode() == ckpt::mode::unknown) + (job.standing(1) == ckpt::standing::unknown);
     int aborted = aborts([&] { return job.choice(); }) + aborts([&] { return job.live(0); }) + aborts([&] { return job.live_from(0); });
-    std::printf("%d of 10 calls are refused, %d of 2 reads say it, %d of 3 abort\n", refused, said, aborted);
+    std::printf("%d of 17 calls are refused, %d of 2 reads say it, %d of 3 abort\n", refused, said, aborted);
     return refused + said + aborted;
 }
 
@@ -70,7 +82,7 @@ static int unknown(ckpt::Coordinator &job) {
 static int other_codes(ckpt::Coordinator &job) {
     what = 999;
     int refused = 0;
-    for (std::uint32_t it : {RELKVANU_REFUSED, RELKVANU_BAD_ARGUMENT, RELKVANU_BAD_LINE, 99u}) {
+    for (std::uint32_t it : {RELKVANU_REFUSED, RELKVANU_BAD_ARGUMENT, RELKVANU_BAD_LINE, RELKVANU_FENCED, 99u}) {
         code = it;
         auto told = job.tick(0);
         const ckpt::refused *why = std::get_if<ckpt::refused>(&told);
@@ -86,6 +98,6 @@ int main() {
     what = RELKVANU_TICK_FAILED;
     bool is_known = std::holds_alternative<ckpt::failed>(job.tick(0));
     int found = unknown(job), codes = other_codes(job);
-    std::printf("%d of 4 unknown codes are error values, a known answer %s\n", codes, is_known ? "is itself" : "is another one");
-    return is_known && found == 15 && codes == 4 ? 0 : 1;
+    std::printf("%d of 5 unknown codes are error values, a known answer %s\n", codes, is_known ? "is itself" : "is another one");
+    return is_known && found == 22 && codes == 5 ? 0 : 1;
 }

@@ -6,10 +6,10 @@ refused. All exceptions of the package are an Error.
 """
 from relkvanu import calls, lines
 from relkvanu.coordinator import (
-    BadArgument, BadLine, Closed, Coordinator, Error, OutOfMemory, OutOfRange, Refused, Settings, TooShort, Unknown, version,
+    BadArgument, BadLine, Closed, Coordinator, Error, Fenced, OutOfMemory, OutOfRange, Refused, Settings, TooShort, Unknown, version,
 )
 from relkvanu.discarder import Discarded, Discarder, Outbox, Patience
-from relkvanu.reads import Chosen, FileCounts, Kind, Live, Mode, Standing
+from relkvanu.reads import Chosen, FileCounts, Garbage, Kind, Live, Mode, RunningTerm, Standing
 from relkvanu.replies import (
     AckCompleted, AckLate, AckPending, Cancelled, Counted, DeclineAborted, DeclineFailed, DeclineLate, Deleted,
     Disposed, Failed, HeldAtOnce, HeldInterval, HeldPause, Reply, RestoredCheckpoint, RestoredFresh,
@@ -18,8 +18,8 @@ from relkvanu.replies import (
 
 __all__ = [
     "AckCompleted", "AckLate", "AckPending", "BadArgument", "BadLine", "Cancelled", "Chosen", "Closed", "Coordinator", "Counted",
-    "DeclineAborted", "DeclineFailed", "DeclineLate", "Deleted", "Discarded", "Discarder", "Disposed", "Error", "Failed", "FileCounts", "HeldAtOnce",
-    "HeldInterval", "HeldPause", "Kind", "Live", "Mode", "OutOfMemory", "OutOfRange", "Outbox", "Patience", "Refused", "Reply", "RestoredCheckpoint",
-    "RestoredFresh", "RestoredSavepoint", "SavepointTriggered", "Settings", "Shown", "Standing", "Taken", "TooShort", "Triggered", "Undeleted", "Unknown",
+    "DeclineAborted", "DeclineFailed", "DeclineLate", "Deleted", "Discarded", "Discarder", "Disposed", "Error", "Failed", "Fenced", "FileCounts",
+    "Garbage", "HeldAtOnce", "HeldInterval", "HeldPause", "Kind", "Live", "Mode", "OutOfMemory", "OutOfRange", "Outbox", "Patience", "Refused", "Reply", "RestoredCheckpoint",
+    "RestoredFresh", "RestoredSavepoint", "RunningTerm", "SavepointTriggered", "Settings", "Shown", "Standing", "Taken", "TooShort", "Triggered", "Undeleted", "Unknown",
     "calls", "lines", "version",
 ]

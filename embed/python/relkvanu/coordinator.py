@@ -9,7 +9,7 @@ from dataclasses import dataclass
 from typing import Any, Callable, Dict, Iterator, NoReturn, Optional, Sequence, Tuple, TypeVar, Union
 
 from relkvanu import header
-from relkvanu.reads import CHOSEN, LIVE, Chosen, FileCounts, Live, Mode, Standing
+from relkvanu.reads import CHOSEN, LIVE, Chosen, FileCounts, Garbage, Live, Mode, RunningTerm, Standing
 from relkvanu.replies import MADE, HeldAtOnce, Reply, Shown, Taken
 
 LIBRARY = "librelkvanu.so.0"
@@ -64,6 +64,20 @@ class Refused(Error):
 
     def __init__(self, name: str, file: Optional[int]) -> None:
         super().__init__(name, file)  # with these it is made again where it is copied or unpickled
+        self.name = name
+        self.file = file
+
+    def __str__(self) -> str:
+        return self.name if self.file is None else f"{self.name} {self.file}"
+
+
+class Fenced(Error):
+    """The term or the names refuse the call, and nothing has changed. `name` says why, such as "OldTerm". `file` is the file that is to
+    blame, if there is one: after "Spent" and "NeverReserved". After "Spent" a task deletes no file: an accepted acknowledgement
+    may have named it."""
+
+    def __init__(self, name: str, file: Optional[int]) -> None:
+        super().__init__(name, file)
         self.name = name
         self.file = file
 
@@ -229,6 +243,8 @@ def _done(answer: header.relkvanu_answer) -> header.relkvanu_answer:
         raise BadLine(name)
     if answer.code == header.BAD_ARGUMENT and name is not None:
         raise BadArgument(name)
+    if answer.code == header.FENCED and name is not None:
+        raise Fenced(name, answer.a if answer.what in (header.SPENT, header.NEVER_RESERVED) else None)
     raise Unknown(answer.code, answer.what)
 
 
@@ -245,6 +261,13 @@ def _known(kind: Callable[[int], T], answer: header.relkvanu_answer) -> T:
         return kind(_done(answer).what)
     except ValueError:
         raise Unknown(answer.code, answer.what) from None
+
+
+def _told(answer: header.relkvanu_answer, what: int) -> header.relkvanu_answer:
+    """The answer of a call that has this reply only."""
+    if _done(answer).what != what:
+        raise Unknown(answer.code, answer.what)
+    return answer
 
 
 def _written(write: Callable[[Any, int], Any]) -> str:
@@ -283,7 +306,7 @@ class Coordinator:
     calls with no other thread's call between them, use `with job.locked():`.
 
     Each call raises Refused if it is refused, OutOfMemory if memory runs out, Closed after close(), and OutOfRange if a
-    number does not fit. Then nothing has changed.
+    number does not fit. Then nothing has changed. A coordinator with names raises Fenced too.
 
     A moment that is far ahead would stop the job's checkpoints until then. So a call is refused with MomentTooLarge if its moment
     is more than `most_ahead` milliseconds beyond the greatest moment so far, and beyond what a timer waits for. That is a day,
@@ -310,6 +333,18 @@ class Coordinator:
         _done(opened._call("open_saved", _text(text), len(text), *_keys()))
         return opened
 
+    @classmethod
+    def open_fenced(cls, settings: Settings, shape: Sequence[int], now: int, first: int, first_name: int) -> "Coordinator":
+        """Opens a coordinator with names, in term 1. The first name that it gives out is `first_name`: all numbers of files that were
+        used before are below it. ack() and decline() raise Fenced then: its tasks call ack_in() and decline_in(). Raises BadArgument
+        for the settings first, then for the shape, the first name, the moment and the first number."""
+        values = _settings(settings)
+        opened = cls.__new__(cls)
+        opened._begin()
+        numbers = _u64(now), _u64(first), _u64(first_name)
+        _done(opened._call("open_fenced", ctypes.byref(values), _words(shape), len(shape), *numbers, *_keys()))
+        return opened
+
     def _begin(self) -> None:
         self._lock = threading.Condition(threading.RLock())
         self._calls = 0
@@ -330,12 +365,13 @@ class Coordinator:
             self._lock.notify_all()
             return self._replied(name, *arguments)
 
-    def _timed(self, name: str, now: int, *arguments: Any) -> Reply:
-        """A call at a moment."""
+    def _timed(self, name: str, now: int, *arguments: Any, term: Optional[int] = None) -> Reply:
+        """A call at a moment, and in a term if there is one."""
+        terms = () if term is None else (_u64(term),)
         with self._lock:
             if _u64(now) <= LAST_MOMENT and self._is_ahead(now):
                 raise Refused("MomentTooLarge", None)
-            return self._moved(name, now, *arguments)
+            return self._moved(name, *terms, now, *arguments)
 
     def _is_ahead(self, now: int) -> bool:
         past = now - self.most_ahead
@@ -391,6 +427,52 @@ class Coordinator:
 
     def decline(self, now: int, id: int, vertex: int, index: int) -> Reply:
         return self._timed("decline", now, _u64(id), _within(vertex, 16), _within(index, 16))
+
+    # Terms and names. Each accepted restore and cancel ends the term. What a task of an ended term sends raises Fenced("OldTerm"), and
+    # changes nothing. A coordinator without names raises Fenced("NoNames") for each of these calls, except fence().
+
+    def fence(self, first_name: int) -> None:
+        """Gives the coordinator names, from `first_name` on, in term 1. All numbers of files that were used before are below it, those
+        of files that nobody acknowledged too. Make the call between the end of all tasks and their restart. Raises Fenced with
+        HasNames, or with NameInUse if a known file has this number or a greater one, and BadArgument with BadName."""
+        _told(self._call("fence", _u64(first_name)), header.NAMED)
+
+    def term(self) -> RunningTerm:
+        """The term that runs, and the next name that is given out. Whoever restarts the tasks reads it after the restore, and tells
+        each of them once the restore is in the durable log. A task never asks for it: one that should be dead would learn the new term."""
+        answer = _told(self._call("term"), header.TERM)
+        return RunningTerm(answer.a, answer.b)
+
+    def reserve(self, term: int, count: int) -> range:
+        """A task of this term reserves 1 to 65536 names for files that it will write. The reservation is in the durable log before the
+        task uses one of them."""
+        answer = _told(self._call("reserve", _u64(term), _u64(count)), header.RESERVED)
+        return range(answer.a, answer.a + answer.b)
+
+    def forfeit(self, term: int, names: Sequence[int]) -> None:
+        """A task of this term gives up names that it will not acknowledge, such as those of a failed upload: their files are garbage
+        then. Names that the term does not hold are passed over, so the call can be repeated."""
+        _told(self._call("forfeit", _u64(term), _words(names), len(names)), header.FORFEITED)
+
+    def ack_in(
+        self, term: int, now: int, id: int, vertex: int, index: int, fresh: Sequence[int], reused: Sequence[int] = ()
+    ) -> Reply:
+        """ack() of a task of this term. If it is accepted, it spends the names of the fresh files. The same acknowledgement once more
+        raises Fenced with Spent, if it has fresh files: a task deletes no file for that answer."""
+        call = _u64(id), _within(vertex, 16), _within(index, 16), _words(fresh), len(fresh), _words(reused), len(reused)
+        return self._timed("ack_in", now, *call, term=term)
+
+    def decline_in(self, term: int, now: int, id: int, vertex: int, index: int) -> Reply:
+        """decline() of a task of this term."""
+        return self._timed("decline_in", now, _u64(id), _within(vertex, 16), _within(index, 16), term=term)
+
+    def garbage(self, files: Sequence[int]) -> Garbage:
+        """Of these files, in their order: those that are garbage, which may be deleted at any time, also while tasks run; and those
+        whose names were not given out, which nobody deletes. Changes nothing. Ask a coordinator whose calls are durable."""
+        length = len(files)
+        garbage, unissued = (U64 * max(length, 1))(), (U64 * max(length, 1))()
+        answer = _told(self._call("garbage", _words(files), length, garbage, length, unissued, length), header.GARBAGE)
+        return Garbage(tuple(garbage[: answer.a]), tuple(unissued[: answer.b]))
 
     def dispose(self, id: int) -> Reply:
         return self._replied("dispose", _u64(id))

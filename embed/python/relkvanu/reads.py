@@ -1,6 +1,7 @@
 """What the reads return."""
 import enum
 from dataclasses import dataclass
+from typing import NamedTuple, Tuple
 
 from relkvanu import header
 
@@ -56,6 +57,20 @@ class FileCounts:
     in_use: int
     waiting: int
     taken: int
+
+
+class RunningTerm(NamedTuple):
+    """The term that runs, and the next name that is given out."""
+
+    term: int
+    next_name: int
+
+
+class Garbage(NamedTuple):
+    """Of some files: those that may be deleted, and those whose names were not given out, which nobody deletes."""
+
+    garbage: Tuple[int, ...]
+    unissued: Tuple[int, ...]
 
 
 CHOSEN = {header.CHOICE_CHECKPOINT: Kind.CHECKPOINT, header.CHOICE_SAVEPOINT: Kind.SAVEPOINT}

@@ -5,13 +5,14 @@ import os
 import unittest
 
 from relkvanu import (
-    AckCompleted, AckPending, Cancelled, Coordinator, DeclineFailed, Deleted, OutOfMemory, RestoredCheckpoint, Settings,
+    AckCompleted, AckPending, Cancelled, Coordinator, DeclineFailed, Deleted, Fenced, OutOfMemory, RestoredCheckpoint, Settings,
     Taken, Triggered, calls, lines,
 )
 
 SETTINGS = Settings(interval=1000, at_once=2, timeout=5000)
 HEAP = ctypes.CDLL(os.path.join(os.environ["RELKVANU_LIB"], "librelkvanu.so.0"))
 HEAP.heap_refuse.argtypes = [ctypes.c_uint64]
+HEAP.heap_refuse_from.argtypes = [ctypes.c_uint64]
 
 
 HEAP.heap_requests.restype = ctypes.c_uint64
@@ -23,9 +24,9 @@ def requests_of(call):
     return call(), HEAP.heap_requests()
 
 
-def refused(nth, call):
-    """Its answer with that request refused; None if it ran out of memory."""
-    HEAP.heap_refuse(nth)
+def refused(nth, call, refuse=HEAP.heap_refuse):
+    """Its answer with that request refused, or by heap_refuse_from each one from it on; None if it ran out of memory."""
+    refuse(nth)
     try:
         return call()
     except OutOfMemory:
@@ -109,6 +110,43 @@ class Memory(unittest.TestCase):
             self.with_checkpoint_3(job)
             with self.opens(lambda: Coordinator.open_saved(job.save())) as again:
                 self.assertEqual((again.save(), again.show(3).files), (job.save(), job.show(3).files))
+
+    def told_with_names(self, held, call, reply):
+        """Makes the call of a job whose term holds so many names from 5 on, each time with all requests from another one on refused."""
+        files = range(4, 10)
+
+        def opened():
+            job = Coordinator.open_fenced(SETTINGS, [1], 0, 1, 5)
+            if held:
+                job.reserve(1, held)
+            job.tick(1000)
+            return job
+
+        with opened() as job:
+            _, requests = requests_of(lambda: call(job))
+        faults = 0
+        for nth in range(1, requests + 1):
+            with opened() as job:
+                before = job.term(), job.garbage(files), job.file_counts()
+                told = refused(nth, lambda: (call(job),), HEAP.heap_refuse_from)
+                if told is None:
+                    faults += 1
+                    self.assertEqual((job.term(), job.garbage(files), job.file_counts()), before)
+                    told = (call(job),)
+                self.assertEqual(told, (reply,), nth)
+        self.assertGreater(faults, 0)
+
+    def test_names(self):
+        self.told_with_names(0, lambda it: it.reserve(1, 3), range(5, 8))
+        self.told_with_names(3, lambda it: it.forfeit(1, [6]), None)
+        self.told_with_names(3, lambda it: it.ack_in(1, 1000, 1, 0, 0, [7, 5]), AckCompleted(dropped=0, released=0))
+        with Coordinator(SETTINGS, [1], 0) as job:
+            job.tick(1000)
+            job.ack(1000, 1, 0, 0, [4])
+            self.assertIsNone(refused(1, lambda: (job.fence(5),), HEAP.heap_refuse_from))
+            self.assertRaises(Fenced, job.term)
+            job.fence(5)
+            self.assertEqual(job.term(), (1, 5))
 
 
 if __name__ == "__main__":

@@ -16,6 +16,7 @@ with Coordinator(Settings(interval=1000), [1], 0) as job:
     for call in (
         lambda: job.tick(0), lambda: job.ack(0, 1, 0, 0, []), lambda: job.decline(0, 1, 0, 0), lambda: job.restore(0), lambda: job.line(b""),
         lambda: job.line(b"x"), lambda: lines.line_says(b""), job.mode, job.choice, lambda: job.standing(1), lambda: job.live(0),
+        job.term, lambda: job.reserve(1, 1),
     ):
         try:
             print(call())
@@ -32,6 +33,8 @@ Unknown 0 999
 Unknown 0 999
 Unknown 0 999
 Unknown 0 999
+Unknown 0 999
+Unknown 7 999
 Unknown 0 999
 """
 

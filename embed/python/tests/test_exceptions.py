@@ -8,11 +8,15 @@ import tempfile
 import unittest
 
 import relkvanu
-from relkvanu import BadArgument, BadLine, Closed, Coordinator, Error, OutOfMemory, OutOfRange, Refused, Settings, TooShort, Triggered, Unknown, header
+from relkvanu import (
+    BadArgument, BadLine, Closed, Coordinator, Error, Fenced, OutOfMemory, OutOfRange, Refused, Settings, TooShort, Triggered, Unknown, header,
+)
 
 ALL = [
     (Refused("NotRunning", None), "NotRunning", ("name", "file")),
     (Refused("NameTaken", 7), "NameTaken 7", ("name", "file")),
+    (Fenced("OldTerm", None), "OldTerm", ("name", "file")),
+    (Fenced("Spent", 7), "Spent 7", ("name", "file")),
     (TooShort(5), "the line would fetch 5 files", ("places",)),
     (BadArgument("BadShape"), "BadShape", ("name",)),
     (BadLine("Missing"), "Missing", ("name",)),

@@ -146,6 +146,20 @@ pub struct FileCounts {
     pub taken: u64,
 }
 
+/// The term that runs, and the next name that is given out.
+#[derive(Clone, Copy, Debug, PartialEq, Eq, Hash)]
+pub struct RunningTerm {
+    pub term: u64,
+    pub next_name: u64,
+}
+
+/// Of some files: those that may be deleted, and those whose names were not given out, which nobody deletes.
+#[derive(Clone, Debug, PartialEq, Eq, Hash)]
+pub struct Garbage {
+    pub garbage: Vec<u64>,
+    pub unissued: Vec<u64>,
+}
+
 // embed/bindings makes the answers
 /// The answer to a call that was made.
 #[derive(Clone, Copy, Debug, PartialEq, Eq, Hash)]

@@ -1,11 +1,12 @@
 //! The coordinator of one job, for one thread at a time.
-use crate::answer::{self, Answer, Choice, FileCounts, Live, Mode, Standing};
+use crate::answer::{self, Answer, Choice, FileCounts, Garbage, Live, Mode, RunningTerm, Standing};
 use crate::fault::{check_library, done, text, text_in, Fault, Refusal};
 use relkvanu_sys as sys;
 use std::cell::{Cell, UnsafeCell};
 use std::collections::hash_map::RandomState;
 use std::hash::BuildHasher;
 use std::num::NonZeroU64;
+use std::ops::Range;
 
 /// How a job takes checkpoints. Durations are milliseconds.
 #[derive(Clone, Copy, Debug, PartialEq, Eq, Hash)]
@@ -79,6 +80,14 @@ fn called(told: sys::relkvanu_answer) -> Called {
     done(told).and_then(answer::answer)
 }
 
+/// The answer of a call that has this reply only.
+fn reply(told: sys::relkvanu_answer, what: u32) -> Result<sys::relkvanu_answer, Fault> {
+    match done(told)? {
+        told if told.what == what => Ok(told),
+        told => Err(Fault::unknown(told)),
+    }
+}
+
 /// Calls. A call that returns a [`Fault`] has changed nothing.
 impl Coordinator {
     /// Opens a coordinator at the moment `now`. The shape is the number of subtasks of each vertex: 1 to 256 vertices,
@@ -101,6 +110,35 @@ impl Coordinator {
                 shape.len(),
                 now,
                 first,
+                word,
+                other,
+            )
+        })
+    }
+
+    /// Opens a coordinator with names, in term 1. The first name that it gives out is `first_name`, 1 to 2^62: all numbers of
+    /// files that were used before are below it. [`ack`](Self::ack) and [`decline`](Self::decline) are refused then: its tasks
+    /// call [`ack_in`](Self::ack_in) and [`decline_in`](Self::decline_in).
+    ///
+    /// Checks the settings first, then the shape, the first name, the moment and the first number. Takes memory for the
+    /// coordinator.
+    pub fn open_fenced(
+        settings: &Settings,
+        shape: &[u64],
+        now: u64,
+        first: u64,
+        first_name: u64,
+    ) -> Result<Coordinator, Fault> {
+        // SAFETY: the handle is all zero; the settings and the slice outlive the call, which keeps none of them.
+        Coordinator::opened(|handle, word, other| unsafe {
+            sys::relkvanu_open_fenced(
+                handle,
+                &settings.into(),
+                shape.as_ptr(),
+                shape.len(),
+                now,
+                first,
+                first_name,
                 word,
                 other,
             )
@@ -285,6 +323,111 @@ impl Coordinator {
     pub fn undeleted(&mut self, file: u64) -> Called {
         // SAFETY: as in `tick`.
         called(unsafe { sys::relkvanu_undeleted(self.handle(), file) })
+    }
+}
+
+/// Terms and names. Each accepted restore and cancel ends the term. What a task of an ended term sends is refused as
+/// [`OldTerm`](crate::Fenced::OldTerm), and changes nothing. A coordinator without names refuses all but [`fence`](Self::fence) as
+/// [`NoNames`](crate::Fenced::NoNames). A [`Fault`] has changed nothing.
+impl Coordinator {
+    /// Gives the coordinator names, from `first_name` on, 1 to 2^62, in term 1. All numbers of files that were used before are
+    /// below it, those of files that nobody acknowledged too. Make the call between the end of all tasks and their restart.
+    ///
+    /// It is refused as [`NameInUse`](crate::Fenced::NameInUse) if a known file has this number or a greater one.
+    pub fn fence(&mut self, first_name: u64) -> Result<(), Fault> {
+        // SAFETY: as in `tick`.
+        let told = unsafe { sys::relkvanu_fence(self.handle(), first_name) };
+        reply(told, sys::RELKVANU_NAMED).map(|_| ())
+    }
+
+    /// The term that runs, and the next name. Whoever restarts the tasks reads it after the restore, and tells each of them once
+    /// the restore is in the durable log. A task never asks for it: one that should be dead would learn the new term.
+    pub fn term(&self) -> Result<RunningTerm, Fault> {
+        // SAFETY: as in `count`.
+        let told = unsafe { sys::relkvanu_term(self.read_handle()) };
+        reply(told, sys::RELKVANU_TERM).map(|told| RunningTerm {
+            term: told.a,
+            next_name: told.b,
+        })
+    }
+
+    /// A task of this term reserves 1 to 65536 names for files that it will write. The reservation is in the durable log
+    /// before the task uses one of them.
+    pub fn reserve(&mut self, term: u64, count: u64) -> Result<Range<u64>, Fault> {
+        // SAFETY: as in `tick`.
+        let told = unsafe { sys::relkvanu_reserve(self.handle(), term, count) };
+        reply(told, sys::RELKVANU_RESERVED).map(|told| told.a..told.a + told.b)
+    }
+
+    /// A task of this term gives up names that it will not acknowledge, such as those of a failed upload: their files are
+    /// garbage then. Names that the term does not hold are passed over, so the call can be repeated.
+    pub fn forfeit(&mut self, term: u64, names: &[u64]) -> Result<(), Fault> {
+        // SAFETY: as in `tick`; the slice outlives the call, which does not keep it.
+        let told =
+            unsafe { sys::relkvanu_forfeit(self.handle(), term, names.as_ptr(), names.len()) };
+        reply(told, sys::RELKVANU_FORFEITED).map(|_| ())
+    }
+
+    /// [`ack`](Self::ack) of a task of this term. If it is accepted, it spends the names of the fresh files.
+    ///
+    /// The same acknowledgement once more is refused as [`Spent`](crate::Fenced::Spent), if it has fresh files: a task deletes no
+    /// file for that answer.
+    pub fn ack_in(
+        &mut self,
+        term: u64,
+        now: u64,
+        id: u64,
+        subtask: (u16, u16),
+        fresh: &[u64],
+        reused: &[u64],
+    ) -> Called {
+        self.check_moment(now)?;
+        // SAFETY: as in `tick`; the slices outlive the call, which keeps none of them.
+        called(unsafe {
+            sys::relkvanu_ack_in(
+                self.handle(),
+                term,
+                now,
+                id,
+                subtask.0,
+                subtask.1,
+                fresh.as_ptr(),
+                fresh.len(),
+                reused.as_ptr(),
+                reused.len(),
+            )
+        })
+    }
+
+    /// [`decline`](Self::decline) of a task of this term.
+    pub fn decline_in(&mut self, term: u64, now: u64, id: u64, subtask: (u16, u16)) -> Called {
+        self.check_moment(now)?;
+        // SAFETY: as in `tick`.
+        called(unsafe {
+            sys::relkvanu_decline_in(self.handle(), term, now, id, subtask.0, subtask.1)
+        })
+    }
+
+    /// Of these files, in their order: those that are garbage, which may be deleted at any time, also while tasks run; and those
+    /// whose names were not given out, which nobody deletes. Changes nothing. Ask a coordinator whose calls are durable.
+    pub fn garbage(&self, files: &[u64]) -> Result<Garbage, Fault> {
+        let (mut garbage, mut unissued) = (vec![0; files.len()], vec![0; files.len()]);
+        // SAFETY: as in `count`; the slice outlives the call, and each buffer has as many places as is said.
+        let told = unsafe {
+            sys::relkvanu_garbage(
+                self.read_handle(),
+                files.as_ptr(),
+                files.len(),
+                garbage.as_mut_ptr(),
+                garbage.len(),
+                unissued.as_mut_ptr(),
+                unissued.len(),
+            )
+        };
+        let told = reply(told, sys::RELKVANU_GARBAGE)?;
+        garbage.truncate(told.a as usize);
+        unissued.truncate(told.b as usize);
+        Ok(Garbage { garbage, unissued })
     }
 }
 

@@ -207,32 +207,61 @@ impl Fenced {
 }
 // embed/bindings: end
 
+/// The name of a number, which is written into a buffer.
+fn name_of(number: u32, write: impl FnOnce(&mut [u8]) -> usize) -> String {
+    let mut text = [0; 32];
+    let len = write(&mut text);
+    match text.get(..len) {
+        None | Some([]) => format!("Unknown {number}"),
+        Some(name) => String::from_utf8_lossy(name).into_owned(),
+    }
+}
+
 impl Refusal {
     /// The name of the refusal, such as `NotRunning`.
     pub fn name(&self) -> String {
-        let mut text = [0; 32];
-        // SAFETY: the buffer is this function's own, and has as many bytes as is said.
-        let len =
-            unsafe { sys::relkvanu_refusal_text(self.number(), text.as_mut_ptr(), text.len()) };
-        match text.get(..len) {
-            None | Some([]) => format!("Unknown {}", self.number()),
-            Some(name) => String::from_utf8_lossy(name).into_owned(),
-        }
+        // SAFETY: the buffer is borrowed for writing, and has as many bytes as is said.
+        name_of(self.number(), |text| unsafe {
+            sys::relkvanu_refusal_text(self.number(), text.as_mut_ptr(), text.len())
+        })
+    }
+}
+
+impl Fenced {
+    /// The name of the reason, such as `OldTerm`.
+    pub fn name(&self) -> String {
+        // SAFETY: as for a refusal.
+        name_of(self.number(), |text| unsafe {
+            sys::relkvanu_fenced_text(self.number(), text.as_mut_ptr(), text.len())
+        })
+    }
+}
+
+fn write_with_file(f: &mut fmt::Formatter<'_>, name: &str, file: Option<u64>) -> fmt::Result {
+    f.write_str(name)?;
+    match file {
+        Some(file) => write!(f, " {file}"),
+        None => Ok(()),
     }
 }
 
 /// The name, and the file that is to blame, such as `NameTaken 7`.
 impl fmt::Display for Refusal {
     fn fmt(&self, f: &mut fmt::Formatter<'_>) -> fmt::Result {
-        f.write_str(&self.name())?;
-        match self.file() {
-            Some(file) => write!(f, " {file}"),
-            None => Ok(()),
-        }
+        write_with_file(f, &self.name(), self.file())
+    }
+}
+
+/// The name, and the file that is to blame, such as `Spent 7`.
+impl fmt::Display for Fenced {
+    fn fmt(&self, f: &mut fmt::Formatter<'_>) -> fmt::Result {
+        write_with_file(f, &self.name(), self.file())
     }
 }
 
 impl Error for Refusal {}
+
+impl Error for Fenced {}
 
 // embed/bindings makes the faults
 /// Why a call has changed nothing. After [`Unknown`](Fault::Unknown) alone it may have been made.
@@ -321,6 +350,12 @@ impl From<Refusal> for Fault {
     }
 }
 
+impl From<Fenced> for Fault {
+    fn from(why: Fenced) -> Fault {
+        Fault::Fenced(why)
+    }
+}
+
 impl fmt::Display for Fault {
     fn fmt(&self, f: &mut fmt::Formatter<'_>) -> fmt::Result {
         match self {
@@ -330,6 +365,8 @@ impl fmt::Display for Fault {
             Fault::BadShape => f.write_str("the shape is outside its limits"),
             Fault::BadMoment => f.write_str("the opening moment is above 2^62 - 1"),
             Fault::BadFirst => f.write_str("the first number is not within 1 to 2^62 - 1"),
+            Fault::BadName => f.write_str("the first name is not within 1 to 2^62"),
+            Fault::Fenced(why) => write!(f, "the term or the names refuse the call: {why}"),
             Fault::BadImage => f.write_str("the bytes are no image of a coordinator"),
             Fault::Closed => f.write_str("the coordinator is closed"),
             Fault::BadLine(why) => write!(f, "the line can't be read: {why}"),
@@ -354,6 +391,7 @@ impl Error for Fault {
         match self {
             Fault::Refused(why) => Some(why),
             Fault::BadLine(why) => Some(why),
+            Fault::Fenced(why) => Some(why),
             _ => None,
         }
     }

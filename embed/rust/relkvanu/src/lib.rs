@@ -5,6 +5,8 @@
 //! - A [`Call`] can be written as a line of a log and read from it, and [`Coordinator::line`] makes it again. The texts of an
 //!   [`Answer`] and of a [`Refusal`] read back as themselves.
 //! - With the feature `store` a `store::Store` makes its calls durable, in an SQLite file.
+//! - One that was opened by [`Coordinator::open_fenced`], or got names by [`Coordinator::fence`], gives out the numbers of files, each
+//!   once, and refuses tasks of a term that a restore or a cancel has ended, as [`Fault::Fenced`].
 //! - A [`Discarder`] deletes the files that no record uses any more, in threads of its own.
 //!
 //! The coordinator reads no clock and deletes no file by itself. The caller gives the moment of each call, in
@@ -13,7 +15,7 @@
 //!
 //! **Who may delete a file.** The files of an accepted acknowledgement belong to the coordinator, even if it came late.
 //! After a refusal a task deletes a file only if no accepted acknowledgement ever named it: after
-//! [`Refusal::AlreadyAcknowledged`] and [`Refusal::NameTaken`] the file may be in use.
+//! [`Refusal::AlreadyAcknowledged`], [`Refusal::NameTaken`] and [`Fenced::Spent`] the file may be in use.
 #![warn(clippy::undocumented_unsafe_blocks)]
 
 mod answer;
@@ -27,7 +29,7 @@ mod shared;
 #[cfg(feature = "store")]
 pub mod store;
 
-pub use answer::{Answer, Choice, FileCounts, Kind, Live, Mode, Standing};
+pub use answer::{Answer, Choice, FileCounts, Garbage, Kind, Live, Mode, RunningTerm, Standing};
 pub use call::Call;
 pub use coordinator::{Coordinator, Settings};
 pub use discarder::{Discarded, Discarder, Outbox, Patience};

@@ -1,6 +1,6 @@
 //! Reads back the texts of answers and refusals, as a log has them: the inverse of their `Display`.
 use crate::answer::{answer, Answer, Choice, Kind, TEXTS};
-use crate::fault::Refusal;
+use crate::fault::{Fenced, Refusal};
 use relkvanu_sys as sys;
 use std::error::Error;
 use std::fmt;
@@ -82,15 +82,31 @@ impl FromStr for Refusal {
     type Err = ParseError;
 
     fn from_str(text: &str) -> Result<Refusal, ParseError> {
-        let (name, file) = match text.split_once(' ') {
-            Some((name, file)) => (name, Some(number(file).ok_or(ParseError)?)),
-            None => (text, None),
-        };
-        let of_file = file.unwrap_or_default();
-        let found = Refusal::all(of_file)
+        let (name, file) = name_and_file(text)?;
+        let found = Refusal::all(file.unwrap_or_default())
             .into_iter()
             .find(|one| one.name() == name);
         found.filter(|one| one.file() == file).ok_or(ParseError)
+    }
+}
+
+/// Reads a name, and the file that is to blame, as `Spent 7`. A reason that this crate does not know does not read back.
+impl FromStr for Fenced {
+    type Err = ParseError;
+
+    fn from_str(text: &str) -> Result<Fenced, ParseError> {
+        let (name, file) = name_and_file(text)?;
+        let found = Fenced::all(file.unwrap_or_default())
+            .into_iter()
+            .find(|one| one.name() == name);
+        found.filter(|one| one.file() == file).ok_or(ParseError)
+    }
+}
+
+fn name_and_file(text: &str) -> Result<(&str, Option<u64>), ParseError> {
+    match text.split_once(' ') {
+        Some((name, file)) => Ok((name, Some(number(file).ok_or(ParseError)?))),
+        None => Ok((text, None)),
     }
 }
 
@@ -204,6 +220,29 @@ mod tests {
             "Unknown 99",
         ] {
             assert_eq!(other.parse::<Refusal>(), Err(ParseError), "{other:?}");
+        }
+    }
+
+    #[test]
+    fn each_reason_of_a_fence_reads_back_as_itself() {
+        for file in [0, 7, u64::MAX] {
+            for why in Fenced::all(file) {
+                let text = why.to_string();
+                assert_eq!(text.parse(), Ok(why), "{text}");
+                assert_eq!(text.parse::<Refusal>(), Err(ParseError), "{text}");
+                assert_eq!(format!("{text} 7").parse::<Fenced>(), Err(ParseError));
+            }
+        }
+        assert_eq!(Fenced::Spent(7).to_string(), "Spent 7");
+        for other in [
+            "",
+            "Spent",
+            "Spent 07",
+            "OldTerm 0",
+            "oldterm",
+            "Unknown 99",
+        ] {
+            assert_eq!(other.parse::<Fenced>(), Err(ParseError), "{other:?}");
         }
     }
 

@@ -1,9 +1,10 @@
 //! The coordinator of one job, for any number of threads.
-use crate::answer::{Answer, Choice, FileCounts, Live, Mode, Standing};
+use crate::answer::{Answer, Choice, FileCounts, Garbage, Live, Mode, RunningTerm, Standing};
 use crate::coordinator::{Coordinator, Settings};
 use crate::fault::Fault;
 use crate::lines::Said;
 use std::num::NonZeroU64;
+use std::ops::Range;
 use std::sync::{Arc, Condvar, Mutex, MutexGuard, PoisonError};
 use std::time::Duration;
 
@@ -55,6 +56,18 @@ impl SharedCoordinator {
         first: u64,
     ) -> Result<SharedCoordinator, Fault> {
         Coordinator::open(settings, shape, now, first).map(SharedCoordinator::from)
+    }
+
+    /// Opens a coordinator with names, as [`Coordinator::open_fenced`].
+    pub fn open_fenced(
+        settings: &Settings,
+        shape: &[u64],
+        now: u64,
+        first: u64,
+        first_name: u64,
+    ) -> Result<SharedCoordinator, Fault> {
+        Coordinator::open_fenced(settings, shape, now, first, first_name)
+            .map(SharedCoordinator::from)
     }
 
     /// Opens the coordinator that an image describes, as [`Coordinator::open_saved`].
@@ -135,6 +148,48 @@ impl SharedCoordinator {
 
     pub fn decline(&self, now: u64, id: u64, subtask: (u16, u16)) -> Called {
         self.with(|it| it.decline(now, id, subtask))
+    }
+
+    /// Gives the coordinator names: [`Coordinator::fence`].
+    pub fn fence(&self, first_name: u64) -> Result<(), Fault> {
+        self.quietly(|it| it.fence(first_name))
+    }
+
+    /// [`Coordinator::term`] says who asks for it.
+    pub fn term(&self) -> Result<RunningTerm, Fault> {
+        self.read(Coordinator::term)
+    }
+
+    /// Reserves names: [`Coordinator::reserve`].
+    pub fn reserve(&self, term: u64, count: u64) -> Result<Range<u64>, Fault> {
+        self.quietly(|it| it.reserve(term, count))
+    }
+
+    /// Gives names up: [`Coordinator::forfeit`].
+    pub fn forfeit(&self, term: u64, names: &[u64]) -> Result<(), Fault> {
+        self.quietly(|it| it.forfeit(term, names))
+    }
+
+    /// [`Coordinator::ack_in`] says who may then delete the files.
+    pub fn ack_in(
+        &self,
+        term: u64,
+        now: u64,
+        id: u64,
+        subtask: (u16, u16),
+        fresh: &[u64],
+        reused: &[u64],
+    ) -> Called {
+        self.with(|it| it.ack_in(term, now, id, subtask, fresh, reused))
+    }
+
+    pub fn decline_in(&self, term: u64, now: u64, id: u64, subtask: (u16, u16)) -> Called {
+        self.with(|it| it.decline_in(term, now, id, subtask))
+    }
+
+    /// Which of these files may be deleted: [`Coordinator::garbage`].
+    pub fn garbage(&self, files: &[u64]) -> Result<Garbage, Fault> {
+        self.read(|it| it.garbage(files))
     }
 
     pub fn dispose(&self, id: u64) -> Called {

@@ -4,11 +4,12 @@
 #![cfg(refusing_heap)]
 mod settings;
 
-use relkvanu::{Answer, Call, Choice, Coordinator, Fault, Said, Settings};
+use relkvanu::{Answer, Call, Choice, Coordinator, Fault, Fenced, Said, Settings};
 use settings::SETTINGS;
 
 extern "C" {
     fn heap_refuse(nth: u64);
+    fn heap_refuse_from(nth: u64);
     fn heap_requests() -> u64;
 }
 
@@ -20,6 +21,15 @@ fn refused<T>(nth: u64, call: impl FnOnce() -> T) -> (T, u64) {
     let requests = unsafe { heap_requests() };
     unsafe { heap_refuse(0) };
     (told, requests)
+}
+
+/// Makes a call with all requests for memory from the nth on refused.
+fn refused_from<T>(nth: u64, call: impl FnOnce() -> T) -> T {
+    // SAFETY: as in `refused`.
+    unsafe { heap_refuse_from(nth) };
+    let told = call();
+    unsafe { heap_refuse(0) };
+    told
 }
 
 /// Makes the call of a coordinator; and of copies of it, each with another request refused.
@@ -182,6 +192,58 @@ fn texts(job: &mut Coordinator) {
     told(job, false, |_| said(b"show 3"), show);
 }
 
+/// Makes the call of a job whose term holds so many names from 5 on, each time with all requests from another one on refused.
+fn told_with_names<T: PartialEq + std::fmt::Debug>(
+    held: u64,
+    call: impl Fn(&mut Coordinator) -> Result<T, Fault>,
+    wanted: T,
+) {
+    let seen = |job: &Coordinator| (job.term(), job.garbage(&[4, 5, 6, 7, 8]), job.file_counts());
+    let open = || {
+        let mut job = Coordinator::open_fenced(&SETTINGS, &[1], 0, 1, 5).unwrap();
+        if held > 0 {
+            job.reserve(1, held).unwrap();
+        }
+        job.tick(1000).unwrap();
+        job
+    };
+    let (_, requests) = refused(0, || call(&mut open()));
+    let mut faults = 0;
+    for nth in 1..=requests {
+        let mut job = open();
+        let before = seen(&job);
+        let mut answer = refused_from(nth, || call(&mut job));
+        if answer.is_err() {
+            assert_eq!(answer, Err(Fault::Memory), "request {nth}");
+            assert_eq!(seen(&job), before, "request {nth}");
+            faults += 1;
+            answer = call(&mut job);
+        }
+        assert_eq!(answer.as_ref(), Ok(&wanted), "request {nth}");
+    }
+    assert!(faults > 0);
+}
+
+fn names() {
+    told_with_names(0, |it| it.reserve(1, 3), 5..8);
+    told_with_names(3, |it| it.forfeit(1, &[6]), ());
+    let completed = Answer::AckCompleted {
+        dropped: 0,
+        released: 0,
+    };
+    told_with_names(
+        3,
+        |it| it.ack_in(1, 1000, 1, (0, 0), &[7, 5], &[]),
+        completed,
+    );
+    let mut job = Coordinator::open(&SETTINGS, &[1], 0, 1).unwrap();
+    job.tick(1000).unwrap();
+    job.ack(1000, 1, (0, 0), &[4], &[]).unwrap();
+    assert_eq!(refused_from(1, || job.fence(5)), Err(Fault::Memory));
+    assert_eq!(job.term(), Err(Fenced::NoNames.into()));
+    assert_eq!(job.fence(5), Ok(()));
+}
+
 #[test]
 fn each_request_for_memory_is_refused() {
     let settings = Settings {
@@ -196,4 +258,5 @@ fn each_request_for_memory_is_refused() {
     told(&mut job, true, |it| it.save(), image);
     texts(&mut job);
     calls(&mut job);
+    names();
 }

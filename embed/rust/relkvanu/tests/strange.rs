@@ -27,7 +27,7 @@ fn a_library_of_another_version_is_refused() {
 #[cfg(unknown_answers)]
 #[test]
 fn an_answer_that_nobody_knows_is_an_error_and_no_panic() {
-    use relkvanu::{Choice, Kind, LineFault, Mode, Refusal, Standing};
+    use relkvanu::{Choice, Fenced, Kind, LineFault, Mode, Refusal, Standing};
 
     let done = Fault::Unknown { code: 0, what: 999 };
     let mut job = Coordinator::open(&SETTINGS, &[1], 0, 1).unwrap();
@@ -54,6 +54,9 @@ fn an_answer_that_nobody_knows_is_an_error_and_no_panic() {
     assert_eq!(job.choice(), Choice::Unknown(999));
     assert_eq!(job.standing(1), Standing::Unknown(999));
     assert_eq!(job.live(0).map(|it| it.kind), Some(Kind::Unknown(999)));
+    assert_eq!(job.term(), Err(Fault::Fenced(Fenced::Unknown(999))));
+    assert_eq!(job.reserve(1, 1), Err(done));
     assert!(done.to_string().contains("what 999"));
+    assert_eq!(Fenced::Unknown(999).name(), "Unknown 999");
     assert_eq!(Refusal::Unknown(999).name(), "Unknown 999");
 }

@@ -1,0 +1,219 @@
+//! Terms and names: what a task of the term that runs may do, what one of an ended term may not, and what is garbage.
+mod settings;
+
+use relkvanu::{
+    Answer, Choice, Coordinator, Fault, Fenced, Garbage, Refusal, RunningTerm, Settings,
+    SharedCoordinator,
+};
+use settings::SETTINGS;
+use std::error::Error;
+
+const NAMES_END: u64 = 1 << 62;
+const COMPLETED: Result<Answer, Fault> = Ok(Answer::AckCompleted {
+    dropped: 0,
+    released: 0,
+});
+
+fn term(term: u64, next_name: u64) -> Result<RunningTerm, Fault> {
+    Ok(RunningTerm { term, next_name })
+}
+
+fn sorted(garbage: &[u64], unissued: &[u64]) -> Result<Garbage, Fault> {
+    Ok(Garbage {
+        garbage: garbage.to_vec(),
+        unissued: unissued.to_vec(),
+    })
+}
+
+fn fenced<T>(why: Fenced) -> Result<T, Fault> {
+    Err(why.into())
+}
+
+/// A task has reserved the names 5 to 7, and acknowledged checkpoint 1 with 5 and 6. Checkpoint 2 is pending.
+fn with_checkpoint_1() -> Coordinator {
+    let mut job = Coordinator::open_fenced(&SETTINGS, &[1], 0, 1, 5).unwrap();
+    assert_eq!(job.term(), term(1, 5));
+    assert_eq!(job.reserve(1, 3), Ok(5..8));
+    job.tick(1000).unwrap();
+    assert_eq!(job.ack_in(1, 1000, 1, (0, 0), &[6, 5], &[]), COMPLETED);
+    job.tick(2000).unwrap();
+    job
+}
+
+#[test]
+fn the_first_bad_argument_of_an_opening_is_told() {
+    let bad = Settings {
+        interval: 9,
+        ..SETTINGS
+    };
+    let open = |settings, shape: &[u64], now, first, first_name| {
+        Coordinator::open_fenced(settings, shape, now, first, first_name).err()
+    };
+    assert_eq!(open(&bad, &[], NAMES_END, 0, 0), Some(Fault::BadConfig));
+    assert_eq!(open(&SETTINGS, &[], NAMES_END, 0, 0), Some(Fault::BadShape));
+    assert_eq!(open(&SETTINGS, &[1], NAMES_END, 0, 0), Some(Fault::BadName));
+    assert_eq!(
+        open(&SETTINGS, &[1], 0, 1, NAMES_END + 1),
+        Some(Fault::BadName)
+    );
+    assert_eq!(
+        open(&SETTINGS, &[1], NAMES_END, 0, NAMES_END),
+        Some(Fault::BadMoment)
+    );
+    assert_eq!(open(&SETTINGS, &[1], 0, 0, 1), Some(Fault::BadFirst));
+}
+
+#[test]
+fn an_acknowledgement_spends_its_names() {
+    let mut job = with_checkpoint_1();
+    assert_eq!(
+        job.ack_in(1, 1000, 1, (0, 0), &[6, 5], &[]),
+        fenced(Fenced::Spent(5))
+    );
+    assert_eq!(
+        job.ack_in(1, 2000, 2, (0, 0), &[7, 8], &[]),
+        fenced(Fenced::NeverReserved(8))
+    );
+    let old = fenced(Fenced::OldTerm);
+    assert_eq!(job.ack(2000, 2, (0, 0), &[7], &[]), old);
+    assert_eq!(job.decline(2000, 2, (0, 0)), old);
+    assert_eq!(job.ack_in(2, 2000, 2, (0, 0), &[7], &[]), old);
+    let replaced = Answer::AckCompleted {
+        dropped: 1,
+        released: 1,
+    };
+    assert_eq!(job.ack_in(1, 2000, 2, (0, 0), &[7], &[5]), Ok(replaced));
+}
+
+#[test]
+fn a_restore_ends_the_term() {
+    let mut job = with_checkpoint_1();
+    let files = [9, 7, 4, 5, 6, 8, 7];
+    assert_eq!(job.garbage(&files), sorted(&[4], &[9, 8]));
+    let from = Choice::Checkpoint(1);
+    let restored = Answer::Restored { from, released: 0 };
+    assert_eq!(job.restore(2100, None, None), Ok(restored));
+    assert_eq!(job.term(), term(2, 8));
+    let old = fenced(Fenced::OldTerm);
+    assert_eq!(job.ack_in(1, 2200, 2, (0, 0), &[7], &[]), old);
+    assert_eq!(job.ack_in(1, 2200, 2, (0, 0), &[], &[]), old);
+    assert_eq!(job.decline_in(1, 2200, 2, (0, 0)), old);
+    assert_eq!(job.reserve(1, 1), fenced(Fenced::OldTerm));
+    assert_eq!(job.forfeit(1, &files), fenced(Fenced::OldTerm));
+    assert_eq!(
+        job.ack_in(2, 2200, 2, (0, 0), &[7], &[]),
+        fenced(Fenced::Spent(7))
+    );
+    assert_eq!((job.term(), job.moment()), (term(2, 8), 2100));
+    assert_eq!(job.file_counts().in_use, 2);
+    assert_eq!(job.reserve(2, 1), Ok(8..9));
+    let late = Answer::AckLate { handed_out: 1 };
+    assert_eq!(job.ack_in(2, 2300, 2, (0, 0), &[8], &[]), Ok(late));
+    assert_eq!(job.take(&mut [0; 2]), Ok(&[8][..]));
+    assert_eq!(job.garbage(&files), sorted(&[7, 4, 7], &[9]));
+}
+
+#[test]
+fn forfeited_names_are_garbage() {
+    let mut job = with_checkpoint_1();
+    for _ in 0..2 {
+        assert_eq!(job.forfeit(1, &[7, 5, 99]), Ok(()));
+        assert_eq!(job.garbage(&[5, 7, 99]), sorted(&[7], &[99]));
+    }
+    assert_eq!(
+        job.ack_in(1, 2000, 2, (0, 0), &[7], &[]),
+        fenced(Fenced::Spent(7))
+    );
+    assert_eq!(job.forfeit(1, &[]), Ok(()));
+    assert_eq!(job.garbage(&[]), sorted(&[], &[]));
+}
+
+#[test]
+fn a_task_declines_in_its_term() {
+    let mut job = with_checkpoint_1();
+    let failed = Answer::DeclineFailed { released: 0 };
+    assert_eq!(job.decline_in(1, 2000, 2, (0, 0)), Ok(failed));
+    job.cancel(2000).unwrap();
+    assert_eq!(job.term(), term(2, 8));
+    assert_eq!(job.reserve(2, 1), fenced(Fenced::Ended));
+}
+
+#[test]
+fn how_many_names_are_reserved() {
+    let mut job = Coordinator::open_fenced(&SETTINGS, &[1], 0, 1, NAMES_END - 1).unwrap();
+    assert_eq!(job.reserve(1, 0), fenced(Fenced::BadCount));
+    assert_eq!(job.reserve(1, 65537), fenced(Fenced::BadCount));
+    assert_eq!(job.reserve(1, 65536), fenced(Fenced::NamesUsedUp));
+    assert_eq!(job.reserve(1, 1), Ok(NAMES_END - 1..NAMES_END));
+    assert_eq!(job.reserve(1, 1), fenced(Fenced::NamesUsedUp));
+}
+
+#[test]
+fn a_fence_is_above_each_known_file() {
+    let mut job = Coordinator::open(&SETTINGS, &[1], 0, 1).unwrap();
+    job.tick(1000).unwrap();
+    job.ack(1000, 1, (0, 0), &[5], &[]).unwrap();
+    assert_eq!(job.fence(0), Err(Fault::BadName));
+    assert_eq!(job.fence(5), fenced(Fenced::NameInUse));
+    assert_eq!(job.fence(4), fenced(Fenced::NameInUse));
+    assert_eq!(job.term(), fenced(Fenced::NoNames));
+    assert_eq!((job.fence(6), job.term()), (Ok(()), term(1, 6)));
+    assert_eq!(job.fence(7), fenced(Fenced::HasNames));
+    assert_eq!(job.garbage(&[4, 5, 6]), sorted(&[4], &[6]));
+}
+
+#[test]
+fn a_coordinator_without_names_has_none() {
+    let mut job = Coordinator::open(&SETTINGS, &[1], 0, 1).unwrap();
+    assert_eq!(job.term(), fenced(Fenced::NoNames));
+    assert_eq!(job.reserve(0, 0), fenced(Fenced::NoNames));
+    assert_eq!(job.forfeit(0, &[5]), fenced(Fenced::NoNames));
+    assert_eq!(job.garbage(&[5]), fenced(Fenced::NoNames));
+    let none = fenced(Fenced::NoNames);
+    assert_eq!(job.ack_in(0, 0, 1, (0, 0), &[5], &[]), none);
+    assert_eq!(job.decline_in(0, 0, 1, (0, 0)), none);
+    job.tick(1000).unwrap();
+    assert_eq!(job.ack(1000, 1, (0, 0), &[5], &[]), COMPLETED);
+}
+
+#[test]
+fn a_moment_that_is_far_ahead_is_refused() {
+    const DAY: u64 = 24 * 60 * 60 * 1000;
+    let mut job = with_checkpoint_1();
+    let late = 2000 + SETTINGS.timeout + DAY + 1; // a timer may wait until checkpoint 2 expires
+    let too_large = Err(Refusal::MomentTooLarge.into());
+    assert_eq!(job.ack_in(1, late, 2, (0, 0), &[7], &[]), too_large);
+    assert_eq!(job.decline_in(1, late, 2, (0, 0)), too_large);
+    job.ack_in(1, late - 1, 2, (0, 0), &[7], &[]).unwrap();
+}
+
+#[test]
+fn a_shared_one_makes_the_same_calls() {
+    let job = SharedCoordinator::open_fenced(&SETTINGS, &[1], 0, 1, 5).unwrap();
+    assert_eq!((job.reserve(1, 3), job.term()), (Ok(5..8), term(1, 8)));
+    assert_eq!(job.calls(), 0);
+    job.tick(1000).unwrap();
+    assert_eq!(job.ack_in(1, 1000, 1, (0, 0), &[5], &[]), COMPLETED);
+    assert_eq!(job.calls(), 2);
+    assert_eq!(job.forfeit(1, &[6]), Ok(()));
+    assert_eq!(job.garbage(&[5, 6, 7, 8]), sorted(&[6], &[8]));
+    assert_eq!(job.fence(9), fenced(Fenced::HasNames));
+    job.tick(2000).unwrap();
+    let failed = Answer::DeclineFailed { released: 0 };
+    assert_eq!(job.decline_in(1, 2000, 2, (0, 0)), Ok(failed));
+    assert_eq!(job.calls(), 4);
+}
+
+#[test]
+fn what_refuses_a_call_is_told_in_words() {
+    let told: Fault = Fenced::Spent(7).into();
+    assert_eq!(
+        told.to_string(),
+        "the term or the names refuse the call: Spent 7"
+    );
+    assert_eq!(told.source().unwrap().to_string(), "Spent 7");
+    assert_eq!(
+        Fault::BadName.to_string(),
+        "the first name is not within 1 to 2^62"
+    );
+}
