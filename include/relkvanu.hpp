@@ -307,10 +307,11 @@ public:
         });
     }
 
-    /* Opens the coordinator that an image describes. It answers every list of calls as the saved one would. */
+    /* Opens the coordinator that an image describes. It answers every list of calls as the saved one would. An image with names is
+     * error::bad_image: this header has no names. */
     [[nodiscard]] static std::variant<Coordinator, refused> open_saved(std::string_view image) {
         return opened([&](relkvanu *handle, std::uint64_t word, std::uint64_t other) {
-            return relkvanu_open_saved(handle, reinterpret_cast<const std::uint8_t *>(image.data()), image.size(), word, other);
+            return without_names(handle, relkvanu_open_saved(handle, reinterpret_cast<const std::uint8_t *>(image.data()), image.size(), word, other));
         });
     }
 
@@ -538,6 +539,15 @@ private:
     Coordinator() = default;
 
     /* A coordinator whose handle this function opens with two random words. */
+    /* The answer to an opening. A handle with names is closed again. */
+    static relkvanu_answer without_names(relkvanu *handle, relkvanu_answer told) noexcept {
+        if (told.code != RELKVANU_DONE || relkvanu_term(handle).code != RELKVANU_DONE) {
+            return told;
+        }
+        relkvanu_close(handle);
+        return relkvanu_answer{RELKVANU_BAD_ARGUMENT, RELKVANU_BAD_IMAGE, 0, 0};
+    }
+
     template <class Open> static std::variant<Coordinator, refused> opened(Open open) {
         Coordinator it;
         std::random_device random;

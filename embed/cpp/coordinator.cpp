@@ -102,6 +102,8 @@ static void is_saved() {
     CHECK(std::get<ckpt::triggered>(again.tick(3000)).id == 4 && std::get<ckpt::triggered>(job.tick(3000)).id == 4);
     CHECK(std::get<std::string>(again.save()) == std::get<std::string>(job.save()));
     CHECK(is(Coordinator::open_saved("{}"), ckpt::error::bad_image) && is(Coordinator::open_saved(""), ckpt::error::bad_image));
+    image.replace(image.find("\"version\":1"), 11, "\"names\":{\"next\":100,\"term\":1,\"unspent\":[]},\"version\":2");
+    CHECK(is(Coordinator::open_saved(image), ckpt::error::bad_image));
 }
 
 static void files() {

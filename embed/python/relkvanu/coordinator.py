@@ -284,11 +284,15 @@ class Coordinator:
     @classmethod
     def open_saved(cls, image: Union[str, bytes]) -> "Coordinator":
         """Opens the coordinator that an image describes, which save() returned (docs/IMAGE.md). It answers every list of calls as
-        the saved one would. Raises BadArgument if the text is not an image, or if the state is not sound, or no coordinator could be opened so."""
+        the saved one would. Raises BadArgument if the text is not an image, or if the state is not sound, or no coordinator could be opened so,
+        or if the image has names: this package has none."""
         text = image.encode() if isinstance(image, str) else image
         opened = cls.__new__(cls)
         opened._begin()
         _done(opened._call("open_saved", _text(text), len(text), *_keys()))
+        if opened._call("term").code == header.DONE:
+            opened.close()
+            raise BadArgument("BadImage")
         return opened
 
     def _begin(self) -> None:

@@ -76,7 +76,8 @@ class Reads(unittest.TestCase):
         cut = [image[:end] for end in range(len(image))]
         # a record that no coordinator has given out yet, and files that are in use and wait
         damaged = [image.replace(b'"next":4', b'"next":3'), image.replace(b'"waiting":[2,3]', b'"waiting":[1,3]')]
-        for text in (b"{}", b'{"version": 1}', b"\xff", image + b"x", *cut, *damaged):
+        named = image.replace(b'"version":1', b'"names":{"next":100,"term":1,"unspent":[]},"version":2')
+        for text in (b"{}", b'{"version": 1}', b"\xff", image + b"x", *cut, *damaged, named):
             with self.assertRaises(BadArgument) as raised:
                 Coordinator.open_saved(text)
             self.assertEqual(raised.exception.name, "BadImage")

@@ -108,11 +108,13 @@ impl Coordinator {
     }
 
     /// Opens the coordinator that an image describes, which [`save`](Self::save) wrote (`docs/IMAGE.md`). It answers
-    /// every list of calls as the saved one would. Takes memory for the coordinator.
+    /// every list of calls as the saved one would. An image with names is [`Fault::BadImage`]: this crate has no names.
+    /// Takes memory for the coordinator.
     pub fn open_saved(image: &[u8]) -> Result<Coordinator, Fault> {
         // SAFETY: the handle is all zero; the slice outlives the call, which does not keep it.
         Coordinator::opened(|handle, word, other| unsafe {
-            sys::relkvanu_open_saved(handle, image.as_ptr(), image.len(), word, other)
+            let told = sys::relkvanu_open_saved(handle, image.as_ptr(), image.len(), word, other);
+            without_names(handle, told)
         })
     }
 
@@ -475,5 +477,26 @@ fn files(write: impl Fn(&mut [u64]) -> sys::relkvanu_answer) -> Result<Option<Ve
         let told = done(told)?;
         files.truncate(told.a as usize);
         return Ok((told.what == sys::RELKVANU_FILES).then_some(files));
+    }
+}
+
+/// The answer to an opening. A handle with names is closed again.
+///
+/// # Safety
+///
+/// The handle is valid, and no other call uses it.
+unsafe fn without_names(
+    handle: *mut sys::relkvanu,
+    told: sys::relkvanu_answer,
+) -> sys::relkvanu_answer {
+    if told.code != sys::RELKVANU_DONE || sys::relkvanu_term(handle).code != sys::RELKVANU_DONE {
+        return told;
+    }
+    sys::relkvanu_close(handle);
+    sys::relkvanu_answer {
+        code: sys::RELKVANU_BAD_ARGUMENT,
+        what: sys::RELKVANU_BAD_IMAGE,
+        a: 0,
+        b: 0,
     }
 }

@@ -266,10 +266,14 @@ fn bytes_that_are_no_image_open_nothing() {
     for end in 0..image.len() {
         assert!(is_bad(&image.as_bytes()[..end]), "cut after {end} bytes");
     }
-    // a record whose number was not given yet, and a file that is in use and waits
+    // a record whose number was not given yet, a file that is in use and waits, and an image with names
     for (old, new) in [
         (r#""next":4"#, r#""next":3"#),
         (r#""waiting":[2,3]"#, r#""waiting":[1,3]"#),
+        (
+            r#""version":1"#,
+            r#""names":{"next":100,"term":1,"unspent":[]},"version":2"#,
+        ),
     ] {
         assert!(image.contains(old), "{image}");
         assert!(is_bad(image.replace(old, new).as_bytes()), "{new}");
