@@ -580,15 +580,17 @@ RELKVANU_NODISCARD relkvanu_answer relkvanu_opening_lines(const relkvanu_setting
 /* Images: save a coordinator, and open it again. docs/IMAGE.md has the format. */
 
 /* Writes the image of the coordinator, all of its state, as JSON without a zero at its end. A handle that is opened with the
- * image answers every list of calls as this one would.
+ * image answers every list of calls as this one would. The image of a handle with names has its term and its names.
  *
  * RELKVANU_SAVED; RELKVANU_TOO_SHORT, and a is its number of bytes: call again with a buffer of that many. Only RELKVANU_SAVED
- * changes the buffer, and nothing else changes. Takes memory, even if the buffer is too short. An image has no names yet: a handle
- * with names returns RELKVANU_FENCED with RELKVANU_HAS_NAMES. */
+ * changes the buffer, and nothing else changes. Takes memory, even if the buffer is too short. */
 RELKVANU_NODISCARD relkvanu_answer relkvanu_save(relkvanu *handle, uint8_t *image, size_t image_len);
 
-/* Opens the coordinator that an image describes in a closed handle. The two words have the meaning that they have in
- * relkvanu_open. They may differ from those of the coordinator that was saved.
+/* Opens the coordinator that an image describes in a closed handle: with names if the image has names, otherwise without. The two
+ * words have the meaning that they have in relkvanu_open. They may differ from those of the coordinator that was saved.
+ *
+ * Condition for the caller: all calls that were made after the save are made again, before any task makes a call. Otherwise names
+ * that were given out since then are given out again, and a term that has ended runs again.
  *
  * RELKVANU_OPENED; or RELKVANU_BAD_ARGUMENT, and the handle stays as it was: RELKVANU_ALREADY_OPEN, RELKVANU_BAD_IMAGE. Takes memory: after
  * RELKVANU_NO_MEMORY the handle is closed, as before. */
@@ -639,7 +641,7 @@ RELKVANU_NODISCARD relkvanu_answer relkvanu_taken_files(relkvanu *handle, uint64
  *
  * On a handle with names a call without a term has the term 0, which none has: relkvanu_ack and relkvanu_decline are refused with
  * RELKVANU_OLD_TERM, and so are the lines of such calls. relkvanu_restore and relkvanu_cancel end the term; after 2^62 terms they are
- * refused with RELKVANU_TERMS_USED_UP. relkvanu_save has no names yet, and refuses such a handle. All other functions work as without.
+ * refused with RELKVANU_TERMS_USED_UP. All other functions work as without.
  *
  * RELKVANU_FENCED and its reasons come before any RELKVANU_REFUSED. */
 

@@ -75,7 +75,6 @@ static void given_up(void) {
 static void buffers(void) {
     relkvanu job = named(5);
     uint64_t files[] = {1, 6}, left[] = {70, 71, 72}, others[] = {80, 81, 82};
-    uint8_t image[] = {9, 9};
     expect(relkvanu_garbage(&job, files, 2, left, 1, others, 2), RELKVANU_TOO_SHORT, 0, 2, 2, __LINE__);
     expect(relkvanu_garbage(&job, files, 2, left, 2, others, 1), RELKVANU_TOO_SHORT, 0, 2, 2, __LINE__);
     expect(relkvanu_garbage(&job, files, 2, NULL, 0, NULL, 0), RELKVANU_TOO_SHORT, 0, 2, 2, __LINE__);
@@ -83,9 +82,6 @@ static void buffers(void) {
     DONE(relkvanu_garbage(&job, NULL, 0, NULL, 0, NULL, 0), RELKVANU_GARBAGE, 0, 0);
     DONE(relkvanu_garbage(&job, files, 2, left, 3, others, 3), RELKVANU_GARBAGE, 1, 1);
     CHECK(left[0] == 1 && left[1] == 71 && left[2] == 72 && others[0] == 6 && others[1] == 81 && others[2] == 82);
-    FENCED(relkvanu_save(&job, image, 2), RELKVANU_HAS_NAMES, 0);
-    FENCED(relkvanu_save(&job, NULL, 0), RELKVANU_HAS_NAMES, 0);
-    CHECK(image[0] == 9 && image[1] == 9);
     relkvanu_close(&job);
 }
 

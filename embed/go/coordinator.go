@@ -50,11 +50,16 @@ func Open(settings Settings, shape []uint64, now, first uint64) (*Coordinator, e
 
 // OpenSaved opens the coordinator that an image describes, which Save returned (docs/IMAGE.md). It answers every list of calls as the
 // saved one would. The error is BadImage if the bytes are not an image, or the state is not sound, or no coordinator could be opened
-// so.
+// so, or the image has names: this package has none.
 func OpenSaved(image []byte) (*Coordinator, error) {
 	return opened(0, func(o *owner, one, two C.uint64_t) C.relkvanu_answer {
 		at, length := text(image)
-		return C.relkvanu_open_saved(o.handle, at, length, one, two)
+		told := C.relkvanu_open_saved(o.handle, at, length, one, two)
+		if told.code == C.RELKVANU_DONE && C.relkvanu_term(o.handle).code == C.RELKVANU_DONE {
+			C.relkvanu_close(o.handle)
+			return C.relkvanu_answer{code: C.RELKVANU_BAD_ARGUMENT, what: C.RELKVANU_BAD_IMAGE}
+		}
+		return told
 	})
 }
 

@@ -1,42 +1,43 @@
 //! Saves a coordinator into a caller's buffer, and opens a handle with an image.
 
-ghost use Rattle.std.specs.Prelude.{◌≡◌, ◌≢◌, None, Some, IfOk, IfErr, length, string_bytes};
+ghost use Rattle.std.specs.Prelude.{◌≡◌, ◌≢◌, None, Some, IfOk, IfErr, OnOk, length, string_bytes};
 ghost use Rattle.core.specs.Str.{IsUtf8};
 ghost use Rattle.ckpt_model.specs.Images.{settled, state_in};
 ghost use Rattle.ckpt_model.specs.State.{State};
-ghost use Rattle.ckpt_image.specs.Images.{image_read};
 ghost use Rattle.ckpt_image.specs.Written.{image_bytes};
+ghost use Rattle.ckpt_names_image.specs.Named.{Fenced, Plain, Saved, named_bytes, named_in, saved_in, saved_read};
 ghost use Rattle.ckpt_embed.specs.Buffers.{StandsInFront};
 ghost use Rattle.ckpt_embed.specs.Calls.{HasNoNumbers, StaysAsItWas, StaysClosed};
-ghost use Rattle.ckpt_embed.specs.Fenced.{has_names};
-ghost use Rattle.ckpt_embed.specs.Images.{BringsImage, IsNotOpenedSaved, IsOpenedSaved, IsSaveTold, IsWhyNotSaved, SavedWantsMemory, Tells, saved_told};
-ghost use Rattle.ckpt_terms.specs.Machines.{Issued, core_in, names_in};
+ghost use Rattle.ckpt_embed.specs.Images.{BringsImage, CanBeOpened, IsNamedSave, IsNotOpenedSaved, IsOpenedSaved, IsSaveTold, IsWhyNotOpened, IsWhyNotSaved, SavedWantsMemory, Tells, TellsNothing, opened_with, saved_told};
 ghost use Rattle.ckpt_embed.specs.Opening.{StaysOpen};
-ghost use Rattle.ckpt_embed.specs.Told.{bad_argument};
+ghost use Rattle.ckpt_embed.specs.Told.{bad_argument, bad_image, no_memory, out_of_memory};
+ghost use Rattle.ckpt_core.specs.declared.image.ImageFault.TheVariants as fault;
+ghost use Rattle.ckpt_terms.specs.Machines.{Issued, core_in, issued_by, names_in};
 
 use crate::answer::Answer;
 use crate::handle::Handle;
 use crate::opening::ALREADY_OPEN;
 use ckpt_core::{Core, Image, ImageFault};
 use ckpt_hash::Secret;
-use ckpt_image::{TextFault, image_text, parse_image};
-use ckpt_terms::Machine;
+use ckpt_image::{TextFault, image_text};
+use ckpt_names_image::{SavedImage, names_image_text, parse_names_image};
+use ckpt_terms::{Machine, Terms, TermsImage};
 use std::alloc::{AllocError, Global};
 
 const SAVED: u32 = 45;
 
 const BAD_IMAGE: u32 = 7;
 
-/// Writes the image of the coordinator as JSON to the start of the buffer.
+/// Writes the image of the coordinator as JSON to the start of the buffer, with its names if it has
+/// some.
 ///
 /// If the buffer is too short, the answer says how many bytes the image has: call again. Takes
-/// memory. An image has no names yet, so
-/// a handle with names is not saved.
+/// memory.
 pub fn save(alloc: Global, handle: &mut Handle, image: &mut [u8]) -> Answer
     ensures closed { StaysClosed handle.old.value handle.new.value result }
     ensures answered { (m : State) → handle.old.value ≡ Some m → handle.old.names ≡ None → IsSaveTold m (length image.old) result }
-    ensures named { (m : State) (n : Issued) → handle.old.value ≡ Some m → handle.old.names ≡ Some n → result ≡ has_names }
-    ensures front { (m : State) → handle.old.value ≡ Some m → BringsImage m image.old image.new result }
+    ensures front { (m : State) → handle.old.value ≡ Some m → handle.old.names ≡ None → BringsImage m image.old image.new result }
+    ensures named { (m : State) (n : Issued) → handle.old.value ≡ Some m → handle.old.names ≡ Some n → IsNamedSave m n image.old image.new result }
     ensures kept { result.code ≢ 0 → image.new ≡ image.old }
     ensures numbers { HasNoNumbers result }
     ensures unchanged { handle.new.value ≡ handle.old.value }
@@ -50,28 +51,27 @@ pub fn save(alloc: Global, handle: &mut Handle, image: &mut [u8]) -> Answer
     answer
 }
 
-/// Opens the coordinator that an image describes in a closed handle. It answers every list of calls
-/// as the saved one would.
+/// Opens the coordinator that an image describes in a closed handle, with the names that the image
+/// has, if it has some. It answers every list of calls as the saved one would.
 ///
 /// The secret keys the maps of files, so that no choice of numbers makes calls slow. It changes no
 /// answer. An open handle does not change, and the answer says so. One bad argument is returned for
-/// bytes that are not an image, and for an image of a state that is not sound, or of an opening that
-/// no coordinator can have.
+/// bytes that are not an image, and for an image of a state that is not sound, of an opening that
+/// no coordinator can have, or of names that are no ranges in ascending order.
 pub fn open_saved(alloc: Global, handle: &mut Handle, image: &[u8], secret: Secret) -> Answer
     ensures open { StaysOpen handle.old.value handle.new.value result }
-    ensures opened { IsOpenedSaved handle.old.value handle.new.value image.now result }
+    ensures opened { IsOpenedSaved handle.old.value handle.new.value handle.new.names image.now result }
     ensures refused { IsNotOpenedSaved handle.old.value handle.new.value image.now result }
     ensures memory { SavedWantsMemory image.now result }
     ensures numbers { HasNoNumbers result }
     ensures unchanged { StaysAsItWas handle.old.value handle.new.value result }
-    ensures names { handle.new.names ≡ handle.old.names }
-    ensures plain { handle.old.value ≡ None → handle.new.names ≡ None }
+    ensures names { result.code ≢ 0 → handle.new.names ≡ handle.old.names }
 {
     if let Some(machine) = handle.take(alloc) {
         handle.put(alloc, machine);
         return Answer::bad_argument(ALREADY_OPEN);
     }
-    match plain_of(alloc, image, secret) {
+    match machine_of(alloc, image, secret) {
         Ok(machine) => {
             handle.put(alloc, machine);
             Answer::done(0, 0, 0)
@@ -82,14 +82,14 @@ pub fn open_saved(alloc: Global, handle: &mut Handle, image: &[u8], secret: Secr
 
 fn save_machine(alloc: Global, machine: &Machine, image: &mut [u8]) -> Answer
     ensures told { names_in machine.now ≡ None → IsSaveTold (core_in machine.now) (length image.old) result }
-    ensures named { (n : Issued) → names_in machine.now ≡ Some n → result ≡ has_names }
-    ensures front { BringsImage (core_in machine.now) image.old image.new result }
+    ensures front { names_in machine.now ≡ None → BringsImage (core_in machine.now) image.old image.new result }
+    ensures named { (n : Issued) → names_in machine.now ≡ Some n → IsNamedSave (core_in machine.now) n image.old image.new result }
     ensures kept { result.code ≢ 0 → image.new ≡ image.old }
     ensures numbers { HasNoNumbers result }
 {
     match machine {
         Machine::Plain(core) => save_from(alloc, core, image),
-        Machine::Fenced(_) => Answer::has_names(),
+        Machine::Fenced(terms) => save_terms(alloc, terms, image),
     }
 }
 
@@ -112,6 +112,29 @@ fn text_of(alloc: Global, core: &Core) -> Result<String, AllocError>
     image_text(alloc, &image)
 }
 
+fn save_terms(alloc: Global, terms: &Terms, image: &mut [u8]) -> Answer
+    ensures named { IsNamedSave terms.now.core (issued_by terms.now) image.old image.new result }
+    ensures kept { result.code ≢ 0 → image.new ≡ image.old }
+    ensures numbers { HasNoNumbers result }
+{
+    match terms.image() {
+        Ok(saved) => save_image(alloc, &saved, image),
+        Err(_) => Answer::out_of_memory(),
+    }
+}
+
+fn save_image(alloc: Global, saved: &TermsImage, image: &mut [u8]) -> Answer
+    ensures told { result.code ≢ no_memory → result ≡ saved_told (named_bytes (named_in saved.now)) (length image.old) }
+    ensures front { result.code ≡ 0 → StandsInFront (named_bytes (named_in saved.now)) image.old image.new }
+    ensures kept { result.code ≢ 0 → image.new ≡ image.old }
+    ensures numbers { HasNoNumbers result }
+{
+    match names_image_text(alloc, saved) {
+        Ok(text) => write_text(&text, image),
+        Err(_) => Answer::out_of_memory(),
+    }
+}
+
 /// Writes a text to the start of the buffer, if that is long enough.
 fn write_text(text: &str, image: &mut [u8]) -> Answer
     ensures told { result ≡ saved_told text.now (length image.old) }
@@ -127,34 +150,92 @@ fn write_text(text: &str, image: &mut [u8]) -> Answer
     Answer::done(SAVED, needed as u64, 0)
 }
 
-fn plain_of(alloc: Global, image: &[u8], secret: Secret) -> Result<Box<Machine>, Answer>
-    ensures value { IfOk result (λ machine. Tells image.now (core_in machine.value)) }
-    ensures names { IfOk result (λ machine. names_in machine.value ≡ None) }
-    ensures fault { IfErr result (IsWhyNotSaved image.now) }
-    ensures memory { IfErr result (SavedWantsMemory image.now) }
-    ensures numbers { IfErr result HasNoNumbers }
-{
-    let image = image_of(alloc, image)?;
-    match Core::from_image(alloc, &image, secret) {
-        Ok(core) => Box::new(alloc, Machine::Plain(core)).map_err(|_| Answer::out_of_memory()),
-        Err(ImageFault::Damaged) => Err(Answer::bad_argument(BAD_IMAGE)),
-        Err(ImageFault::Memory) => Err(Answer::out_of_memory()),
-    }
-}
-
-fn image_of(alloc: Global, bytes: &[u8]) -> Result<Image, Answer>
-    ensures utf8 { IfOk result (λ image. IsUtf8 bytes.now) }
-    ensures read { IfOk result (λ image. image_read bytes.now ≡ Some (state_in image)) }
+fn machine_of(alloc: Global, bytes: &[u8], secret: Secret) -> Result<Box<Machine>, Answer>
+    ensures value { IfOk result (λ machine. (s : Saved) → Tells bytes.now s → machine.value ≡ opened_with s) }
+    ensures told { OnOk result (TellsNothing bytes.now → ⊥) }
     ensures fault { IfErr result (IsWhyNotSaved bytes.now) }
     ensures memory { IfErr result (SavedWantsMemory bytes.now) }
     ensures numbers { IfErr result HasNoNumbers }
+    ensures code { IfErr result (λ answer. answer.code ≢ 0) }
+{
+    let saved = saved_of(alloc, bytes)?;
+    machine_from(alloc, &saved, secret)
+}
+
+fn saved_of(alloc: Global, bytes: &[u8]) -> Result<SavedImage, Answer>
+    ensures utf8 { IfOk result (λ image. IsUtf8 bytes.now) }
+    ensures read { IfOk result (λ image. saved_read bytes.now ≡ Some (saved_in image)) }
+    ensures fault { IfErr result (IsWhyNotSaved bytes.now) }
+    ensures memory { IfErr result (SavedWantsMemory bytes.now) }
+    ensures numbers { IfErr result HasNoNumbers }
+    ensures code { IfErr result (λ answer. answer.code ≢ 0) }
 {
     let Ok(text) = str::from_utf8(bytes) else {
         return Err(Answer::bad_argument(BAD_IMAGE));
     };
-    match parse_image(alloc, text) {
+    match parse_names_image(alloc, text) {
         Ok(image) => Ok(image),
         Err(TextFault::Memory) => Err(Answer::out_of_memory()),
         Err(_) => Err(Answer::bad_argument(BAD_IMAGE)),
+    }
+}
+
+fn machine_from(alloc: Global, saved: &SavedImage, secret: Secret) -> Result<Box<Machine>, Answer>
+    ensures value { IfOk result (λ machine. machine.value ≡ opened_with (saved_in saved.now)) }
+    ensures sound { OnOk result (CanBeOpened (saved_in saved.now)) }
+    ensures fault { IfErr result (IsWhyNotOpened (saved_in saved.now)) }
+    ensures numbers { IfErr result HasNoNumbers }
+    ensures code { IfErr result (λ answer. answer.code ≢ 0) }
+{
+    match saved {
+        SavedImage::Plain(image) => plain_from(alloc, image, secret),
+        SavedImage::Fenced(image) => named_from(alloc, image, secret),
+    }
+}
+
+#[tactic(auto, unfolding(crate::specs::Images::CanBeOpened, crate::specs::Images::opened_with))]
+fn plain_from(alloc: Global, image: &Image, secret: Secret) -> Result<Box<Machine>, Answer>
+    ensures value { IfOk result (λ machine. machine.value ≡ opened_with (Plain (state_in image.now))) }
+    ensures sound { OnOk result (CanBeOpened (Plain (state_in image.now))) }
+    ensures fault { IfErr result (IsWhyNotOpened (Plain (state_in image.now))) }
+    ensures numbers { IfErr result HasNoNumbers }
+    ensures code { IfErr result (λ answer. answer.code ≢ 0) }
+{
+    match Core::from_image(alloc, image, secret) {
+        Ok(core) => boxed(alloc, Machine::Plain(core)),
+        Err(why) => Err(fault_of(why)),
+    }
+}
+
+#[tactic(auto, unfolding(crate::specs::Images::CanBeOpened, crate::specs::Images::opened_with))]
+fn named_from(alloc: Global, image: &TermsImage, secret: Secret) -> Result<Box<Machine>, Answer>
+    ensures value { IfOk result (λ machine. machine.value ≡ opened_with (Fenced (named_in image.now))) }
+    ensures sound { OnOk result (CanBeOpened (Fenced (named_in image.now))) }
+    ensures fault { IfErr result (IsWhyNotOpened (Fenced (named_in image.now))) }
+    ensures numbers { IfErr result HasNoNumbers }
+    ensures code { IfErr result (λ answer. answer.code ≢ 0) }
+{
+    match Terms::from_image(alloc, image, secret) {
+        Ok(terms) => boxed(alloc, Machine::Fenced(terms)),
+        Err(why) => Err(fault_of(why)),
+    }
+}
+
+fn boxed(alloc: Global, machine: Machine) -> Result<Box<Machine>, Answer>
+    ensures value { IfOk result (λ boxed. boxed.value ≡ machine) }
+    ensures fault { IfErr result (λ answer. answer ≡ out_of_memory) }
+{
+    Box::new(alloc, machine).map_err(|_| Answer::out_of_memory())
+}
+
+/// The answer if no coordinator is made from an image.
+fn fault_of(why: ImageFault) -> Answer
+    ensures damaged { result.code ≢ no_memory → (why ≡ fault.Damaged) × (result ≡ bad_argument bad_image) }
+    ensures numbers { HasNoNumbers result }
+    ensures code { result.code ≢ 0 }
+{
+    match why {
+        ImageFault::Damaged => Answer::bad_argument(BAD_IMAGE),
+        ImageFault::Memory => Answer::out_of_memory(),
     }
 }

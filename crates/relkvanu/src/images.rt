@@ -3,8 +3,7 @@
 ghost use Rattle.std.specs.Prelude.{◌≡◌, ◌≢◌, None, Some, length};
 ghost use Rattle.ckpt_model.specs.State.{State};
 ghost use Rattle.ckpt_embed.specs.Calls.{HasNoNumbers, StaysAsItWas, StaysClosed};
-ghost use Rattle.ckpt_embed.specs.Fenced.{has_names};
-ghost use Rattle.ckpt_embed.specs.Images.{BringsImage, IsNotOpenedSaved, IsOpenedSaved, IsSaveTold, SavedWantsMemory};
+ghost use Rattle.ckpt_embed.specs.Images.{BringsImage, IsNamedSave, IsNotOpenedSaved, IsOpenedSaved, IsSaveTold, SavedWantsMemory};
 ghost use Rattle.ckpt_embed.specs.Opening.{StaysOpen};
 ghost use Rattle.ckpt_terms.specs.Machines.{Issued};
 
@@ -17,8 +16,8 @@ use std::alloc::Global;
 pub extern "C" fn relkvanu_save(alloc: Global, handle: &mut Handle, image: &mut [u8]) -> Answer
     ensures closed { StaysClosed handle.old.value handle.new.value result }
     ensures answered { (m : State) → handle.old.value ≡ Some m → handle.old.names ≡ None → IsSaveTold m (length image.old) result }
-    ensures named { (m : State) (n : Issued) → handle.old.value ≡ Some m → handle.old.names ≡ Some n → result ≡ has_names }
-    ensures front { (m : State) → handle.old.value ≡ Some m → BringsImage m image.old image.new result }
+    ensures front { (m : State) → handle.old.value ≡ Some m → handle.old.names ≡ None → BringsImage m image.old image.new result }
+    ensures named { (m : State) (n : Issued) → handle.old.value ≡ Some m → handle.old.names ≡ Some n → IsNamedSave m n image.old image.new result }
     ensures kept { result.code ≢ 0 → image.new ≡ image.old }
     ensures numbers { HasNoNumbers result }
     ensures unchanged { handle.new.value ≡ handle.old.value }
@@ -38,13 +37,12 @@ pub extern "C" fn relkvanu_open_saved(
     second_word: u64,
 ) -> Answer
     ensures open { StaysOpen handle.old.value handle.new.value result }
-    ensures opened { IsOpenedSaved handle.old.value handle.new.value image.now result }
+    ensures opened { IsOpenedSaved handle.old.value handle.new.value handle.new.names image.now result }
     ensures refused { IsNotOpenedSaved handle.old.value handle.new.value image.now result }
     ensures memory { SavedWantsMemory image.now result }
     ensures numbers { HasNoNumbers result }
     ensures unchanged { StaysAsItWas handle.old.value handle.new.value result }
-    ensures names { handle.new.names ≡ handle.old.names }
-    ensures plain { handle.old.value ≡ None → handle.new.names ≡ None }
+    ensures names { result.code ≢ 0 → handle.new.names ≡ handle.old.names }
 {
     ckpt_embed::open_saved(alloc, handle, image, Secret::of(first_word, second_word))
 }

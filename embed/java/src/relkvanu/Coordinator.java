@@ -75,14 +75,28 @@ public final class Coordinator extends Reads implements AutoCloseable, Outbox {
 
     /**
      * Opens the coordinator that an image describes, which {@link #save} returned. It answers every list of calls as the saved one would.
-     * Throws {@code BadArgument} if the bytes are not an image, or if the state is not sound, or no coordinator could be opened so.
+     * Throws {@code BadArgument} if the bytes are not an image, or if the state is not sound, or no coordinator could be opened so, or if the
+     * image has names: this package has none.
      *
      * @param image the image
      * @return the coordinator
      */
     public static Coordinator openSaved(byte[] image) {
         Objects.requireNonNull(image, "image");
-        return new Coordinator((at, out) -> Native.openSaved(at, image, RANDOM.nextLong(), RANDOM.nextLong(), out));
+        return new Coordinator((at, out) -> openWithoutNames(at, image, out));
+    }
+
+    private static void openWithoutNames(long at, byte[] image, long[] out) {
+        Native.openSaved(at, image, RANDOM.nextLong(), RANDOM.nextLong(), out);
+        long[] term = new long[out.length];
+        if (out[0] == Header.DONE) {
+            Native.term(at, term);
+            if (term[0] == Header.DONE) {
+                Native.close(at);
+                out[0] = Header.BAD_ARGUMENT;
+                out[1] = Header.BAD_IMAGE;
+            }
+        }
     }
 
     /**

@@ -446,14 +446,14 @@ extern "C" {
         lines_len: usize,
     ) -> relkvanu_answer;
 
-    /// Writes the image of the coordinator, all of its state, as JSON without a zero at its end. A handle that is opened with the image answers every list of calls as this one would. RELKVANU_SAVED; RELKVANU_TOO_SHORT, and a is its number of bytes: call again with a buffer of that many. Only RELKVANU_SAVED changes the buffer, and nothing else changes. Takes memory, even if the buffer is too short. An image has no names yet: a handle with names returns RELKVANU_FENCED with RELKVANU_HAS_NAMES.
+    /// Writes the image of the coordinator, all of its state, as JSON without a zero at its end. A handle that is opened with the image answers every list of calls as this one would. The image of a handle with names has its term and its names. RELKVANU_SAVED; RELKVANU_TOO_SHORT, and a is its number of bytes: call again with a buffer of that many. Only RELKVANU_SAVED changes the buffer, and nothing else changes. Takes memory, even if the buffer is too short.
     pub fn relkvanu_save(
         handle: *mut relkvanu,
         image: *mut u8,
         image_len: usize,
     ) -> relkvanu_answer;
 
-    /// Opens the coordinator that an image describes in a closed handle. The two words have the meaning that they have in relkvanu_open. They may differ from those of the coordinator that was saved. RELKVANU_OPENED; or RELKVANU_BAD_ARGUMENT, and the handle stays as it was: RELKVANU_ALREADY_OPEN, RELKVANU_BAD_IMAGE. Takes memory: after RELKVANU_NO_MEMORY the handle is closed, as before.
+    /// Opens the coordinator that an image describes in a closed handle: with names if the image has names, otherwise without. The two words have the meaning that they have in relkvanu_open. They may differ from those of the coordinator that was saved. Condition for the caller: all calls that were made after the save are made again, before any task makes a call. Otherwise names that were given out since then are given out again, and a term that has ended runs again. RELKVANU_OPENED; or RELKVANU_BAD_ARGUMENT, and the handle stays as it was: RELKVANU_ALREADY_OPEN, RELKVANU_BAD_IMAGE. Takes memory: after RELKVANU_NO_MEMORY the handle is closed, as before.
     pub fn relkvanu_open_saved(
         handle: *mut relkvanu,
         image: *const u8,

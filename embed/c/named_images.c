@@ -1,0 +1,255 @@
+/* named_images: saves handles with names and opens them again: what is seen of them, tasks that should be dead, each kind of damage, a
+ * buffer too short, and each request for memory refused. */
+#include "fenced.h"
+#include "refusing_heap.h"
+
+enum { IMAGE = 4096 };
+
+#define SHORT(told, needed) expect(told, RELKVANU_TOO_SHORT, 0, needed, 0, __LINE__)
+
+/* Term 1 reserved 5 to 9 and acknowledged with 5 and 6. Term 2 holds 10 and 12, has given up 11, and acknowledged with 13. Then 6 was
+ * fetched for deletion, and a record is pending. So 7, 8, 9 and 11 are garbage, and 5 is too once a later record is complete. */
+static relkvanu busy(void) {
+    relkvanu job = named(5);
+    uint64_t two[] = {5, 6}, given_up = 11, fresh = 13, kept = 5, taken;
+    DONE(relkvanu_reserve(&job, 1, 5), RELKVANU_RESERVED, 5, 5);
+    DONE(relkvanu_tick(&job, 1000), RELKVANU_TICK_TRIGGERED, 0, 1);
+    DONE(relkvanu_ack_in(&job, 1, 1000, 1, 0, 0, two, 2, NULL, 0), RELKVANU_ACK_COMPLETED, 0, 0);
+    DONE(relkvanu_restore(&job, 1500, 0, NULL, 0), RELKVANU_RESTORED_CHECKPOINT, 0, 1);
+    DONE(relkvanu_reserve(&job, 2, 4), RELKVANU_RESERVED, 10, 4);
+    DONE(relkvanu_forfeit(&job, 2, &given_up, 1), RELKVANU_FORFEITED, 0, 0);
+    DONE(relkvanu_tick(&job, 2500), RELKVANU_TICK_TRIGGERED, 0, 2);
+    DONE(relkvanu_ack_in(&job, 2, 2500, 2, 0, 0, &fresh, 1, &kept, 1), RELKVANU_ACK_COMPLETED, 1, 1);
+    DONE(relkvanu_take(&job, &taken, 1), RELKVANU_TAKEN, 1, 0);
+    CHECK(taken == 6);
+    DONE(relkvanu_tick(&job, 3500), RELKVANU_TICK_TRIGGERED, 0, 3);
+    return job;
+}
+
+/* The image with a zero at its end. */
+static size_t saved(relkvanu *job, char image[IMAGE]) {
+    relkvanu_answer told = relkvanu_save(job, (uint8_t *)image, IMAGE - 1);
+    DONE(told, RELKVANU_SAVED, told.a, 0);
+    CHECK(told.a < IMAGE);
+    image[told.a] = 0;
+    return (size_t)told.a;
+}
+
+static relkvanu_answer open_text(relkvanu *job, const char *text) {
+    return relkvanu_open_saved(job, (const uint8_t *)text, strlen(text), 7, 8);
+}
+
+static void expect_garbage(relkvanu *job) {
+    uint64_t files[] = {4, 5, 6, 7, 8, 9, 10, 11, 12, 13, 14}, left[11], others[11];
+    static const uint64_t garbage[] = {4, 7, 8, 9, 11};
+    DONE(relkvanu_garbage(job, files, 11, left, 11, others, 11), RELKVANU_GARBAGE, 5, 1);
+    CHECK(memcmp(left, garbage, sizeof garbage) == 0 && others[0] == 14);
+}
+
+/* A handle that is opened with the image has the term, the names and the garbage of the saved one, and the same image. */
+static void round_trip(void) {
+    static char image[IMAGE], again[IMAGE];
+    relkvanu job = busy(), other = {NULL};
+    struct seen before = look(&job);
+    expect_garbage(&job);
+    size_t len = saved(&job, image);
+    CHECK(strstr(image, "\"names\":{\"next\":14,\"term\":2,\"unspent\":[[10,11],[12,13]]}") != NULL);
+    CHECK(strstr(image, "\"version\":2}") == image + len - strlen("\"version\":2}"));
+    struct seen after = look(&job);
+    CHECK(same(&before, &after));
+    DONE(open_text(&other, image), RELKVANU_OPENED, 0, 0);
+    after = look(&other);
+    CHECK(same(&before, &after));
+    DONE(relkvanu_term(&other), RELKVANU_TERM, 2, 14);
+    expect_garbage(&other);
+    CHECK(saved(&other, again) == len && memcmp(image, again, len) == 0);
+    BAD(open_text(&other, image), RELKVANU_ALREADY_OPEN);
+    after = look(&other);
+    CHECK(same(&before, &after));
+    relkvanu_close(&job);
+    relkvanu_close(&other);
+}
+
+/* After an opening a task of an ended term is refused, one of the running term goes on, and no name is given out again. */
+static void zombies(void) {
+    static char image[IMAGE];
+    relkvanu job = busy();
+    uint64_t spent = 7;
+    saved(&job, image);
+    relkvanu_close(&job);
+    DONE(open_text(&job, image), RELKVANU_OPENED, 0, 0);
+    struct seen before = look(&job);
+    FENCED(relkvanu_ack(&job, 3600, 3, 0, 0, NULL, 0, NULL, 0), RELKVANU_OLD_TERM, 0);
+    FENCED(ack(&job, 1, 3600, 3, 7), RELKVANU_OLD_TERM, 0);
+    FENCED(relkvanu_decline_in(&job, 1, 3600, 3, 0, 0), RELKVANU_OLD_TERM, 0);
+    FENCED(relkvanu_reserve(&job, 1, 1), RELKVANU_OLD_TERM, 0);
+    FENCED(relkvanu_forfeit(&job, 1, &spent, 1), RELKVANU_OLD_TERM, 0);
+    FENCED(ack(&job, 2, 3600, 3, 7), RELKVANU_SPENT, 7);
+    FENCED(ack(&job, 2, 3600, 3, 11), RELKVANU_SPENT, 11);
+    FENCED(ack(&job, 2, 3600, 3, 14), RELKVANU_NEVER_RESERVED, 14);
+    struct seen after = look(&job);
+    CHECK(same(&before, &after));
+    DONE(relkvanu_reserve(&job, 2, 1), RELKVANU_RESERVED, 14, 1);
+    DONE(ack(&job, 2, 3600, 3, 12), RELKVANU_ACK_COMPLETED, 1, 2);
+    DONE(relkvanu_restore(&job, 3700, 0, NULL, 0), RELKVANU_RESTORED_CHECKPOINT, 0, 3);
+    DONE(relkvanu_term(&job), RELKVANU_TERM, 3, 15);
+    relkvanu_close(&job);
+}
+
+/* A buffer that is too short stays as it is, and one that has more places keeps the others. */
+static void buffers(void) {
+    static char image[IMAGE];
+    static uint8_t buffer[IMAGE];
+    relkvanu job = busy();
+    size_t len = saved(&job, image);
+    memset(buffer, 9, sizeof buffer);
+    SHORT(relkvanu_save(&job, buffer, len - 1), len);
+    SHORT(relkvanu_save(&job, NULL, 0), len);
+    CHECK(buffer[0] == 9 && buffer[len - 2] == 9);
+    DONE(relkvanu_save(&job, buffer, len + 1), RELKVANU_SAVED, len, 0);
+    CHECK(memcmp(buffer, image, len) == 0 && buffer[len] == 9);
+    DONE(relkvanu_save(&job, buffer, len), RELKVANU_SAVED, len, 0);
+    relkvanu_close(&job);
+    CLOSED(relkvanu_save(&job, buffer, len));
+}
+
+/* The text with another part. */
+static const char *with(const char *image, const char *part, const char *other) {
+    static char text[IMAGE];
+    const char *at = strstr(image, part);
+    CHECK(at != NULL && strstr(at + 1, part) == NULL);
+    snprintf(text, sizeof text, "%.*s%s%s", (int)(at - image), image, other, at + strlen(part));
+    return text;
+}
+
+/* Of the image of `busy`: a part, and what no image may have in its place. */
+static const struct damage {
+    const char *part, *other;
+} kinds_of_damage[] = {
+    {"\"term\":2", "\"term\":0"},
+    {"\"term\":2", "\"term\":4611686018427387905"},
+    {"\"term\":2", "\"term\":\"2\""},
+    {"\"term\":2,", ""},
+    {"\"next\":14,\"term\"", "\"next\":0,\"term\""},
+    {"\"next\":14,\"term\"", "\"next\":4611686018427387905,\"term\""},
+    {"\"next\":14,\"term\"", "\"term\""},
+    /* 13 is in use, and 12 is held */
+    {"\"next\":14,\"term\"", "\"next\":13,\"term\""},
+    {"\"next\":14,\"term\"", "\"next\":12,\"term\""},
+    /* empty, backwards, overlapping, in another order, beyond the next name */
+    {"[10,11]", "[10,10]"},
+    {"[10,11]", "[11,10]"},
+    {"[12,13]", "[10,13]"},
+    {"[[10,11],[12,13]]", "[[12,13],[10,11]]"},
+    {"[12,13]", "[14,15]"},
+    {"[12,13]", "[12,18446744073709551615]"},
+    /* names of files that are in use, or were fetched */
+    {"[12,13]", "[12,14]"},
+    {"[10,11]", "[5,6]"},
+    {"[10,11]", "[6,7]"},
+    /* no pairs */
+    {"[10,11]", "[10]"},
+    {"[10,11]", "[10,11,12]"},
+    {"[10,11]", "10"},
+    {"[10,11]", "[10,-11]"},
+    {"[[10,11],[12,13]]", "{}"},
+    {",\"unspent\":[[10,11],[12,13]]", ""},
+    {"\"names\":{", "\"named\":{"},
+    /* a job that was cancelled holds no name */
+    {"\"mode\":\"running\"", "\"mode\":\"cancelled\""},
+    {"\"version\":2", "\"version\":3"},
+    /* the coordinator's own state */
+    {"\"latest\":3500", "\"latest\":4611686018427387904"},
+};
+
+static void damaged(void) {
+    static char image[IMAGE];
+    relkvanu job = busy(), other = {NULL};
+    size_t len = saved(&job, image);
+    for (size_t kind = 0; kind < sizeof kinds_of_damage / sizeof kinds_of_damage[0]; kind++) {
+        BAD(open_text(&other, with(image, kinds_of_damage[kind].part, kinds_of_damage[kind].other)), RELKVANU_BAD_IMAGE);
+        CHECK(other.state == NULL);
+    }
+    for (size_t at = 0; at < len; at++) {
+        BAD(relkvanu_open_saved(&other, (const uint8_t *)image, at, 7, 8), RELKVANU_BAD_IMAGE);
+        CHECK(other.state == NULL);
+    }
+    relkvanu_close(&job);
+}
+
+/* Ranges may touch. Without the names, and in version 1, the image is one of a handle without names. */
+static void sound(void) {
+    static char image[IMAGE];
+    relkvanu job = busy(), other = {NULL};
+    saved(&job, image);
+    DONE(open_text(&other, with(image, "[[10,11],[12,13]]", "[[10,11],[11,12],[12,13]]")), RELKVANU_OPENED, 0, 0);
+    DONE(ack(&other, 2, 3600, 3, 11), RELKVANU_ACK_COMPLETED, 1, 2);
+    relkvanu_close(&other);
+    DONE(open_text(&other, with(image, "\"version\":2", "\"version\":1")), RELKVANU_OPENED, 0, 0);
+    FENCED(relkvanu_term(&other), RELKVANU_NO_NAMES, 0);
+    DONE(relkvanu_ack(&other, 3600, 3, 0, 0, (uint64_t[]){20}, 1, NULL, 0), RELKVANU_ACK_COMPLETED, 1, 2);
+    relkvanu_close(&other);
+    relkvanu_close(&job);
+}
+
+/* Each request of a save is refused once. Returns how many it makes. */
+static uint64_t saves_without_memory(relkvanu *job, const char *image, size_t len) {
+    static uint8_t again[IMAGE];
+    for (uint64_t nth = 1;; nth++) {
+        memset(again, 9, sizeof again);
+        heap_refuse(nth);
+        relkvanu_answer told = relkvanu_save(job, again, sizeof again);
+        heap_refuse(0);
+        if (told.code == RELKVANU_DONE) {
+            CHECK(told.a == len && memcmp(again, image, len) == 0);
+            return nth - 1;
+        }
+        expect(told, RELKVANU_NO_MEMORY, 0, 0, 0, __LINE__);
+        CHECK(again[0] == 9 && again[len - 1] == 9);
+    }
+}
+
+/* The same of an opening. */
+static uint64_t opens_without_memory(const char *image, const struct seen *seen) {
+    relkvanu job = {NULL};
+    for (uint64_t nth = 1;; nth++) {
+        heap_refuse(nth);
+        relkvanu_answer told = open_text(&job, image);
+        heap_refuse(0);
+        if (told.code == RELKVANU_DONE) {
+            struct seen after = look(&job);
+            CHECK(same(seen, &after));
+            relkvanu_close(&job);
+            return nth - 1;
+        }
+        expect(told, RELKVANU_NO_MEMORY, 0, 0, 0, __LINE__);
+        CHECK(job.state == NULL);
+    }
+}
+
+static void memory(void) {
+    static char image[IMAGE];
+    relkvanu job = busy(), other = {NULL};
+    struct seen before = look(&job);
+    size_t len = saved(&job, image);
+    uint64_t saves = saves_without_memory(&job, image, len), opens = opens_without_memory(image, &before);
+    CHECK(saves > 10 && opens > 10);
+    struct seen after = look(&job);
+    CHECK(same(&before, &after));
+    heap_refuse_from(1);
+    BAD(open_text(&other, "\xff"), RELKVANU_BAD_IMAGE);
+    CHECK(heap_requests() == 0);
+    heap_refuse(0);
+    relkvanu_close(&job);
+}
+
+int main(void) {
+    round_trip();
+    zombies();
+    buffers();
+    damaged();
+    sound();
+    memory();
+    printf("images with names: all as told\n");
+    return 0;
+}
