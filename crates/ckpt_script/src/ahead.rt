@@ -234,7 +234,7 @@ impl Ahead {
 }
 
 /// The place of the first newline.
-fn newline_place(bytes: &[u8]) -> Option<usize>
+pub fn newline_place(bytes: &[u8]) -> Option<usize>
     ensures { FindsNewline bytes.now result }
 {
     memchr(b'\n', bytes)

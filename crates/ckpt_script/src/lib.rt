@@ -17,6 +17,7 @@ mod source;
 mod streams;
 mod summary;
 
+pub use ahead::newline_place;
 pub use ckpt_lines::{LONGEST_LINE, Line, LineFault, Numbers, parse_line};
 pub use ckpt_session::Secret;
 pub use fault::RunFault;

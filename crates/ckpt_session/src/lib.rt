@@ -13,3 +13,4 @@ mod texts;
 pub use ckpt_core::Secret;
 pub use outcome::{AllEnd, Outcome, ScriptRefusal};
 pub use session::Session;
+pub use texts::{write_fault, write_outcome};

@@ -13,11 +13,7 @@ use std::alloc::{AllocError, Global};
 /// Appends the printed text of an outcome: one text with its newline, or nothing. Fails only if
 /// memory runs out.
 #[tactic(auto, unfolding(crate::specs::ScriptTexts::outcome_bytes))]
-pub(crate) fn write_outcome(
-    alloc: Global,
-    text: &mut String,
-    outcome: &Outcome,
-) -> Result<(), AllocError>
+pub fn write_outcome(alloc: Global, text: &mut String, outcome: &Outcome) -> Result<(), AllocError>
     ensures text { OnOk result (string_bytes text.new ≡ string_bytes text.old ++ outcome_bytes outcome.now) }
     ensures front { KeepsFront (string_bytes text.old) (string_bytes text.new) }
     ensures said { OnErr result (is_said outcome.now ≡ true) }
@@ -80,7 +76,7 @@ fn write_refusal(text: &mut String, why: ScriptRefusal) -> Result<(), AllocError
 /// Appends the text of the fault of the line with this number, with its newline. Fails only if
 /// memory runs out.
 #[tactic(auto, unfolding(crate::specs::ScriptTexts::fault_bytes))]
-pub(crate) fn write_fault(text: &mut String, number: u64, why: LineFault) -> Result<(), AllocError>
+pub fn write_fault(text: &mut String, number: u64, why: LineFault) -> Result<(), AllocError>
     ensures text { OnOk result (string_bytes text.new ≡ string_bytes text.old ++ fault_bytes number why) }
     ensures front { KeepsFront (string_bytes text.old) (string_bytes text.new) }
 {
