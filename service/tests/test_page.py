@@ -43,6 +43,21 @@ class Engine(threading.Thread):
         self.completed += 1
 
 
+class Discarder(threading.Thread):
+    """A discarder, so that the pictures show a job whose files go: all but the ones that it deletes right now."""
+
+    def __init__(self, engine):
+        super().__init__(daemon=True)
+        self.engine = engine
+
+    def run(self):
+        while not self.engine.over.is_set():
+            files = self.engine.job.take(16)
+            time.sleep(0.05)
+            if files:
+                self.engine.job.calls([deleted(file) for file in files])
+
+
 def browser(width, height):
     from selenium import webdriver
     from selenium.webdriver.chrome.service import Service as Driver
@@ -198,6 +213,9 @@ def looked_at(page, server, engine):
     # nothing that the policy refuses, no error
     wrong = [entry["message"] for entry in page.get_log("browser") if entry["level"] == "SEVERE"]
     assert not wrong, wrong
+    if PICTURES:
+        Discarder(engine).start()
+        time.sleep(10)
     look_up(page, files[0])
     picture(page, "service-page")
     picture(page, "service-page-top", 1130)
