@@ -58,9 +58,6 @@ void storage_put(const struct storage *storage, uint64_t number, const char *fol
     fclose(to);
 }
 
-void storage_sync(const struct storage *storage) {
-    CHECK(fsync(storage->folder) == 0, "the storage can't be synced: %s", strerror(errno));
-}
 
 void storage_get(const struct storage *storage, uint64_t number, const char *folder, char name[NAME]) {
     char path[PATH];
@@ -80,6 +77,15 @@ static bool is_there(const struct storage *storage, const char *name) {
     return is;
 }
 
+static void check_marker(const struct storage *storage) {
+    CHECK(is_there(storage, ".relkvanu-job"), "the storage has no marker: it is not the job's, or not mounted");
+}
+
+void storage_sync(const struct storage *storage) {
+    CHECK(fsync(storage->folder) == 0, "the storage can't be synced: %s", strerror(errno));
+    check_marker(storage);
+}
+
 bool storage_has(const struct storage *storage, uint64_t number) {
     return is_there(storage, name_of(number).text);
 }
@@ -87,7 +93,7 @@ bool storage_has(const struct storage *storage, uint64_t number) {
 void storage_delete(const struct storage *storage, uint64_t number) {
     if (unlinkat(storage->folder, name_of(number).text, 0) != 0) {
         CHECK(errno == ENOENT, "file %" PRIu64 " can't be deleted: %s", number, strerror(errno));
-        CHECK(is_there(storage, ".relkvanu-job"), "the storage has no marker: it is not the job's, or not mounted");
+        check_marker(storage);
     }
 }
 

@@ -18,7 +18,7 @@ void storage_make(const char *path);
 /* Copies a database's file into the storage folder under a new number, and syncs it. After that the folder has to be synced. */
 void storage_put(const struct storage *storage, uint64_t number, const char *folder, const char *name);
 
-/* Syncs the folder: after that a loss of power takes none of the files that were put. */
+/* Syncs the folder: after that a loss of power takes none of the files that were put. Without the marker of the store the process ends. */
 void storage_sync(const struct storage *storage);
 
 /* Copies a state file into a database's folder, under the name that the file has in its first line. Returns that name. */
