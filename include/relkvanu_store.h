@@ -51,7 +51,7 @@ typedef struct relkvanu_store relkvanu_store;
 #define RELKVANU_STORE_NOT_A_STORE 6  /* open: another kind of file, or one of a later version */
 #define RELKVANU_STORE_DIFFERS 7      /* open: a call of the log gets another answer, or is refused. The message says which */
 #define RELKVANU_STORE_DAMAGED 8      /* open: an image, a call or the file is damaged. The message says which */
-#define RELKVANU_STORE_STORAGE 9      /* open: the storage folder is not that of this job, or a new job's has files, or PATH is an older copy; a fence: it can't be read */
+#define RELKVANU_STORE_STORAGE 9      /* open: the storage folder is not that of this job, or a new job's has files, or PATH is an older copy; a fence: it has no marker, or can't be read */
 #define RELKVANU_STORE_CLOSED 10      /* an earlier commit failed */
 #define RELKVANU_STORE_FORKED 11      /* this process is a child of the one that opened the store */
 #define RELKVANU_STORE_TIMED_OUT 12   /* await: the time is up */
@@ -170,7 +170,7 @@ typedef struct {
  *
  * RELKVANU_CALL_FENCE gives names to a job without, from call.number on. Make it after a restore and before tasks start, and start them with the term
  * of its answer. Each number that a task was told of has to be below the first name. The store looks at the numbers of the files in options.storage: one from
- * the first name on is RELKVANU_FENCED with RELKVANU_NAME_IN_USE, as one that the coordinator knows. RELKVANU_STORE_STORAGE: the folder can't be read.
+ * the first name on is RELKVANU_FENCED with RELKVANU_NAME_IN_USE, as one that the coordinator knows. RELKVANU_STORE_STORAGE: the folder has no marker, or can't be read.
  * From then on the file is one of a job with names, for good. */
 int relkvanu_store_calls(relkvanu_store *store, relkvanu_store_call *calls, size_t calls_len);
 
