@@ -27,7 +27,7 @@ public final class Lines {
     public static Line says(byte[] line) {
         Objects.requireNonNull(line, "line");
         Library.need();
-        long[] out = new long[4];
+        long[] out = new long[Native.ANSWER];
         long[] numbers = Answers.numbers(0, out, (at, buffer, to) -> Native.lineSays(line, buffer, to));
         return switch ((int) out[1]) {
             case Header.LINE_SKIP -> new Line.Skip();
@@ -42,8 +42,8 @@ public final class Lines {
 
     /** The record of a show line; empty for another line. */
     static OptionalLong shown(byte[] line) {
-        long[] call = new long[5];
-        Native.lineCall(line, call, NONE, NONE, new long[4]);
+        long[] call = new long[Native.CALL];
+        Native.lineCall(line, call, NONE, NONE, new long[Native.ANSWER]);
         return call[0] == Header.CALL_SHOW ? OptionalLong.of(call[4]) : OptionalLong.empty();
     }
 
@@ -60,7 +60,7 @@ public final class Lines {
         long[] numbers = settings.numbers();
         Objects.requireNonNull(shape, "shape");
         Library.need();
-        return text(Answers.bytes(0, new long[4], (at, lines, out) -> Native.openingLines(numbers, shape, now, lines, out)));
+        return text(Answers.bytes(0, new long[Native.ANSWER], (at, lines, out) -> Native.openingLines(numbers, shape, now, lines, out)));
     }
 
     private static String line(int kind, int vertex, int index, long now, long number, long[] first, long[] second) {
@@ -68,7 +68,7 @@ public final class Lines {
         Objects.requireNonNull(first, "fresh");
         Objects.requireNonNull(second, "reused");
         Library.need();
-        return text(Answers.bytes(0, new long[4], (at, line, out) -> Native.callLine(call, first, second, line, out)));
+        return text(Answers.bytes(0, new long[Native.ANSWER], (at, line, out) -> Native.callLine(call, first, second, line, out)));
     }
 
     private static String line(int kind, long now, long number) {

@@ -2,6 +2,7 @@ package relkvanu;
 
 import java.lang.ref.Reference;
 import java.time.Duration;
+import java.util.Arrays;
 import java.util.Optional;
 import java.util.OptionalLong;
 import java.util.function.Supplier;
@@ -220,6 +221,35 @@ abstract sealed class Reads permits Coordinator, StoreReads {
      */
     public OptionalLong missing(long id) {
         return call((at, out) -> Native.missing(at, id, out), (what, a, b) -> what == Header.MISSING ? OptionalLong.of(a) : OptionalLong.empty());
+    }
+
+    /**
+     * The term that runs, and the next name. Whoever restarts the tasks reads it after the restore, and tells each of them once the restore is
+     * durable. A task never asks for it: one that should be dead would learn the new term. Throws {@code Fenced} without names.
+     *
+     * @return the term
+     */
+    public RunningTerm term() {
+        return call(Native::term, (what, term, next) -> {
+            Answers.is(what, Header.TERM);
+            return new RunningTerm(term, next);
+        });
+    }
+
+    /**
+     * Sorts files of a storage, at any time, also while tasks run. Ask a coordinator whose calls are durable: one that forgot a call also
+     * forgets which files are in use. Throws {@code Fenced} without names.
+     *
+     * @param files the files
+     * @return those that may be deleted, and those whose names were not given out, which nobody deletes
+     */
+    public Garbage garbage(long... files) {
+        long[] garbage = new long[files.length];
+        long[] unissued = new long[files.length];
+        return call((at, out) -> Native.garbage(at, files, garbage, unissued, out), (what, first, second) -> {
+            Answers.is(what, Header.GARBAGE);
+            return new Garbage(Arrays.copyOf(garbage, (int) first), Arrays.copyOf(unissued, (int) second));
+        });
     }
 
     /**

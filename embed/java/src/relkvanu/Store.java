@@ -164,7 +164,8 @@ public final class Store implements AutoCloseable {
 
     /** The outcome of the numbers from a place on, in the order of store_jni.c, and of the words from another. */
     private static StoreOutcome outcome(long[] numbers, int at, long[] words, int buffer) {
-        long[] answer = Arrays.copyOfRange(numbers, at, at + 4);
+        long[] answer = Arrays.copyOfRange(numbers, at, at + Native.ANSWER);
+        int choice = at + Native.ANSWER;
         if (answer[0] == NOT_MADE) {
             return new StoreOutcome.NotMade(new CoordinatorException.NoMemory()); // a call before it ran out of memory
         }
@@ -177,7 +178,7 @@ public final class Store implements AutoCloseable {
         }
         int what = (int) answer[1];
         Reply reply = what == Header.TAKEN ? new Reply.Taken(Arrays.copyOfRange(words, buffer, buffer + (int) answer[2])) : Answers.reply(what, answer[2], answer[3]);
-        return new StoreOutcome.Made(reply, numbers[at + 6], numbers[at + 4] == 0 ? Optional.empty() : Chosen.of((int) numbers[at + 4], numbers[at + 5]));
+        return new StoreOutcome.Made(reply, numbers[choice + 2], numbers[choice] == 0 ? Optional.empty() : Chosen.of((int) numbers[choice], numbers[choice + 1]));
     }
 
     /**

@@ -2,9 +2,9 @@ package relkvanu;
 
 /** The functions of include/relkvanu_store.h, over store_jni.c. Each status is one of that header. Any thread may call until the close. */
 final class StoreNative {
-    /** How many numbers a call has, and its outcome. */
-    static final int CALL = 8;
-    static final int OUTCOME = 7;
+    /** How many numbers a call has, and its outcome: those of relkvanu_call and relkvanu_answer, and three more. */
+    static final int CALL = Native.CALL + 3;
+    static final int OUTCOME = Native.ANSWER + 3;
     static final int REPORT = 12;
     static final int MOST_STEPS = 8;
     static final int MESSAGE = 512;

@@ -3,6 +3,7 @@ package relkvanu;
 import java.nio.file.Path;
 import java.time.Duration;
 import java.util.Optional;
+import java.util.function.Consumer;
 
 /**
  * How a {@link Store} is opened.
@@ -44,7 +45,7 @@ public record StoreOptions(Opening opening, Optional<Path> storage, boolean adop
      * @param folder the folder of the state files
      */
     public StoreOptions withStorage(Path folder) {
-        return new StoreOptions(opening, Optional.of(folder), adopts, fromEarlierImage, patience, imageCalls, mostAhead);
+        return with(it -> it.storage = Optional.of(folder));
     }
 
     /**
@@ -53,7 +54,7 @@ public record StoreOptions(Opening opening, Optional<Path> storage, boolean adop
      * @param isAdopted whether they are adopted
      */
     public StoreOptions withAdopts(boolean isAdopted) {
-        return new StoreOptions(opening, storage, isAdopted, fromEarlierImage, patience, imageCalls, mostAhead);
+        return with(it -> it.adopts = isAdopted);
     }
 
     /**
@@ -62,7 +63,7 @@ public record StoreOptions(Opening opening, Optional<Path> storage, boolean adop
      * @param isEarlier whether they do
      */
     public StoreOptions withFromEarlierImage(boolean isEarlier) {
-        return new StoreOptions(opening, storage, adopts, isEarlier, patience, imageCalls, mostAhead);
+        return with(it -> it.fromEarlierImage = isEarlier);
     }
 
     /**
@@ -71,7 +72,7 @@ public record StoreOptions(Opening opening, Optional<Path> storage, boolean adop
      * @param time for how long
      */
     public StoreOptions withPatience(Duration time) {
-        return new StoreOptions(opening, storage, adopts, fromEarlierImage, time, imageCalls, mostAhead);
+        return with(it -> it.patience = time);
     }
 
     /**
@@ -80,7 +81,7 @@ public record StoreOptions(Opening opening, Optional<Path> storage, boolean adop
      * @param calls how many
      */
     public StoreOptions withImageCalls(long calls) {
-        return new StoreOptions(opening, storage, adopts, fromEarlierImage, patience, calls, mostAhead);
+        return with(it -> it.imageCalls = calls);
     }
 
     /**
@@ -89,7 +90,31 @@ public record StoreOptions(Opening opening, Optional<Path> storage, boolean adop
      * @param millis how many milliseconds
      */
     public StoreOptions withMostAhead(long millis) {
-        return new StoreOptions(opening, storage, adopts, fromEarlierImage, patience, imageCalls, millis);
+        return with(it -> it.mostAhead = millis);
+    }
+
+    /** Options while one of them changes. */
+    private static final class Draft {
+        Opening opening;
+        Optional<Path> storage;
+        boolean adopts;
+        boolean fromEarlierImage;
+        Duration patience;
+        long imageCalls;
+        long mostAhead;
+    }
+
+    private StoreOptions with(Consumer<Draft> change) {
+        Draft it = new Draft();
+        it.opening = opening;
+        it.storage = storage;
+        it.adopts = adopts;
+        it.fromEarlierImage = fromEarlierImage;
+        it.patience = patience;
+        it.imageCalls = imageCalls;
+        it.mostAhead = mostAhead;
+        change.accept(it);
+        return new StoreOptions(it.opening, it.storage, it.adopts, it.fromEarlierImage, it.patience, it.imageCalls, it.mostAhead);
     }
 
     /** In the order of store_jni.c. */
