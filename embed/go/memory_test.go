@@ -83,6 +83,29 @@ func TestCallsWithoutMemory(t *testing.T) {
 	told(t, job, false, "<nil>", func(job it) (string, error) { err := job.Deleted(2); return fmt.Sprint(err), err })
 }
 
+func TestNamesWithoutMemory(t *testing.T) {
+	job := must(relkvanu.OpenFenced(settings, []uint64{1}, 0, 1, 5))
+	defer job.Close()
+	type it = *relkvanu.Coordinator
+	none := func(err error) (string, error) { return "none", err }
+	told(t, job, true, "reserved 5", said(func(job it) (relkvanu.Reserved, error) { return job.Reserve(1, 3) }))
+	must(job.Tick(1000))
+	told(t, job, true, "none", func(job it) (string, error) { return none(job.Forfeit(1, []uint64{6})) })
+	told(t, job, true, "ack completed 0 0", said(func(job it) (relkvanu.Acked, error) {
+		return job.AckIn(1, 1000, 1, relkvanu.Subtask{}, []uint64{7, 5}, nil)
+	}))
+	must(job.Tick(2000))
+	told(t, job, false, "decline failed 0", said(func(job it) (relkvanu.Declined, error) { return job.DeclineIn(1, 2000, 2, relkvanu.Subtask{}) }))
+	told(t, job, false, "{1 8}", said(func(job it) (relkvanu.RunningTerm, error) { return job.Term() }))
+	told(t, job, false, "{[4 6] [8]}", said(func(job it) (relkvanu.Garbage, error) { return job.Garbage([]uint64{4, 5, 6, 7, 8}) }))
+	told(t, job, false, "restored checkpoint 1 0", said(func(job it) (relkvanu.Restored, error) { return job.Restore(2100, nil) }))
+	plain := must(relkvanu.Open(settings, []uint64{1}, 0, 1))
+	defer plain.Close()
+	must(plain.Tick(1000))
+	must(plain.Ack(1000, 1, relkvanu.Subtask{}, []uint64{4}, nil))
+	told(t, plain, true, "none", func(job it) (string, error) { return none(job.Fence(5)) })
+}
+
 func TestTextsAndReadsWithoutMemory(t *testing.T) {
 	job := withCheckpoint3()
 	defer job.Close()
@@ -132,8 +155,10 @@ func opens(t *testing.T, open func() (*relkvanu.Coordinator, error)) {
 
 func TestOpeningsWithoutMemory(t *testing.T) {
 	opens(t, func() (*relkvanu.Coordinator, error) { return relkvanu.Open(settings, []uint64{2}, 0, 1) })
-	job := withCheckpoint3()
-	image := must(job.Save())
-	job.Close()
-	opens(t, func() (*relkvanu.Coordinator, error) { return relkvanu.OpenSaved(image) })
+	opens(t, func() (*relkvanu.Coordinator, error) { return relkvanu.OpenFenced(settings, []uint64{2}, 0, 1, 5) })
+	for _, job := range []*relkvanu.Coordinator{withCheckpoint3(), busy()} {
+		image := must(job.Save())
+		job.Close()
+		opens(t, func() (*relkvanu.Coordinator, error) { return relkvanu.OpenSaved(image) })
+	}
 }

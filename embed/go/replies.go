@@ -103,6 +103,18 @@ type FileUndeleted struct{ File uint64 }
 // Counted is the number of uses of a file.
 type Counted struct{ File, Uses uint64 }
 
+// Reserved has names that are reserved for files: Count of them, from First on.
+type Reserved struct{ First, Count uint64 }
+
+// Names has them, ascending.
+func (r Reserved) Names() []uint64 {
+	names := make([]uint64, r.Count)
+	for place := range names {
+		names[place] = r.First + uint64(place)
+	}
+	return names
+}
+
 // Shown is the metadata of a record.
 type Shown struct{ JSON []byte }
 
@@ -153,6 +165,7 @@ func (FileDeleted) isReply()        {}
 func (FileUndeleted) isReply()      {}
 func (Shown) isReply()              {}
 func (Counted) isReply()            {}
+func (Reserved) isReply()           {}
 
 var ticks = map[TickEnd]string{
 	// embed/bindings makes the names of ends
@@ -214,5 +227,7 @@ func (r FileDeleted) String() string { return fmt.Sprintf("deleted %d", r.File) 
 func (r FileUndeleted) String() string { return fmt.Sprintf("undeleted %d", r.File) }
 
 func (r Shown) String() string { return string(r.JSON) }
+
+func (r Reserved) String() string { return fmt.Sprintf("reserved %d", r.First) }
 
 func (r Counted) String() string { return fmt.Sprintf("count %d %d", r.File, r.Uses) }

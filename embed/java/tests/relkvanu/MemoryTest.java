@@ -5,6 +5,7 @@ import static org.junit.jupiter.api.Assertions.assertEquals;
 import static org.junit.jupiter.api.Assertions.assertTrue;
 
 import java.util.Arrays;
+import java.util.List;
 import java.util.function.Function;
 import java.util.function.Supplier;
 import java.util.stream.LongStream;
@@ -111,6 +112,31 @@ class MemoryTest {
     }
 
     @Test
+    void names() {
+        try (Coordinator job = Coordinator.openFenced(Jobs.SETTINGS, new long[] {1}, 0, 1, 5)) {
+            told(job, it -> it.reserve(1, 3), new Reply.Reserved(5, 3));
+            job.tick(1000);
+            told(job, it -> it.forfeit(1, 6), new Reply.Forfeited());
+            told(job, it -> it.ackIn(1, 1000, 1, 0, 0, Jobs.files(7, 5)), new Reply.AckCompleted(0, 0));
+            job.tick(2000);
+            toldWithout(job, it -> it.declineIn(1, 2000, 2, 0, 0), new Reply.DeclineFailed(0));
+            assertEquals(new RunningTerm(1, 8), told(job, Reads::term, false));
+            assertEquals(new Garbage(Jobs.files(4, 6), Jobs.files(8)), told(job, it -> it.garbage(4, 5, 6, 7, 8), false));
+            toldWithout(job, it -> it.restoreLatest(2100), new Reply.RestoredCheckpoint(1, 0));
+            told(job, it -> it.reserve(2, 1000), new Reply.Reserved(8, 1000));
+            told(job, it -> it.forfeit(2, MANY), new Reply.Forfeited());
+            assertEquals(new Garbage(MANY, Jobs.files()), told(job, it -> it.garbage(MANY), true));
+            job.tick(3100);
+            told(job, it -> it.ackIn(2, 3100, 3, 0, 0, LongStream.rangeClosed(401, 700).toArray(), 5), new Reply.AckCompleted(1, 1));
+        }
+        try (Coordinator job = Jobs.opened(Jobs.SETTINGS, 1)) {
+            job.tick(1000);
+            job.ack(1000, 1, 0, 0, Jobs.files(4));
+            told(job, it -> it.fence(5), new Reply.Named());
+        }
+    }
+
+    @Test
     void longLists() {
         try (Coordinator job = Jobs.opened(Settings.every(1000), 1)) {
             job.tick(1000);
@@ -164,8 +190,10 @@ class MemoryTest {
     void openings() {
         opens(() -> Jobs.opened(Jobs.SETTINGS, 2));
         opens(() -> Coordinator.open(Jobs.SETTINGS, LongStream.range(0, 200).map(it -> 1).toArray(), 0));
-        try (Coordinator job = withCheckpoint3()) {
+        opens(() -> Coordinator.openFenced(Jobs.SETTINGS, new long[] {2}, 0, 1, 5));
+        for (Coordinator job : List.of(withCheckpoint3(), NamesTest.busy())) {
             byte[] image = job.save();
+            job.close();
             opens(() -> Coordinator.openSaved(image));
         }
     }
