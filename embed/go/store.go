@@ -44,7 +44,7 @@ type Step uint32
 const (
 	EndTasks     Step = C.RELKVANU_STORE_END_TASKS   // make sure that no earlier task runs, and that no message of one arrives
 	RestoreJob   Step = C.RELKVANU_STORE_RESTORE     // call Restore: its reply says where the job begins again
-	Sweep        Step = C.RELKVANU_STORE_SWEEP       // delete the files of the storage that Unknown returns
+	Sweep        Step = C.RELKVANU_STORE_SWEEP       // call Sweep, or delete the files of the storage that Unknown returns
 	StartTasks   Step = C.RELKVANU_STORE_START_TASKS // start tasks, a timer (AwaitTick) and a discarder (Discard)
 	StartDiscard Step = C.RELKVANU_STORE_DISCARD     // start a discarder alone: the job is cancelled
 )

@@ -5,6 +5,8 @@ package relkvanu
 // #include <relkvanu_store.h>
 import "C"
 
+import "errors"
+
 // StoreFault is why a store was not opened, or why calls were not committed.
 type StoreFault uint32
 
@@ -49,6 +51,7 @@ func (f StoreFault) Error() string { return "relkvanu: the store: " + f.String()
 type StoreError struct {
 	Fault   StoreFault
 	Message string // what went wrong, and where
+	Cause   error  // after StoreNotPut: why, such as syscall.ENOSPC
 }
 
 func (e *StoreError) Error() string {
@@ -61,8 +64,10 @@ func (e *StoreError) Error() string {
 // Unwrap is the StoreFault.
 func (e *StoreError) Unwrap() error { return e.Fault }
 
-// Is says that a store which a failed commit has closed is closed: errors.Is(err, ErrClosed).
-func (e *StoreError) Is(target error) bool { return target == ErrClosed && e.Fault == StoreClosed }
+// Is says that a store which a failed commit has closed is closed, as errors.Is(err, ErrClosed), and finds the cause.
+func (e *StoreError) Is(target error) bool {
+	return target == ErrClosed && e.Fault == StoreClosed || e.Cause != nil && errors.Is(e.Cause, target)
+}
 
 // Closes is whether the store is closed now.
 func (e *StoreError) Closes() bool { return e.Fault >= StoreFailed }

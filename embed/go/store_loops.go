@@ -161,10 +161,59 @@ func (s *Store) Discard(batch int, remove func(file uint64) error) error {
 	if with.panicked != nil {
 		panic(with.panicked)
 	}
+	return s.stopped(status)
+}
+
+// stopped is the error of a loop that ended with this status: none, if it was stopped.
+func (s *Store) stopped(status C.int) error {
 	if status == C.RELKVANU_STORE_STOPPED {
 		return nil
 	}
 	return s.check(status)
+}
+
+// DiscardFiles is a discarder of the files that Put has made, in batches of 256, as Discard is one of the engine's own.
+func (s *Store) DiscardFiles() error {
+	if err := s.enter(); err != nil {
+		return err
+	}
+	defer s.leave()
+	return s.stopped(discardFiles(s.store))
+}
+
+// Put makes a state file in the storage folder, by its number: it writes it beside its name, syncs it, gives it the name, and syncs the folder. A
+// loss of power does not take it then, and a task may acknowledge it. The file 7 has the name 7, and 7.part while it is not whole.
+//
+// The error is StorePresent if there is a file of this number, or a part of one; StoreStorage if the folder lacks its marker, or another opening
+// has it; StoreNotPut if it can't be written, which wraps why: errors.Is(err, syscall.ENOSPC); StoreBadArgument if there is no storage folder.
+// Then the task declines, and the number is not given again: a sweep deletes what is left.
+func (s *Store) Put(file uint64, contents []byte) error {
+	if err := s.enter(); err != nil {
+		return err
+	}
+	defer s.leave()
+	at, length := text(contents)
+	status, why := C.relkvanu_store_put(s.store, C.uint64_t(file), unsafe.Pointer(at), length)
+	if status == C.RELKVANU_STORE_NOT_PUT {
+		return &StoreError{Fault: StoreNotPut, Message: why.Error(), Cause: why}
+	}
+	return s.check(status)
+}
+
+// Sweep is the sweep of a recovery, of each restore and of a cancelled job, after all tasks have ended: it deletes the files of the storage folder
+// that nobody knows (Unknown), also what is there in part, and syncs the folder. It returns how many it could not delete: the next recovery
+// tries them again.
+//
+// The error is StoreNotNow as that of Unknown; StoreStorage if the folder lacks its marker, another opening has it, or it can't be read or synced;
+// StoreBadArgument if there is no storage folder.
+func (s *Store) Sweep() (left uint64, err error) {
+	if err := s.enter(); err != nil {
+		return 0, err
+	}
+	defer s.leave()
+	var found C.size_t
+	err = s.check(C.relkvanu_store_sweep(s.store, &found))
+	return uint64(found), err
 }
 
 // storeRemover is what the library hands back.

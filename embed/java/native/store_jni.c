@@ -1,10 +1,14 @@
 /* The functions of include/relkvanu_store.h over JNI, for the class StoreNative: calls and their lists as arrays of numbers. Arrays are copied, so
  * nothing is pinned while a commit lasts. The coordinator itself is that of librelkvanu_jni.so. */
+#define _POSIX_C_SOURCE 200809L /* strerror_r */
+
 #include "../../../include/relkvanu_store.h"
 #include "structs.h"
 
+#include <errno.h>
 #include <jni.h>
 #include <stdlib.h>
+#include <string.h>
 
 /* Numbers of a call: those of relkvanu_call, and the lengths of its two lists and of its buffer. Of an outcome: the answer, the choice's what
  * and a, and the place. */
@@ -24,7 +28,7 @@ static uint64_t *longs_of(JNIEnv *env, jlongArray array, size_t *len) {
     return copy;
 }
 
-/* A copy of bytes as a text; NULL without memory, or if there is no array. */
+/* A copy of bytes, with a zero at its end; NULL without memory, or if there is no array. */
 static char *text_of(JNIEnv *env, jbyteArray array) {
     size_t len = array == NULL ? 0 : (size_t)(*env)->GetArrayLength(env, array);
     char *copy = array == NULL ? NULL : calloc(len + 1, 1);
@@ -184,6 +188,32 @@ JNIEXPORT jint JNICALL Java_relkvanu_StoreNative_unknown(JNIEnv *env, jclass of,
     }
     free(copy);
     return status;
+}
+
+JNIEXPORT jint JNICALL Java_relkvanu_StoreNative_put(JNIEnv *env, jclass of, jlong store, jlong file, jbyteArray contents, jbyteArray why) {
+    (void)of;
+    char *copy = text_of(env, contents), text[RELKVANU_STORE_MESSAGE] = "";
+    int status = copy == NULL ? RELKVANU_STORE_NO_MEMORY : relkvanu_store_put(store_at(store), (uint64_t)file, copy, (size_t)(*env)->GetArrayLength(env, contents));
+    if (status == RELKVANU_STORE_NOT_PUT) {
+        strerror_r(errno, text, sizeof text);
+    }
+    (*env)->SetByteArrayRegion(env, why, 0, sizeof text, (const jbyte *)text);
+    free(copy);
+    return status;
+}
+
+JNIEXPORT jint JNICALL Java_relkvanu_StoreNative_sweep(JNIEnv *env, jclass of, jlong store, jlongArray told) {
+    (void)of;
+    size_t left = 0;
+    int status = relkvanu_store_sweep(store_at(store), &left);
+    tell(env, told, &(jlong){(jlong)left}, 1);
+    return status;
+}
+
+JNIEXPORT jint JNICALL Java_relkvanu_StoreNative_discardFiles(JNIEnv *env, jclass of, jlong store) {
+    (void)env;
+    (void)of;
+    return relkvanu_store_discard(store_at(store), 0, relkvanu_store_delete_files, store_at(store));
 }
 
 JNIEXPORT jint JNICALL Java_relkvanu_StoreNative_folder(JNIEnv *env, jclass of, jlong store) {

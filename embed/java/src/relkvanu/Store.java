@@ -392,12 +392,65 @@ public final class Store implements AutoCloseable {
     }
 
     /**
+     * Makes a state file in the storage folder, by its number: writes it beside its name, syncs it, gives it the name, and syncs the folder. A
+     * loss of power does not take it then, and a task may acknowledge it. The file 7 has the name 7, and 7.part while it is not whole.
+     *
+     * <p>Throws {@code NotStored} with {@code PRESENT} if there is a file of this number, or a part of one; with {@code STORAGE} if the folder lacks its
+     * marker, or another opening has it; with {@code NOT_PUT} if it can't be written; with {@code BAD_ARGUMENT} if there is no storage folder.
+     * Then the task declines, and the number is not given again: a sweep deletes what is left.
+     *
+     * @param file the number
+     * @param contents what it contains
+     */
+    public void put(long file, byte[] contents) {
+        Objects.requireNonNull(contents, "contents");
+        byte[] why = new byte[StoreNative.MESSAGE];
+        enter();
+        try {
+            int status = StoreNative.put(address, file, contents, why);
+            if (status == StoreFault.NOT_PUT.status) {
+                throw fault(status, text(why));
+            }
+            check(status);
+        } finally {
+            leave();
+        }
+    }
+
+    /**
+     * The sweep of a recovery, of each restore and of a cancelled job, after all tasks have ended: deletes the files of the storage folder that
+     * nobody knows ({@link #unknown}), also what is there in part, and syncs the folder.
+     *
+     * <p>Throws {@code NotStored} with {@code NOT_NOW} as {@link #unknown}; with {@code STORAGE} if the folder lacks its marker, another opening has
+     * it, or it can't be read or synced; with {@code BAD_ARGUMENT} if there is no storage folder.
+     *
+     * @return how many it could not delete: the next recovery tries them again
+     */
+    public long sweep() {
+        long[] left = new long[1];
+        checked(() -> StoreNative.sweep(address, left));
+        return left[0];
+    }
+
+    /**
      * {@return a path of the storage folder that leads to the folder which was there at the opening, also if another one is mounted over it; empty
      * if there is none} It lasts until the close.
      */
     public Optional<Path> folder() {
         int folder = within(() -> StoreNative.folder(address));
         return folder < 0 ? Optional.empty() : Optional.of(Path.of("/proc/self/fd" + File.separator + folder));
+    }
+
+    /** A discarder of the files that {@link #put} has made, in batches of 256: see {@link #discard(Delete, int)}. */
+    public void discard() {
+        discarded(() -> StoreNative.discardFiles(address));
+    }
+
+    private void discarded(IntSupplier loop) {
+        checked(() -> {
+            int status = loop.getAsInt();
+            return status == StoreFault.STOPPED.status ? StoreFault.OK : status;
+        });
     }
 
     /**
@@ -420,14 +473,11 @@ public final class Store implements AutoCloseable {
     public void discard(Delete delete, int batch) {
         Remover remover = new Remover(Objects.requireNonNull(delete, "delete"), () -> StoreNative.stop(address));
         long size = Checks.natural(batch, "a batch");
-        enter();
-        try {
+        discarded(() -> {
             int status = StoreNative.discard(address, size, remover);
             remover.check();
-            check(status == StoreFault.STOPPED.status ? StoreFault.OK : status);
-        } finally {
-            leave();
-        }
+            return status;
+        });
     }
 
     /** Lets {@link #awaitTick} and {@link #discard(Delete)} return, now and later. What was taken is reported first. */

@@ -30,6 +30,12 @@ final class StoreNative {
 
     static native int unknown(long store, long[] files, long[] length);
 
+    static native int put(long store, long file, byte[] contents, byte[] why);
+
+    static native int sweep(long store, long[] left);
+
+    static native int discardFiles(long store);
+
     static native int folder(long store);
 
     static native int discard(long store, long batch, Remover remover);

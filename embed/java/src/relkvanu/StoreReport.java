@@ -26,7 +26,7 @@ public record StoreReport(boolean isRecovered, boolean settingsDiffer, List<Step
         END_TASKS,
         /** Call {@link Store#restoreLatest()}: its reply says where the job begins again. */
         RESTORE,
-        /** Delete the files of the storage that {@link Store#unknown} returns. */
+        /** Call {@link Store#sweep}, or delete the files of the storage that {@link Store#unknown} returns. */
         SWEEP,
         /** Start tasks, a timer ({@link Store#awaitTick}) and a discarder ({@link Store#discard(Delete)}). */
         START_TASKS,

@@ -158,7 +158,7 @@ class StoreTest {
         job.close();
         List<org.junit.jupiter.api.function.Executable> ways = List.of(job::tick, job::savepoint, () -> job.ack(1, 0, 0, new long[] {1}), () -> job.decline(1, 0, 0), () -> job.dispose(1),
             job::restoreLatest, () -> job.restoreLatest(new long[] {1}), () -> job.restoreSavepoint(1), job::cancel, () -> job.calls(List.of(StoreCall.tick())), () -> job.read(StoreReads::mode), job::now,
-            job::nextTick, () -> job.awaitTick(Duration.ofSeconds(1)), () -> job.unknown(1), job::folder, () -> job.discard(file -> {}), job::stop, job::counts);
+            job::nextTick, () -> job.awaitTick(Duration.ofSeconds(1)), () -> job.unknown(1), job::folder, () -> job.discard(file -> {}), job::discard, job::sweep, () -> job.put(1, new byte[1]), job::stop, job::counts);
         ways.forEach(way -> assertThrows(CoordinatorException.Closed.class, way));
     }
 
@@ -265,6 +265,55 @@ class StoreTest {
         assertThrows(CoordinatorException.OutOfRange.class, () -> job.discard(file -> {}, -1));
         assertSame(StoreFault.BAD_ARGUMENT, fault(() -> job.discard(file -> {}, 4096)));
         job.close();
+    }
+
+    private List<String> listed() throws IOException {
+        try (java.util.stream.Stream<Path> found = Files.list(storage)) {
+            return found.map(it -> it.getFileName().toString()).filter(it -> !it.startsWith(".")).sorted().toList();
+        }
+    }
+
+    /** A task's file is made, kept while a record uses it, and then deleted; what no record knows is swept. */
+    @Test
+    void filesOfTheStorage() throws Exception {
+        byte[] contents = {0, 1, -1};
+        try (Store job = open(creates().withStorage(storage))) {
+            job.put(1, contents);
+            job.put(2, new byte[0]);
+            job.put(-1, new byte[1 << 20]);
+            assertArrayEquals(contents, Files.readAllBytes(storage.resolve("1")));
+            assertEquals(0, Files.size(storage.resolve("2")));
+            assertEquals(List.of("1", "18446744073709551615", "2"), listed());
+            assertSame(StoreFault.PRESENT, fault(() -> job.put(1, contents)));
+            Files.createFile(storage.resolve("9.part"));
+            assertSame(StoreFault.PRESENT, fault(() -> job.put(9, contents)));
+            Files.createDirectory(storage.resolve("10"));
+            complete(job, 1);
+            assertSame(StoreFault.NOT_NOW, fault(job::sweep));
+            assertThrows(NullPointerException.class, () -> job.put(3, null));
+        }
+        try (Store job = open(creates().withStorage(storage))) {
+            job.restoreLatest();
+            assertEquals(1, job.sweep()); // the folder 10
+            assertEquals(List.of("1", "10", "2"), listed());
+            Thread discarder = new Thread(job::discard);
+            discarder.start();
+            job.put(11, contents);
+            job.put(12, contents);
+            complete(job, 11);
+            while (job.read(reads -> reads.fileCounts().waiting() + reads.fileCounts().taken()) != 0) {
+                Thread.onSpinWait();
+            }
+            assertEquals(List.of("10", "11", "12"), listed());
+            Files.delete(storage.resolve(".relkvanu-job"));
+            assertSame(StoreFault.STORAGE, fault(() -> job.put(13, contents)));
+            job.stop();
+            discarder.join();
+        }
+        try (Store job = Store.open(folder.resolve("other.db"), SETTINGS, SHAPE, creates())) {
+            assertSame(StoreFault.BAD_ARGUMENT, fault(() -> job.put(1, contents)));
+            assertSame(StoreFault.BAD_ARGUMENT, fault(job::sweep));
+        }
     }
 
     /** What a deletion throws ends the discarder, and no file counts as deleted after it. */
