@@ -355,14 +355,35 @@ func TestStoreFailingSync(t *testing.T) {
 		failsInACommit(t, job)
 		return
 	}
+	withShim(t, newStoreFolder(t).job, "STORE_FAULT=sync", "STORE_AT=40")
+}
+
+// withShim runs this test in a process of its own, in which the files of a folder, or those whose names begin so, have a fault.
+func withShim(t *testing.T, in string, fault ...string) {
+	t.Helper()
 	if os.Getenv("STORE_SHIM") == "" {
 		t.Skip("STORE_SHIM names no shim")
 	}
-	command := exec.Command(os.Args[0], "-test.run", "^TestStoreFailingSync$")
-	command.Env = append(os.Environ(), "LD_PRELOAD="+os.Getenv("STORE_SHIM"), "STORE_IN="+newStoreFolder(t).job, "STORE_FAULT=sync", "STORE_AT=40")
+	command := exec.Command(os.Args[0], "-test.run", "^"+t.Name()+"$")
+	command.Env = append(os.Environ(), append(fault, "LD_PRELOAD="+os.Getenv("STORE_SHIM"), "STORE_IN="+in)...)
 	if told, err := command.CombinedOutput(); err != nil {
 		t.Errorf("%v: %s", err, told)
 	}
+}
+
+// The disk is full for file 7, by the same shim: nothing of it is left, and others are made.
+func TestStoreFullDisk(t *testing.T) {
+	if storage := os.Getenv("STORE_IN"); storage != "" {
+		options := storeOptions()
+		options.Storage = storage
+		store := must(relkvanu.OpenStore(storage+".db", options))
+		defer store.Close()
+		equal(t, fails(t, store.Put(7, []byte{1}), syscall.ENOSPC), "relkvanu: the store: NotPut: no space left on device")
+		equal(t, store.Put(8, []byte{1}), nil)
+		equal(t, listed(t, storeFolder{storage: storage}), "[8]")
+		return
+	}
+	withShim(t, newStoreFolder(t).storage, "STORE_FAULT=full", "STORE_ON=/7.part", "STORE_FOR=0")
 }
 
 func failsInACommit(t *testing.T, job string) {

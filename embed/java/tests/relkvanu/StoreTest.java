@@ -361,6 +361,22 @@ class StoreTest {
         assertThrows(CoordinatorException.Unknown.class, () -> StoreFault.of(999));
     }
 
+    /** The disk is full for file 7, by embed/store/tests/shim.c: nothing of it is left, and others are made. */
+    @Test
+    @Tag("full")
+    void aFileThatCanNotBeWritten() throws IOException {
+        Path in = Path.of(System.getenv("STORE_IN"));
+        storage = Files.createDirectory(in.resolve("state"));
+        try (Store job = Store.open(in.resolve("job.db"), SETTINGS, SHAPE, creates().withStorage(storage))) {
+            CoordinatorException.NotStored told = assertThrows(CoordinatorException.NotStored.class, () -> job.put(7, new byte[] {1}));
+            assertSame(StoreFault.NOT_PUT, told.fault());
+            assertEquals("NOT_PUT: No space left on device", told.getMessage());
+            assertFalse(told.fault().closes());
+            job.put(8, new byte[] {1});
+            assertEquals(List.of("8"), listed());
+        }
+    }
+
     /** A sync fails, by embed/store/tests/shim.c. Nobody was answered by that commit, and each call that was answered is there again. */
     @Test
     @Tag("failing")
