@@ -10,7 +10,7 @@ import (
 )
 
 // Reply is what a line's call returned: a Ticked, SavepointTriggered, Acked, Declined, Disposed, Restored, Cancelled, Taken,
-// FileDeleted, FileUndeleted, Shown or Counted. Each prints as a script does (docs/SCRIPT.md).
+// FileDeleted, FileUndeleted, Shown, Counted, Reserved, Forfeited or Named. Each prints as a script or a log does (docs/SCRIPT.md, docs/LOGS.md).
 type Reply interface {
 	fmt.Stringer
 	isReply()
@@ -115,6 +115,12 @@ func (r Reserved) Names() []uint64 {
 	return names
 }
 
+// Forfeited is the reply to a line that gives names up.
+type Forfeited struct{}
+
+// Named is the reply to the line of a fence: the coordinator has names now, and is in term 1.
+type Named struct{}
+
 // Shown is the metadata of a record.
 type Shown struct{ JSON []byte }
 
@@ -166,6 +172,8 @@ func (FileUndeleted) isReply()      {}
 func (Shown) isReply()              {}
 func (Counted) isReply()            {}
 func (Reserved) isReply()           {}
+func (Forfeited) isReply()          {}
+func (Named) isReply()              {}
 
 var ticks = map[TickEnd]string{
 	// embed/bindings makes the names of ends
@@ -229,5 +237,9 @@ func (r FileUndeleted) String() string { return fmt.Sprintf("undeleted %d", r.Fi
 func (r Shown) String() string { return string(r.JSON) }
 
 func (r Reserved) String() string { return fmt.Sprintf("reserved %d", r.First) }
+
+func (r Forfeited) String() string { return "forfeited" }
+
+func (r Named) String() string { return "term 1" }
 
 func (r Counted) String() string { return fmt.Sprintf("count %d %d", r.File, r.Uses) }

@@ -64,7 +64,7 @@ func (l callList) free() { C.free(unsafe.Pointer(l.at)) }
 func (l callList) fill(place int, call *Call, rest []uint64) []uint64 {
 	first, second, files := wordsOf(call)
 	it := &l.calls()[place]
-	it.call = ofSubtask(C.uint32_t(call.Kind), call.Now, call.Number, call.Subtask)
+	it.call = call.inC()
 	if call.Kind == CallTake {
 		it.call.number = C.uint64_t(files)
 	}

@@ -62,10 +62,10 @@ static inline void counts_out(JNIEnv *env, jlongArray array, relkvanu_counts it)
 }
 
 /* relkvanu_call */
-enum { CALL_NUMBERS = 5 };
+enum { CALL_NUMBERS = 6 };
 
 static inline relkvanu_call call_of(const jlong *numbers) {
-    return (relkvanu_call){(uint32_t)numbers[0], (uint16_t)numbers[1], (uint16_t)numbers[2], (uint64_t)numbers[3], (uint64_t)numbers[4]};
+    return (relkvanu_call){(uint32_t)numbers[0], (uint16_t)numbers[1], (uint16_t)numbers[2], (uint64_t)numbers[3], (uint64_t)numbers[4], (uint64_t)numbers[5]};
 }
 
 static inline relkvanu_call call_in(JNIEnv *env, jlongArray array) {
@@ -80,6 +80,7 @@ static inline void call_to(jlong *numbers, relkvanu_call it) {
     numbers[2] = (jlong)it.index;
     numbers[3] = (jlong)it.now;
     numbers[4] = (jlong)it.number;
+    numbers[5] = (jlong)it.term;
 }
 
 static inline void call_out(JNIEnv *env, jlongArray array, relkvanu_call it) {

@@ -14,7 +14,7 @@ final class Native {
     static final int COUNTS = 4;
 
     /** How many numbers relkvanu_call has. */
-    static final int CALL = 5;
+    static final int CALL = 6;
 
     /** Returns the address of a closed handle, or 0 without memory. */
     static native long create();

@@ -14,6 +14,7 @@ public final class StoreCall {
     private final long[] first;
     private final long[] second;
     private long moment = NOW;
+    private long term; // 0: none
 
     private StoreCall(int kind, long number, int vertex, int index, long[] first, long[] second) {
         this.kind = kind;
@@ -168,7 +169,7 @@ public final class StoreCall {
         long[] numbers = new long[calls.size() * StoreNative.CALL];
         int at = 0;
         for (StoreCall it : calls) {
-            long[] own = {it.kind, it.vertex, it.index, it.moment, it.number, it.first.length, it.second.length, it.room()};
+            long[] own = {it.kind, it.vertex, it.index, it.moment, it.number, it.term, it.first.length, it.second.length, it.room()};
             System.arraycopy(own, 0, numbers, at, own.length);
             at += own.length;
         }
