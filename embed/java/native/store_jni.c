@@ -11,8 +11,8 @@
 #include <string.h>
 
 /* Numbers of a call: those of relkvanu_call, and the lengths of its two lists and of its buffer. Of an outcome: the answer, the choice's what
- * and a, and the place. */
-enum { GIVEN = CALL_NUMBERS + 3, TOLD = ANSWER_NUMBERS + 3, OPTIONS = 4, REPORT = 12 };
+ * and a, the place, and the term. */
+enum { GIVEN = CALL_NUMBERS + 3, TOLD = ANSWER_NUMBERS + 4, OPTIONS = 4, REPORT = 14 };
 
 static relkvanu_store *store_at(jlong at) {
     return (relkvanu_store *)(uintptr_t)at;
@@ -44,7 +44,7 @@ static void tell(JNIEnv *env, jlongArray to, const jlong *numbers, size_t len) {
 
 static void tell_report(JNIEnv *env, jlongArray to, const relkvanu_store_report *it) {
     jlong numbers[REPORT + RELKVANU_STORE_MOST_STEPS] = {it->is_recovered, it->settings_differ, (jlong)it->epoch, (jlong)it->job[0], (jlong)it->job[1],
-        (jlong)it->image_place, (jlong)it->replayed, (jlong)it->taken, (jlong)it->moment, it->mode.what, it->choice.what, (jlong)it->choice.a};
+        (jlong)it->image_place, (jlong)it->replayed, (jlong)it->taken, (jlong)it->moment, it->mode.what, it->choice.what, (jlong)it->choice.a, (jlong)it->term, (jlong)it->next_name};
     for (size_t place = 0; place < it->steps_len; place++) {
         numbers[REPORT + place] = it->steps[place];
     }
@@ -105,6 +105,7 @@ static void tell_call(jlong *told, const relkvanu_store_call *it) {
     told[ANSWER_NUMBERS] = it->choice.what;
     told[ANSWER_NUMBERS + 1] = (jlong)it->choice.a;
     told[ANSWER_NUMBERS + 2] = (jlong)it->place;
+    told[ANSWER_NUMBERS + 3] = (jlong)it->term;
 }
 
 /* Makes calls, and writes their outcomes over their numbers. */
@@ -136,6 +137,45 @@ JNIEXPORT jint JNICALL Java_relkvanu_StoreNative_calls(JNIEnv *env, jclass of, j
     }
     free(given_copy);
     free(words_copy);
+    return status;
+}
+
+JNIEXPORT jint JNICALL Java_relkvanu_StoreNative_forfeit(JNIEnv *env, jclass of, jlong store, jlong term, jlongArray names, jlongArray told) {
+    (void)of;
+    size_t len;
+    relkvanu_answer answer = {0};
+    uint64_t *copy = longs_of(env, names, &len);
+    int status = copy == NULL ? RELKVANU_STORE_NO_MEMORY : relkvanu_store_forfeit(store_at(store), (uint64_t)term, copy, len, &answer);
+    answer_out(env, told, answer);
+    free(copy);
+    return status;
+}
+
+JNIEXPORT jint JNICALL Java_relkvanu_StoreNative_term(JNIEnv *env, jclass of, jlong store, jlongArray told) {
+    (void)of;
+    relkvanu_answer answer = {0};
+    int status = relkvanu_store_term(store_at(store), &answer);
+    answer_out(env, told, answer);
+    return status;
+}
+
+JNIEXPORT jint JNICALL Java_relkvanu_StoreNative_garbage(JNIEnv *env, jclass of, jlong store, jlongArray files, jlongArray garbage, jlongArray unissued, jlongArray told) {
+    (void)of;
+    size_t len;
+    relkvanu_answer answer = {0};
+    uint64_t *copy = longs_of(env, files, &len), *first = malloc((len + 1) * sizeof *first), *second = malloc((len + 1) * sizeof *second);
+    int status = RELKVANU_STORE_NO_MEMORY;
+    if (copy != NULL && first != NULL && second != NULL) {
+        status = relkvanu_store_garbage(store_at(store), copy, len, first, second, &answer);
+    }
+    if (status == RELKVANU_STORE_OK && answer.code == RELKVANU_DONE) {
+        tell(env, garbage, (const jlong *)first, (size_t)answer.a);
+        tell(env, unissued, (const jlong *)second, (size_t)answer.b);
+    }
+    answer_out(env, told, answer);
+    free(copy);
+    free(first);
+    free(second);
     return status;
 }
 
@@ -233,7 +273,7 @@ JNIEXPORT void JNICALL Java_relkvanu_StoreNative_count(JNIEnv *env, jclass of, j
     relkvanu_store_counts it;
     relkvanu_store_count(store_at(store), &it);
     const jlong numbers[] = {(jlong)it.commits, (jlong)it.calls, (jlong)it.largest, (jlong)it.images, (jlong)it.failed_images, (jlong)it.checkpoints,
-        (jlong)it.failed_checkpoints, (jlong)it.retries};
+        (jlong)it.failed_checkpoints, (jlong)it.retries, (jlong)it.swept, (jlong)it.unissued};
     tell(env, told, numbers, sizeof numbers / sizeof *numbers);
 }
 

@@ -20,6 +20,12 @@ public record Garbage(long[] garbage, long[] unissued) {
         unissued = unissued.clone();
     }
 
+    /** So many files at the start of each buffer. */
+    static Garbage of(int what, long[] garbage, long first, long[] unissued, long second) {
+        Answers.is(what, Header.GARBAGE);
+        return new Garbage(Arrays.copyOf(garbage, (int) first), Arrays.copyOf(unissued, (int) second));
+    }
+
     /**
      * {@return a copy of the garbage}
      */

@@ -2,7 +2,6 @@ package relkvanu;
 
 import java.lang.ref.Reference;
 import java.time.Duration;
-import java.util.Arrays;
 import java.util.Optional;
 import java.util.OptionalLong;
 import java.util.function.Supplier;
@@ -230,10 +229,7 @@ abstract sealed class Reads permits Coordinator, StoreReads {
      * @return the term
      */
     public RunningTerm term() {
-        return call(Native::term, (what, term, next) -> {
-            Answers.is(what, Header.TERM);
-            return new RunningTerm(term, next);
-        });
+        return call(Native::term, RunningTerm::of);
     }
 
     /**
@@ -246,10 +242,7 @@ abstract sealed class Reads permits Coordinator, StoreReads {
     public Garbage garbage(long... files) {
         long[] garbage = new long[files.length];
         long[] unissued = new long[files.length];
-        return call((at, out) -> Native.garbage(at, files, garbage, unissued, out), (what, first, second) -> {
-            Answers.is(what, Header.GARBAGE);
-            return new Garbage(Arrays.copyOf(garbage, (int) first), Arrays.copyOf(unissued, (int) second));
-        });
+        return call((at, out) -> Native.garbage(at, files, garbage, unissued, out), (what, first, second) -> Garbage.of(what, garbage, first, unissued, second));
     }
 
     /**

@@ -6,4 +6,9 @@ package relkvanu;
  * @param term the term: that of the tasks which whoever reads it starts
  * @param nextName the next name that is given out
  */
-public record RunningTerm(long term, long nextName) {}
+public record RunningTerm(long term, long nextName) {
+    static RunningTerm of(int what, long term, long nextName) {
+        Answers.is(what, Header.TERM);
+        return new RunningTerm(term, nextName);
+    }
+}
