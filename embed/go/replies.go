@@ -86,6 +86,7 @@ type Disposed struct{ Released uint64 }
 type Restored struct {
 	From     Choice
 	Released uint64
+	Term     uint64 // of a Store whose job has names: the term that begins, with which the tasks are started. Otherwise 0
 }
 
 // Cancelled is the reply to a cancel: so many records were dropped, and so many files released.

@@ -19,10 +19,10 @@ const (
 	StoreNotAStore   StoreFault = C.RELKVANU_STORE_NOT_A_STORE   // another kind of file, or one of a later version
 	StoreDiffers     StoreFault = C.RELKVANU_STORE_DIFFERS       // a call of the log gets another answer, or is refused. The message says which
 	StoreDamaged     StoreFault = C.RELKVANU_STORE_DAMAGED       // an image, a call or the file is damaged. The message says which
-	StoreStorage     StoreFault = C.RELKVANU_STORE_STORAGE       // the storage folder is not that of this job, or the job's file is an older copy
+	StoreStorage     StoreFault = C.RELKVANU_STORE_STORAGE       // the storage folder is not that of this job or lacks its marker, or the job's file is an older copy
 	StoreClosed      StoreFault = C.RELKVANU_STORE_CLOSED        // an earlier commit failed
 	StoreForked      StoreFault = C.RELKVANU_STORE_FORKED        // this process is a child of the one that opened the store
-	StoreNotNow      StoreFault = C.RELKVANU_STORE_NOT_NOW       // Unknown: no sweep is safe now; Discard: another goroutine discards
+	StoreNotNow      StoreFault = C.RELKVANU_STORE_NOT_NOW       // Unknown, Sweep: no sweep of a job without names is safe now; Discard: another goroutine discards
 	StoreStopped     StoreFault = C.RELKVANU_STORE_STOPPED       // Stop was called, or Close
 	StoreNotPut      StoreFault = C.RELKVANU_STORE_NOT_PUT       // a state file was not made
 	StoreFailed      StoreFault = C.RELKVANU_STORE_FAILED        // a read, write or sync failed

@@ -7,6 +7,7 @@ import static org.junit.jupiter.api.Assertions.assertTrue;
 import java.util.Arrays;
 import java.util.List;
 import java.util.function.Function;
+import java.util.function.LongConsumer;
 import java.util.function.Supplier;
 import java.util.stream.LongStream;
 import org.junit.jupiter.api.Tag;
@@ -20,6 +21,7 @@ import org.junit.jupiter.api.Test;
 class MemoryTest {
     private static final long[] MANY = LongStream.rangeClosed(100, 400).toArray();
     private int faults;
+    private LongConsumer refuse = Heap::refuse;
 
     private static String text(Object told) {
         return told instanceof long[] files ? FileNumbers.toString(files) : told instanceof byte[] bytes ? Lines.text(bytes) : told.toString();
@@ -27,7 +29,7 @@ class MemoryTest {
 
     /** Makes a call with a request refused, and once more if it ran out of memory. Before that it has changed nothing. */
     private <T> T withRefusal(long nth, Supplier<T> call, Runnable unchanged) {
-        Heap.refuse(nth);
+        refuse.accept(nth);
         try {
             return call.get();
         } catch (CoordinatorException.NoMemory fault) {
@@ -111,28 +113,58 @@ class MemoryTest {
         }
     }
 
+    /**
+     * Makes the call of a coordinator that is made anew each time, so that it has no room to spare, with all requests from another one on refused:
+     * a call that has room for less asks for less.
+     */
+    private <T> void toldAnew(Supplier<Coordinator> make, Function<Coordinator, T> call, T reply) {
+        long requests;
+        try (Coordinator job = make.get()) {
+            Heap.refuse(0);
+            call.apply(job);
+            requests = Heap.requests();
+        }
+        refuse = Heap::refuseFrom;
+        faults = 0;
+        for (long nth = 1; nth <= requests; nth++) {
+            try (Coordinator job = make.get()) {
+                byte[] before = job.save();
+                assertEquals(reply, withRefusal(nth, () -> call.apply(job), () -> assertArrayEquals(before, job.save())));
+            }
+        }
+        refuse = Heap::refuse;
+        assertTrue(faults > 0);
+    }
+
+    /** A task has reserved so many names from 5 on, and checkpoint 1 is pending. */
+    private static Coordinator withNames(long held) {
+        Coordinator job = Coordinator.openFenced(Jobs.SETTINGS, new long[] {1}, 0, 1, 5);
+        if (held > 0) {
+            job.reserve(1, held);
+        }
+        job.tick(1000);
+        return job;
+    }
+
     @Test
     void names() {
-        try (Coordinator job = Coordinator.openFenced(Jobs.SETTINGS, new long[] {1}, 0, 1, 5)) {
-            told(job, it -> it.reserve(1, 3), new Reply.Reserved(5, 3));
-            job.tick(1000);
-            told(job, it -> it.forfeit(1, 6), new Reply.Forfeited());
-            told(job, it -> it.ackIn(1, 1000, 1, 0, 0, Jobs.files(7, 5)), new Reply.AckCompleted(0, 0));
-            job.tick(2000);
-            toldWithout(job, it -> it.declineIn(1, 2000, 2, 0, 0), new Reply.DeclineFailed(0));
-            assertEquals(new RunningTerm(1, 8), told(job, Reads::term, false));
-            assertEquals(new Garbage(Jobs.files(4, 6), Jobs.files(8)), told(job, it -> it.garbage(4, 5, 6, 7, 8), false));
-            toldWithout(job, it -> it.restoreLatest(2100), new Reply.RestoredCheckpoint(1, 0));
-            told(job, it -> it.reserve(2, 1000), new Reply.Reserved(8, 1000));
-            told(job, it -> it.forfeit(2, MANY), new Reply.Forfeited());
-            assertEquals(new Garbage(MANY, Jobs.files()), told(job, it -> it.garbage(MANY), true));
-            job.tick(3100);
-            told(job, it -> it.ackIn(2, 3100, 3, 0, 0, LongStream.rangeClosed(401, 700).toArray(), 5), new Reply.AckCompleted(1, 1));
-        }
-        try (Coordinator job = Jobs.opened(Jobs.SETTINGS, 1)) {
+        toldAnew(() -> withNames(0), it -> it.reserve(1, 3), new Reply.Reserved(5, 3));
+        toldAnew(() -> withNames(3), it -> it.forfeit(1, 6), new Reply.Forfeited());
+        toldAnew(() -> withNames(3), it -> it.ackIn(1, 1000, 1, 0, 0, Jobs.files(7, 5)), new Reply.AckCompleted(0, 0));
+        toldAnew(() -> withNames(1000), it -> it.forfeit(1, MANY), new Reply.Forfeited());
+        toldAnew(() -> withNames(1000), it -> it.ackIn(1, 1000, 1, 0, 0, MANY), new Reply.AckCompleted(0, 0));
+        toldAnew(() -> withNames(1000), it -> it.garbage(MANY), new Garbage(Jobs.files(), Jobs.files()));
+        toldAnew(() -> {
+            Coordinator job = Jobs.opened(Jobs.SETTINGS, 1);
             job.tick(1000);
             job.ack(1000, 1, 0, 0, Jobs.files(4));
-            told(job, it -> it.fence(5), new Reply.Named());
+            return job;
+        }, it -> it.fence(5), new Reply.Named());
+        try (Coordinator job = withNames(3)) {
+            toldWithout(job, it -> it.declineIn(1, 1100, 1, 0, 0), new Reply.DeclineFailed(0));
+            assertEquals(new RunningTerm(1, 8), told(job, Reads::term, false));
+            assertEquals(new Garbage(Jobs.files(4), Jobs.files(8)), told(job, it -> it.garbage(4, 5, 6, 7, 8), false));
+            toldWithout(job, it -> it.restoreLatest(2100), new Reply.RestoredFresh(0));
         }
     }
 
