@@ -70,7 +70,7 @@ func TestNamesInLinesThatAreWritten(t *testing.T) {
 	for _, it := range []struct{ got, wanted string }{
 		{lineOf(relkvanu.FenceLine(20)), "fence 20<nil>"},
 		{lineOf(relkvanu.ReserveLine(2, 1000)), "reserve 2 1000<nil>"},
-		{lineOf(relkvanu.ForfeitLine(1, []uint64{9, 7})), "forfeit 1 7 9<nil>"},
+		{lineOf(relkvanu.ForfeitLine(1, []uint64{7, 9})), "forfeit 1 7 9<nil>"},
 		{lineOf(relkvanu.ForfeitLine(1, nil)), "forfeit 1<nil>"},
 		{lineOf(relkvanu.AckInLine(3, 5, 1, relkvanu.Subtask{Vertex: 1, Index: 2}, []uint64{12, 11}, []uint64{7})), "in 3 ack 5 1 1.2 +11 +12 =7<nil>"},
 		{lineOf(relkvanu.DeclineInLine(3, 5, 1, relkvanu.Subtask{Index: 3})), "in 3 decline 5 1 0.3<nil>"},
@@ -109,7 +109,7 @@ func TestNamesAndOtherLinesWithATerm(t *testing.T) {
 	job, plain := busy(), opened(1)
 	defer job.Close()
 	defer plain.Close()
-	equal(t, byLines(job, 1, []byte("in 9 count 13")), "count 13 1\n")
+	equal(t, byLines(job, 1, []byte("in 9 count 13")), "count 13 2\n") // checkpoint 2 and the pin of checkpoint 3
 	equal(t, byLines(job, 1, []byte("in 9 show 3")), must(job.Show(3)).String()+"\n")
 	equal(t, byLines(plain, 1, []byte("in 9 count 13")), "fenced NoNames\n")
 	equal(t, byLines(plain, 1, []byte("reserve 1 1")), "fenced NoNames\n")

@@ -67,7 +67,7 @@ class LogsTest {
     void aCallIsWrittenAsItsLine() {
         assertEquals("fence 20", Lines.fence(20));
         assertEquals("reserve 2 1000", Lines.reserve(2, 1000));
-        assertEquals("forfeit 1 7 9", Lines.forfeit(1, 9, 7));
+        assertEquals("forfeit 1 7 9", Lines.forfeit(1, 7, 9));
         assertEquals("forfeit 1", Lines.forfeit(1));
         assertEquals("in 3 ack 5 1 1.2 +11 +12 =7", Lines.ackIn(3, 5, 1, 1, 2, Jobs.files(12, 11), 7));
         assertEquals("in 3 decline 5 1 0.3", Lines.declineIn(3, 5, 1, 0, 3));
@@ -115,7 +115,7 @@ class LogsTest {
     @Test
     void otherCallsWithATerm() {
         try (Coordinator job = NamesTest.busy(); Coordinator plain = Jobs.opened(Jobs.SETTINGS, 1)) {
-            assertEquals(Optional.of(new Reply.Counted(13, 1)), job.line(Jobs.line("in 9 count 13")));
+            assertEquals(Optional.of(new Reply.Counted(13, 2)), job.line(Jobs.line("in 9 count 13"))); // checkpoint 2 and the pin of checkpoint 3
             assertEquals(Optional.of(job.show(3)), job.line(Jobs.line("in 9 show 3")));
             assertSame(Fenced.NO_NAMES, assertThrows(CoordinatorException.Fenced.class, () -> plain.line(Jobs.line("in 9 count 13"))).reason());
             assertSame(Fenced.NO_NAMES, assertThrows(CoordinatorException.Fenced.class, () -> plain.line(Jobs.line("reserve 1 1"))).reason());

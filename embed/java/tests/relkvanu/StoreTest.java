@@ -31,7 +31,7 @@ import org.junit.jupiter.api.Test;
 import org.junit.jupiter.api.Timeout;
 import org.junit.jupiter.api.io.TempDir;
 
-/** A coordinator whose calls are durable. */
+/** A coordinator whose calls are durable, of a job without names. */
 @Tag("store")
 @Timeout(value = 120, unit = TimeUnit.SECONDS)
 class StoreTest {
@@ -50,7 +50,7 @@ class StoreTest {
     }
 
     private static StoreOptions creates() {
-        return StoreOptions.of(StoreOptions.Opening.CREATE);
+        return StoreOptions.of(StoreOptions.Opening.CREATE).withPlain(true);
     }
 
     private Store open(StoreOptions options) {
@@ -350,14 +350,16 @@ class StoreTest {
         }
         for (String line : new String(layout.getInputStream().readAllBytes()).split("\n")) {
             String[] words = line.split(" ");
-            if (words[0].equals("number") && !List.of("CREATE", "CREATE_ONLY", "ADOPT", "EARLIER_IMAGE", "NOW", "NO_IMAGES", "MOST_CALLS").contains(words[1])) {
+            if (words[0].equals("number") && !List.of("CREATE", "CREATE_ONLY", "ADOPT", "EARLIER_IMAGE", "PLAIN", "NOW", "NO_IMAGES", "MOST_CALLS").contains(words[1])) {
                 assertEquals(Integer.parseInt(words[2]), own.remove(words[1]), line);
             }
         }
         assertEquals(Map.of(), own);
-        assertArrayEquals(new long[] {1 | 4 | 8, 5000, -1, 7},
+        assertArrayEquals(new long[] {1 | 4 | 8 | 16, 5000, -1, 7},
             creates().withAdopts(true).withFromEarlierImage(true).withPatience(Duration.ofSeconds(5)).withImageCalls(-1).withMostAhead(7).numbers());
         assertEquals(2, StoreOptions.of(StoreOptions.Opening.CREATE_ONLY).numbers()[0]);
+        assertEquals(creates().withPlain(false), new StoreOptions(StoreOptions.Opening.CREATE, Optional.empty(), false, false, Duration.ZERO, 0, 0));
+        assertEquals(Optional.of(storage), creates().withStorage(storage).storage());
         assertThrows(CoordinatorException.Unknown.class, () -> StoreFault.of(999));
     }
 
