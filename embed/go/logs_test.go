@@ -27,8 +27,8 @@ func pageExample(t *testing.T) (lines []loggedLine) {
 	if err != nil {
 		t.Fatal(err)
 	}
-	blocks := strings.Split(string(page), "\n```\n")
-	for _, it := range strings.Split(blocks[len(blocks)-2], "\n") {
+	_, section, _ := strings.Cut(string(page), "\n## 5. An example\n")
+	for _, it := range strings.Split(strings.Split(section+"\n```\n\n```\n", "\n```\n")[1], "\n") {
 		line, answer, is := strings.Cut(it, "-> ")
 		if line = strings.TrimSpace(line); line != "" {
 			lines = append(lines, loggedLine{line: line})

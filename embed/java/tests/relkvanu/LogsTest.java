@@ -26,8 +26,8 @@ class LogsTest {
     /** The lines of the page's example, with the answers beside each and below it. */
     private static Map<Integer, List<String>> example(List<byte[]> lines) throws IOException {
         Map<Integer, List<String>> answers = new java.util.TreeMap<>();
-        String[] blocks = Files.readString(PAGE).split("\n```\n");
-        for (String it : blocks[blocks.length - 1].split("\n")) {
+        String section = Files.readString(PAGE).split("\n## 5\\. An example\n")[1];
+        for (String it : section.split("\n```\n")[1].split("\n")) {
             String[] halves = it.split("-> ", 2);
             if (!halves[0].isBlank()) {
                 answers.put(lines.size(), new ArrayList<>());
