@@ -30,10 +30,11 @@ func newStoreFolder(t *testing.T) storeFolder {
 	return folder
 }
 
+// storeOptions are those of a job without names.
 func storeOptions() relkvanu.StoreOptions {
 	settings := relkvanu.Every(10)
 	settings.Timeout = 1 << 30
-	return relkvanu.StoreOptions{Settings: settings, Shape: []uint64{2}, Create: true}
+	return relkvanu.StoreOptions{Settings: settings, Shape: []uint64{2}, Create: true, Plain: true}
 }
 
 // fails checks that a call fails so, and returns the message.
@@ -80,7 +81,7 @@ func TestStoreMakesAndRecovers(t *testing.T) {
 	store := must(relkvanu.OpenStore(folder.job, options))
 	report := store.Report()
 	equal(t, fmt.Sprint(report.Steps, report.Epoch, report.IsRecovered), "[start tasks] 1 false")
-	equal(t, fmt.Sprint(made(t, store, relkvanu.Call{Kind: relkvanu.CallTick, Now: 10})), "{tick expired 0 triggered 1 1 fresh <nil>}")
+	equal(t, fmt.Sprint(made(t, store, relkvanu.Call{Kind: relkvanu.CallTick, Now: 10})), "{tick expired 0 triggered 1 1 fresh 0 <nil>}")
 	equal(t, must(store.Ack(1, relkvanu.Subtask{}, []uint64{1}, nil)).String(), "ack pending 1")
 	fails(t, errorOf(store.Ack(1, relkvanu.Subtask{}, []uint64{3}, nil)), relkvanu.AlreadyAcknowledged)
 	equal(t, must(store.Ack(1, relkvanu.Subtask{Index: 1}, []uint64{2}, nil)).String(), "ack completed 0 0")
@@ -163,7 +164,7 @@ func TestStoreClosed(t *testing.T) {
 		_, _, err = store.NextTick()
 		fails(t, err, relkvanu.ErrClosed)
 		_, is := store.Folder()
-		equal(t, fmt.Sprint(store.Now(), store.Counts(), is), "0 {0 0 0 0 0 0 0 0} false")
+		equal(t, fmt.Sprint(store.Now(), store.Counts(), is), "0 {0 0 0 0 0 0 0 0 0 0} false")
 		store.Stop()
 	}
 }
