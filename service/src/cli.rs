@@ -60,6 +60,9 @@ pub struct Serve {
     /// How many bytes the logs of all jobs keep together; 0 sets no such limit [default: 0]
     #[arg(long, value_name = "BYTES")]
     pub keep_bytes: Option<u64>,
+    /// Whether a new job gives out names if its creation does not say [default: true]
+    #[arg(long, value_name = "BOOL")]
+    pub names: Option<bool>,
     /// The address that a standby names to clients [default: http://LISTEN]
     #[arg(long, value_name = "URL")]
     pub advertise: Option<String>,

@@ -4,7 +4,7 @@ use super::engine::{Engine, Fault, NoJob};
 use super::image::Image;
 use super::kept::Kept;
 use super::live::{ended, Live};
-use super::outcome::{Outcome, Reply};
+use super::outcome::{Beside, Outcome, Reply};
 use super::settings::pending_limit;
 use super::sizes::{FileBytes, SizeChange, Sizes, Use};
 use relkvanu::{Answer, Choice, Kind, Live as LiveRecord, Mode, Settings};
@@ -126,7 +126,7 @@ impl Job {
             Err(fault) => return (fault.into(), None),
         };
         if reply.changed_nothing() {
-            return (Outcome::Made { seq: None, reply }, None);
+            return (Outcome::Made { seq: None, reply, beside: Beside::Nothing }, None);
         }
         let (record, ended) = self.take_in(call, now, &reply);
         let sizes = self.resize(call, &reply, waiting);
@@ -142,7 +142,8 @@ impl Job {
             ended,
             waiting: self.engine.counts().waiting.saturating_sub(waiting),
         };
-        (Outcome::Made { seq: Some(self.seq), reply }, Some(Logged { entry, sizes }))
+        let beside = self.beside(call);
+        (Outcome::Made { seq: Some(self.seq), reply, beside }, Some(Logged { entry, sizes }))
     }
 
     /// What a call changed of the sizes, before which so many files were waiting.
@@ -181,10 +182,19 @@ impl Job {
             Err(fault) => return fault.into(),
         };
         if reply.changed_nothing() {
-            return Outcome::Made { seq: None, reply };
+            return Outcome::Made { seq: None, reply, beside: Beside::Nothing };
         }
         self.take_in(call, now, &reply);
-        Outcome::Made { seq: Some(self.seq), reply }
+        Outcome::Made { seq: Some(self.seq), reply, beside: Beside::Nothing }
+    }
+
+    /// What the answer of a call that was made tells beside its text: whoever restarts the tasks learns the term here.
+    fn beside(&self, call: &Call) -> Beside {
+        match (call, self.engine.term()) {
+            (Call::Reserve { count, .. }, _) => Beside::Names(*count),
+            (Call::Restore { .. } | Call::Cancel | Call::Fence { .. }, Some(now)) => Beside::Term(now.term),
+            _ => Beside::Nothing,
+        }
     }
 
     /// Notes the answer of a call. Returns the record that the call is about, and those that it ended.
@@ -279,6 +289,7 @@ fn leaves_records(answer: &Answer) -> bool {
     match answer {
         A::HeldInterval { expired } | A::HeldAtOnce { expired } | A::HeldPause { expired } => *expired == 0,
         A::AckPending { .. } | A::AckLate { .. } | A::DeclineLate | A::Deleted(_) | A::Undeleted(_) => true,
+        A::Named | A::Reserved(_) | A::Forfeited => true,
         _ => false,
     }
 }
