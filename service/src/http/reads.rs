@@ -268,7 +268,8 @@ async fn events(app: &App, job: &str, query: &str) -> Result<Reply, Box<Reply>> 
     // if there is none, the calls that were committed before it was read are no events
     let none = if most > 0 { after.max(length) } else { after };
     let upto = page.last().map_or(none, |entry| entry.seq);
-    let events: Vec<Value> = page.iter().filter_map(render::event).collect();
+    let events: Vec<Value> =
+        page.iter().filter_map(|entry| render::event(entry, |seq| app.board.base(job, seq))).collect();
     Ok(json_reply(200, &json!({"first": first, "log": app.board.log(), "upto": upto, "events": events})))
 }
 

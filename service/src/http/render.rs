@@ -90,16 +90,21 @@ pub fn log(first: u64, log: &str, page: &[Entry], has_terms: bool) -> String {
     serde_json::to_string(&Log { first, log, calls }).unwrap_or_default()
 }
 
-/// The event that a row of the log is for an engine, or `None`.
-pub fn event(entry: &Entry) -> Option<Value> {
+/// The event that a row of the log is for an engine, or `None`. A trigger has what its tasks build on, if `base` knows it for the row's
+/// place, and no term: a task of an ended term could learn the new one there.
+pub fn event(entry: &Entry, base: impl Fn(u64) -> Option<Choice>) -> Option<Value> {
     let reply = entry.reply()?;
-    let word = Event::of(&reply)?.word();
+    let is = Event::of(&reply)?;
+    let word = is.word();
     let mut event = json!({"seq": entry.seq, "at": entry.at, "event": word, "ended": entry.ended()});
     if let Some(id) = entry.record {
         event["id"] = json!(id);
     }
     if let Some(kind) = kind(&reply) {
         event["kind"] = json!(kind);
+    }
+    if let Some(base) = base(entry.seq).filter(|_| is == Event::Triggered) {
+        event["base"] = choice(base);
     }
     Some(event)
 }

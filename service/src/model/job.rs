@@ -1,4 +1,5 @@
 //! One job: its coordinator, its place in the log, and when the timer has to tick it.
+use super::bases::Bases;
 use super::call::Call;
 use super::engine::{Engine, Fault, NoJob};
 use super::image::Image;
@@ -69,6 +70,8 @@ pub struct Job {
     pub last_completed: Option<u64>,
     /// The last call that is an event for engines.
     pub last_event: u64,
+    /// What a restore would have begun from.
+    pub bases: Bases,
     /// What the database has of the log, if this process leads.
     pub kept: Kept,
     /// The bytes of files, if this process leads.
@@ -84,7 +87,8 @@ impl Job {
         let (shape, at, kept) = (opening.shape.clone(), opening.started, Kept::default());
         let (live, sizes) = (Live::new(), Sizes::default());
         let (seq, last_completed, last_event, is_deleted) = (0, None, 0, false);
-        Ok(Job { opening, shape, seq, at, last_completed, last_event, kept, sizes, is_deleted, engine, live })
+        let bases = Bases::from(seq, Choice::Fresh);
+        Ok(Job { opening, shape, seq, at, last_completed, last_event, bases, kept, sizes, is_deleted, engine, live })
     }
 
     /// Goes on from an image.
@@ -94,6 +98,7 @@ impl Job {
         self.shape.clone_from(&image.shape);
         (self.seq, self.at) = (image.seq, image.at);
         (self.last_completed, self.last_event) = (image.last_completed, image.last_event);
+        self.bases = Bases::from(image.seq, self.engine.choice());
         Ok(())
     }
 
@@ -237,6 +242,9 @@ impl Job {
         if reply.is_event() {
             self.last_event = self.seq;
         }
+        if matches!(reply, Reply::Answered(answer) if changes_choice(answer)) {
+            self.bases.note(self.seq, self.engine.choice());
+        }
     }
 
     /// The moment at which the timer has to tick: a checkpoint is due and may be triggered, or a record expires.
@@ -272,6 +280,11 @@ fn record_of(call: &Call, reply: &Reply) -> Option<u64> {
         (_, Reply::Answered(Answer::Restored { from: Checkpoint(id) | Savepoint(id), .. })) => Some(*id),
         _ => None,
     }
+}
+
+/// Whether a call with this answer may change what a restore would begin from.
+fn changes_choice(answer: &Answer) -> bool {
+    matches!(answer, Answer::AckCompleted { .. } | Answer::Restored { .. } | Answer::Cancelled { .. })
 }
 
 /// The kind of the record that a call added, if it did nothing else to the records.

@@ -1,4 +1,5 @@
 //! Jobs and their calls: the decisions of the proved coordinator, in the words of the log and of the API.
+mod bases;
 mod call;
 mod clock;
 mod engine;
@@ -14,6 +15,7 @@ mod sizes;
 mod starts;
 mod summary;
 
+pub use bases::Bases;
 pub use call::{Call, Subtask, Target};
 pub use clock::{check as check_clock, millis, shown, wall, Clock, FarAhead, Moment};
 pub use engine::{Fault, NoJob};
