@@ -110,7 +110,7 @@ async fn call(job: &Job, json: bool, call: Call) -> Result<Value, Ended> {
             said(json, &reply, tables::made)?;
             Ok(reply)
         }
-        Some(Answer::Refused { name, .. }) => Err(Ended::Refused(name)),
+        Some(Answer::Refused { name, .. } | Answer::Fenced { name, .. }) => Err(Ended::Refused(name)),
         Some(Answer::NoMemory | Answer::NotMade) => Err(Ended::NoMemory),
         None => Err(relkvanu_client::Error::Answer("has no answer of the call".to_string()).into()),
     }
