@@ -73,12 +73,12 @@ class Refused(Exception):
         self.name, self.file = name, file
 
 
-class Fenced(Exception):
-    """The term or the names of a job refused a call, which changed nothing: its `name`, and the `file` that it names. After `Spent` the
+class Fenced(Failed):
+    """The term or the names of a job refused something, which changed nothing: its `name`, and the `file` that it names. After `Spent` the
     file may be in use: nobody deletes it for that answer."""
 
     def __init__(self, name, file=None):
-        super().__init__(name if file is None else f"{name} {file}")
+        super().__init__(409, name if file is None else f"{name} {file}")
         self.name, self.file = name, file
 
 

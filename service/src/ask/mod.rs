@@ -4,7 +4,7 @@ mod folder;
 mod tables;
 mod words;
 
-pub use words::Ask;
+pub use words::{Ask, Names};
 
 use crate::log;
 use crate::remote;
@@ -54,6 +54,8 @@ async fn asked(given: &Ask) -> Result<(), Ended> {
             let restore = Call::Restore { savepoint: given.savepoint, shape: given.shape.clone() };
             call(&service.job(&given.job), at.json, restore).await.map(|_| ())
         }
+        Ask::Term(given) => said(at.json, &service.job(&given.job).term().await?, tables::term),
+        Ask::Fence(given) => fence(&service.job(&given.job), given).await,
         Ask::Cancel(given) => call(&service.job(&given.job), at.json, Call::Cancel).await.map(|_| ()),
         Ask::Delete(given) => delete(&service, given).await,
     }
@@ -90,7 +92,8 @@ async fn files(job: &Job, given: &words::Files) -> Result<(), Ended> {
 async fn print_log(job: &Job, given: &words::Log) -> Result<(), Ended> {
     let (mut after, mut left) = (given.after, given.most.unwrap_or(u64::MAX));
     while left > 0 {
-        let told = job.log(after, left.min(PAGE)).await?;
+        let most = left.min(PAGE);
+        let told = if given.terms { job.log_with_terms(after, most).await } else { job.log(after, most).await }?;
         let calls = told["calls"].as_array().map(Vec::as_slice).unwrap_or_default();
         let Some(last) = calls.last() else {
             break;
@@ -114,6 +117,10 @@ async fn call(job: &Job, json: bool, call: Call) -> Result<Value, Ended> {
         Some(Answer::NoMemory | Answer::NotMade) => Err(Ended::NoMemory),
         None => Err(relkvanu_client::Error::Answer("has no answer of the call".to_string()).into()),
     }
+}
+
+async fn fence(job: &Job, given: &words::Fence) -> Result<(), Ended> {
+    said(given.at.json, &job.fence(given.first_name).await?, tables::fenced)
 }
 
 async fn delete(service: &Service, given: &words::Delete) -> Result<(), Ended> {
