@@ -279,16 +279,16 @@ def check_log(state, shape, log):
         raise Skipped(f"{oracle} is not built")
     told = subprocess.run([oracle], input=script(state, shape, log), stdout=subprocess.PIPE, text=True, check=False)
     assert told.returncode == 0, f"the oracle ended with {told.returncode}"
-    lines = [line for line in told.stdout.splitlines() if not line.startswith("term ") or line == "term 1"]
+    lines = [line for line in told.stdout.splitlines() if not begins_term(line)]
     assert len(lines) == len(log), f"{len(lines)} answers of {len(log)} calls"
     for entry, line in zip(log, lines):
         assert entry["answer"] == line, f"call {entry['seq']} {entry['line']!r}: {entry['answer']!r}, oracle {line!r}"
-    return terms_of(told.stdout) if has_names else len(lines)
+    return len(lines)
 
 
-def terms_of(told):
-    """The last term that the proved program has begun."""
-    return [int(line.removeprefix("term ")) for line in told.splitlines() if line.startswith("term ")][-1]
+def begins_term(line):
+    """Whether it is the second line of an answer, of which the log has the first."""
+    return line.startswith("term ") and line != "term 1"
 
 
 CALL = "job, seq, at, record, line, answer, ended, waiting"
