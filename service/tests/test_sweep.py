@@ -8,7 +8,7 @@ import time
 import urllib.request
 from contextlib import contextmanager
 
-from harness import PROGRAM, folder, free_port, served, until
+from harness import PROGRAM, SERVICE, folder, free_port, served, until
 from relkvanu_service import Fenced, OldTerm, Refused, Service, deleted, dispose, savepoint
 
 SETTINGS = {"interval": 1 << 40}
@@ -227,6 +227,10 @@ def test_every_and_metrics():
         write(place, "s-99")
         until(lambda: value('relkvanu_sweep_unissued_files{job_name="a"}') == 1)
         assert value('relkvanu_sweep_files_total{job_name="a",outcome="deleted"}') == 1 and value('relkvanu_sweep_interval_seconds{job_name="a"}') == 1
+        with open(f"{SERVICE}/deploy/alerts.yml", encoding="utf-8") as it:
+            for name in set(re.findall(r"relkvanu_sweep_[a-z_]+", it.read())):
+                labels = '{job_name="a",outcome="failed"}' if "files_total" in name else '{job_name="a"}'
+                assert value(name + labels) is not None, f"an alert uses {name}, which there is not"
         # it goes on after the service was away
         server.kill()
         until(lambda: value('relkvanu_sweep_lost_requests_total{job_name="a"}') > 0)
