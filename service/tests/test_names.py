@@ -95,7 +95,7 @@ def test_a_zombie_after_a_restore():
         name = new.name()
         assert job.call(savepoint())["id"] == 3 and new.ack(3, "0.0", [name], names[:1])["ack"] == "completed"
         spent = refused(Fenced, lambda: new.ack(3, "0.0", [name]))
-        assert (spent.name, spent.file, spent.status) == ("Spent", name, 409)
+        assert (spent.name, spent.file) == ("Spent", name)
         never = refused(Fenced, lambda: new.ack(3, "0.0", [10**6]))
         assert (never.name, never.file) == ("NeverReserved", 10**6)
         # one that was suspended beside a service that was killed

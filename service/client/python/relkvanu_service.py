@@ -73,12 +73,12 @@ class Refused(Exception):
         self.name, self.file = name, file
 
 
-class Fenced(Failed):
-    """The term or the names of a job refused something, which changed nothing: its `name`, and the `file` that it names. After `Spent` the
+class Fenced(Exception):
+    """The term or the names of a job refused a call, which changed nothing: its `name`, and the `file` that it names. After `Spent` the
     file may be in use: nobody deletes it for that answer."""
 
     def __init__(self, name, file=None):
-        super().__init__(409, name if file is None else f"{name} {file}")
+        super().__init__(name if file is None else f"{name} {file}")
         self.name, self.file = name, file
 
 
@@ -91,8 +91,8 @@ def _fenced(name, file=None):
 
 
 def file_numbers():
-    """Yields numbers for new files of a job without names: 40 random bits, and a count in the 24 bits below. So no two tasks give the same, and none comes
-    twice after a backup of the service was restored, as numbers of records do then."""
+    """Yields numbers for new files of a job without names: 40 random bits, and a count in the 24 bits below. So no two tasks give the same, and
+    none comes twice after a backup of the service was restored, as numbers of records do then."""
     while True:
         begin = secrets.randbits(64 - _COUNT_BITS) << _COUNT_BITS
         yield from range(begin, begin + (1 << _COUNT_BITS))
@@ -346,8 +346,8 @@ class Job:
         """Makes sure that a folder's files are this job's: the file `.relkvanu-NAME` there names the job and when it was opened, as
         `relkvanu discard` has it. It is made in a folder without files for a job without files. Otherwise this raises `Failed`: the
         folder is of another job, its disk is not mounted, or the service has lost this job and opened it anew."""
-        state, name = self.state(), f".relkvanu-{self.name}"
-        text = f"relkvanu discard deletes files of the job {self.name}, opened at {state['opened']}, from this folder.\n"
+        state = self.state()
+        name, text = self._marker(state)
         try:
             with open(f"{folder}/{name}", encoding="utf-8") as it:
                 found = it.read()
@@ -360,9 +360,18 @@ class Job:
         if found != text:
             raise Failed(409, f"{folder}/{name} names another job, or this one as another database has it")
 
+    def marker(self):
+        """The name and the text of that file."""
+        return self._marker(self.state())
+
+    def _marker(self, state):
+        text = f"relkvanu discard deletes files of the job {self.name}, opened at {state['opened']}, from this folder.\n"
+        return f".relkvanu-{self.name}", text
+
     def begin(self, start="latest", shape=None, key=None):
-        """Begins the job again, from the latest record or from a savepoint, once all its tasks have ended: makes the call `restore`, and
-        returns a `Start`. Pending records end. Raises `Refused` if the job is cancelled."""
+        """Begins the job again, from the latest record or from a savepoint: makes the call `restore`, and returns a `Start`. Pending records
+        end, and so does the term of the tasks; those of a job without names have all ended before. Raises `Refused` if the job is
+        cancelled."""
         told = self._make([restore(start, shape)], key)
         return Start(self, _made(told["answers"][0]), told.get("log"))
 
@@ -394,8 +403,8 @@ class Job:
         return garbage, unissued
 
     def orphans(self, files):
-        """For a job without names: those of these files that the job does not know: no record uses them, and they don't wait for deletion and are not taken. An
-        engine deletes them if it listed them after all its tasks had ended, has made `begin` since, and starts no task before it has
+        """Of a job without names: those of these files that the job does not know. No record uses them, and they don't wait for deletion and
+        are not taken. An engine deletes them if it listed them after all its tasks had ended, has made `begin` since, and starts no task before it has
         deleted them. At any other time a file may be one whose acknowledgement is on its way."""
         state, until = self.state(), time.monotonic() + _HISTORY_PATIENCE
         while self.files(1)["upto"] < state["seq"]:
@@ -513,6 +522,7 @@ class Session:
     def name(self):
         """The number of a new file. It was reserved before, durably."""
         with self._lock:
+            self._check()
             if self._next == self._end:
                 told = self._call(reserve(self.term, self._block))
                 self._next, self._end = int(told["first"]), int(told["first"]) + told["count"]
@@ -539,9 +549,12 @@ class Session:
         for place in range(0, len(names), _MOST_FORFEITED):
             self._call(forfeit(self.term, names[place:place + _MOST_FORFEITED]))
 
-    def _call(self, call, key=None):
+    def _check(self):
         if self._is_over:
             raise OldTerm("OldTerm")
+
+    def _call(self, call, key=None):
+        self._check()
         try:
             return self._job.call(call, key)
         except OldTerm:

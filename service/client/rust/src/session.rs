@@ -40,6 +40,7 @@ impl Session {
     /// The number of a new file. It was reserved before, durably.
     pub async fn name(&self) -> Result<u64, Error> {
         let mut names = self.names.lock().await;
+        self.check()?;
         if names.is_empty() {
             *names = reserved(&self.call(Call::Reserve { term: self.term, count: self.block }).await?)?;
         }
@@ -76,10 +77,15 @@ impl Session {
         Ok(())
     }
 
-    async fn call(&self, call: Call) -> Result<Value, Error> {
+    fn check(&self) -> Result<(), Error> {
         if self.is_over.load(Ordering::SeqCst) {
             return Err(Error::OldTerm);
         }
+        Ok(())
+    }
+
+    async fn call(&self, call: Call) -> Result<Value, Error> {
+        self.check()?;
         let answer = self.job.calls(&[call]).await?.pop();
         let told = answer.map_or_else(|| Err(Error::Answer("has no answer of the call".to_string())), Answer::reply);
         if matches!(told, Err(Error::OldTerm)) {
