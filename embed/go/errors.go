@@ -123,7 +123,7 @@ const (
 	LineMissing LineFault = C.RELKVANU_FAULT_MISSING  // The line ends before a word that it needs.
 	LineNumber  LineFault = C.RELKVANU_FAULT_NUMBER   // Not a number, or not a subtask.
 	LineExtra   LineFault = C.RELKVANU_FAULT_EXTRA    // A word follows the last one.
-	LineNoCall  LineFault = C.RELKVANU_FAULT_NO_CALL  // A config, job, start or all line: it was read, and makes no call.
+	LineNoCall  LineFault = C.RELKVANU_FAULT_NO_CALL  // A config, job, start or all line, or in and a term before what is no call: it was read, and makes no call.
 	// embed/bindings: end
 )
 

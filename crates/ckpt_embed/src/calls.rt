@@ -27,7 +27,7 @@ pub(crate) const BAD_SHAPE: u32 = 3;
 pub fn call(alloc: Global, handle: &mut Handle, call: &Call) -> Answer
     ensures closed { StaysClosed handle.old.value handle.new.value result }
     ensures answered { passes handle.old.names call.now ≡ true → IsAnswered handle.old.value handle.new.value call.now result }
-    ensures handled { IsHandled (λ k. call_step k call.now) handle.old.value handle.old.names handle.new.value handle.new.names result }
+    ensures handled { IsHandled (λ k. call_step k call.now) handle.old handle.new result }
     ensures memory { WantsMemory handle.old.value call.now result }
     ensures never { takes_no_memory call.now ≡ true → result.code ≢ no_memory }
     ensures numbers { HasNoNumbers result }
@@ -59,7 +59,7 @@ pub fn ack(
 ) -> Answer
     ensures closed { StaysClosed handle.old.value handle.new.value result }
     ensures answered { handle.old.names ≡ None → IsAnswered handle.old.value handle.new.value (ack_of now id subtask fresh.now reused.now) result }
-    ensures handled { IsHandled (λ k. call_step k (ack_of now id subtask fresh.now reused.now)) handle.old.value handle.old.names handle.new.value handle.new.names result }
+    ensures handled { IsHandled (λ k. call_step k (ack_of now id subtask fresh.now reused.now)) handle.old handle.new result }
     ensures numbers { HasNoNumbers result }
     ensures unchanged { StaysAsItWas handle.old.value handle.new.value result }
     ensures names_unchanged { result.code ≡ no_memory → handle.new.names ≡ handle.old.names }
@@ -91,7 +91,7 @@ pub fn restore(
     ensures closed { StaysClosed handle.old.value handle.new.value result }
     ensures bad_shape { IsBadShape shape.now → IsRefusedAs handle.old.value handle.new.value bad_shape result }
     ensures answered { (IsBadShape shape.now → ⊥) → handle.old.names ≡ None → IsAnswered handle.old.value handle.new.value (restore_of now savepoint shape.now) result }
-    ensures handled { (IsBadShape shape.now → ⊥) → IsHandled (λ k. call_step k (restore_of now savepoint shape.now)) handle.old.value handle.old.names handle.new.value handle.new.names result }
+    ensures handled { (IsBadShape shape.now → ⊥) → IsHandled (λ k. call_step k (restore_of now savepoint shape.now)) handle.old handle.new result }
     ensures memory { shape.now ≡ [] → result.code ≢ no_memory }
     ensures numbers { HasNoNumbers result }
     ensures unchanged { StaysAsItWas handle.old.value handle.new.value result }

@@ -89,7 +89,7 @@ pub extern "C" fn relkvanu_ack(
 ) -> Answer
     ensures closed { StaysClosed handle.old.value handle.new.value result }
     ensures answered { handle.old.names ≡ None → IsAnswered handle.old.value handle.new.value (ack_of now id (record { vertex = vertex; index = index }) fresh.now reused.now) result }
-    ensures handled { IsHandled (λ k. call_step k (ack_of now id (record { vertex = vertex; index = index }) fresh.now reused.now)) handle.old.value handle.old.names handle.new.value handle.new.names result }
+    ensures handled { IsHandled (λ k. call_step k (ack_of now id (record { vertex = vertex; index = index }) fresh.now reused.now)) handle.old handle.new result }
     ensures numbers { HasNoNumbers result }
     ensures unchanged { StaysAsItWas handle.old.value handle.new.value result }
     ensures names_unchanged { result.code ≡ no_memory → handle.new.names ≡ handle.old.names }
@@ -110,7 +110,7 @@ pub extern "C" fn relkvanu_decline(
 ) -> Answer
     ensures closed { StaysClosed handle.old.value handle.new.value result }
     ensures answered { handle.old.names ≡ None → IsMade handle.old.value handle.new.value (call.Decline now id (record { vertex = vertex; index = index })) result }
-    ensures handled { IsHandled (λ k. call_step k (call.Decline now id (record { vertex = vertex; index = index }))) handle.old.value handle.old.names handle.new.value handle.new.names result }
+    ensures handled { IsHandled (λ k. call_step k (call.Decline now id (record { vertex = vertex; index = index }))) handle.old handle.new result }
     ensures memory { result.code ≢ no_memory }
 {
     let call = Call::Decline {
@@ -150,7 +150,7 @@ pub extern "C" fn relkvanu_restore(
     ensures closed { StaysClosed handle.old.value handle.new.value result }
     ensures bad_shape { IsBadShape shape.now → IsRefusedAs handle.old.value handle.new.value bad_shape result }
     ensures answered { (IsBadShape shape.now → ⊥) → handle.old.names ≡ None → IsAnswered handle.old.value handle.new.value (restore_of now savepoint shape.now) result }
-    ensures handled { (IsBadShape shape.now → ⊥) → IsHandled (λ k. call_step k (restore_of now savepoint shape.now)) handle.old.value handle.old.names handle.new.value handle.new.names result }
+    ensures handled { (IsBadShape shape.now → ⊥) → IsHandled (λ k. call_step k (restore_of now savepoint shape.now)) handle.old handle.new result }
     ensures memory { shape.now ≡ [] → result.code ≢ no_memory }
     ensures numbers { HasNoNumbers result }
     ensures unchanged { StaysAsItWas handle.old.value handle.new.value result }
@@ -165,7 +165,7 @@ pub extern "C" fn relkvanu_restore(
 pub extern "C" fn relkvanu_cancel(alloc: Global, handle: &mut Handle, now: u64) -> Answer
     ensures closed { StaysClosed handle.old.value handle.new.value result }
     ensures answered { handle.old.names ≡ None → IsMade handle.old.value handle.new.value (call.Cancel now) result }
-    ensures handled { IsHandled (λ k. call_step k (call.Cancel now)) handle.old.value handle.old.names handle.new.value handle.new.names result }
+    ensures handled { IsHandled (λ k. call_step k (call.Cancel now)) handle.old handle.new result }
     ensures memory { result.code ≢ no_memory }
 {
     ckpt_embed::call(alloc, handle, &Call::Cancel { now })

@@ -50,7 +50,7 @@ pub extern "C" fn relkvanu_open_fenced(
 #[unsafe(no_mangle)]
 pub extern "C" fn relkvanu_fence(alloc: Global, handle: &mut Handle, first_name: u64) -> Answer
     ensures closed { StaysClosed handle.old.value handle.new.value result }
-    ensures handled { IsHandled (λ k. fence_step k first_name) handle.old.value handle.old.names handle.new.value handle.new.names result }
+    ensures handled { IsHandled (λ k. fence_step k first_name) handle.old handle.new result }
     ensures memory { result.code ≡ no_memory → handle.old.names ≡ None }
     ensures numbers { HasNoNumbers result }
     ensures unchanged { StaysAsItWas handle.old.value handle.new.value result }
@@ -79,8 +79,8 @@ pub extern "C" fn relkvanu_reserve(
     count: u64,
 ) -> Answer
     ensures closed { StaysClosed handle.old.value handle.new.value result }
-    ensures handled { IsHandled (λ k. term_step k (fencing.Reserve term count)) handle.old.value handle.old.names handle.new.value handle.new.names result }
-    ensures memory { WantsNames handle.old.value handle.old.names (fencing.Reserve term count) result }
+    ensures handled { IsHandled (λ k. term_step k (fencing.Reserve term count)) handle.old handle.new result }
+    ensures memory { WantsNames handle.old (fencing.Reserve term count) result }
     ensures numbers { HasNoNumbers result }
     ensures unchanged { StaysAsItWas handle.old.value handle.new.value result }
     ensures names_unchanged { result.code ≡ no_memory → handle.new.names ≡ handle.old.names }
@@ -97,7 +97,7 @@ pub extern "C" fn relkvanu_forfeit(
     names: &[u64],
 ) -> Answer
     ensures closed { StaysClosed handle.old.value handle.new.value result }
-    ensures handled { IsHandled (λ k. term_step k (fencing.Forfeit term (ascending names.now))) handle.old.value handle.old.names handle.new.value handle.new.names result }
+    ensures handled { IsHandled (λ k. term_step k (fencing.Forfeit term (ascending names.now))) handle.old handle.new result }
     ensures numbers { HasNoNumbers result }
     ensures unchanged { StaysAsItWas handle.old.value handle.new.value result }
     ensures names_unchanged { result.code ≡ no_memory → handle.new.names ≡ handle.old.names }
@@ -119,7 +119,7 @@ pub extern "C" fn relkvanu_ack_in(
     reused: &[u64],
 ) -> Answer
     ensures closed { StaysClosed handle.old.value handle.new.value result }
-    ensures handled { IsHandled (λ k. term_step k (fencing.Make term (ack_of now id (record { vertex = vertex; index = index }) fresh.now reused.now))) handle.old.value handle.old.names handle.new.value handle.new.names result }
+    ensures handled { IsHandled (λ k. term_step k (fencing.Make term (ack_of now id (record { vertex = vertex; index = index }) fresh.now reused.now))) handle.old handle.new result }
     ensures numbers { HasNoNumbers result }
     ensures unchanged { StaysAsItWas handle.old.value handle.new.value result }
     ensures names_unchanged { result.code ≡ no_memory → handle.new.names ≡ handle.old.names }
@@ -140,7 +140,7 @@ pub extern "C" fn relkvanu_decline_in(
     index: u16,
 ) -> Answer
     ensures closed { StaysClosed handle.old.value handle.new.value result }
-    ensures handled { IsHandled (λ k. term_step k (fencing.Make term (call.Decline now id (record { vertex = vertex; index = index })))) handle.old.value handle.old.names handle.new.value handle.new.names result }
+    ensures handled { IsHandled (λ k. term_step k (fencing.Make term (call.Decline now id (record { vertex = vertex; index = index })))) handle.old handle.new result }
     ensures memory { result.code ≢ no_memory }
 {
     let subtask = SubtaskId { vertex, index };
