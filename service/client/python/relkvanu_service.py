@@ -543,6 +543,16 @@ class Session:
         """The function `decline` in the term."""
         return self._call(decline(record, subtask, self.term), key)
 
+    def calls(self, calls, key=None):
+        """Makes acknowledgements and declines of several subtasks in one request, each in the term. Returns the answer of each, a refusal
+        too."""
+        self._check()
+        answers = self._job.calls([{**call, "term": self.term} for call in calls], key)
+        if {"fenced": "OldTerm"} in answers:
+            self._is_over = True
+            raise OldTerm("OldTerm")
+        return answers
+
     def forfeit(self, names):
         """Gives up names that the task will not acknowledge, such as those of a failed upload: their files are garbage then."""
         names = list(names)

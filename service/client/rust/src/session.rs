@@ -9,6 +9,7 @@ use tokio::sync::Mutex;
 const RESERVED: u64 = 1000;
 /// How many names one call gives up.
 const MOST_FORFEITED: usize = 4096;
+const OLD_TERM: &str = "OldTerm";
 
 /// A task of one start of a job, by the term that it was started with: its new files get names that no other file ever has, and its calls
 /// carry the term. Once the job is restored or cancelled, each call fails with [`Error::OldTerm`], and the task ends: it changes nothing
@@ -67,6 +68,19 @@ impl Session {
 
     pub async fn decline(&self, id: u64, subtask: (u16, u16)) -> Result<Value, Error> {
         self.call(Call::Decline { id, subtask }.in_term(self.term)).await
+    }
+
+    /// Makes acknowledgements and declines of several subtasks in one request, each in the term. Returns the answer of each, a refusal too.
+    pub async fn calls(&self, calls: &[Call]) -> Result<Vec<Answer>, Error> {
+        self.check()?;
+        let calls: Vec<Call> = calls.iter().map(|call| call.clone().in_term(self.term)).collect();
+        let answers = self.job.calls(&calls).await?;
+        let is_old = |answer: &Answer| matches!(answer, Answer::Fenced { name, .. } if name == OLD_TERM);
+        if answers.iter().any(is_old) {
+            self.is_over.store(true, Ordering::SeqCst);
+            return Err(Error::OldTerm);
+        }
+        Ok(answers)
     }
 
     /// Gives up names that the task will not acknowledge, such as those of a failed upload: their files are garbage then.
