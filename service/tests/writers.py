@@ -97,6 +97,9 @@ class NamedWriter(Writer):
         super().__init__(urls, job, number)
         self.session = None
 
+    def turn(self):
+        return self.send([restore()]) if self.random.random() < 0.03 else super().turn()
+
     def files(self, count):
         while True:
             try:
