@@ -306,8 +306,8 @@ class Job:
         """Makes sure that a folder's files are this job's: the file `.relkvanu-NAME` there names the job and when it was opened, as
         `relkvanu discard` has it. It is made in a folder without files for a job without files. Otherwise this raises `Failed`: the
         folder is of another job, its disk is not mounted, or the service has lost this job and opened it anew."""
-        state, name = self.state(), f".relkvanu-{self.name}"
-        text = f"relkvanu discard deletes files of the job {self.name}, opened at {state['opened']}, from this folder.\n"
+        state = self.state()
+        name, text = self._marker(state)
         try:
             with open(f"{folder}/{name}", encoding="utf-8") as it:
                 found = it.read()
@@ -319,6 +319,14 @@ class Job:
             return _make_whole(folder, name, text)
         if found != text:
             raise Failed(409, f"{folder}/{name} names another job, or this one as another database has it")
+
+    def marker(self):
+        """The name and the text of that file."""
+        return self._marker(self.state())
+
+    def _marker(self, state):
+        text = f"relkvanu discard deletes files of the job {self.name}, opened at {state['opened']}, from this folder.\n"
+        return f".relkvanu-{self.name}", text
 
     def begin(self, start="latest", shape=None, key=None):
         """Begins the job again, from the latest record or from a savepoint, once all its tasks have ended: makes the call `restore`, and
