@@ -92,11 +92,12 @@ typedef struct {
 /* A call, for relkvanu_call_line and of relkvanu_line_call. The first does not read fields that its kind does not use; the second
  * sets them to 0. */
 typedef struct {
-    uint32_t kind;   /* RELKVANU_CALL_TICK to RELKVANU_CALL_COUNT */
+    uint32_t kind;   /* RELKVANU_CALL_TICK to RELKVANU_CALL_FORFEIT */
     uint16_t vertex; /* with index: the subtask of an ack or a decline */
     uint16_t index;
     uint64_t now;    /* the moment, if the kind has one */
-    uint64_t number; /* the number of the record or file; for a restore the savepoint or 0; for a take the most files */
+    uint64_t number; /* the number of the record or file; for a restore the savepoint or 0; for a take the most files; for a fence the first name; for a reserve how many */
+    uint64_t term;   /* the term of the caller, 0 for none. A fence has none */
 } relkvanu_call;
 
 /* code */
@@ -242,6 +243,9 @@ typedef struct {
 #define RELKVANU_CALL_UNDELETED 10u
 #define RELKVANU_CALL_SHOW 11u
 #define RELKVANU_CALL_COUNT 12u
+#define RELKVANU_CALL_FENCE 13u
+#define RELKVANU_CALL_RESERVE 14u
+#define RELKVANU_CALL_FORFEIT 15u
 
 /* The same numbers as types, for debuggers, and for a compiler that warns of a switch which lacks one: switch ((enum relkvanu_refusal)
  * answer.what). A later version may give others. The packages of other languages and relkvanu_answer_text are made from these, and from the
@@ -392,7 +396,10 @@ enum relkvanu_call_kind {
     relkvanu_call_kind_deleted = RELKVANU_CALL_DELETED,
     relkvanu_call_kind_undeleted = RELKVANU_CALL_UNDELETED,
     relkvanu_call_kind_show = RELKVANU_CALL_SHOW,
-    relkvanu_call_kind_count = RELKVANU_CALL_COUNT
+    relkvanu_call_kind_count = RELKVANU_CALL_COUNT,
+    relkvanu_call_kind_fence = RELKVANU_CALL_FENCE,
+    relkvanu_call_kind_reserve = RELKVANU_CALL_RESERVE,
+    relkvanu_call_kind_forfeit = RELKVANU_CALL_FORFEIT
 };
 
 /* Opens a coordinator in a closed handle, from the moment now on. Its first record has the number first, 1 to 2^62 - 1.

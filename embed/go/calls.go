@@ -21,6 +21,9 @@ const (
 	CallUndeleted CallKind = C.RELKVANU_CALL_UNDELETED
 	CallShow      CallKind = C.RELKVANU_CALL_SHOW
 	CallCount     CallKind = C.RELKVANU_CALL_COUNT
+	CallFence     CallKind = C.RELKVANU_CALL_FENCE
+	CallReserve   CallKind = C.RELKVANU_CALL_RESERVE
+	CallForfeit   CallKind = C.RELKVANU_CALL_FORFEIT
 	// embed/bindings: end
 )
 

@@ -243,9 +243,9 @@ JNIEXPORT void JNICALL Java_relkvanu_Native_lineSays(JNIEnv *env, jclass of, jby
 JNIEXPORT void JNICALL Java_relkvanu_Native_lineCall(JNIEnv *env, jclass of, jbyteArray line, jlongArray call, jlongArray first, jlongArray second, jlongArray out) {
     (void)of;
     struct room of_line;
-    jlong of_call[5];
-    (*env)->GetLongArrayRegion(env, call, 0, 5, of_call);
-    relkvanu_call in_call = {(uint32_t)of_call[0], (uint16_t)of_call[1], (uint16_t)of_call[2], (uint64_t)of_call[3], (uint64_t)of_call[4]};
+    jlong of_call[6];
+    (*env)->GetLongArrayRegion(env, call, 0, 6, of_call);
+    relkvanu_call in_call = {(uint32_t)of_call[0], (uint16_t)of_call[1], (uint16_t)of_call[2], (uint64_t)of_call[3], (uint64_t)of_call[4], (uint64_t)of_call[5]};
     struct room of_first;
     struct room of_second;
     relkvanu_answer told = {RELKVANU_NO_MEMORY, 0, 0, 0};
@@ -254,8 +254,8 @@ JNIEXPORT void JNICALL Java_relkvanu_Native_lineCall(JNIEnv *env, jclass of, jby
     }
     longs_out(env, &of_first, first, told.code == RELKVANU_DONE && told.what == RELKVANU_LINE_CALL ? told.a : 0);
     longs_out(env, &of_second, second, told.code == RELKVANU_DONE && told.what == RELKVANU_LINE_CALL ? told.b : 0);
-    const jlong to_call[] = {(jlong)in_call.kind, (jlong)in_call.vertex, (jlong)in_call.index, (jlong)in_call.now, (jlong)in_call.number};
-    (*env)->SetLongArrayRegion(env, call, 0, 5, to_call);
+    const jlong to_call[] = {(jlong)in_call.kind, (jlong)in_call.vertex, (jlong)in_call.index, (jlong)in_call.now, (jlong)in_call.number, (jlong)in_call.term};
+    (*env)->SetLongArrayRegion(env, call, 0, 6, to_call);
     close_room(&of_line);
     close_room(&of_first);
     close_room(&of_second);
@@ -264,9 +264,9 @@ JNIEXPORT void JNICALL Java_relkvanu_Native_lineCall(JNIEnv *env, jclass of, jby
 
 JNIEXPORT void JNICALL Java_relkvanu_Native_callLine(JNIEnv *env, jclass of, jlongArray call, jlongArray first, jlongArray second, jbyteArray line, jlongArray out) {
     (void)of;
-    jlong of_call[5];
-    (*env)->GetLongArrayRegion(env, call, 0, 5, of_call);
-    relkvanu_call in_call = {(uint32_t)of_call[0], (uint16_t)of_call[1], (uint16_t)of_call[2], (uint64_t)of_call[3], (uint64_t)of_call[4]};
+    jlong of_call[6];
+    (*env)->GetLongArrayRegion(env, call, 0, 6, of_call);
+    relkvanu_call in_call = {(uint32_t)of_call[0], (uint16_t)of_call[1], (uint16_t)of_call[2], (uint64_t)of_call[3], (uint64_t)of_call[4], (uint64_t)of_call[5]};
     struct room of_first;
     struct room of_second;
     struct room of_line;

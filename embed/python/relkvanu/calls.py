@@ -28,6 +28,9 @@ class CallKind(enum.IntEnum):
     UNDELETED = header.CALL_UNDELETED
     SHOW = header.CALL_SHOW
     COUNT = header.CALL_COUNT
+    FENCE = header.CALL_FENCE
+    RESERVE = header.CALL_RESERVE
+    FORFEIT = header.CALL_FORFEIT
 # embed/bindings: end
 
 

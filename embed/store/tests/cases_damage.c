@@ -39,7 +39,7 @@ static void other_files(void) {
     unlink(in("x.db"));
     unlink(in("x.db-wal"));
     make_job(RELKVANU_STORE_NO_IMAGES);
-    run_sql(in("x.db"), "PRAGMA user_version=2");
+    run_sql(in("x.db"), "PRAGMA user_version=3");
     refuses(RELKVANU_STORE_NOT_A_STORE, "later version");
     run_sql(in("x.db"), "PRAGMA user_version=1");
     CHECK(link(in("x.db"), in("y.db")) == 0, "a second name");

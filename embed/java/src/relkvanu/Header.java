@@ -231,6 +231,9 @@ final class Header {
     static final int CALL_UNDELETED = 10;
     static final int CALL_SHOW = 11;
     static final int CALL_COUNT = 12;
+    static final int CALL_FENCE = 13;
+    static final int CALL_RESERVE = 14;
+    static final int CALL_FORFEIT = 15;
     /** no text of an answer has more bytes */
     static final int ANSWER_TEXT = 128;
 }

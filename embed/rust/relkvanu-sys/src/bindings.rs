@@ -228,6 +228,9 @@ pub const RELKVANU_CALL_DELETED: u32 = 9;
 pub const RELKVANU_CALL_UNDELETED: u32 = 10;
 pub const RELKVANU_CALL_SHOW: u32 = 11;
 pub const RELKVANU_CALL_COUNT: u32 = 12;
+pub const RELKVANU_CALL_FENCE: u32 = 13;
+pub const RELKVANU_CALL_RESERVE: u32 = 14;
+pub const RELKVANU_CALL_FORFEIT: u32 = 15;
 /// no text of an answer has more bytes
 pub const RELKVANU_ANSWER_TEXT: u32 = 128;
 
@@ -275,6 +278,7 @@ pub struct relkvanu_call {
     pub index: u16,
     pub now: u64,
     pub number: u64,
+    pub term: u64,
 }
 
 extern "C" {

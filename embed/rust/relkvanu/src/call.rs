@@ -20,6 +20,9 @@ pub(crate) enum CallKind {
     Undeleted,
     Show,
     Count,
+    Fence,
+    Reserve,
+    Forfeit,
     /// A number that this crate does not know: the library is of another version.
     Unknown(u32),
 }
@@ -39,6 +42,9 @@ impl CallKind {
             sys::RELKVANU_CALL_UNDELETED => CallKind::Undeleted,
             sys::RELKVANU_CALL_SHOW => CallKind::Show,
             sys::RELKVANU_CALL_COUNT => CallKind::Count,
+            sys::RELKVANU_CALL_FENCE => CallKind::Fence,
+            sys::RELKVANU_CALL_RESERVE => CallKind::Reserve,
+            sys::RELKVANU_CALL_FORFEIT => CallKind::Forfeit,
             other => CallKind::Unknown(other),
         }
     }
@@ -58,6 +64,9 @@ impl CallKind {
             CallKind::Undeleted => sys::RELKVANU_CALL_UNDELETED,
             CallKind::Show => sys::RELKVANU_CALL_SHOW,
             CallKind::Count => sys::RELKVANU_CALL_COUNT,
+            CallKind::Fence => sys::RELKVANU_CALL_FENCE,
+            CallKind::Reserve => sys::RELKVANU_CALL_RESERVE,
+            CallKind::Forfeit => sys::RELKVANU_CALL_FORFEIT,
             CallKind::Unknown(what) => *what,
         }
     }
