@@ -18,7 +18,6 @@ from relkvanu.storage import MARKER, PAGE, Folder, KeepsVersions, Marker, Names,
 Ask = Callable[[Sequence[int]], Garbage]
 
 FAILED, UNISSUED, LOOK_FIRST = 1, 3, 78  # exit statuses, beside 2 of a wrong word
-NO_NAMES = 409  # the service's status for a job without names
 USAGE = """exit status:
   0   all garbage was deleted, or without --delete was printed
   1   garbage is left, or the storage or the service did not answer: another run may go on
@@ -80,12 +79,11 @@ def sweep(storage: SizedStorage, ask: Ask, delete: bool = False) -> Swept:
     return swept
 
 
-def of_service(service: Any, job: str) -> Ask:
-    """Asks a service (relkvanu_service.Service), which answers from what is committed."""
+def of_service(job: Any) -> Ask:
+    """Asks a job of the service (relkvanu_service.Job), which answers from what is committed."""
 
     def ask(files: Sequence[int]) -> Garbage:
-        told = service.request("POST", f"/v1/jobs/{job}/garbage", {"files": [str(file) for file in files]})
-        return Garbage(*(tuple(map(int, told[name])) for name in ("garbage", "unissued")))
+        return Garbage(*map(tuple, job.garbage(files)))
 
     return ask
 
@@ -188,9 +186,10 @@ def summary(swept: Swept, took: float) -> str:
 
 def sweep_place(given: argparse.Namespace, service: Any) -> Iterator[Page]:
     """Each sweep opens the storage anew, so a disk that is mounted again is found."""
-    with place(given, Marker(*service.job(given.job).marker())) as storage:
+    job = service.job(given.job)
+    with place(given, Marker(*job.marker())) as storage:
         check_names(storage, given)
-        yield from pages(storage, of_service(service, given.job), given.delete)
+        yield from pages(storage, of_service(job), given.delete)
 
 
 def run_once(given: argparse.Namespace, client: Any) -> int:
@@ -204,9 +203,10 @@ def run_once(given: argparse.Namespace, client: Any) -> int:
                 print("".join(f"{line}\n" for line in lines(page, names, given.delete)), end="", flush=True)
     except (NotThere, OtherJob, KeepsVersions) as error:
         raise Stop(LOOK_FIRST, str(error)) from error
-    except client.Failed as error:
-        raise Stop(LOOK_FIRST if error.status == NO_NAMES else FAILED, str(error)) from error
-    except (Error, OSError) as error:  # those of requests are OSErrors
+    except client.Fenced as error:
+        raise Stop(LOOK_FIRST, f"{error}: the job {given.job} has no names, so its garbage can't be told. It gets names by the call fence, once, "
+                               "between the end of its tasks and their restart") from error
+    except (client.Failed, Error, OSError) as error:  # those of requests are OSErrors
         raise Stop(FAILED, str(error)) from error
     finally:
         if swept.listed:

@@ -30,7 +30,7 @@ def answer(job: Coordinator, method: str, path: str, body: bytes) -> "tuple[int,
     try:
         told = job.garbage([int(file) for file in json.loads(body)["files"]])
     except Fenced as refusal:
-        return 409, {"error": f"the job has no names: {refusal}"}
+        return 409, {"error": "the job has no names", "fenced": refusal.name}
     return 200, {"garbage": [str(file) for file in told.garbage], "unissued": [str(file) for file in told.unissued]}
 
 
