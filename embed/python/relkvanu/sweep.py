@@ -83,7 +83,8 @@ def of_service(job: Any) -> Ask:
     """Asks a job of the service (relkvanu_service.Job), which answers from what is committed."""
 
     def ask(files: Sequence[int]) -> Garbage:
-        return Garbage(*map(tuple, job.garbage(files)))
+        garbage, unissued = job.garbage(files)
+        return Garbage(tuple(garbage), tuple(unissued))
 
     return ask
 
