@@ -213,6 +213,7 @@ class Sweeping(OnAServer):
 
     def test_pages_while_it_deletes(self):
         """Each third file is in use. The listing goes on behind the last key of a page, though files of the page are gone."""
+        self.files.delete([9])  # a name that is given out next
         names = list(self.job.reserve(1, 300))
         self.job.tick(20)
         self.job.ack_in(1, 20, 2, 0, 0, names[::3])

@@ -204,7 +204,7 @@ class WithNames(Judging):
         self.assertEqual(check([*lines, "sweeper unlinks 1", "folder synced"]), [])
 
     def test_a_process_that_goes_on(self):
-        ended = [*REPLACED, "reserve 2 1", "process 1 ends", "log cut", "process 2 starts", "restore 30 latest", "log synced", "task 0.0 3 starts"]
+        ended = [*REPLACED, "reserve 2 1", "process 1 ends", "log cut", "process 2 starts", "restore 20 latest", "log synced", "task 0.0 3 starts"]
         self.assertEqual(check([*ended, *named(3, 4, 3, 3, " =2")]), [])
 
     def test_damaged_lines(self):
