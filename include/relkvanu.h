@@ -96,8 +96,9 @@ typedef struct {
     uint16_t vertex; /* with index: the subtask of an ack or a decline */
     uint16_t index;
     uint64_t now;    /* the moment, if the kind has one */
-    uint64_t number; /* the number of the record or file; for a restore the savepoint or 0; for a take the most files; for a fence the first name; for a reserve how many */
-    uint64_t term;   /* the term of the caller, 0 for none. A fence has none */
+    uint64_t number; /* the number of the record or file; for a restore the savepoint or 0; for a take the most files; for a fence
+                        the first name; for a reserve how many names */
+    uint64_t term;   /* the term of the caller, 0 for none */
 } relkvanu_call;
 
 /* code */

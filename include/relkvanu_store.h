@@ -51,11 +51,11 @@ typedef struct relkvanu_store relkvanu_store;
 #define RELKVANU_STORE_NOT_A_STORE 6  /* open: another kind of file, or one of a later version */
 #define RELKVANU_STORE_DIFFERS 7      /* open: a call of the log gets another answer, or is refused. The message says which */
 #define RELKVANU_STORE_DAMAGED 8      /* open: an image, a call or the file is damaged. The message says which */
-#define RELKVANU_STORE_STORAGE 9      /* open: the storage folder is not that of this job, or a new job's has files, or PATH is an older copy; a fence: it has no marker, or can't be read */
+#define RELKVANU_STORE_STORAGE 9      /* open: the storage folder is not that of this job, or a new job's has files, or PATH is an older copy */
 #define RELKVANU_STORE_CLOSED 10      /* an earlier commit failed */
 #define RELKVANU_STORE_FORKED 11      /* this process is a child of the one that opened the store */
 #define RELKVANU_STORE_TIMED_OUT 12   /* await: the time is up */
-#define RELKVANU_STORE_NOT_NOW 13     /* unknown, sweep of a job without names: no sweep is safe now; discard: another thread discards */
+#define RELKVANU_STORE_NOT_NOW 13     /* unknown: no sweep of a job without names is safe now; discard: another thread discards */
 #define RELKVANU_STORE_STOPPED 14     /* await, discard: relkvanu_store_stop was called */
 #define RELKVANU_STORE_NOT_PUT 15     /* put: the file was not made, and errno says why */
 /* What failed at an opening, or in a commit, which closes the store. */

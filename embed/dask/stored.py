@@ -47,7 +47,7 @@ class Stored:
         with tempfile.TemporaryDirectory() as copy:
             bookkeeping.copy_job(folder, copy)
             try:
-                self.job = Store(folder / "job.db", Settings(**settings), shape, storage=storage.path, create=True, image_calls=IMAGE_CALLS)
+                self.job = Store(folder / "job.db", Settings(**settings), shape, storage=storage.path, create=True, plain=True, image_calls=IMAGE_CALLS)
             except StoreError as fault:
                 raise SystemExit(f"the job is not opened: {fault}") from None
             books = bookkeeping.of_job(pathlib.Path(copy))

@@ -114,7 +114,7 @@ func OpenStore(path string, options StoreOptions) (*Store, error) {
 }
 
 func (o *StoreOptions) inC() C.relkvanu_store_options {
-	flags := C.uint32_t(0)
+	flags := C.uint32_t(C.RELKVANU_STORE_PLAIN)
 	for flag, is := range map[C.uint32_t]bool{
 		C.RELKVANU_STORE_CREATE: o.Create, C.RELKVANU_STORE_CREATE_ONLY: o.CreateOnly, C.RELKVANU_STORE_ADOPT: o.Adopt,
 		C.RELKVANU_STORE_EARLIER_IMAGE: o.EarlierImage,

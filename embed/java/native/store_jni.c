@@ -51,7 +51,7 @@ static int opened(JNIEnv *env, const char *path, const char *storage, const jlon
     jlongArray report, jbyteArray message) {
     relkvanu_store *store;
     relkvanu_store_report found;
-    relkvanu_store_options options = {.flags = (uint32_t)numbers[0], .patience = (uint32_t)numbers[1], .image_calls = (uint64_t)numbers[2], .most_ahead = (uint64_t)numbers[3],
+    relkvanu_store_options options = {.flags = (uint32_t)numbers[0] | RELKVANU_STORE_PLAIN, .patience = (uint32_t)numbers[1], .image_calls = (uint64_t)numbers[2], .most_ahead = (uint64_t)numbers[3],
         .storage = storage, .settings = {(uint64_t)of[0], (uint64_t)of[1], (uint64_t)of[2], (uint64_t)of[3], (uint64_t)of[4], (uint64_t)of[5], of[6] != 0},
         .shape = shape, .shape_len = shape_len};
     int status = relkvanu_store_open(&store, path, &options, &found);

@@ -116,7 +116,7 @@ class Checkpoints:
         self._shape = [len(self._nodes), 1]
         self._job = Store(
             pathlib.Path(folder) / "job.db", Settings(interval=every, timeout=1 << 40, tolerable=1000, retained=retained), self._shape,
-            storage=states, create=create, patience=patience)
+            storage=states, create=create, plain=True, patience=patience)
         try:
             self._begin()
         except BaseException:
