@@ -117,16 +117,7 @@ static void load(struct job *job, uint64_t id) {
     }
 }
 
-/* What a task was uploading when it was stopped: its message comes late, and still before the restore. */
-static void send_late(struct job *job, struct task *task) {
-    if (task->left.id != 0 && chance_below(&job->chance, 3) == 0) {
-        relkvanu_answer answer = task_ack(task, &task->left);
-        CHECK(answer.code == RELKVANU_DONE || (answer.code == RELKVANU_REFUSED && answer.what == RELKVANU_FILE_GONE), "a late message is answered %" PRIu32, answer.what);
-        task->left.id = 0;
-    }
-}
-
-/* Or the task goes on after the restore. */
+/* A task that was stopped in the middle of an upload goes on after the restore. */
 static void go_on(struct job *job, struct task *task) {
     if (task->left.id != 0) {
         zombie_start(&job->zombies[job->zombies_begun++ % ZOMBIES], task);
@@ -141,9 +132,6 @@ static uint64_t restore(struct job *job, enum end end) {
     unsigned tasks = end == RESCALES ? OTHER_TASKS : 0;
     if (end == BEGINS) {
         tasks = chance_below(&job->chance, 2) == 0 ? OTHER_TASKS : TASKS;
-    }
-    for (unsigned index = 0; index < TASKS; index++) {
-        send_late(job, &job->tasks[index]);
     }
     relkvanu_answer answer = coordinator_restore(c, savepoint, tasks);
     CHECK(answer.code == RELKVANU_DONE, "a restore is refused: %" PRIu32, answer.what);
