@@ -77,7 +77,7 @@ class Checker:
         name = "on_" + event.verb.replace(" ", "_")
         method: Callable[[Event], None] = getattr(self, name)
         method(event)
-        if event.verb in ("call", "unlinks", "storage", "log cut", "process starts"):
+        if event.verb in ("call", "unlinks", "writes", "storage", "log cut", "process starts"):
             self.look()
 
     # The process and its log.
