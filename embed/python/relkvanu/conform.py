@@ -2,12 +2,14 @@
 or that the trace obeys the rules. `-` reads the standard input. Its status is 0 (it obeys), 1 (a rule is broken, or a file is lost) or 2 (no trace)."""
 import sys
 from dataclasses import dataclass, field
-from typing import Callable, Dict, Iterable, List, Optional, Sequence, Set, Tuple, Union
+from typing import Callable, Dict, Iterable, List, Optional, Sequence, Set, Tuple
 
 from relkvanu.coordinator import Coordinator, Error
-from relkvanu.replies import AckLate, DeclineLate, Reply, RestoredCheckpoint, RestoredFresh, RestoredSavepoint, SavepointTriggered, Taken, Triggered
+from relkvanu.replies import (
+    AckLate, DeclineLate, Reply, Reserved, RestoredCheckpoint, RestoredFresh, RestoredSavepoint, SavepointTriggered, Taken, Triggered,
+)
 from relkvanu.storage import unknown
-from relkvanu.trace import Event, NoTrace, Reserved, Task, World, drained, live_files, read
+from relkvanu.trace import Event, NoTrace, Task, World, drained, live_files, read
 
 # As docs/PROTOCOL.md says them: explore/run compares.
 RULES = {
@@ -120,7 +122,7 @@ class Checker:
             self.durable.logged.add(("restore", 0))
         self.note(reply, sender, rest[2:] if word == "in" else rest)
 
-    def note(self, reply: Union[Reply, Reserved, None], sender: Optional[Task], words: List[str]) -> None:
+    def note(self, reply: Optional[Reply], sender: Optional[Task], words: List[str]) -> None:
         """What the answer of a call entitles others to."""
         if isinstance(reply, Reserved):
             self.durable.logged |= {("name", name) for name in reply.names}

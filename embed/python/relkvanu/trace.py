@@ -2,9 +2,9 @@
 docs/PROTOCOL.md has the lines. World replays them: it makes the calls of the log again, and keeps what the storage holds."""
 import re
 from dataclasses import dataclass, field
-from typing import Dict, FrozenSet, Iterable, Iterator, List, Optional, Sequence, Set, Tuple, Union
+from typing import Dict, FrozenSet, Iterable, Iterator, List, Optional, Sequence, Set, Tuple
 
-from relkvanu import calls, lines
+from relkvanu import lines
 from relkvanu.coordinator import Coordinator, Error, Fenced, Refused, Settings
 from relkvanu.replies import Reply, Taken
 
@@ -70,7 +70,6 @@ FORMS: Tuple[Tuple[str, str, str], ...] = (
     (r"storage (away|back|loses power)", "storage", "word"),
     (rf"term {NUMBER} of {TASK}", "term", "number task"),
 )
-OF_NAMES = ("fence", "reserve", "forfeit", "in")  # words of a log whose job gives out names
 COMPILED = tuple((re.compile(form), verb, names.split()) for form, verb, names in FORMS)
 LOGGED = re.compile(
     r"(config|job|start|tick|savepoint|ack|decline|dispose|restore|cancel|take|deleted|undeleted|fence|reserve|forfeit|in) .*|cancel")
@@ -107,51 +106,6 @@ def read(text: str) -> Optional[Event]:
     if LOGGED.fullmatch(text):
         return Event("call", line=text)
     raise NoTrace(f"not a line of a trace: {text}")
-
-
-@dataclass(frozen=True)
-class Reserved:
-    """A task got these names."""
-
-    names: range
-
-
-def in_term(core: Coordinator, term: int, line: str) -> Optional[Reply]:
-    """The call of a line by a caller of this term."""
-    if term == 0:
-        return core.line(line.encode())
-    core.term()  # raises Fenced without names
-    said = calls.line_call(line.encode())
-    if said is None or line.split()[0] in OF_NAMES:
-        raise NoTrace(f"not a line of a log: in {term} {line}")
-    if isinstance(said, calls.Ack):
-        return core.ack_in(term, said.now, said.id, said.vertex, said.index, said.fresh, said.reused)
-    if isinstance(said, calls.Decline):
-        return core.decline_in(term, said.now, said.id, said.vertex, said.index)
-    return core.line(line.encode())
-
-
-def made(core: Coordinator, line: str) -> "Union[Reply, Reserved, None]":
-    """Makes the call of a log's line (docs/LOGS.md). A line that begins with a word for names has numbers behind it."""
-    word, _, rest = line.partition(" ")
-    if word not in OF_NAMES:
-        return core.line(line.encode())
-    try:
-        if word == "in":
-            term, _, said = rest.partition(" ")
-            return in_term(core, int(term), said)
-        numbers = [int(it) for it in rest.split()]
-        if word == "reserve":
-            term_of_task, count = numbers
-            return Reserved(core.reserve(term_of_task, count))
-        if word == "fence":
-            (first,) = numbers
-            core.fence(first)
-        else:
-            core.forfeit(numbers[0], numbers[1:])
-    except (ValueError, IndexError) as fault:
-        raise NoTrace(f"not a line of a log: {line}") from fault
-    return None
 
 
 @dataclass
@@ -217,7 +171,7 @@ class World:
         """A coordinator that makes the calls of so many lines of the log."""
         core = self._opened(self.log.lines[:3])
         for line in self.log.lines[3:count]:
-            made(core, line)
+            core.line(line.encode())
         return core
 
     def not_garbage(self, files: Sequence[int]) -> Set[int]:
@@ -234,7 +188,7 @@ class World:
             raise NoTrace("a log begins with the lines config, job and start")
         return Coordinator(settings, shape.shape, start.now)
 
-    def call(self, line: str) -> "Union[Reply, Reserved, None]":
+    def call(self, line: str) -> Optional[Reply]:
         """Makes a call, as the process did, and appends it to the log. Raises NoTrace if the library refuses it."""
         if self.speaker not in self.processes:
             raise NoTrace(f"no process runs that makes this call: {line}")
@@ -246,7 +200,7 @@ class World:
                 self.processes[self.speaker] = self._opened(self.opening)
             return None
         try:
-            reply = made(core, line)
+            reply = core.line(line.encode())
         except Error as fault:
             raise NoTrace(f"the library does not take this call: {line}: {fault}") from fault
         self.has_names = self.has_names or line.startswith("fence ")
@@ -256,7 +210,7 @@ class World:
         """Makes a call that the library refused. Raises NoTrace if it takes it now."""
         core = self.processes.get(self.speaker)
         try:
-            reply = made(core, line) if core else None
+            reply = core.line(line.encode()) if core else None
         except (Refused, Fenced):
             return
         raise NoTrace(f"the library does not refuse this call: {line}: {reply}")
