@@ -195,15 +195,15 @@ class Job:
         wait_for(self.has_failed.is_set)
 
     def run(self, seconds: float) -> None:
-        """Runs until the time is over, and tasks were lost in each of four ways: killed or standing still, declined or expired."""
+        """Runs until the time is over, and lost tasks were declined once and expired once, and killed once and standing still once."""
         end, rounds = time.monotonic() + seconds, 0
         self.coordinator.settle(self.storage)
         for thread in self.threads:
             thread.start()
         self.start_tasks(LARGE)
-        while rounds < 4 or time.monotonic() < end:
+        while rounds < 2 or time.monotonic() < end:
             self.complete(LARGE)
-            self.lose_in_checkpoint(tells_loss=rounds % 4 < 2, stands_still=rounds % 2 == 0)
+            self.lose_in_checkpoint(tells_loss=rounds % 2 == 0, stands_still=(self.seed + rounds + rounds // 2) % 2 == 0)
             self.restart_tasks(SMALL)
             self.complete(SMALL)
             self.end_zombies()
