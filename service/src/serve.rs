@@ -62,7 +62,7 @@ fn serve(mut config: Config) -> Result<(), Stop> {
     let historian = shared.historian(&config)?;
     let leader = shared.leader(&config, store, messages)?;
     historian.start();
-    let working = std::thread::spawn(move || leader.run());
+    let working = process::thread("writer", move || leader.run());
     if answer_requests(app, listener)? {
         stop_writer(&shared, &working);
         log::info("stopped");
@@ -129,6 +129,7 @@ impl Shared {
             board: Arc::clone(&self.board),
             metrics: Arc::clone(&self.metrics),
             messages,
+            inbox: self.inbox.clone(),
             listen: config.listen.to_string(),
             keeping: config.keeping,
             accept_clock: config.accept_clock,
