@@ -234,6 +234,25 @@ static void sweeps_at_any_time(void) {
     relkvanu_store_close(store);
 }
 
+/* Another process has opened a copy of the job over the folder: this one deletes and puts nothing more. */
+static void a_later_opening(void) {
+    relkvanu_store *store = named_job();
+    size_t left;
+    CHECK(reserved(store, 1, 3) == 1, "the names");
+    for (uint64_t name = 1; name <= 3; name++) {
+        make_file(name);
+    }
+    made(store, (relkvanu_call){.kind = RELKVANU_CALL_RESTORE, .now = RELKVANU_STORE_NOW});
+    FILE *marker = fopen(in("storage/.relkvanu-job"), "w");
+    CHECK(marker != NULL && fprintf(marker, "relkvanu job %016" PRIx64 "%016" PRIx64 "\nepoch 2\n", report.job[0], report.job[1]) > 0 && fclose(marker) == 0, "marker");
+    CHECK(relkvanu_store_sweep(store, &left) == RELKVANU_STORE_STORAGE && has_file(1) && has_file(3), "a sweep");
+    CHECK(relkvanu_store_put(store, 4, "state", 5) == RELKVANU_STORE_STORAGE && !has_file(4), "a put");
+    relkvanu_store_close(store);
+    relkvanu_store_options options = named_options(RELKVANU_STORE_RECOVER, 0);
+    opens(&options, RELKVANU_STORE_STORAGE);
+    CHECK(says("an older copy"), "%s", report.message);
+}
+
 /* Adopted files are below the first name, and are garbage; one that leaves no name is refused. */
 static void adopts(void) {
     relkvanu_store_options options = named_options(RELKVANU_STORE_CREATE, 0);
@@ -537,5 +556,5 @@ static void a_sweeper_beside_tasks(void) {
 }
 
 const struct test name_cases[] = {{"terms_and_names", terms_and_names}, {"reserved_and_killed", reserved_and_killed}, {"forfeits", forfeits}, {"no_names", no_names},
-    {"sweeps_at_any_time", sweeps_at_any_time}, {"adopts", adopts}, {"a_fence", a_fence}, {"a_fence_without_a_folder", a_fence_without_a_folder},
+    {"sweeps_at_any_time", sweeps_at_any_time}, {"a_later_opening", a_later_opening}, {"adopts", adopts}, {"a_fence", a_fence}, {"a_fence_without_a_folder", a_fence_without_a_folder},
     {"an_old_file", an_old_file}, {"a_sweeper_beside_tasks", a_sweeper_beside_tasks}, {NULL, NULL}};
