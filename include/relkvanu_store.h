@@ -19,7 +19,7 @@
  * Conditions for the caller:
  * - A failed job is restored by the engine: when the mode is failed (relkvanu_store_await_tick tells it, and so do the answers) it ends all tasks,
  *   restores, sweeps, tells the sinks again and starts the tasks. A task that ends while the job runs needs the same: no task starts alone.
- *   In a job with names it is enough that the old tasks are told to end: what they send later is refused with RELKVANU_OLD_TERM.
+ *   For the files of a job with names it is enough that the old tasks are told to end: what they send later is refused with RELKVANU_OLD_TERM.
  * - An engine that reads the coordinator's files from another thread than the one that called sees committed calls only.
  * - Nobody acts on an answer unless the status is RELKVANU_STORE_OK and its code is RELKVANU_DONE: no file is deleted or kept, no barrier
  *   is sent. With any other status each answer is RELKVANU_STORE_NOT_MADE.
@@ -137,8 +137,9 @@ typedef struct {
  * that it lacks.
  *
  * With options.storage NULL none of this is there: no marker (a folder that is not mounted is not noticed), no refusal of an older copy, no
- * refusal to begin a new job over old files (RELKVANU_STORE_CREATE after PATH was lost begins at epoch 1, and its sweep deletes all), and no sync
- * of the folder in relkvanu_store_discard. The engine does each of them itself (docs/EMBEDDING.md, section 15). */
+ * refusal to begin a new job over old files (RELKVANU_STORE_CREATE after PATH was lost begins at epoch 1, gives out names from 1 on, and without
+ * names its sweep deletes all), and no sync of the folder in relkvanu_store_discard. The engine does each of them itself (docs/EMBEDDING.md, section 15). A
+ * job over a storage of the engine's own that has files is made with RELKVANU_STORE_PLAIN, and gets names above all of these by a fence. */
 int relkvanu_store_open(relkvanu_store **store, const char *path, const relkvanu_store_options *options, relkvanu_store_report *report);
 
 /* Waits for the group under way and for each submit, makes an image, so that the next opening replays nothing, and closes. NULL is
@@ -169,9 +170,9 @@ typedef struct {
  * reservation that was answered is durable, and its names are not given out again, whatever happens.
  *
  * RELKVANU_CALL_FENCE gives names to a job without, from call.number on. Make it after a restore and before tasks start, and start them with the term
- * of its answer. Each number that a task was told of has to be below the first name. The store looks at the numbers of the files in options.storage: one from
- * the first name on is RELKVANU_FENCED with RELKVANU_NAME_IN_USE, as one that the coordinator knows. RELKVANU_STORE_STORAGE: the folder has no marker, or can't be read.
- * From then on the file is one of a job with names, for good. */
+ * of its answer. Each number that a task was told of has to be below the first name. The store looks at the files in options.storage: a number from
+ * the first name on is RELKVANU_FENCED with RELKVANU_NAME_IN_USE, as one that the coordinator knows. RELKVANU_STORE_STORAGE: the folder has no marker,
+ * or can't be read. From then on the file is one of a job with names, for good. */
 int relkvanu_store_calls(relkvanu_store *store, relkvanu_store_call *calls, size_t calls_len);
 
 /* One acknowledgement, with flat arguments, in a job without names. */
@@ -216,8 +217,8 @@ int relkvanu_store_next_tick(relkvanu_store *store, uint64_t *wait);
 
 /* A timer, as a loop in a thread of the engine: sleeps until a tick is due, at most longest ms, and makes it. Each commit wakes it.
  * RELKVANU_STORE_TIMED_OUT: no tick was due. RELKVANU_STORE_STOPPED.
- * While the job is not running, no tick is due: then RELKVANU_STORE_TIMED_OUT comes with the answer RELKVANU_REFUSED, RELKVANU_NOT_RUNNING. It comes at once when the
- * job has failed or was cancelled, to one caller, and then after longest. Read the mode: a failed job is restored, a cancelled one swept. */
+ * While the job is not running, no tick is due: then RELKVANU_STORE_TIMED_OUT comes with the answer RELKVANU_REFUSED, RELKVANU_NOT_RUNNING. It comes
+ * at once when the job has failed or was cancelled, to one caller, and then after longest. Read the mode: a failed job is restored, a cancelled one swept. */
 int relkvanu_store_await_tick(relkvanu_store *store, uint64_t longest, relkvanu_store_call *tick);
 
 /* The term that runs, and the next name: RELKVANU_TERM, of what is committed. RELKVANU_FENCED with RELKVANU_NO_NAMES. Whoever starts tasks takes the term
@@ -225,7 +226,8 @@ int relkvanu_store_await_tick(relkvanu_store *store, uint64_t longest, relkvanu_
 int relkvanu_store_term(relkvanu_store *store, relkvanu_answer *answer);
 
 /* Those of the files that are garbage, and those whose names were not given out, of what is committed, as relkvanu_garbage. Both buffers have
- * files_len places. RELKVANU_GARBAGE: the engine deletes the first at any time, and the second never. RELKVANU_FENCED with RELKVANU_NO_NAMES. Takes no memory. */
+ * files_len places. RELKVANU_GARBAGE: the engine deletes the first at any time, and the second never. RELKVANU_FENCED with RELKVANU_NO_NAMES. Takes no
+ * memory. */
 int relkvanu_store_garbage(relkvanu_store *store, const uint64_t *files, size_t files_len, uint64_t *garbage, uint64_t *unissued, relkvanu_answer *answer);
 
 /* For a sweep: moves those of the files that may be deleted to the front, and writes how many they are. The engine deletes exactly these.
@@ -256,8 +258,8 @@ int relkvanu_store_discard(relkvanu_store *store, size_t batch, relkvanu_store_d
  * RELKVANU_STORE_BAD_ARGUMENT, and no file counts as gone. */
 
 /* Makes a file: writes it beside its name, syncs it, gives it the name, and syncs the folder. After RELKVANU_STORE_OK a loss of power does not
- * take it, and a task may acknowledge it. After any other status the task forfeits the name and declines. The number is not given again: a sweep deletes what is
- * left. In a job with names the number is one that the task has reserved.
+ * take it, and a task may acknowledge it. After any other status the task forfeits the name and declines. The number is not given again: a sweep
+ * deletes what is left. In a job with names the number is one that the task has reserved.
  *
  * RELKVANU_STORE_PRESENT: there is a file of this number, or a part of one; RELKVANU_STORE_STORAGE: the folder lacks its marker, or another opening has it;
  * RELKVANU_STORE_NOT_PUT. */

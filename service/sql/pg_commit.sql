@@ -1,7 +1,7 @@
 -- One group in one statement, with the lease and the fence: $1 seconds of the lease, $2 the epoch, then the columns of
 -- `job`, `call`, `request` and `image` as arrays, images that go, and calls that go with what their acknowledgements said, then those of
--- `summary` and `past`, summaries that go, those of `size`, sizes that go, those of `ack_size`, and jobs that go. Answers how many rows of
--- the first four were written; none where another leads.
+-- `summary` and `past`, summaries that go, those of `size`, sizes that go, those of `ack_size`, jobs that go, and those of `image_part`.
+-- Answers how many rows of the first four were written; none where another leads.
 with l as (
     update leader set until = clock_timestamp() + $1::float8 * interval '1 s' where epoch = $2::bigint returning 1
 ), j as (
@@ -25,6 +25,9 @@ with l as (
 ), d as (
     delete from image using l, unnest($31::bigint[], $32::bigint[]) u(job, seq)
     where image.job = u.job and image.seq = u.seq
+), e as (
+    delete from image_part using l, unnest($31::bigint[], $32::bigint[]) u(job, seq)
+    where image_part.job = u.job and image_part.seq = u.seq
 ), x as (
     delete from call using l, unnest($33::bigint[], $34::bigint[], $35::bigint[]) u(job, after, upto)
     where call.job = u.job and call.seq > u.after and call.seq <= u.upto
@@ -55,6 +58,10 @@ with l as (
     delete from job using l, unnest($55::bigint[]) u(job) where job.job = u.job
 ), w as (
     insert into gone_job select u.job, u.name, u.at, 0 from l, unnest($55::bigint[], $56::text[], $57::bigint[]) u(job, name, at)
+), t as (
+    insert into image_part select u.job, u.seq, u.part, u.text from l, unnest(
+        $58::bigint[], $59::bigint[], $60::bigint[], $61::text[]) u(job, seq, part, text)
+    on conflict (job, seq, part) do update set text = excluded.text
 )
 select (select count(*) from l), (select count(*) from j), (select count(*) from c), (select count(*) from r),
     (select count(*) from i)

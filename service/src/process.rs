@@ -1,5 +1,14 @@
 //! What the process asks of the system for itself.
 use libc::{getrlimit, rlimit, setrlimit, umask, RLIMIT_NOFILE};
+use std::thread::{Builder, JoinHandle};
+
+/// Starts a thread under a name of at most 15 bytes, which `top -H` shows. The process ends if there can be no thread.
+pub fn thread<T: Send + 'static>(name: &str, work: impl FnOnce() -> T + Send + 'static) -> JoinHandle<T> {
+    match Builder::new().name(name.to_string()).spawn(work) {
+        Ok(thread) => thread,
+        Err(why) => panic!("there is no thread for {name}: {why}"),
+    }
+}
 
 /// Files that are made from now on are this user's alone: a database has the names of jobs and files, and a log may have more.
 pub fn make_files_private() {

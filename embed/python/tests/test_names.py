@@ -180,7 +180,7 @@ class Logs(unittest.TestCase):
                 wanted.append(answer.strip())
                 found += self.told(job, line.strip()) if line.strip() else []
         self.assertEqual(found, wanted)
-        self.assertGreater(len(found), 20)
+        self.assertGreater(len(found), 15)
 
 
 if __name__ == "__main__":

@@ -104,7 +104,8 @@ static void terms_and_names(void) {
     fenced(made(store, (relkvanu_call){.kind = RELKVANU_CALL_DECLINE, .number = first}).answer, RELKVANU_OLD_TERM, 0);
     fenced(made(store, (relkvanu_call){.kind = RELKVANU_CALL_RESERVE, .number = 0, .term = 1}).answer, RELKVANU_BAD_COUNT, 0);
     fenced(made(store, (relkvanu_call){.kind = RELKVANU_CALL_RESERVE, .number = 65537, .term = 1}).answer, RELKVANU_BAD_COUNT, 0);
-    CHECK(acked(store, 1, first, 0, 9).what == RELKVANU_ALREADY_ACKNOWLEDGED, "after the fence the coordinator answers");
+    relkvanu_answer late = acked(store, 1, first, 0, 9); /* the record is complete */
+    CHECK(late.code == RELKVANU_DONE && late.what == RELKVANU_ACK_LATE && late.a == 1, "what %" PRIu32 " %" PRIu64, late.what, late.a);
     uint64_t second = trigger(store);
     relkvanu_store_call restore = made(store, (relkvanu_call){.kind = RELKVANU_CALL_RESTORE, .now = RELKVANU_STORE_NOW});
     CHECK(restore.answer.what == RELKVANU_RESTORED_CHECKPOINT && restore.answer.b == first && restore.term == 2, "term %" PRIu64, restore.term);
@@ -221,7 +222,7 @@ static void sweeps_at_any_time(void) {
         CHECK(has_file(name) == (name != 17 && name != 18), "file %" PRIu64, name);
     }
     made(store, (relkvanu_call){.kind = RELKVANU_CALL_RESTORE, .now = RELKVANU_STORE_NOW});
-    CHECK(mkdir(in("storage/19.part"), 0700) == 0, "a folder");
+    CHECK(unlink(in("storage/19")) == 0 && mkdir(in("storage/19.part"), 0700) == 0, "a folder");
     CHECK(relkvanu_store_sweep(store, &left) == RELKVANU_STORE_OK && left == 1, "%zu are left", left);
     for (uint64_t name = 1; name <= 33; name++) { /* in use and waiting; those of the ended term are garbage; not given out */
         CHECK(has_file(name) == (name <= 16 || name > 30), "file %" PRIu64, name);
@@ -231,6 +232,25 @@ static void sweeps_at_any_time(void) {
     CHECK(relkvanu_store_put(store, 21, "state", 5) == RELKVANU_STORE_OK && has_file(21), "so does its put");
     CHECK(relkvanu_store_sweep(store, &left) == RELKVANU_STORE_OK && left == 0 && !has_file(20) && !has_file(21) && has_file(31), "the next sweep");
     relkvanu_store_close(store);
+}
+
+/* Another process has opened a copy of the job over the folder: this one deletes and puts nothing more. */
+static void a_later_opening(void) {
+    relkvanu_store *store = named_job();
+    size_t left;
+    CHECK(reserved(store, 1, 3) == 1, "the names");
+    for (uint64_t name = 1; name <= 3; name++) {
+        make_file(name);
+    }
+    made(store, (relkvanu_call){.kind = RELKVANU_CALL_RESTORE, .now = RELKVANU_STORE_NOW});
+    FILE *marker = fopen(in("storage/.relkvanu-job"), "w");
+    CHECK(marker != NULL && fprintf(marker, "relkvanu job %016" PRIx64 "%016" PRIx64 "\nepoch 2\n", report.job[0], report.job[1]) > 0 && fclose(marker) == 0, "marker");
+    CHECK(relkvanu_store_sweep(store, &left) == RELKVANU_STORE_STORAGE && has_file(1) && has_file(3), "a sweep");
+    CHECK(relkvanu_store_put(store, 4, "state", 5) == RELKVANU_STORE_STORAGE && !has_file(4), "a put");
+    relkvanu_store_close(store);
+    relkvanu_store_options options = named_options(RELKVANU_STORE_RECOVER, 0);
+    opens(&options, RELKVANU_STORE_STORAGE);
+    CHECK(says("an older copy"), "%s", report.message);
 }
 
 /* Adopted files are below the first name, and are garbage; one that leaves no name is refused. */
@@ -330,10 +350,11 @@ static void an_old_file(void) {
     relkvanu_store_options options = job_options(RELKVANU_STORE_RECOVER, RELKVANU_STORE_NO_IMAGES);
     relkvanu_store *store = opens(&options, RELKVANU_STORE_OK);
     CHECK(report.is_recovered && !report.settings_differ && report.term == 0 && report.epoch == 2, "epoch %" PRIu64, report.epoch);
-    CHECK(report.image_place == 12 && report.replayed == 15 && report.choice.what == RELKVANU_CHOICE_CHECKPOINT && report.choice.a == 2, "%" PRIu64 " and %" PRIu64,
+    CHECK(report.image_place == 20 && report.replayed == 7 && report.choice.what == RELKVANU_CHOICE_CHECKPOINT && report.choice.a == 2, "%" PRIu64 " and %" PRIu64,
         report.image_place, report.replayed);
     CHECK(report.taken == 2 && report.mode.what == RELKVANU_MODE_RUNNING, "%" PRIu64 " taken", report.taken);
-    checkpoint(store, 5000);
+    CHECK(done(store, RELKVANU_CALL_RESTORE, 30, 0).what == RELKVANU_RESTORED_CHECKPOINT, "a restore");
+    CHECK(checkpoint(store, 5000) == 4, "the next record");
     relkvanu_store_close(store);
     CHECK(format_of() == 1, "the format");
     store = opens(&options, RELKVANU_STORE_OK);
@@ -379,7 +400,7 @@ static bool takes_part(struct task *t, uint64_t id, unsigned *seed) {
         int status = relkvanu_store_put(store, names[i], "state", 5);
         CHECK(status == RELKVANU_STORE_OK || (status == RELKVANU_STORE_NOT_PUT && has_ended(t)), "put: status %d", status);
     }
-    if (rand_r(seed) % 8 == 0) {
+    if (rand_r(seed) % 3 == 0) {
         usleep(2000); /* a restore may come */
     }
     was_over = t->fleet->term > t->term;
@@ -474,6 +495,7 @@ static void round_of(struct fleet *fleet) {
             check_live(fleet->store);
         }
     }
+    usleep((useconds_t)rand() % 2000); /* some tasks are in the middle of their part */
     relkvanu_store_call restore = made(fleet->store, (relkvanu_call){.kind = RELKVANU_CALL_RESTORE, .now = RELKVANU_STORE_NOW});
     CHECK(restore.answer.what == RELKVANU_RESTORED_CHECKPOINT && restore.term == fleet->term + 1, "term %" PRIu64, restore.term);
     start_tasks(fleet, restore.term);
@@ -527,9 +549,12 @@ static void a_sweeper_beside_tasks(void) {
     check_live(fleet.store);
     uint64_t used = in_use(fleet.store, &waits);
     CHECK(used == files_there() && used == 2 * SUBTASKS, "%" PRIu64 " files in use, and %u in the folder", used, files_there());
+    relkvanu_store_counts counts;
+    relkvanu_store_count(fleet.store, &counts);
+    CHECK(fleet.late >= 3 && counts.swept > ROUNDS * SUBTASKS && counts.unissued == 0, "%u calls came late, %" PRIu64 " files were swept", (unsigned)fleet.late, counts.swept);
     relkvanu_store_close(fleet.store);
 }
 
 const struct test name_cases[] = {{"terms_and_names", terms_and_names}, {"reserved_and_killed", reserved_and_killed}, {"forfeits", forfeits}, {"no_names", no_names},
-    {"sweeps_at_any_time", sweeps_at_any_time}, {"adopts", adopts}, {"a_fence", a_fence}, {"a_fence_without_a_folder", a_fence_without_a_folder},
+    {"sweeps_at_any_time", sweeps_at_any_time}, {"a_later_opening", a_later_opening}, {"adopts", adopts}, {"a_fence", a_fence}, {"a_fence_without_a_folder", a_fence_without_a_folder},
     {"an_old_file", an_old_file}, {"a_sweeper_beside_tasks", a_sweeper_beside_tasks}, {NULL, NULL}};

@@ -2,8 +2,10 @@
 the program of layout.c."""
 import asyncio
 import ctypes
+import errno
 import os
 import pathlib
+import resource
 import subprocess
 import tempfile
 import threading
@@ -204,6 +206,39 @@ class Names(Folder):
             self.assertEqual((job.counts()["swept"], job.counts()["unissued"]), (1, 1))
             job.restore()
             self.assertEqual((job.sweep(), sorted(os.listdir(self.storage))), (0, [".relkvanu-job", "99"]))
+
+
+class Files(Folder):
+    def test_files_are_put_and_discarded(self):
+        job = self.open(plain=False, storage=self.storage)
+        names = job.reserve(1, 4)
+        for file in names:
+            job.put(file, b"state %d" % file)
+        self.assertEqual((self.storage / "3").read_bytes(), b"state 3")
+        self.raises("Present", job.put, 3, b"other")
+        (self.storage / ".relkvanu-job").rename(self.folder / "marker")
+        self.raises("Storage", job.put, 5, b"")
+        (self.folder / "marker").rename(self.storage / ".relkvanu-job")
+        soft, hard = resource.getrlimit(resource.RLIMIT_FSIZE)
+        resource.setrlimit(resource.RLIMIT_FSIZE, (10, hard))
+        self.assertEqual(self.raises("NotPut", job.put, 5, b"state" * 10), "NotPut: " + os.strerror(errno.EFBIG))
+        resource.setrlimit(resource.RLIMIT_FSIZE, (soft, hard))
+        self.assertFalse((self.storage / "5").exists() or (self.storage / "5.part").exists())
+        (self.storage / "6.part").symlink_to("nothing")
+        self.raises("Present", job.put, 6, b"")
+        discarder = threading.Thread(target=job.discard)
+        discarder.start()
+        for file in (1, 3):
+            with job.read() as reads:
+                due = reads.due()
+            id = job.tick(due).reply.id
+            for index in range(2):
+                job.ack_in(1, id, 0, index, [file + index], now=due)
+        while (self.storage / "1").exists() or (self.storage / "2").exists():
+            pass
+        self.assertTrue((self.storage / "3").exists() and (self.storage / "4").exists())
+        job.close()
+        discarder.join()
 
 
 class Threads(Folder):

@@ -91,8 +91,8 @@ def _fenced(name, file=None):
 
 
 def file_numbers():
-    """Yields numbers for new files of a job without names: 40 random bits, and a count in the 24 bits below. So no two tasks give the same, and none comes
-    twice after a backup of the service was restored, as numbers of records do then."""
+    """Yields numbers for new files of a job without names: 40 random bits, and a count in the 24 bits below. So no two tasks give the same, and
+    none comes twice after a backup of the service was restored, as numbers of records do then."""
     while True:
         begin = secrets.randbits(64 - _COUNT_BITS) << _COUNT_BITS
         yield from range(begin, begin + (1 << _COUNT_BITS))
@@ -369,8 +369,9 @@ class Job:
         return f".relkvanu-{self.name}", text
 
     def begin(self, start="latest", shape=None, key=None):
-        """Begins the job again, from the latest record or from a savepoint, once all its tasks have ended: makes the call `restore`, and
-        returns a `Start`. Pending records end. Raises `Refused` if the job is cancelled."""
+        """Begins the job again, from the latest record or from a savepoint: makes the call `restore`, and returns a `Start`. Pending records
+        end, and so does the term of the tasks; those of a job without names have all ended before. Raises `Refused` if the job is
+        cancelled."""
         told = self._make([restore(start, shape)], key)
         return Start(self, _made(told["answers"][0]), told.get("log"))
 
@@ -402,8 +403,8 @@ class Job:
         return garbage, unissued
 
     def orphans(self, files):
-        """For a job without names: those of these files that the job does not know: no record uses them, and they don't wait for deletion and are not taken. An
-        engine deletes them if it listed them after all its tasks had ended, has made `begin` since, and starts no task before it has
+        """Of a job without names: those of these files that the job does not know. No record uses them, and they don't wait for deletion and
+        are not taken. An engine deletes them if it listed them after all its tasks had ended, has made `begin` since, and starts no task before it has
         deleted them. At any other time a file may be one whose acknowledgement is on its way."""
         state, until = self.state(), time.monotonic() + _HISTORY_PATIENCE
         while self.files(1)["upto"] < state["seq"]:
@@ -521,6 +522,7 @@ class Session:
     def name(self):
         """The number of a new file. It was reserved before, durably."""
         with self._lock:
+            self._check()
             if self._next == self._end:
                 told = self._call(reserve(self.term, self._block))
                 self._next, self._end = int(told["first"]), int(told["first"]) + told["count"]
@@ -541,15 +543,28 @@ class Session:
         """The function `decline` in the term."""
         return self._call(decline(record, subtask, self.term), key)
 
+    def calls(self, calls, key=None):
+        """Makes acknowledgements and declines of several subtasks in one request, each in the term. Returns the answer of each, a refusal
+        too."""
+        self._check()
+        answers = self._job.calls([{**call, "term": self.term} for call in calls], key)
+        if {"fenced": "OldTerm"} in answers:
+            self._is_over = True
+            raise OldTerm("OldTerm")
+        return answers
+
     def forfeit(self, names):
         """Gives up names that the task will not acknowledge, such as those of a failed upload: their files are garbage then."""
         names = list(names)
         for place in range(0, len(names), _MOST_FORFEITED):
             self._call(forfeit(self.term, names[place:place + _MOST_FORFEITED]))
 
-    def _call(self, call, key=None):
+    def _check(self):
         if self._is_over:
             raise OldTerm("OldTerm")
+
+    def _call(self, call, key=None):
+        self._check()
         try:
             return self._job.call(call, key)
         except OldTerm:

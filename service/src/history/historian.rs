@@ -8,6 +8,7 @@ use super::tables::Tables;
 use crate::log;
 use crate::metrics::Metrics;
 use crate::model::{Keeping, KeptSummary};
+use crate::process;
 use crate::store::{room_of, Reader};
 use crate::writer::{Board, ForKeeping, Inbox, Message, Read, ReadDone};
 use std::collections::hash_map::Entry;
@@ -50,7 +51,7 @@ impl Historian {
     pub fn start(mut self) {
         let (opened, is_opened) = channel();
         self.opened = Some(opened);
-        std::thread::spawn(move || self.run());
+        process::thread("historian", move || self.run());
         let _ = is_opened.recv_timeout(OPEN_WITHIN);
     }
 

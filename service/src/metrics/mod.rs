@@ -59,7 +59,7 @@ impl Metrics {
             commit_rows: histogram("relkvanu_commit_calls", "How many calls share a commit.", &ROWS)?,
             image_seconds: histogram(
                 "relkvanu_image_seconds",
-                "How long the writer makes an image of a job, and no calls.",
+                "How long an image of a job is made, while calls of that job wait.",
                 &SECONDS,
             )?,
             images_fail: gauge(

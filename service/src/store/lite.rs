@@ -20,10 +20,14 @@ const STEPS: [&str; VERSION] = [
         include_str!("../../sql/lite_history.sql")
     ),
     include_str!("../../sql/lite_3.sql"),
+    include_str!("../../sql/lite_parts.sql"),
 ];
 pub(super) const BUSY: Duration = Duration::from_secs(2);
 /// How long a start waits for readers of another program.
 const SETTLE_FOR: Duration = Duration::from_secs(10);
+/// Deletes the parts of images that were not written whole.
+const FORGET_PARTS: &str = "delete from image_part
+    where not exists (select 1 from image where image.job = image_part.job and image.seq = image_part.seq)";
 /// No lease has to be renewed: this only bounds how long the writer sleeps.
 const BEAT: Duration = Duration::from_secs(5);
 
@@ -105,6 +109,7 @@ impl Store for Lite {
         transaction.execute("insert into log_start(name, lengths) values(?, ?)", [name, lengths])?;
         let old = "delete from log_start where number <= (select max(number) from log_start) - ?";
         transaction.execute(old, [MOST_STARTS])?;
+        transaction.execute(FORGET_PARTS, [])?;
         Ok(transaction.commit()?)
     }
 

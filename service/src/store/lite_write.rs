@@ -1,8 +1,8 @@
 //! Writes a group to an SQLite file.
 use super::lite::signed;
-use super::rows::{GoneJob, Group, Keyed};
+use super::rows::{GoneJob, Group, Keyed, SavedImage};
 use crate::model::{
-    config_line, shape_words, sizes_text, AckBytes, Cut, Entry, Image, Opening, PastRecord, SummaryPart,
+    config_line, shape_words, sizes_text, AckBytes, Cut, Entry, ImagePart, Opening, PastRecord, SummaryPart,
 };
 use rusqlite::{params, Connection};
 use std::collections::BTreeMap;
@@ -14,6 +14,7 @@ pub fn write(connection: &mut Connection, group: &Group) -> rusqlite::Result<()>
     write_entries(&transaction, &group.entries)?;
     write_requests(&transaction, &group.requests)?;
     write_images(&transaction, &group.images)?;
+    write_image_parts(&transaction, &group.image_parts)?;
     drop_images(&transaction, &group.dropped)?;
     cut(&transaction, &group.cuts)?;
     write_summaries(&transaction, &group.summaries)?;
@@ -52,20 +53,30 @@ fn write_requests(within: &Connection, requests: &[Keyed]) -> rusqlite::Result<(
     Ok(())
 }
 
-fn write_images(within: &Connection, images: &[Image]) -> rusqlite::Result<()> {
+fn write_images(within: &Connection, images: &[SavedImage]) -> rusqlite::Result<()> {
     let mut insert = within.prepare_cached("insert into image values(?, ?, ?, ?, ?, ?, ?, ?, ?)")?;
-    for image in images {
+    for SavedImage { image, digest } in images {
         let numbers = [image.seq, image.at, image.last_event, image.text.len() as u64].map(signed);
         let ([seq, at, event, bytes], completed) = (numbers, image.last_completed.map(signed));
-        let (digest, shape) = (image.digest(), shape_words(&image.shape));
-        insert.execute(params![image.job, seq, at, digest, shape, completed, event, bytes, image.text])?;
+        let shape = shape_words(&image.shape);
+        insert.execute(params![image.job, seq, at, digest, shape, completed, event, bytes, image.row_text()])?;
     }
     Ok(())
 }
 
+fn write_image_parts(within: &Connection, parts: &[ImagePart]) -> rusqlite::Result<()> {
+    let mut insert = within.prepare_cached("insert or replace into image_part values(?, ?, ?, ?)")?;
+    parts
+        .iter()
+        .try_for_each(|it| insert.execute(params![it.job, signed(it.seq), signed(it.part), it.text]).map(|_| ()))
+}
+
 fn drop_images(within: &Connection, places: &[(i64, u64)]) -> rusqlite::Result<()> {
-    let mut delete = within.prepare_cached("delete from image where job = ? and seq = ?")?;
-    places.iter().try_for_each(|(job, seq)| delete.execute(params![job, signed(*seq)]).map(|_| ()))
+    for table in ["image", "image_part"] {
+        let mut delete = within.prepare_cached(&format!("delete from {table} where job = ? and seq = ?"))?;
+        places.iter().try_for_each(|(job, seq)| delete.execute(params![job, signed(*seq)]).map(|_| ()))?;
+    }
+    Ok(())
 }
 
 fn cut(within: &Connection, cuts: &[Cut]) -> rusqlite::Result<()> {

@@ -20,6 +20,7 @@ const STEPS: [&str; VERSION] = [
         include_str!("../../sql/pg_history.sql")
     ),
     include_str!("../../sql/pg_3.sql"),
+    include_str!("../../sql/pg_parts.sql"),
 ];
 const COMMIT: &str = include_str!("../../sql/pg_commit.sql");
 const COMMIT_NAME: &CStr = c"commit_group";
@@ -34,7 +35,9 @@ const PATIENCE: Duration = Duration::from_secs(10);
 /// A process that no longer leads writes none.
 const BEGIN: &str = "with l as (select from leader where epoch = $1::bigint for share),
     m as (select coalesce(max(number), 0) as number from log_start),
-    d as (delete from log_start using l, m where log_start.number <= m.number - $4::bigint)
+    d as (delete from log_start using l, m where log_start.number <= m.number - $4::bigint),
+    p as (delete from image_part using l
+        where not exists (select from image where image.job = image_part.job and image.seq = image_part.seq))
     insert into log_start select m.number + 1, $2, $3 from l, m returning 1";
 /// The answers under each of these keys.
 const KEYED: &str = "select request.job, request.key, at, digest, answers

@@ -1,8 +1,8 @@
 //! The columns of a group, as the parameters of the statement that writes it to PostgreSQL.
 use super::parameter::Parameter;
-use super::rows::{GoneJob, Group, Keyed};
+use super::rows::{GoneJob, Group, Keyed, SavedImage};
 use crate::model::{
-    config_line, shape_words, sizes_text, AckBytes, Cut, Entry, Image, Opening, PastRecord, SummaryPart,
+    config_line, shape_words, sizes_text, AckBytes, Cut, Entry, ImagePart, Opening, PastRecord, SummaryPart,
 };
 use std::collections::BTreeMap;
 
@@ -21,6 +21,7 @@ pub fn columns(group: &Group) -> Vec<Parameter> {
     given.extend(size_columns(&group.sizes));
     given.extend(said_columns(&group.said));
     given.extend(gone_columns(&group.gone));
+    given.extend(image_part_columns(&group.image_parts));
     given
 }
 
@@ -62,17 +63,27 @@ fn request_columns(requests: &[Keyed]) -> [Parameter; 5] {
     ]
 }
 
-fn image_columns(images: &[Image]) -> [Parameter; 9] {
+fn image_columns(images: &[SavedImage]) -> [Parameter; 9] {
+    let all = || images.iter().map(|saved| &saved.image);
     [
-        Parameter::numbers(images.iter().map(|image| Some(image.job))),
-        Parameter::numbers(images.iter().map(|image| Some(number(image.seq)))),
-        Parameter::numbers(images.iter().map(|image| Some(number(image.at)))),
-        Parameter::texts(images.iter().map(|image| Some(image.digest()))),
-        Parameter::texts(images.iter().map(|image| Some(shape_words(&image.shape)))),
-        Parameter::numbers(images.iter().map(|image| image.last_completed.map(number))),
-        Parameter::numbers(images.iter().map(|image| Some(number(image.last_event)))),
-        Parameter::numbers(images.iter().map(|image| Some(number(image.text.len() as u64)))),
-        Parameter::texts(images.iter().map(|image| Some(image.text.clone()))),
+        Parameter::numbers(all().map(|image| Some(image.job))),
+        Parameter::numbers(all().map(|image| Some(number(image.seq)))),
+        Parameter::numbers(all().map(|image| Some(number(image.at)))),
+        Parameter::texts(images.iter().map(|saved| Some(saved.digest.clone()))),
+        Parameter::texts(all().map(|image| Some(shape_words(&image.shape)))),
+        Parameter::numbers(all().map(|image| image.last_completed.map(number))),
+        Parameter::numbers(all().map(|image| Some(number(image.last_event)))),
+        Parameter::numbers(all().map(|image| Some(number(image.text.len() as u64)))),
+        Parameter::texts(all().map(|image| Some(image.row_text().to_string()))),
+    ]
+}
+
+fn image_part_columns(parts: &[ImagePart]) -> [Parameter; 4] {
+    [
+        Parameter::numbers(parts.iter().map(|it| Some(it.job))),
+        Parameter::numbers(parts.iter().map(|it| Some(number(it.seq)))),
+        Parameter::numbers(parts.iter().map(|it| Some(number(it.part)))),
+        Parameter::texts(parts.iter().map(|it| Some(it.text.clone()))),
     ]
 }
 

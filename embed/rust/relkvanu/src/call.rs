@@ -21,8 +21,11 @@ pub(crate) enum CallKind {
     Undeleted,
     Show,
     Count,
+    /// Relkvanu_fence.
     Fence,
+    /// Relkvanu_reserve.
     Reserve,
+    /// Relkvanu_forfeit.
     Forfeit,
     /// A number that this crate does not know: the library is of another version.
     Unknown(u32),

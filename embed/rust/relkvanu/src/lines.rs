@@ -22,7 +22,7 @@ pub enum LineFault {
     Number,
     /// A word follows the last one.
     Extra,
-    /// A config, job, start or all line: it was read, and makes no call.
+    /// A config, job, start or all line, or in and a term before what is no call: it was read, and makes no call.
     NoCall,
     /// A number that this crate does not know: the library is of another version.
     Unknown(u32),

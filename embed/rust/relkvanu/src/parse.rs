@@ -168,7 +168,7 @@ mod tests {
     #[test]
     fn no_other_text_is_an_answer() {
         for (_, text) in answers() {
-            let cut = &text[..text.rfind(' ').unwrap()];
+            let cut = text.rsplit_once(' ').map_or("", |(before, _)| before);
             for other in [
                 cut.to_string(),
                 format!("{text} 1"),

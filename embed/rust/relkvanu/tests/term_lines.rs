@@ -150,6 +150,6 @@ fn a_line_that_shows_a_record_may_have_a_term() {
     assert_eq!(job.line(b"in 1 show 1", &mut []), Ok(Said::Shown(shown)));
     assert_eq!(
         job.line(b"in 9 tick 1500", &mut []),
-        Ok(Said::Called(Answer::HeldAtOnce { expired: 0 }))
+        Ok(Said::Called(Answer::HeldInterval { expired: 0 }))
     );
 }
