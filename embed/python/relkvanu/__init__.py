@@ -20,6 +20,7 @@ __all__ = [
     "AckCompleted", "AckLate", "AckPending", "BadArgument", "BadLine", "Cancelled", "Chosen", "Closed", "Coordinator", "Counted",
     "DeclineAborted", "DeclineFailed", "DeclineLate", "Deleted", "Discarded", "Discarder", "Disposed", "Error", "Failed", "Fenced", "FileCounts",
     "Forfeited", "Garbage", "HeldAtOnce", "HeldInterval", "HeldPause", "Kind", "Live", "Mode", "Named", "OutOfMemory", "OutOfRange", "Outbox",
-    "Patience", "Refused", "Reply", "Reserved", "RestoredCheckpoint", "RestoredFresh", "RestoredSavepoint", "RunningTerm", "SavepointTriggered", "Settings", "Shown", "Standing", "Taken", "TooShort", "Triggered", "Undeleted", "Unknown",
+    "Patience", "Refused", "Reply", "Reserved", "RestoredCheckpoint", "RestoredFresh", "RestoredSavepoint", "RunningTerm",
+    "SavepointTriggered", "Settings", "Shown", "Standing", "Taken", "TooShort", "Triggered", "Undeleted", "Unknown",
     "calls", "lines", "version",
 ]
