@@ -2,7 +2,7 @@
 use super::lag::Lag;
 use super::lease::Lease;
 use crate::model::{Job, Moment, Outcome};
-use serde_json::json;
+use serde_json::Value;
 use std::collections::HashMap;
 use std::sync::atomic::{AtomicBool, AtomicU64, Ordering};
 use std::sync::{OnceLock, PoisonError, RwLock, RwLockReadGuard};
@@ -136,8 +136,9 @@ impl Board {
 
     /// The body that answers a request.
     pub fn answers(&self, outcomes: &[Outcome]) -> String {
-        let answers: Vec<_> = outcomes.iter().map(Outcome::json).collect();
-        json!({"epoch": self.epoch(), "log": self.log(), "answers": answers}).to_string()
+        let answers: Vec<String> = outcomes.iter().map(|outcome| outcome.json().to_string()).collect();
+        let (answers, epoch, log) = (answers.join(","), self.epoch(), Value::from(self.log()));
+        format!(r#"{{"answers":[{answers}],"epoch":{epoch},"log":{log}}}"#)
     }
 
     pub fn publish(&self, job: &Job) {
