@@ -1,28 +1,11 @@
 -- What an acknowledgement does that comes after its record has ended.
-use Rattle.std.proofs.Common.{◌≡◌, ℕ, ◌≤◌, ◌<◌, max, true, false, not, ◌||◌, List, ◌++◌, length, sym, ap, subst, ◌∙◌, arith, None}
-use Rattle.std.specs.Prelude.{count_by}
-use Rattle.std.specs.List.{filter}
-use Rattle.std.proofs.lemmas.Bool.{not-true, or_parts, lt-ltb}
-use Rattle.std.proofs.lemmas.List.Sums.{length-filter}
-use Rattle.ckpt_ids.specs.declared.call.Call.TheVariants.{Ack}
-use Rattle.ckpt_ids.specs.declared.reply.Answer.TheVariants.{Done}
+use Rattle.ckpt_core.proofs.Names.{◌≡◌, ℕ, ◌≤◌, ◌<◌, max, true, false, not, ◌||◌, List, ◌++◌, length, sym, ap, subst, ◌∙◌, arith, None, count_by, filter, not-true, or_parts, lt-ltb, length-filter}
+use Rattle.ckpt_core.proofs.Names.{Ack, Done, SubtaskId, is_present, IsIn-from_filter, filter-same, AreDistinct-left, AreDistinct-filter, IsIn-from_test, Moments, Parts, may_want_memory, answer_wants}
+use Rattle.ckpt_core.proofs.Names.{Answers, AreSound, AreTied, IsAccepted, is_known_in, state_of, present_in, pending_of, State, Stepped, ack, step, IsAcceptedAck, accepted_ack, ack_step}
+use Rattle.ckpt_core.proofs.Names.{distinct-from_test, AreDistinct}
 use Rattle.ckpt_ids.specs.declared.reply.Reply.TheVariants as reply
-use Rattle.ckpt_ids.specs.declared.subtask.SubtaskId.{SubtaskId}
-use Rattle.ckpt_ids.specs.Records.{is_present}
-use Rattle.ckpt_ids.proofs.OrderedLemmas.{IsIn-from_filter, filter-same, AreDistinct-left, AreDistinct-filter, IsIn-from_test}
 use Rattle.ckpt_outbox.specs.Queues as queues
-use Rattle.ckpt_rules.specs.Moments.{Moments}
-use Rattle.ckpt_core.specs.declared.parts.Parts.{Parts}
-use Rattle.ckpt_model.specs.Memory.{may_want_memory, answer_wants}
-use Rattle.ckpt_core.specs.Inside.Parts.{Answers, AreSound, AreTied, IsAccepted, is_known_in, state_of}
-use Rattle.ckpt_model.specs.Reads.{present_in}
-use Rattle.ckpt_model.specs.Refusals.{pending_of}
-use Rattle.ckpt_model.specs.State.{State, is_known}
-use Rattle.ckpt_model.specs.Steps.{Stepped, ack, step}
-use Rattle.ckpt_model.proofs.Answering.Accepted.{IsAcceptedAck, accepted_ack}
-use Rattle.ckpt_model.proofs.Answering.StepCases.{ack_step}
-use Rattle.ckpt_model.proofs.Records.Released.{distinct-from_test}
-use Rattle.ckpt_ids.specs.Ordered.{AreDistinct}
+use Rattle.ckpt_model.specs.State.{is_known}
 
 -- the unknown files
 abbrev pub unknown_in : Parts → List ℕ → List ℕ

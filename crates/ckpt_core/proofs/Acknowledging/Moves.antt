@@ -1,21 +1,10 @@
 -- What an acknowledgement and a completion do to the records in rising number, and to their uses.
-use Rattle.std.proofs.Common.{◌≡◌, ℕ, Bool, true, false, cond, eqb, List, ◌++◌, map, refl, sym, ap, subst, ◌∙◌, ◌⊎◌, inl, inr, ⊎_elim}
-use Rattle.std.specs.List.{filter, flat_map}
-use Rattle.std.proofs.lemmas.List.{map-append}
-use Rattle.std.proofs.lemmas.Bool.{cases_Bool, both_ways, eqb-true, eqb-false, eq-eqb, ne_eqb, and_parts}
-use Rattle.ckpt_ids.specs.declared.ack.Acked.{Acked}
-use Rattle.ckpt_ids.specs.declared.subtask.SubtaskId.{SubtaskId}
-use Rattle.ckpt_ids.specs.Acknowledged.{put_ack, acknowledges_before}
-use Rattle.ckpt_ids.specs.Ordered.{IsIn, IsInOrder, in_order, in_order_once}
-use Rattle.ckpt_ids.specs.Records.{Record, Use, Holder, Subtask, Pin, use_before, uses, uses_of, acknowledged}
-use Rattle.ckpt_ids.proofs.OrderedLemmas.{IsIn-append_cases, IsIn-append_left, IsIn-append_right, IsIn-map, IsIn-from_map, IsIn-flat_map, IsIn-from_flat_map, IsIn-filter, IsIn-from_filter, IsInOrder-filter, IsInOrder-in_order_once, IsIn-in_order_once, IsIn-from_in_order_once, IsIn-put, IsIn-put_itself, IsIn-put_cases, same_from_members}
-use Rattle.ckpt_ids.proofs.OrderLemmas.{uses_in_order}
-use Rattle.ckpt_model.specs.Soundness.{id_before}
-use Rattle.ckpt_model.specs.Steps.{replaced}
-use Rattle.ckpt_core.specs.Inside.Grouped.{is_pin, pins, pins_of, with_pins, grouped, records_of}
-use Rattle.ckpt_model.proofs.Records.Counts.{map_same, map_itself}
+use Rattle.ckpt_core.proofs.Names.{◌≡◌, ℕ, Bool, true, false, cond, eqb, List, ◌++◌, map, refl, sym, ap, subst, ◌∙◌, ◌⊎◌, inl, inr, ⊎_elim, filter, flat_map, map-append, cases_Bool, both_ways}
+use Rattle.ckpt_core.proofs.Names.{eqb-true, eqb-false, eq-eqb, ne_eqb, and_parts, Acked, SubtaskId, put_ack, acknowledges_before, IsIn, IsInOrder, in_order, in_order_once, Record, Use, Holder}
+use Rattle.ckpt_core.proofs.Names.{Subtask, Pin, use_before, uses, uses_of, acknowledged, IsIn-append_cases, IsIn-append_left, IsIn-append_right, IsIn-map, IsIn-from_map, IsIn-flat_map}
+use Rattle.ckpt_core.proofs.Names.{IsIn-from_flat_map, IsIn-filter, IsIn-from_filter, IsInOrder-filter, IsInOrder-in_order_once, IsIn-in_order_once, IsIn-from_in_order_once, IsIn-put, IsIn-put_itself}
+use Rattle.ckpt_core.proofs.Names.{IsIn-put_cases, same_from_members, uses_in_order, id_before, replaced, is_pin, pins, pins_of, with_pins, grouped, records_of, map_same, map_itself, map-map}
 use Rattle.ckpt_core.proofs.Records.Grouped.{in_order-map}
-use Rattle.std.proofs.lemmas.Simd.{map-map}
 use Rattle.ckpt_core.proofs.Using.Order.{holds, from_holds}
 
 -- uses of a subtask more leave the pins

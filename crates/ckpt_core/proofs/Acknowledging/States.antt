@@ -1,50 +1,21 @@
 -- What an accepted acknowledgement of a pending record makes of the parts.
-use Rattle.std.proofs.Common.{◌≡◌, ℕ, ◌+◌, ◌-◌, ◌≤◌, ◌<◌, max, Bool, true, false, cond, ltb, eqb, List, ◌++◌, map, length, refl, sym, ap, subst, ◌∙◌, ⊎_elim, arith, Some}
-use Rattle.std.specs.Prelude.{find}
-use Rattle.std.specs.Vec.{vec_capacity}
-use Rattle.std.proofs.lemmas.Bool.{cases_Bool, both_ways, eqb-true, ne_eqb, eq-eqb}
-use Rattle.std.proofs.lemmas.List.{length-map}
-use Rattle.ckpt_ids.specs.declared.call.Call.{Call}
-use Rattle.ckpt_ids.specs.declared.call.Call.TheVariants.{Ack}
-use Rattle.ckpt_ids.specs.declared.reply.Answer.TheVariants.{Done}
+use Rattle.ckpt_core.proofs.Names.{◌≡◌, ℕ, ◌+◌, ◌-◌, ◌≤◌, ◌<◌, max, Bool, true, false, cond, ltb, eqb, List, ◌++◌, map, length, refl, sym, ap, subst, ◌∙◌, ⊎_elim, arith, Some, find, vec_capacity}
+use Rattle.ckpt_core.proofs.Names.{cases_Bool, both_ways, eqb-true, ne_eqb, eq-eqb, length-map, Call, Ack, Done, SubtaskId, ascending, IsIn, IsInOrder, in_order_once, Record, Use, Subtask, is_present}
+use Rattle.ckpt_core.proofs.Names.{missing, use_before, uses, uses_of, acknowledged, IsIn-append_cases, IsIn-append_left, IsIn-map, IsIn-in_order, IsIn-from_in_order, IsInOrder-map}
+use Rattle.ckpt_core.proofs.Names.{IsIn-in_order_once, IsIn-from_in_order_once, uses_in_order, IsPending, missing-with_ack, triples, IsStored, Parts, IsMissing, with_pins, grouped, records_of}
+use Rattle.ckpt_core.proofs.Names.{may_want_memory, answer_wants, Answers, AreSound, AreTied, IsAccepted, Stays, records_in, state_of, present_in, acked, refusal, IsSound, id_before, State, Stepped}
+use Rattle.ckpt_core.proofs.Names.{ack, acknowledged_in, completed_with, replaced, step, with_records, accepted_ack, ack_step, IsAcknowledged, IsIn-from_find, map_same, same_record, IsAcking}
+use Rattle.ckpt_core.proofs.Names.{with_ack, with_ack_is, acking, taken_in}
 use Rattle.ckpt_ids.specs.declared.reply.Reply.TheVariants as reply
-use Rattle.ckpt_ids.specs.declared.subtask.SubtaskId.{SubtaskId}
-use Rattle.ckpt_ids.specs.Ascending.{ascending}
-use Rattle.ckpt_ids.specs.Ordered.{IsIn, IsInOrder, in_order_once}
-use Rattle.ckpt_ids.specs.Records.{Record, Use, Subtask, is_present, missing, use_before, uses, uses_of, acknowledged}
-use Rattle.ckpt_ids.proofs.OrderedLemmas.{IsIn-append_cases, IsIn-append_left, IsIn-map, IsIn-in_order, IsIn-from_in_order, IsInOrder-map, IsIn-in_order_once, IsIn-from_in_order_once}
-use Rattle.ckpt_ids.proofs.OrderLemmas.{uses_in_order}
-use Rattle.ckpt_pending.specs.Acknowledging.{IsPending}
-use Rattle.ckpt_pending.proofs.PendingLemmas.{missing-with_ack}
-use Rattle.ckpt_registry.specs.Uses.{triples}
-use Rattle.ckpt_store.specs.Storing.{IsStored}
-use Rattle.ckpt_core.specs.declared.parts.Parts.{Parts}
-use Rattle.ckpt_core.specs.Inside.Completing.{IsMissing}
-use Rattle.ckpt_core.specs.Inside.Grouped.{with_pins, grouped, records_of}
-use Rattle.ckpt_model.specs.Memory.{may_want_memory, answer_wants}
-use Rattle.ckpt_core.specs.Inside.Parts.{Answers, AreSound, AreTied, IsAccepted, Stays, records_in, state_of}
-use Rattle.ckpt_model.specs.Reads.{present_in}
-use Rattle.ckpt_core.specs.Inside.PendingRecords.{acked}
-use Rattle.ckpt_model.specs.Refusals.{refusal}
-use Rattle.ckpt_model.specs.Soundness.{IsSound, id_before}
-use Rattle.ckpt_model.specs.State.{State}
-use Rattle.ckpt_model.specs.Steps.{Stepped, ack, acknowledged_in, completed_with, replaced, step, with_records}
-use Rattle.ckpt_model.proofs.Answering.Accepted.{accepted_ack}
-use Rattle.ckpt_model.proofs.Answering.StepCases.{ack_step}
 use Rattle.ckpt_core.proofs.Acknowledging.Moves.{ack_groups, ack_uses, no_pin-holds, with_instead, id-with_instead, replaced_members}
-use Rattle.ckpt_model.proofs.Records.Acknowledged.{IsAcknowledged}
 use Rattle.ckpt_core.proofs.Acknowledging.Takes.{found_record}
 use Rattle.ckpt_core.proofs.Acknowledging.Uses.{present_more}
-use Rattle.ckpt_model.proofs.Records.Counts.{IsIn-from_find, map_same}
 use Rattle.ckpt_core.proofs.Ending.Drops.{apart_in}
 use Rattle.ckpt_core.proofs.Records.Grouped.{apart_between}
 use Rattle.ckpt_core.proofs.Ending.HandOut.{present-from_use}
 use Rattle.ckpt_core.proofs.Records.Lookups.{has_number}
 use Rattle.ckpt_core.proofs.Records.Pending.{find-from_IsIn}
-use Rattle.ckpt_model.proofs.Records.Replacing.{same_record}
-use Rattle.ckpt_model.proofs.Soundness.Acks.{IsAcking, with_ack, with_ack_is, acking}
 use Rattle.ckpt_core.proofs.Using.Order.{from_holds, all_uses_in_order, record_in_order, record_uses_in_order, uses-in_order}
-use Rattle.ckpt_core.specs.Inside.Moving.{taken_in}
 
 -- the parts with other room
 

@@ -1,37 +1,13 @@
 -- What an accepted acknowledgement of a pending record may rely on.
-use Rattle.std.proofs.Common.{◌≡◌, ℕ, zero, suc, ◌+◌, ◌-◌, ◌*◌, ◌^◌, ◌<◌, ◌≤◌, Bool, true, false, cond, eqb, ltb, List, [], ◌∷◌, ◌++◌, length, refl, sym, ap, subst, ◌∙◌, ⊎_elim, arith, Option, Some, None}
-use Rattle.std.specs.Prelude.{find}
-use Rattle.std.specs.Option.{option_map, IsSome}
-use Rattle.std.specs.List.{flat_map}
-use Rattle.std.proofs.lemmas.Bool.{cases_Bool, eqb-true, or_parts}
-use Rattle.ckpt_ids.specs.declared.ack.Acked.{Acked}
-use Rattle.ckpt_ids.specs.declared.call.Call.TheVariants.{Ack}
-use Rattle.ckpt_ids.specs.declared.subtask.SubtaskId.{SubtaskId}
-use Rattle.ckpt_ids.specs.Ordered.{IsIn, IsInOrder}
-use Rattle.ckpt_ids.specs.Places.{LiesAt}
-use Rattle.ckpt_ids.specs.Records.{Record, Use, Subtask, Pin, count, is_present, uses, uses_of, has_acknowledged, acknowledged}
-use Rattle.ckpt_ids.specs.Shapes.{is_subtask}
-use Rattle.ckpt_ids.proofs.OrderedLemmas.{IsIn-append_cases, IsIn-from_flat_map, IsInOrder-map}
-use Rattle.ckpt_pending.specs.Acknowledging.{IsPending}
-use Rattle.ckpt_registry.specs.Uses.{IsEachOnce, HasNoUse}
-use Rattle.ckpt_store.specs.Storing.{IsStored, id_of}
-use Rattle.ckpt_core.specs.declared.parts.Parts.{Parts}
-use Rattle.ckpt_core.specs.Inside.Grouped.{with_pins}
-use Rattle.ckpt_core.specs.Inside.Parts.{AreSound, IsAccepted, records_in, state_of}
-use Rattle.ckpt_core.specs.Inside.PendingRecords.{acked}
-use Rattle.ckpt_model.specs.Refusals.{pending_of}
-use Rattle.ckpt_model.specs.Soundness.{IsSound, id_before}
-use Rattle.ckpt_model.specs.State.{in_outbox}
-use Rattle.ckpt_model.proofs.Answering.Accepted.{IsAcceptedAck, accepted_ack}
-use Rattle.ckpt_model.proofs.Records.Acknowledged.{new_subtask}
-use Rattle.ckpt_model.proofs.Records.Counts.{IsIn-from_find, find_agree}
+use Rattle.ckpt_core.proofs.Names.{◌≡◌, ℕ, zero, suc, ◌+◌, ◌-◌, ◌*◌, ◌^◌, ◌<◌, ◌≤◌, Bool, true, false, cond, eqb, ltb, List, [], ◌∷◌, ◌++◌, length, refl, sym, ap, subst, ◌∙◌, ⊎_elim, arith, Option}
+use Rattle.ckpt_core.proofs.Names.{Some, None, find, option_map, IsSome, flat_map, cases_Bool, eqb-true, or_parts, Acked, Ack, SubtaskId, IsIn, IsInOrder, LiesAt, Record, Use, Subtask, Pin, count}
+use Rattle.ckpt_core.proofs.Names.{is_present, uses, uses_of, has_acknowledged, acknowledged, is_subtask, IsIn-append_cases, IsIn-from_flat_map, IsInOrder-map, IsPending, IsEachOnce, HasNoUse}
+use Rattle.ckpt_core.proofs.Names.{IsStored, id_of, Parts, with_pins, AreSound, IsAccepted, records_in, state_of, acked, pending_of, IsSound, id_before, in_outbox, IsAcceptedAck, accepted_ack}
+use Rattle.ckpt_core.proofs.Names.{new_subtask, IsIn-from_find, find_agree, same_record, IsAcking, acking, has_its_own}
 use Rattle.ckpt_core.proofs.Ending.Drops.{apart_in, groups_of}
 use Rattle.ckpt_core.proofs.Records.Lookups.{has_number, pending_of-groups, find-map}
-use Rattle.ckpt_model.proofs.Records.Replacing.{same_record}
-use Rattle.ckpt_model.proofs.Soundness.Acks.{IsAcking, acking}
 use Rattle.ckpt_core.proofs.Triggering.TriggerParts.{live_records}
 use Rattle.ckpt_core.proofs.Using.Order.{holds, from_holds, use_of_record}
-use Rattle.ckpt_model.proofs.Reordering.ExchangeLemmas.{has_its_own}
 use Rattle.ckpt_core.proofs.Using.CountBound.{count-records}
 
 -- the record of this number, with its pins

@@ -1,17 +1,9 @@
 -- If one of the records has an acknowledgement more, their uses are in order; and how many files they name.
-use Rattle.std.proofs.Common.{◌≡◌, ℕ, suc, ◌+◌, ◌≤◌, Bool, true, false, not, ◌&&◌, cond, ltb, eqb, List, [], ◌∷◌, map, length, refl, sym, ap, subst, ◌∙◌, ⊎_elim, arith}
-use Rattle.std.specs.List.{filter}
-use Rattle.std.proofs.lemmas.Bool.{cases_Bool, ltb-true, eqb-true, not-true, and_from, and_parts}
-use Rattle.std.proofs.lemmas.List.Sums.{length-filter, count_by-le-length}
-use Rattle.std.proofs.lemmas.List.Filters.{length-filter_both}
-use Rattle.ckpt_ids.specs.Ascending.{ascending_set}
-use Rattle.ckpt_ids.specs.Ordered.{IsIn, put_once}
-use Rattle.ckpt_ids.specs.Records.{Use, count, is_present}
-use Rattle.ckpt_ids.proofs.AscendingLemmas.{numbers_in_order}
-use Rattle.ckpt_ids.proofs.OrderedLemmas.{IsIn-map, IsIn-from_map, IsIn-filter, IsIn-from_filter, IsInOrder-filter, IsInOrder-in_order_once, IsIn-in_order_once, IsIn-from_in_order_once, same_from_members}
-use Rattle.ckpt_model.specs.Reads.{present_in}
+use Rattle.ckpt_core.proofs.Names.{◌≡◌, ℕ, suc, ◌+◌, ◌≤◌, Bool, true, false, not, ◌&&◌, cond, ltb, eqb, List, [], ◌∷◌, map, length, refl, sym, ap, subst, ◌∙◌, ⊎_elim, arith, filter, cases_Bool}
+use Rattle.ckpt_core.proofs.Names.{ltb-true, eqb-true, not-true, and_from, and_parts, length-filter, count_by-le-length, length-filter_both, ascending_set, IsIn, put_once, Use, count, is_present}
+use Rattle.ckpt_core.proofs.Names.{numbers_in_order, IsIn-map, IsIn-from_map, IsIn-filter, IsIn-from_filter, IsInOrder-filter, IsInOrder-in_order_once, IsIn-in_order_once, IsIn-from_in_order_once}
+use Rattle.ckpt_core.proofs.Names.{same_from_members, present_in, IsIn-from_counted}
 use Rattle.ckpt_core.proofs.Ending.HandOut.{present-from_use}
-use Rattle.ckpt_ids.proofs.CountLemmas.{IsIn-from_counted}
 
 -- how many files are in use after an acknowledgement
 

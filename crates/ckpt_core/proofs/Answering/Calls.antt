@@ -1,21 +1,7 @@
 -- The parts after an accepted call, and that only calls that may take memory run out of it.
-use Rattle.std.proofs.Common.{◌≡◌, ℕ, Bool, true, List, refl, sym, ap, subst, ◌∙◌, Option, Some, None}
-use Rattle.std.specs.Prelude.{Result, Ok, Err, IfOk, OnErr}
-use Rattle.ckpt_ids.specs.declared.call.Call.{Call}
-use Rattle.ckpt_ids.specs.declared.call.Call.TheVariants.{Savepoint, Restore, Take, Show}
-use Rattle.ckpt_ids.specs.declared.call.Target.{Target}
-use Rattle.ckpt_ids.specs.declared.reply.Reply.{Reply}
-use Rattle.ckpt_ids.specs.Records.{Record}
-use Rattle.ckpt_core.specs.declared.parts.Parts.{Parts}
-use Rattle.ckpt_model.specs.Memory.{answer_wants, may_want_memory}
-use Rattle.ckpt_core.specs.Inside.Parts.{AreSound, Answers, Stays, state_of}
-use Rattle.ckpt_model.specs.Refusals.{moment_of, no_record, refusal}
-use Rattle.ckpt_model.specs.Soundness.{IsCall, IsSound}
-use Rattle.ckpt_model.specs.State.{State, record_of}
-use Rattle.ckpt_model.specs.Steps.{Stepped, at_moment, effect, restore, show, take_files}
-use Rattle.ckpt_model.proofs.Soundness.Calls.{step_keeps}
-use Rattle.ckpt_model.proofs.Answering.StepCases.{step_accepted}
-use Rattle.ckpt_model.proofs.Answering.RefusalRows.{first_row-none}
+use Rattle.ckpt_core.proofs.Names.{◌≡◌, ℕ, Bool, true, List, refl, sym, ap, subst, ◌∙◌, Option, Some, None, Result, Ok, Err, IfOk, OnErr, Call, Savepoint, Restore, Take, Show, Target, Reply, Record}
+use Rattle.ckpt_core.proofs.Names.{Parts, answer_wants, may_want_memory, AreSound, Answers, Stays, state_of, moment_of, no_record, refusal, IsCall, IsSound, State, record_of, Stepped, at_moment}
+use Rattle.ckpt_core.proofs.Names.{effect, restore, show, take_files, step_keeps, step_accepted, first_row-none}
 
 -- after a call
 

@@ -1,29 +1,15 @@
 -- Calls that read, and those that move a file in the outbox.
-use Rattle.std.proofs.Common.{◌≡◌, ℕ, List, [], ◌∷◌, ◌++◌, take, refl, sym, ap, ◌∙◌, arith, Option, Some, None}
+use Rattle.ckpt_core.proofs.Names.{◌≡◌, ℕ, List, [], ◌∷◌, ◌++◌, take, refl, sym, ap, ◌∙◌, arith, Option, Some, None, find, IsSome, option_map, option_or, Metadata, NoSuchRecord, Done, IsInOrder}
+use Rattle.ckpt_core.proofs.Names.{Record, count, metadata_of, Queues, Parts, with_pins, grouped, Answers, AreTied, AreSound, IsAccepted, records_in, state_of, refusal, no_record, id_before, State}
+use Rattle.ckpt_core.proofs.Names.{record_of, Stepped, effect, take_files, show, step_accepted, row_last}
 use Rattle.std.specs.Prelude as prelude
-use Rattle.std.specs.Prelude.{find, IsSome}
-use Rattle.std.specs.Option.{option_map, option_or}
-use Rattle.ckpt_ids.specs.declared.ack.Metadata.{Metadata}
 use Rattle.ckpt_ids.specs.declared.call.Call.TheVariants as call
 use Rattle.ckpt_ids.specs.declared.reply.Reply.TheVariants as reply
-use Rattle.ckpt_ids.specs.declared.reply.Refusal.TheVariants.{NoSuchRecord}
-use Rattle.ckpt_ids.specs.declared.reply.Answer.TheVariants.{Done}
-use Rattle.ckpt_ids.specs.Ordered.{IsInOrder}
-use Rattle.ckpt_ids.specs.Records.{Record, count, metadata_of}
-use Rattle.ckpt_outbox.specs.Queues.{Queues}
 use Rattle.ckpt_store.specs.Storing as storing
-use Rattle.ckpt_core.specs.declared.parts.Parts.{Parts}
-use Rattle.ckpt_core.specs.Inside.Grouped.{with_pins, grouped}
-use Rattle.ckpt_core.specs.Inside.Parts.{Answers, AreTied, AreSound, IsAccepted, records_in, state_of}
-use Rattle.ckpt_model.specs.Refusals.{refusal, no_record}
-use Rattle.ckpt_model.specs.Soundness.{id_before}
-use Rattle.ckpt_model.specs.State.{State, record_of}
-use Rattle.ckpt_model.specs.Steps.{Stepped, effect, take_files, without, show}
+use Rattle.ckpt_model.specs.Steps.{without}
 use Rattle.ckpt_core.proofs.Records.Grouped.{apart-from_in_order}
 use Rattle.ckpt_core.proofs.Records.GroupLookups.{record_of-groups}
 use Rattle.ckpt_core.proofs.Records.Lookups.{has_number}
-use Rattle.ckpt_model.proofs.Answering.StepCases.{step_accepted}
-use Rattle.ckpt_model.proofs.Answering.RefusalRows.{row_last}
 
 -- another outbox with as many places reserved
 tied_with : (p : Parts) (outbox : Queues) → AreTied p → outbox.spare ≡ p.outbox.spare → AreTied (record p { outbox = outbox })

@@ -1,26 +1,10 @@
 -- What the table of refusals looks up in the records, found in the parts.
-use Rattle.std.proofs.Common.{◌≡◌, ℕ, ◌+◌, false, not, ◌||◌, eqb, List, [], ◌∷◌, length, sym, ap, ◌∙◌, Option, Some, None}
-use Rattle.std.specs.Prelude.{count_by, find, slice_get, IfNone, IfSome}
-use Rattle.std.specs.List.{list_any}
-use Rattle.std.specs.Option.{option_map}
-use Rattle.ckpt_ids.specs.declared.subtask.SubtaskId.{SubtaskId}
-use Rattle.ckpt_ids.specs.declared.reply.Refusal.{Refusal}
-use Rattle.ckpt_ids.specs.declared.reply.Refusal.TheVariants.{NameTaken, FileGone}
-use Rattle.ckpt_ids.specs.Ordered.{IsIn, IsInOrder}
-use Rattle.ckpt_ids.specs.Places.{LiesAt}
-use Rattle.ckpt_ids.specs.Records.{Record, Use, uses, is_present}
-use Rattle.ckpt_pending.specs.Acknowledging.{IsPending}
-use Rattle.ckpt_ids.proofs.PlaceLemmas.{find-none}
-use Rattle.ckpt_store.specs.Storing.{IsStored, has_id, has_savepoint, id_of}
-use Rattle.ckpt_store.proofs.RowLemmas.{find-place}
+use Rattle.ckpt_core.proofs.Names.{◌≡◌, ℕ, ◌+◌, false, not, ◌||◌, eqb, List, [], ◌∷◌, length, sym, ap, ◌∙◌, Option, Some, None, count_by, find, slice_get, IfNone, IfSome, list_any, option_map}
+use Rattle.ckpt_core.proofs.Names.{SubtaskId, Refusal, NameTaken, FileGone, IsIn, IsInOrder, LiesAt, Record, Use, uses, is_present, IsPending, find-none, IsStored, has_id, has_savepoint, id_of}
+use Rattle.ckpt_core.proofs.Names.{find-place, Parts, is_checkpoint, first_some, is_foreign, is_repeat, is_done_savepoint, savepoints, named, pending_of, where_pending, id_before, with_pins, grouped}
+use Rattle.ckpt_core.proofs.Names.{AreSound, AreTied, IsPlaceOf, records_in, state_of, is_known_in, rows_only}
 use Rattle.ckpt_outbox.specs.Queues as queues
-use Rattle.ckpt_core.specs.declared.parts.Parts.{Parts}
-use Rattle.ckpt_model.specs.State.{is_checkpoint, is_known}
-use Rattle.ckpt_model.specs.Refusals.{first_some, is_foreign, is_repeat, is_done_savepoint, savepoints, named, pending_of, where_pending}
-use Rattle.ckpt_model.specs.Soundness.{id_before}
-use Rattle.ckpt_core.specs.Inside.Grouped.{with_pins, grouped}
-use Rattle.ckpt_core.specs.Inside.Parts.{AreSound, AreTied, IsPlaceOf, records_in, state_of, is_known_in}
-use Rattle.ckpt_model.proofs.Answering.RefusalRows.{rows_only}
+use Rattle.ckpt_model.specs.State.{is_known}
 use Rattle.ckpt_core.proofs.Records.Grouped.{AreApart, apart-from_in_order}
 use Rattle.ckpt_core.proofs.Records.Lookups.{pending_of-groups}
 use Rattle.ckpt_core.proofs.Records.GroupLookups.{savepoints-groups, done_savepoint-groups}

@@ -1,20 +1,10 @@
 -- A file that is named twice, in ascending lists: it is its own neighbour, or is in both lists.
-use Rattle.std.proofs.Common.{◌≡◌, ℕ, zero, suc, ◌+◌, ◌<◌, ◌≤◌, Bool, true, false, not, ◌||◌, ltb, eqb, List, [], ◌∷◌, ◌++◌, length, get_or, refl, sym, ap, subst, ◌∙◌, ⊎_elim, arith, MatchBool, Result, add-one}
-use Rattle.std.specs.List.Sorted.{IsBinarySearchResult}
-use Rattle.std.specs.Ordering.{nat_cmp}
-use Rattle.std.specs.Result.{is_ok}
-use Rattle.std.specs.List.{list_any}
-use Rattle.std.proofs.lemmas.Bool.{both_ways, eq-eqb, ltb-false, or_parts, or_cases, or_left, or_right, true_from_ne_false, false_from_ne_true, ltb-true, lt-ltb}
-use Rattle.ckpt_ids.specs.Ordered.{IsIn, AreDistinct}
-use Rattle.ckpt_ids.specs.Ascending.{IsAscending, IsAscendingSet}
-use Rattle.ckpt_ids.specs.Counting.{times}
-use Rattle.ckpt_ids.proofs.OrderedLemmas.{ComesBefore-at, ComesBefore-from, IsIn-from_list_any, list_any-from_IsIn, AreDistinct-append, AreDistinct-left, AreDistinct-right, AreDistinct-apart, AreDistinct-from_order, IsIn-from_test, test-from_IsIn}
-use Rattle.ckpt_ids.proofs.AscendingLemmas.{ascending_at, numbers_in_order}
-use Rattle.ckpt_ids.proofs.CountLemmas.{times-from_IsIn, IsIn-from_times}
-use Rattle.ckpt_model.specs.Refusals.{has_repeats}
-use Rattle.ckpt_model.proofs.Records.Released.{distinct-from_test}
+use Rattle.ckpt_core.proofs.Names.{◌≡◌, ℕ, zero, suc, ◌+◌, ◌<◌, ◌≤◌, Bool, true, false, not, ◌||◌, ltb, eqb, List, [], ◌∷◌, ◌++◌, length, get_or, refl, sym, ap, subst, ◌∙◌, ⊎_elim, arith, MatchBool}
+use Rattle.ckpt_core.proofs.Names.{Result, add-one, IsBinarySearchResult, nat_cmp, is_ok, list_any, both_ways, eq-eqb, ltb-false, or_parts, or_cases, or_left, or_right, true_from_ne_false}
+use Rattle.ckpt_core.proofs.Names.{false_from_ne_true, ltb-true, lt-ltb, IsIn, AreDistinct, IsAscending, IsAscendingSet, times, ComesBefore-at, ComesBefore-from, IsIn-from_list_any}
+use Rattle.ckpt_core.proofs.Names.{list_any-from_IsIn, AreDistinct-append, AreDistinct-left, AreDistinct-right, AreDistinct-apart, AreDistinct-from_order, IsIn-from_test, test-from_IsIn, ascending_at}
+use Rattle.ckpt_core.proofs.Names.{numbers_in_order, times-from_IsIn, IsIn-from_times, has_repeats, distinct-from_test, times-from_search}
 use Rattle.ckpt_core.proofs.Records.GroupLookups.{same_tests}
-use Rattle.ckpt_registry.proofs.PartLemmas.{times-from_search}
 
 -- the test of repeats
 

@@ -1,21 +1,8 @@
 -- Calls that are not tested before they are made: reports on files, and disposals. The outbox or the store finds their refusals.
-use Rattle.std.proofs.Common.{◌≡◌, ℕ, Bool, true, false, not, eqb, [], ◌∷◌, refl, sym, ap, ◌∙◌, Option, Some, None, Result, Ok, Err}
-use Rattle.std.specs.Prelude.{if◌then◌else◌, IfErr}
-use Rattle.std.specs.List.{list_any}
-use Rattle.ckpt_ids.specs.declared.call.Call.{Call}
-use Rattle.ckpt_ids.specs.declared.call.Call.TheVariants.{Deleted, Dispose, Undeleted}
-use Rattle.ckpt_ids.specs.declared.reply.Reply.{Reply}
-use Rattle.ckpt_ids.specs.declared.reply.Answer.{Answer}
-use Rattle.ckpt_ids.specs.declared.reply.Answer.TheVariants.{Done}
+use Rattle.ckpt_core.proofs.Names.{◌≡◌, ℕ, Bool, true, false, not, eqb, [], ◌∷◌, refl, sym, ap, ◌∙◌, Option, Some, None, Result, Ok, Err, if◌then◌else◌, IfErr, list_any, Call, Deleted, Dispose}
+use Rattle.ckpt_core.proofs.Names.{Undeleted, Reply, Answer, Done, Refusal, InUse, NoSuchSavepoint, NotTaken, CoreFault, Memory, Refused, first_some, is_done_savepoint, is_number, refuse_if, refusal}
+use Rattle.ckpt_core.proofs.Names.{State, Stepped, step, step_refused}
 use Rattle.ckpt_ids.specs.declared.reply.Answer.TheVariants as answers
-use Rattle.ckpt_ids.specs.declared.reply.Refusal.{Refusal}
-use Rattle.ckpt_ids.specs.declared.reply.Refusal.TheVariants.{InUse, NoSuchSavepoint, NotTaken}
-use Rattle.ckpt_model.specs.declared.faults.CoreFault.{CoreFault}
-use Rattle.ckpt_model.specs.declared.faults.CoreFault.TheVariants.{Memory, Refused}
-use Rattle.ckpt_model.specs.Refusals.{first_some, is_done_savepoint, is_number, refuse_if, refusal}
-use Rattle.ckpt_model.specs.State.{State}
-use Rattle.ckpt_model.specs.Steps.{Stepped, step}
-use Rattle.ckpt_model.proofs.Answering.StepCases.{step_refused}
 
 -- the rows of a report
 

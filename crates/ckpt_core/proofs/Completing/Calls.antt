@@ -1,30 +1,10 @@
 -- What the completion of a record may rely on.
-use Rattle.std.proofs.Common.{◌≡◌, ℕ, ◌+◌, ◌<◌, ◌≤◌, ◌^◌, max, Bool, true, false, not, eqb, List, [], ◌++◌, length, refl, sym, ap, subst, ◌∙◌, ⊎_elim, arith, Some}
-use Rattle.std.specs.Prelude.{find}
-use Rattle.std.specs.Vec.{vec_capacity}
-use Rattle.std.proofs.lemmas.Bool.{eqb-true, eq-eqb, ltb-true, or_parts, not_from_true, false_from_ne_true}
-use Rattle.std.proofs.lemmas.List.{length-map}
-use Rattle.std.proofs.lemmas.List.Sums.{length-filter}
-use Rattle.ckpt_ids.specs.declared.call.Call.TheVariants.{Ack}
+use Rattle.ckpt_core.proofs.Names.{◌≡◌, ℕ, ◌+◌, ◌<◌, ◌≤◌, ◌^◌, max, Bool, true, false, not, eqb, List, [], ◌++◌, length, refl, sym, ap, subst, ◌∙◌, ⊎_elim, arith, Some, find, vec_capacity, eqb-true}
+use Rattle.ckpt_core.proofs.Names.{eq-eqb, ltb-true, or_parts, not_from_true, false_from_ne_true, length-map, length-filter, Ack, SubtaskId, ascending, IsIn, IsInOrder, Record, Use, Subtask, count}
+use Rattle.ckpt_core.proofs.Names.{is_present, missing, uses, IsIn-append_cases, IsIn-append_right, IsIn-from_list_any, IsIn-from_in_order_once, is_known, IsPending, triples, Stored, IsAbove}
+use Rattle.ckpt_core.proofs.Names.{IsStored, has_id, has_savepoint, LiesAt, id_of, Parts, IsMissing, with_pins, AreSound, AreTied, IsAccepted, records_in, state_of, present_in, id_before, in_outbox}
+use Rattle.ckpt_core.proofs.Names.{IsAcking, with_ack, IsIn-from_counted, taken_in, completed}
 use Rattle.ckpt_ids.specs.declared.numbers.Kind.TheVariants as kind
-use Rattle.ckpt_ids.specs.declared.subtask.SubtaskId.{SubtaskId}
-use Rattle.ckpt_ids.specs.Ascending.{ascending}
-use Rattle.ckpt_ids.specs.Ordered.{IsIn, IsInOrder}
-use Rattle.ckpt_ids.specs.Records.{Record, Use, Subtask, count, is_present, missing, uses}
-use Rattle.ckpt_ids.proofs.OrderedLemmas.{IsIn-append_cases, IsIn-append_right, IsIn-from_list_any, IsIn-from_in_order_once}
-use Rattle.ckpt_outbox.specs.Queues.{is_known}
-use Rattle.ckpt_pending.specs.Acknowledging.{IsPending}
-use Rattle.ckpt_registry.specs.Uses.{triples}
-use Rattle.ckpt_store.specs.Storing.{Stored, IsAbove, IsStored, has_id, has_savepoint}
-use Rattle.ckpt_ids.specs.Places.{LiesAt}
-use Rattle.ckpt_store.specs.Storing.{id_of}
-use Rattle.ckpt_core.specs.declared.parts.Parts.{Parts}
-use Rattle.ckpt_core.specs.Inside.Completing.{IsMissing}
-use Rattle.ckpt_core.specs.Inside.Grouped.{with_pins}
-use Rattle.ckpt_core.specs.Inside.Parts.{AreSound, AreTied, IsAccepted, records_in, state_of}
-use Rattle.ckpt_model.specs.Reads.{present_in}
-use Rattle.ckpt_model.specs.Soundness.{id_before}
-use Rattle.ckpt_model.specs.State.{in_outbox}
 use Rattle.ckpt_core.proofs.Acknowledging.Moves.{with_instead}
 use Rattle.ckpt_core.proofs.Acknowledging.States.{IsRoomier, IsTaking, its_number, room_made, taking_from, one_less, taken_records, taken_tied, taking}
 use Rattle.ckpt_core.proofs.Acknowledging.Takes.{acked_in_order, lies_acked, found_acked}
@@ -34,12 +14,8 @@ use Rattle.ckpt_core.proofs.Completing.Taken.{taken_there, not_done_number}
 use Rattle.ckpt_core.proofs.Ending.Drops.{none_known}
 use Rattle.ckpt_core.proofs.Ending.HandOut.{present-from_use}
 use Rattle.ckpt_core.proofs.Records.Lookups.{has_number, length-records_of}
-use Rattle.ckpt_model.proofs.Soundness.Acks.{IsAcking, with_ack}
 use Rattle.ckpt_core.proofs.Triggering.TriggerParts.{live_records}
 use Rattle.ckpt_core.proofs.Using.Order.{from_holds}
-use Rattle.ckpt_ids.proofs.CountLemmas.{IsIn-from_counted}
-use Rattle.ckpt_core.specs.Inside.Moving.{taken_in}
-use Rattle.ckpt_model.proofs.Soundness.Completions.{completed}
 
 -- the parts without the pending record
 abbrev pub taken_out : Parts → ℕ → ℕ → SubtaskId → List ℕ → List ℕ → Record → Parts

@@ -1,26 +1,15 @@
 -- Which numbers the completion of a checkpoint notes: those of the pending checkpoints before it, and that of the first
 -- completed one if there are now too many.
-use Rattle.std.proofs.Common.{◌≡◌, ℕ, ◌+◌, ◌<◌, ◌≤◌, Bool, true, false, not, ◌||◌, cond, ltb, leb, eqb, List, [], ◌∷◌, ◌++◌, map, length, drop, refl, sym, ap, ◌∙◌, inl, inr, ⊎_elim, arith, Some, None}
-use Rattle.std.specs.Prelude.{count_by}
-use Rattle.std.specs.List.{filter}
-use Rattle.std.proofs.lemmas.Bool.{cases_Bool, both_ways, ltb-true, lt-ltb, le-ltb, ltb-false, lt-leb, le-leb, eqb-true, eq-eqb, ne_eqb, and_parts, or_left, not_from_false, false_from_ne_true}
-use Rattle.std.proofs.lemmas.List.Folds.{list_any-append}
-use Rattle.std.proofs.lemmas.List.Sums.{count_by-le-length}
-use Rattle.std.proofs.Math.Bool.{or-false}
-use Rattle.ckpt_ids.specs.Ordered.{IsIn, ComesBefore}
-use Rattle.ckpt_ids.specs.Records.{Record, Use}
-use Rattle.ckpt_ids.proofs.OrderedLemmas.{IsIn-append_cases, IsIn-append_left, IsIn-append_right, IsIn-map, IsIn-filter, IsIn-from_filter, ComesBefore-at, filter-all}
-use Rattle.ckpt_store.specs.Storing.{Stored, AreRising, IsAbove, lowest, past_retained, retained_of}
-use Rattle.ckpt_core.specs.Inside.Completing.{number_in, surplus, earlier, superseded, is_before}
-use Rattle.ckpt_core.specs.Inside.Grouped.{with_pins, grouped}
-use Rattle.ckpt_core.specs.Inside.Parts.{is_noted}
-use Rattle.ckpt_model.specs.Soundness.{id_before}
-use Rattle.ckpt_model.specs.State.{is_checkpoint}
-use Rattle.ckpt_model.proofs.Records.Counts.{count_by_at_most_more}
+use Rattle.ckpt_core.proofs.Names.{◌≡◌, ℕ, ◌+◌, ◌<◌, ◌≤◌, Bool, true, false, not, ◌||◌, cond, ltb, leb, eqb, List, [], ◌∷◌, ◌++◌, map, length, refl, sym, ap, ◌∙◌, inl, inr, ⊎_elim, arith, Some, None}
+use Rattle.ckpt_core.proofs.Names.{count_by, filter, cases_Bool, both_ways, ltb-true, lt-ltb, le-ltb, ltb-false, lt-leb, le-leb, eqb-true, eq-eqb, ne_eqb, and_parts, or_left, not_from_false}
+use Rattle.ckpt_core.proofs.Names.{false_from_ne_true, list_any-append, count_by-le-length, or-false, IsIn, ComesBefore, Record, Use, IsIn-append_cases, IsIn-append_left, IsIn-append_right, IsIn-map}
+use Rattle.ckpt_core.proofs.Names.{IsIn-filter, IsIn-from_filter, ComesBefore-at, filter-all, Stored, AreRising, IsAbove, lowest, past_retained, retained_of, number_in, surplus, earlier, is_before}
+use Rattle.ckpt_core.proofs.Names.{with_pins, grouped, is_noted, id_before, is_checkpoint, count_by_at_most_more, count_by_yes, count_by_no, count_by-none, count_by-all}
+use Rattle.std.proofs.Common.{drop}
+use Rattle.ckpt_core.specs.Inside.Completing.{superseded}
 use Rattle.ckpt_core.proofs.Ending.Drops.{noted-from_IsIn, IsIn-from_noted}
 use Rattle.ckpt_core.proofs.Records.Grouped.{AreApart, apart_left, apart_right, apart_between}
 use Rattle.ckpt_core.proofs.Records.Lookups.{one_of_number}
-use Rattle.ckpt_ids.proofs.CountLemmas.{count_by_yes, count_by_no, count_by-none, count_by-all}
 
 -- a row of records in rising number
 

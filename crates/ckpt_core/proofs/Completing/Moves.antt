@@ -1,22 +1,11 @@
 -- What a completion makes of the records, of their uses, and of how many there are.
-use Rattle.std.proofs.Common.{◌≡◌, ℕ, ◌+◌, Bool, true, false, not, ◌&&◌, ◌||◌, cond, eqb, List, [], ◌∷◌, ◌++◌, map, length, refl, sym, ap, subst, ◌∙◌, ◌⊎◌, ⊎_elim, Some}
-use Rattle.std.specs.Prelude.{count_by}
-use Rattle.std.specs.List.{filter}
-use Rattle.std.proofs.lemmas.Bool.{cases_Bool}
-use Rattle.ckpt_ids.specs.declared.reply.Answer.TheVariants.{Done}
+use Rattle.ckpt_core.proofs.Names.{◌≡◌, ℕ, ◌+◌, Bool, true, false, not, ◌&&◌, ◌||◌, cond, eqb, List, [], ◌∷◌, ◌++◌, map, length, refl, sym, ap, subst, ◌∙◌, ◌⊎◌, ⊎_elim, Some, count_by, filter}
+use Rattle.ckpt_core.proofs.Names.{cases_Bool, Done, IsIn, Record, Use, released, uses, uses_of, IsIn-append_left, IsIn-map, IsIn-from_in_order, filter-all, filter-same, after_end, is_ended, is_owned}
+use Rattle.ckpt_core.proofs.Names.{pins, with_pins, grouped, records_of, is_noted, id_before, State, drop, kept, released_by, unpinned, cleared, completed_with, dropped_by, replaced, superseded}
+use Rattle.ckpt_core.proofs.Names.{count_by-map, count_by-same}
 use Rattle.ckpt_ids.specs.declared.reply.Reply.TheVariants as reply
-use Rattle.ckpt_ids.specs.Ordered.{IsIn}
-use Rattle.ckpt_ids.specs.Records.{Record, Use, released, uses, uses_of}
-use Rattle.ckpt_ids.proofs.OrderedLemmas.{IsIn-append_left, IsIn-map, IsIn-from_in_order, filter-all, filter-same}
-use Rattle.ckpt_registry.specs.Uses.{after_end, is_ended, is_owned}
-use Rattle.ckpt_core.specs.Inside.Grouped.{pins, with_pins, grouped, records_of}
-use Rattle.ckpt_core.specs.Inside.Parts.{is_noted}
-use Rattle.ckpt_model.specs.Soundness.{id_before}
-use Rattle.ckpt_model.specs.State.{State, drop, kept, released_by, unpinned}
-use Rattle.ckpt_model.specs.Steps.{cleared, completed_with, dropped_by, replaced, superseded}
 use Rattle.ckpt_core.proofs.Acknowledging.Moves.{with_instead}
 use Rattle.ckpt_core.proofs.Completing.Lists.{others}
-use Rattle.ckpt_ids.proofs.CountLemmas.{count_by-map, count_by-same}
 use Rattle.ckpt_core.proofs.Ending.Drops.{stays, staying}
 use Rattle.ckpt_core.proofs.Completing.Finish.{finish_groups, finish_uses, ended_records, still_used}
 use Rattle.ckpt_core.proofs.Records.Grouped.{AreApart}

@@ -1,15 +1,8 @@
 -- What the completion of a checkpoint makes of the parts, step by step.
-use Rattle.std.proofs.Common.{◌≡◌, ℕ, ◌+◌, ◌≤◌, Bool, List, [], ◌∷◌, ◌++◌, length, sym, ap, ◌∙◌, arith, Some, None}
-use Rattle.std.specs.List.{filter}
-use Rattle.std.proofs.lemmas.List.{length-append, length-map}
-use Rattle.std.proofs.lemmas.List.Sums.{length-filter, count_by-le-length}
-use Rattle.ckpt_ids.specs.Records.{Record}
-use Rattle.ckpt_rules.specs.FailureCount.{FailureCount}
-use Rattle.ckpt_rules.specs.Moments.{Moments}
-use Rattle.ckpt_store.specs.Storing.{Stored, past_retained}
-use Rattle.ckpt_core.specs.declared.parts.Parts.{Parts}
-use Rattle.ckpt_core.specs.Inside.Completing.{number_in, surplus, superseded, earlier, is_before}
-use Rattle.ckpt_core.specs.Inside.Moving.{with_checkpoint, handed_after, paused, left_pending, checkpoint_completed}
+use Rattle.ckpt_core.proofs.Names.{◌≡◌, ℕ, ◌+◌, ◌≤◌, Bool, List, [], ◌∷◌, ◌++◌, length, sym, ap, ◌∙◌, arith, Some, None, filter, length-append, length-map, length-filter, count_by-le-length, Record}
+use Rattle.ckpt_core.proofs.Names.{FailureCount, Moments, Stored, past_retained, Parts, number_in, surplus, earlier, is_before, with_checkpoint, handed_after, paused, left_pending}
+use Rattle.ckpt_core.proofs.Names.{checkpoint_completed}
+use Rattle.ckpt_core.specs.Inside.Completing.{superseded}
 
 pub checkpoint_parts : (p k h : Parts) (done : Record) (gone : List ℕ) (pending : List Record) (failures : FailureCount) (clock : Moments) →
     k ≡ with_checkpoint p done k → k.ended.items ≡ gone → pending ≡ left_pending k.ended.items p.pending →

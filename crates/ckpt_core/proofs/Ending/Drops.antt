@@ -1,32 +1,14 @@
 -- What a drop by number does to the parts, and to the state that they stand for.
-use Rattle.std.proofs.Common.{◌≡◌, ℕ, ◌+◌, ◌-◌, ◌≤◌, Bool, true, false, not, ltb, eqb, List, [], ◌++◌, map, length, refl, sym, ap, subst, ◌∙◌, ⊎_elim, arith, None}
-use Rattle.std.specs.List.{filter, list_any}
-use Rattle.std.specs.Vec.{vec_capacity}
-use Rattle.std.specs.declared.vec.Vec.{Vec}
-use Rattle.std.specs.declared.alloc.Global.{Global}
-use Rattle.std.proofs.lemmas.Bool.{cases_Bool, both_ways, eqb-true, eq-eqb, lt-ltb, ltb-true, not_from_true, not_from_false, false_from_ne_true}
-use Rattle.std.proofs.lemmas.List.Filters.{length-filter_both}
-use Rattle.ckpt_ids.specs.Ascending.{ascending_set}
-use Rattle.ckpt_ids.specs.Ordered.{IsIn}
-use Rattle.ckpt_ids.specs.Records.{Record, Use, uses, count, is_present, released}
-use Rattle.ckpt_ids.proofs.AscendingLemmas.{numbers_in_order}
-use Rattle.ckpt_ids.proofs.OrderedLemmas.{IsIn-append_left, IsIn-append_right, IsIn-append_cases, IsIn-map, IsIn-from_map, IsIn-filter, IsIn-from_filter, IsInOrder-filter, IsInOrder-in_order_once, IsIn-in_order_once, IsIn-from_in_order_once, IsIn-from_in_order, same_from_members, list_any-from_IsIn, IsIn-from_list_any, filter-all, filter-same}
-use Rattle.ckpt_outbox.specs.Queues.{is_known}
-use Rattle.ckpt_pending.specs.Acknowledging.{IsPending}
-use Rattle.ckpt_registry.specs.Uses.{without}
-use Rattle.ckpt_store.specs.Storing.{IsStored}
-use Rattle.ckpt_core.specs.declared.parts.Parts.{Parts}
-use Rattle.ckpt_core.specs.Inside.Grouped.{with_pins, grouped}
-use Rattle.ckpt_core.specs.Inside.Parts.{AreTied, AreSound, Drops, is_noted, records_in, state_of}
-use Rattle.ckpt_model.specs.Reads.{present_in}
-use Rattle.ckpt_model.specs.Soundness.{IsSound, id_before}
-use Rattle.ckpt_model.specs.State.{State, drop, kept, released_by, unpinned, is_pending}
-use Rattle.ckpt_model.proofs.Records.Counts.{map_itself}
+use Rattle.ckpt_core.proofs.Names.{◌≡◌, ℕ, ◌+◌, ◌-◌, ◌≤◌, Bool, true, false, not, ltb, eqb, List, [], ◌++◌, map, length, refl, sym, ap, subst, ◌∙◌, ⊎_elim, arith, None, filter, list_any, vec_capacity}
+use Rattle.ckpt_core.proofs.Names.{Vec, Global, cases_Bool, both_ways, eqb-true, eq-eqb, lt-ltb, ltb-true, not_from_true, not_from_false, false_from_ne_true, length-filter_both, ascending_set, IsIn}
+use Rattle.ckpt_core.proofs.Names.{Record, Use, uses, count, is_present, released, numbers_in_order, IsIn-append_left, IsIn-append_right, IsIn-append_cases, IsIn-map, IsIn-from_map, IsIn-filter}
+use Rattle.ckpt_core.proofs.Names.{IsIn-from_filter, IsInOrder-filter, IsInOrder-in_order_once, IsIn-in_order_once, IsIn-from_in_order_once, IsIn-from_in_order, same_from_members, list_any-from_IsIn}
+use Rattle.ckpt_core.proofs.Names.{IsIn-from_list_any, filter-all, filter-same, is_known, IsPending, without, IsStored, Parts, with_pins, grouped, AreTied, AreSound, Drops, is_noted, records_in}
+use Rattle.ckpt_core.proofs.Names.{state_of, present_in, IsSound, id_before, State, drop, kept, released_by, unpinned, is_pending, map_itself, counted-from_IsIn, IsIn-from_counted}
 use Rattle.ckpt_core.proofs.Records.Grouped.{AreApart, apart-from_in_order, apart_between}
 use Rattle.ckpt_core.proofs.Records.GroupMoves.{drop_groups}
 use Rattle.ckpt_core.proofs.Records.Lookups.{AreGroups, length-records_of, done_in}
 use Rattle.ckpt_core.proofs.Using.Order.{uses-filter}
-use Rattle.ckpt_ids.proofs.CountLemmas.{counted-from_IsIn, IsIn-from_counted}
 
 -- what is present after and what is released were both present before
 

@@ -1,16 +1,7 @@
 -- Released files can be put into the outbox. It has reserved room for all files in use. No file is there twice, and the outbox knows none.
-use Rattle.std.proofs.Common.{◌≡◌, ℕ, ◌≤◌, Bool, true, false, not, eqb, List, [], map, length, ltb, refl, sym, ap, subst, ◌∙◌, arith}
-use Rattle.std.proofs.lemmas.Bool.{lt-ltb, eq-eqb}
-use Rattle.std.proofs.lemmas.List.Sums.{length-filter, count_by-le-length}
-use Rattle.ckpt_ids.specs.Ordered.{IsIn, AreDistinct}
-use Rattle.ckpt_ids.specs.Ascending.{ascending_set}
-use Rattle.ckpt_ids.specs.Records.{Use, count, is_present, released}
-use Rattle.ckpt_outbox.specs.Queues.{Queues, is_in, is_known}
-use Rattle.ckpt_model.specs.Reads.{present_in}
-use Rattle.ckpt_model.proofs.Records.Released.{ascending-released, before-from_released}
-use Rattle.ckpt_ids.proofs.CountLemmas.{counted-from_IsIn}
-use Rattle.ckpt_ids.proofs.OrderedLemmas.{AreDistinct-from_order, IsIn-from_in_order_once, IsIn-from_map, filter-none, IsIn-from_test}
-use Rattle.ckpt_ids.proofs.AscendingLemmas.{numbers_in_order}
+use Rattle.ckpt_core.proofs.Names.{◌≡◌, ℕ, ◌≤◌, Bool, true, false, not, eqb, List, [], map, length, ltb, refl, sym, ap, subst, ◌∙◌, arith, lt-ltb, eq-eqb, length-filter, count_by-le-length, IsIn}
+use Rattle.ckpt_core.proofs.Names.{AreDistinct, ascending_set, Use, count, is_present, released, Queues, is_in, is_known, present_in, ascending-released, before-from_released, counted-from_IsIn}
+use Rattle.ckpt_core.proofs.Names.{AreDistinct-from_order, IsIn-from_in_order_once, IsIn-from_map, filter-none, IsIn-from_test, numbers_in_order}
 
 -- there are at most as many released files as files that were present
 pub released_room : (before after : List Use) (room : ℕ) → present_in before ≤ room → length (released before after) ≤ room

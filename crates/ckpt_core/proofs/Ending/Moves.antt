@@ -1,45 +1,19 @@
 -- What the parts become when records end by a call, and the step of the state that this is.
-use Rattle.std.proofs.Common.{◌≡◌, ℕ, ◌+◌, ◌<◌, ◌≤◌, max, Bool, true, false, not, ltb, eqb, List, [], ◌++◌, map, length, refl, sym, ap, subst, ◌∙◌, ⊎_elim, arith, Some, None}
-use Rattle.std.specs.Prelude.{find, IsTrue, ◌↔◌}
-use denote.Enum.Bare.{sameb}
-use Rattle.std.specs.Option.{option_map}
-use Rattle.std.proofs.lemmas.Bool.{cases_Bool, both_ways, cond-true, cond-false, false_from_ne_true, lt-ltb, ltb-true}
-use Rattle.ckpt_ids.specs.declared.subtask.SubtaskId.{SubtaskId}
-use Rattle.ckpt_ids.specs.contracts.numbers.Kind.{the_type}
-use Rattle.ckpt_ids.specs.declared.numbers.Kind.{Kind}
+use Rattle.ckpt_core.proofs.Names.{◌≡◌, ℕ, ◌+◌, ◌<◌, ◌≤◌, max, Bool, true, false, not, ltb, eqb, List, [], ◌++◌, map, length, refl, sym, ap, subst, ◌∙◌, ⊎_elim, arith, Some, None, find, IsTrue, ◌↔◌}
+use Rattle.ckpt_core.proofs.Names.{sameb, option_map, cases_Bool, both_ways, cond-true, cond-false, false_from_ne_true, lt-ltb, ltb-true, SubtaskId, the_type, Kind, Call, Target, Choice, Reply, Done}
+use Rattle.ckpt_core.proofs.Names.{IsIn, IsInOrder, Record, IsIn-append_left, IsIn-map, IsIn-in_order, FailureCount, Moments, gap, IsStored, Stored, Mode, Running, Failed, Cancelled, Parts, with_pins}
+use Rattle.ckpt_core.proofs.Names.{grouped, Answers, AreTied, AreSound, Drops, IsAccepted, records_in, state_of, refusal, pending_of, is_done_savepoint, IsSound, id_before, State, choice_of}
+use Rattle.ckpt_core.proofs.Names.{choice_from, last_checkpoint, drop, kept, released_by, unpinned, is_pending, Stepped, effect, failures_with, fails_the_job, decline, decline_pending, dispose}
+use Rattle.ckpt_core.proofs.Names.{dropping, failed_over, restarted, restore, rolled_back, with_base, cancel, cancelled, dropped_by, IsIn-from_find, in_order-changed, step_accepted}
 use Rattle.ckpt_ids.specs.declared.numbers.Kind.TheVariants as kind
-use Rattle.ckpt_ids.specs.declared.call.Call.{Call}
 use Rattle.ckpt_ids.specs.declared.call.Call.TheVariants as call
-use Rattle.ckpt_ids.specs.declared.call.Target.{Target}
 use Rattle.ckpt_ids.specs.declared.call.Target.TheVariants as target
-use Rattle.ckpt_ids.specs.declared.reply.Choice.{Choice}
-use Rattle.ckpt_ids.specs.declared.reply.Reply.{Reply}
 use Rattle.ckpt_ids.specs.declared.reply.Reply.TheVariants as reply
-use Rattle.ckpt_ids.specs.declared.reply.Answer.TheVariants.{Done}
-use Rattle.ckpt_ids.specs.Ordered.{IsIn, IsInOrder}
-use Rattle.ckpt_ids.specs.Records.{Record}
-use Rattle.ckpt_ids.proofs.OrderedLemmas.{IsIn-append_left, IsIn-map, IsIn-in_order}
-use Rattle.ckpt_rules.specs.FailureCount.{FailureCount}
-use Rattle.ckpt_rules.specs.Moments.{Moments}
-use Rattle.ckpt_rules.specs.Trigger.{gap}
 use Rattle.ckpt_store.specs.Storing as storing
-use Rattle.ckpt_store.specs.Storing.{IsStored, Stored}
-use Rattle.ckpt_model.specs.declared.mode.Mode.{Mode}
-use Rattle.ckpt_model.specs.declared.mode.Mode.TheVariants.{Running, Failed, Cancelled}
-use Rattle.ckpt_core.specs.declared.parts.Parts.{Parts}
-use Rattle.ckpt_core.specs.Inside.Grouped.{with_pins, grouped}
-use Rattle.ckpt_core.specs.Inside.Parts.{Answers, AreTied, AreSound, Drops, IsAccepted, records_in, state_of}
-use Rattle.ckpt_model.specs.Refusals.{refusal, pending_of, is_done_savepoint}
-use Rattle.ckpt_model.specs.Soundness.{IsSound, id_before}
-use Rattle.ckpt_model.specs.State.{State, choice_of, choice_from, last_checkpoint, drop, kept, released_by, unpinned, is_pending}
-use Rattle.ckpt_model.specs.Steps.{Stepped, effect, failures_with, fails_the_job, decline, decline_pending, dispose, dropping, failed_over, restarted, restore, rolled_back, with_base, cancel, cancelled, dropped_by}
-use Rattle.ckpt_model.proofs.Records.Counts.{IsIn-from_find}
 use Rattle.ckpt_core.proofs.Ending.Drops.{apart_in}
 use Rattle.ckpt_core.proofs.Records.Grouped.{apart-from_in_order}
 use Rattle.ckpt_core.proofs.Records.GroupLookups.{last_id-greatest, last_checkpoint-groups}
 use Rattle.ckpt_core.proofs.Records.Lookups.{AreGroups, has_number, pending_of-groups}
-use Rattle.ckpt_model.proofs.Records.Lists.{in_order-changed}
-use Rattle.ckpt_model.proofs.Answering.StepCases.{step_accepted}
 
 -- a state and a number, by what they are equal to
 pub answered : (say : ℕ → Reply) (s t : State) (k n : ℕ) → t ≡ s → n ≡ k → (let x : Stepped = (s, Done (say k)) in x) ≡ (t, Done (say n))

@@ -1,10 +1,5 @@
 -- What a list of sound records bounds: how many they are, and how often they use a file.
-use Rattle.std.proofs.Common.{ℕ, ◌*◌, ◌<◌, ◌≤◌, List, length, arith}
-use Rattle.ckpt_ids.specs.Configuration.{IsWithinLimits}
-use Rattle.ckpt_ids.specs.Records.{Record, uses, count}
-use Rattle.ckpt_rules.specs.Trigger.{limit}
-use Rattle.ckpt_model.specs.State.{Opening}
-use Rattle.ckpt_model.specs.Soundness.{AreSoundRecords}
+use Rattle.ckpt_core.proofs.Names.{ℕ, ◌*◌, ◌<◌, ◌≤◌, List, length, arith, IsWithinLimits, Record, uses, count, limit, Opening, AreSoundRecords}
 use Rattle.ckpt_core.proofs.Triggering.TriggerParts.{three_kinds, limit_bound}
 use Rattle.ckpt_core.proofs.Using.CountBound.{count-records}
 

@@ -1,26 +1,11 @@
 -- A pending record that comes with acknowledgements and pins, and is newer than all others.
-use Rattle.std.proofs.Common.{◌≡◌, ℕ, ◌+◌, ◌<◌, ◌≤◌, ◌^◌, ◌-◌, false, ◌||◌, eqb, ltb, drop, List, [], ◌∷◌, ◌++◌, length, map, refl, sym, ap, subst, ◌∙◌, inl, inr, ⊎_elim, arith}
-use Rattle.std.specs.List.{list_any}
-use Rattle.std.proofs.lemmas.List.{append-nil, append_assoc, length-append, map-append}
-use Rattle.std.proofs.lemmas.List.Concat.{flat_map-append}
-use Rattle.std.proofs.lemmas.Bool.{ne_eqb, and_left, and_right, cond-false, le-ltb}
-use Rattle.ckpt_ids.specs.declared.ack.Acked.{Acked}
-use Rattle.ckpt_ids.specs.Ordered.{IsIn, in_order, put}
-use Rattle.ckpt_ids.specs.Records.{Record, Use, Pin, count, same_holder, uses, uses_of}
-use Rattle.ckpt_ids.specs.Ascending.{ascending}
-use Rattle.ckpt_ids.proofs.OrderedLemmas.{IsIn-append_left, IsIn-append_right, IsIn-append_cases, IsIn-map, IsIn-in_order, IsIn-from_flat_map}
-use Rattle.std.specs.Vec.{vec_capacity}
-use Rattle.ckpt_rules.specs.FailureCount.{FailureCount}
-use Rattle.ckpt_store.specs.Storing.{Stored, retained_of}
-use Rattle.ckpt_core.specs.declared.parts.Opened.{Opened}
-use Rattle.ckpt_core.specs.declared.parts.Parts.{Parts}
-use Rattle.ckpt_core.specs.Inside.Parts.{AreTied, records_in}
-use Rattle.ckpt_model.specs.Reads.{present_in}
-use Rattle.ckpt_model.specs.Soundness.{id_before}
-use Rattle.ckpt_core.specs.Inside.Grouped.{is_pin, pins, pins_of, with_pins, grouped, records_of}
-use Rattle.ckpt_core.specs.Inside.Loading.{uses_of_acks, uses_held}
+use Rattle.ckpt_core.proofs.Names.{◌≡◌, ℕ, ◌+◌, ◌<◌, ◌≤◌, ◌^◌, ◌-◌, false, ◌||◌, eqb, ltb, List, [], ◌∷◌, ◌++◌, length, map, refl, sym, ap, subst, ◌∙◌, inl, inr, ⊎_elim, arith, list_any, append-nil}
+use Rattle.ckpt_core.proofs.Names.{append_assoc, length-append, map-append, flat_map-append, ne_eqb, and_left, and_right, cond-false, le-ltb, Acked, IsIn, in_order, put, Record, Use, Pin, count}
+use Rattle.ckpt_core.proofs.Names.{same_holder, uses, uses_of, ascending, IsIn-append_left, IsIn-append_right, IsIn-append_cases, IsIn-map, IsIn-in_order, IsIn-from_flat_map, vec_capacity}
+use Rattle.ckpt_core.proofs.Names.{FailureCount, Stored, retained_of, Opened, Parts, AreTied, records_in, present_in, id_before, is_pin, pins, pins_of, with_pins, grouped, records_of, uses_of_acks}
+use Rattle.ckpt_core.proofs.Names.{uses_held, map_same}
+use Rattle.std.proofs.Common.{drop}
 use Rattle.ckpt_core.proofs.Loaded.Uses.{id_of_acks}
-use Rattle.ckpt_model.proofs.Records.Counts.{map_same}
 use Rattle.ckpt_core.proofs.Records.Grouped.{in_order-newest, put_last}
 use Rattle.ckpt_core.proofs.Records.GroupMoves.{pins_of-append, pins_of-none, pins_of-holds}
 use Rattle.ckpt_core.proofs.Using.Order.{from_holds, holds, use_of_record}

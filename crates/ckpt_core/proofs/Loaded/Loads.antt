@@ -1,29 +1,9 @@
 -- A record that is loaded: what is tested of it, and the state that has it.
-use Rattle.std.proofs.Common.{◌≡◌, ℕ, ◌<◌, Bool, true, false, not, ◌&&◌, leb, List, length, refl, sym, ap, subst, ◌∙◌, arith, Option, Some, None}
-use Rattle.std.specs.Prelude.{count_by, find}
-use Rattle.std.specs.Option.{is_some, option_map}
-use Rattle.std.proofs.lemmas.Bool.{both_ways, and_left, and_right, leb-false}
-use Rattle.ckpt_ids.specs.Ordered.{IsIn}
-use Rattle.ckpt_ids.specs.Records.{Record, Use, missing}
-use Rattle.ckpt_ids.proofs.CountLemmas.{count_by-none, count_by-all}
-use Rattle.ckpt_pending.proofs.FullLemmas.{missing_from_full}
-use Rattle.ckpt_pending.specs.Acknowledging.{IsPending, pending_record}
-use Rattle.ckpt_rules.specs.Trigger.{limit}
-use Rattle.ckpt_model.specs.declared.image.Saved.{Saved}
-use Rattle.ckpt_core.specs.declared.parts.Parts.{Parts}
-use Rattle.ckpt_model.specs.declared.reads.Live.{Live}
-use Rattle.ckpt_model.specs.Images.{record_in}
-use Rattle.ckpt_core.specs.Inside.Grouped.{records_of}
-use Rattle.ckpt_core.specs.Inside.Loading.{IsMade}
-use Rattle.ckpt_core.specs.Inside.Moving.{with_done}
-use Rattle.ckpt_core.specs.Inside.Parts.{records_in, state_of}
-use Rattle.ckpt_core.specs.Inside.SoundRecords.{HasRoom, NamesEachOnce}
-use Rattle.ckpt_model.specs.Soundness.{is_pending_checkpoint, IsRecord}
-use Rattle.ckpt_model.specs.Reads.{live_of}
-use Rattle.ckpt_model.specs.State.{Opening, is_checkpoint, is_done_checkpoint, is_pending}
+use Rattle.ckpt_core.proofs.Names.{◌≡◌, ℕ, ◌<◌, Bool, true, false, not, ◌&&◌, leb, List, length, refl, sym, ap, subst, ◌∙◌, arith, Option, Some, None, count_by, find, is_some, option_map, both_ways}
+use Rattle.ckpt_core.proofs.Names.{and_left, and_right, leb-false, IsIn, Record, Use, missing, count_by-none, count_by-all, missing_from_full, IsPending, pending_record, limit, Saved, Parts, Live}
+use Rattle.ckpt_core.proofs.Names.{record_in, records_of, IsMade, with_done, records_in, state_of, HasRoom, NamesEachOnce, is_pending_checkpoint, IsRecord, live_of, Opening, is_checkpoint}
+use Rattle.ckpt_core.proofs.Names.{is_done_checkpoint, is_pending, IsIn-from_find, fails-from_find, is_checkpoint-kind, is_savepoint-kind}
 use Rattle.ckpt_core.proofs.Reading.Live.{is_from}
-use Rattle.ckpt_model.proofs.Records.Counts.{IsIn-from_find, fails-from_find}
-use Rattle.ckpt_model.proofs.Records.Lists.{is_checkpoint-kind, is_savepoint-kind}
 use Rattle.ckpt_core.proofs.Records.Lookups.{AreGroups, count_by-records_of}
 
 -- its number

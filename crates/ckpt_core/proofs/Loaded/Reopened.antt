@@ -1,30 +1,12 @@
 -- A coordinator that is made from an image, step by step: what the state says about the parts, and which states are possible.
-use Rattle.std.proofs.Common.{◌≡◌, ◌≢◌, ℕ, ◌+◌, ◌-◌, ◌<◌, Bool, true, ◌||◌, List, [], ◌∷◌, ◌++◌, length, map, take, drop, get_or, refl, sym, ap, subst, ◌∙◌, inl, ⊎_elim, Option, Some, arith}
-use Rattle.std.proofs.lemmas.Bool.{both_ways}
-use Rattle.std.proofs.lemmas.List.{append_assoc, length-append, take-append-drop, take_more}
-use Rattle.ckpt_ids.specs.Configuration.{IsWithinLimits}
-use Rattle.ckpt_ids.specs.Ordered.{AreDistinct, IsIn}
-use Rattle.ckpt_ids.specs.Records.{Record, Use, is_present, uses}
-use Rattle.ckpt_ids.specs.Shapes.{IsShape}
-use Rattle.ckpt_ids.proofs.OrderedLemmas.{AreDistinct-apart, AreDistinct-left, AreDistinct-right, IsIn-append_cases, IsIn-append_left, IsIn-append_right, IsIn-from_in_order, IsIn-in_order, IsIn-map, IsIn-from_test}
-use Rattle.ckpt_outbox.specs.Queues.{Queues, is_in}
-use Rattle.ckpt_pending.specs.Acknowledging.{IsPending}
-use Rattle.ckpt_store.specs.Storing.{IsStored, Stored}
-use Rattle.ckpt_model.specs.declared.mode.Mode.TheVariants.{Running}
-use Rattle.ckpt_core.specs.declared.parts.Parts.{Parts}
-use Rattle.ckpt_model.specs.declared.image.Saved.{Saved}
-use Rattle.ckpt_model.specs.Images.{CanHold, HasSoundNumbers, record_in, state_in}
-use Rattle.ckpt_core.specs.Inside.Grouped.{grouped, with_pins}
-use Rattle.ckpt_core.specs.Inside.Loading.{AreFilesApart, emptied, with_more_waiting}
-use Rattle.ckpt_core.specs.Inside.Parts.{opening_of, records_in, state_of}
-use Rattle.ckpt_core.specs.Inside.SoundRecords.{Joins}
-use Rattle.ckpt_model.specs.Soundness.{AreSoundRecords, id_before}
-use Rattle.ckpt_model.specs.Refusals.{is_done_savepoint}
-use Rattle.ckpt_model.specs.State.{Opening, State}
-use Rattle.ckpt_model.specs.declared.image.Image.{Image}
+use Rattle.ckpt_core.proofs.Names.{◌≡◌, ◌≢◌, ℕ, ◌+◌, ◌-◌, ◌<◌, Bool, true, ◌||◌, List, [], ◌∷◌, ◌++◌, length, map, take, get_or, refl, sym, ap, subst, ◌∙◌, inl, ⊎_elim, Option, Some, arith, both_ways}
+use Rattle.ckpt_core.proofs.Names.{append_assoc, length-append, take-append-drop, take_more, IsWithinLimits, AreDistinct, IsIn, Record, Use, is_present, uses, IsShape, AreDistinct-apart}
+use Rattle.ckpt_core.proofs.Names.{AreDistinct-left, AreDistinct-right, IsIn-append_cases, IsIn-append_left, IsIn-append_right, IsIn-from_in_order, IsIn-in_order, IsIn-map, IsIn-from_test, Queues}
+use Rattle.ckpt_core.proofs.Names.{is_in, IsPending, IsStored, Stored, Running, Parts, Saved, CanHold, HasSoundNumbers, record_in, state_in, grouped, with_pins, AreFilesApart, emptied}
+use Rattle.ckpt_core.proofs.Names.{with_more_waiting, opening_of, records_in, state_of, Joins, AreSoundRecords, id_before, is_done_savepoint, Opening, State, Image, outbox_of, sound_from}
+use Rattle.std.proofs.Common.{drop}
 use Rattle.ckpt_core.proofs.Ending.Drops.{groups_of}
 use Rattle.ckpt_core.proofs.Loaded.Joining.{joins_from_sound, sound_front}
-use Rattle.ckpt_model.proofs.Records.Lists.{outbox_of, sound_from}
 use Rattle.ckpt_core.proofs.Records.Lookups.{done_in}
 
 -- what the parts have of the state that they stand for

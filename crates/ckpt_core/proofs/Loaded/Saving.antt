@@ -1,26 +1,9 @@
 -- What is saved of a live record is that record.
-use Rattle.std.proofs.Common.{rules, ◌≡◌, ℕ, zero, suc, ◌+◌, ◌≤◌, true, false, eqb, List, [], ◌∷◌, ◌++◌, map, take, add-one, arith, sym, ap, ◌∙◌, ⊎_elim, Option, Some, None}
-use Rattle.std.specs.Prelude.{count_by, find, slice_get, IsSome}
-use Rattle.std.specs.Option.{option_map}
-use Rattle.std.proofs.lemmas.Bool.{both_ways, eq-eqb, leb-true}
-use Rattle.std.proofs.lemmas.List.{take_all}
-use Rattle.ckpt_ids.specs.declared.ack.Metadata.{Metadata}
-use Rattle.ckpt_ids.specs.Ordered.{IsIn, IsInOrder}
-use Rattle.ckpt_ids.specs.Records.{Record, metadata_of}
-use Rattle.ckpt_ids.proofs.OrderedLemmas.{IsIn-append_cases, IsIn-from_in_order, IsIn-from_map}
-use Rattle.ckpt_pending.specs.Acknowledging.{IsPending}
-use Rattle.ckpt_registry.specs.Uses.{pins_by}
-use Rattle.ckpt_store.specs.Storing.{IsStored}
-use Rattle.ckpt_core.specs.declared.parts.Parts.{Parts}
-use Rattle.ckpt_model.specs.declared.reads.Live.{Live}
-use Rattle.ckpt_core.specs.Inside.Grouped.{grouped, with_pins}
-use Rattle.ckpt_core.specs.Inside.Parts.{AreSound, records_in, state_of}
-use Rattle.ckpt_model.specs.Reads.{live_of}
-use Rattle.ckpt_model.specs.Soundness.{id_before}
-use Rattle.ckpt_model.specs.State.{record_of}
+use Rattle.ckpt_core.proofs.Names.{rules, ◌≡◌, ℕ, zero, suc, ◌+◌, ◌≤◌, true, false, eqb, List, [], ◌∷◌, ◌++◌, map, take, add-one, arith, sym, ap, ◌∙◌, ⊎_elim, Option, Some, None, count_by, find}
+use Rattle.ckpt_core.proofs.Names.{slice_get, IsSome, option_map, both_ways, eq-eqb, leb-true, take_all, Metadata, IsIn, IsInOrder, Record, metadata_of, IsIn-append_cases, IsIn-from_in_order}
+use Rattle.ckpt_core.proofs.Names.{IsIn-from_map, IsPending, pins_by, IsStored, Parts, Live, grouped, with_pins, AreSound, records_in, state_of, live_of, id_before, record_of, IsIn-from_find}
 use Rattle.ckpt_core.proofs.Ending.Drops.{groups_of}
 use Rattle.ckpt_core.proofs.Reading.Live.{found_at, is_below, is_from, none_of, one_more, past, some_of}
-use Rattle.ckpt_model.proofs.Records.Counts.{IsIn-from_find}
 use Rattle.ckpt_core.proofs.Records.Pending.{find-from_IsIn}
 use Rattle.ckpt_core.proofs.Records.Lookups.{done_in}
 

@@ -1,19 +1,11 @@
 -- The uses of a record that is newer than all that have some, added one acknowledgement after the other.
-use Rattle.std.proofs.Common.{◌≡◌, ℕ, ◌<◌, ◌≤◌, true, false, eqb, List, [], ◌∷◌, ◌++◌, take, drop, refl, sym, ap, subst, ◌∙◌, inl, inr, ⊎_elim, arith}
-use Rattle.std.proofs.lemmas.List.{append-nil, append_assoc, take-append-drop}
-use Rattle.std.proofs.lemmas.List.Concat.{flat_map-append}
-use Rattle.std.proofs.lemmas.Bool.{both_ways}
-use Rattle.ckpt_ids.specs.declared.ack.Acked.{Acked}
+use Rattle.ckpt_core.proofs.Names.{◌≡◌, ℕ, ◌<◌, ◌≤◌, true, false, eqb, List, [], ◌∷◌, ◌++◌, take, refl, sym, ap, subst, ◌∙◌, inl, inr, ⊎_elim, arith, append-nil, append_assoc, take-append-drop}
+use Rattle.ckpt_core.proofs.Names.{flat_map-append, both_ways, Acked, AreInSubtaskOrder, acknowledges_before, IsAscendingSet, IsIn, ComesBefore, IsInOrder, in_order_once, Record, Use, Subtask, Pin}
+use Rattle.ckpt_core.proofs.Names.{count, use_before, count_by-append, subtasks_in_order, ComesBefore-at, IsIn-append_left, IsIn-append_cases, IsIn-from_flat_map, IsInOrder-append, HasNoUse}
+use Rattle.ckpt_core.proofs.Names.{uses_of_acks, uses_held}
+use Rattle.std.proofs.Common.{drop}
 use Rattle.ckpt_ids.specs.declared.numbers.Kind.TheVariants as kind
-use Rattle.ckpt_ids.specs.Acknowledged.{AreInSubtaskOrder, acknowledges_before, is_before}
-use Rattle.ckpt_ids.specs.Ascending.{IsAscendingSet}
-use Rattle.ckpt_ids.specs.Ordered.{IsIn, ComesBefore, IsInOrder, in_order_once}
-use Rattle.ckpt_ids.specs.Records.{Record, Use, Subtask, Pin, count, use_before}
-use Rattle.ckpt_ids.proofs.CountLemmas.{count_by-append}
-use Rattle.ckpt_ids.proofs.OrderLemmas.{subtasks_in_order}
-use Rattle.ckpt_ids.proofs.OrderedLemmas.{ComesBefore-at, IsIn-append_left, IsIn-append_cases, IsIn-from_flat_map, IsInOrder-append}
-use Rattle.ckpt_registry.specs.Uses.{HasNoUse}
-use Rattle.ckpt_core.specs.Inside.Loading.{uses_of_acks, uses_held}
+use Rattle.ckpt_ids.specs.Acknowledged.{is_before}
 use Rattle.ckpt_core.proofs.Using.Order.{earlier_record, from_holds, holds, in_order_once-itself, record_uses_in_order}
 
 -- an acknowledgement that came before is of another subtask

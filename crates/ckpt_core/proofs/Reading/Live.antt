@@ -1,22 +1,9 @@
 -- The live records by place: each is the first from the number after the one before.
-use Rattle.std.proofs.Common.{◌≡◌, ℕ, zero, suc, ◌+◌, ◌<◌, ◌≤◌, ◌^◌, Bool, true, false, cond, ltb, leb, List, [], ◌∷◌, ◌++◌, map, length, refl, sym, ap, subst, ◌∙◌, ⊎_elim, arith, Option, Some, None}
-use Rattle.std.specs.Prelude.{count_by, find, slice_get}
-use Rattle.std.specs.Option.{option_map}
-use Rattle.std.proofs.lemmas.Bool.{cases_Bool, both_ways, cond_both, ltb-true, ltb-false, leb-true, leb-false, lt-ltb, le-ltb}
-use Rattle.std.proofs.lemmas.Option.{slice_get_past}
-use Rattle.ckpt_ids.specs.Ordered.{IsIn, IsInOrder, in_order}
-use Rattle.ckpt_ids.specs.Records.{Record, Use}
-use Rattle.ckpt_ids.proofs.CountLemmas.{count_by_yes, count_by_no, count_by-none}
-use Rattle.ckpt_ids.proofs.OrderedLemmas.{ComesBefore-at, IsIn-append_left, IsIn-append_right, IsIn-append_cases, IsIn-map, IsIn-from_map, IsIn-in_order, IsIn-from_in_order, list_any-none}
-use Rattle.ckpt_ids.proofs.PlaceLemmas.{find-none}
-use Rattle.ckpt_model.specs.declared.reads.Live.{Live}
-use Rattle.ckpt_core.specs.declared.parts.Parts.{Parts}
-use Rattle.ckpt_core.specs.Inside.Grouped.{with_pins, grouped}
-use Rattle.ckpt_core.specs.Inside.Parts.{AreSound, records_in, state_of}
-use Rattle.ckpt_model.specs.Reads.{live_of, sooner}
-use Rattle.ckpt_model.specs.Soundness.{IsSound, id_before}
-use Rattle.ckpt_model.proofs.Records.Counts.{IsIn-from_find, fails-from_find}
-use Rattle.ckpt_model.proofs.Records.Replacing.{same_record}
+use Rattle.ckpt_core.proofs.Names.{◌≡◌, ℕ, zero, suc, ◌+◌, ◌<◌, ◌≤◌, ◌^◌, Bool, true, false, cond, ltb, leb, List, [], ◌∷◌, ◌++◌, map, length, refl, sym, ap, subst, ◌∙◌, ⊎_elim, arith, Option, Some}
+use Rattle.ckpt_core.proofs.Names.{None, count_by, find, slice_get, option_map, cases_Bool, both_ways, cond_both, ltb-true, ltb-false, leb-true, leb-false, lt-ltb, le-ltb, slice_get_past, IsIn}
+use Rattle.ckpt_core.proofs.Names.{IsInOrder, in_order, Record, Use, count_by_yes, count_by_no, count_by-none, ComesBefore-at, IsIn-append_left, IsIn-append_right, IsIn-append_cases, IsIn-map}
+use Rattle.ckpt_core.proofs.Names.{IsIn-from_map, IsIn-in_order, IsIn-from_in_order, list_any-none, find-none, Live, Parts, with_pins, grouped, AreSound, records_in, state_of, live_of, sooner}
+use Rattle.ckpt_core.proofs.Names.{IsSound, id_before, IsIn-from_find, fails-from_find, same_record}
 
 -- whether the number is at least this one
 abbrev pub is_from : ℕ → Record → Bool

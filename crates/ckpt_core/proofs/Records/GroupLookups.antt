@@ -1,23 +1,12 @@
 -- What is found in the records in rising number is found in the groups: done records, savepoints, the choice.
-use Rattle.std.proofs.Common.{◌≡◌, ℕ, suc, ◌+◌, ◌-◌, Bool, true, false, not, ◌&&◌, cond, eqb, List, [], ◌∷◌, ◌++◌, map, length, refl, sym, ap, subst, ◌∙◌, ⊎_elim, arith, Option, Some, None}
-use Rattle.std.specs.Prelude.{count_by, find, slice_get}
-use Rattle.std.specs.Option.{option_map, option_or}
-use Rattle.std.specs.List.{filter, list_any}
-use Rattle.std.proofs.lemmas.List.{append-nil}
-use Rattle.std.proofs.lemmas.List.Folds.{find-append}
-use Rattle.std.proofs.lemmas.List.Elements.{filter-append}
-use Rattle.std.proofs.lemmas.Bool.{cases_Bool, both_ways, eqb-true, and_parts, and_from, and_left, and_right, not_from_false, not_from_true}
+use Rattle.ckpt_core.proofs.Names.{◌≡◌, ℕ, suc, ◌+◌, ◌-◌, Bool, true, false, not, ◌&&◌, cond, eqb, List, [], ◌∷◌, ◌++◌, map, length, refl, sym, ap, subst, ◌∙◌, ⊎_elim, arith, Option, Some, None}
+use Rattle.ckpt_core.proofs.Names.{count_by, find, slice_get, option_map, option_or, filter, list_any, append-nil, find-append, filter-append, cases_Bool, both_ways, eqb-true, and_parts, and_from}
+use Rattle.ckpt_core.proofs.Names.{and_left, and_right, not_from_false, not_from_true, IsIn, IsInOrder, in_order, Record, Use, IsIn-append_cases, IsIn-append_right, IsIn-from_map, IsIn-in_order}
+use Rattle.ckpt_core.proofs.Names.{IsIn-from_in_order, list_any-from_IsIn, IsIn-from_list_any, filter-all, filter-none, id_before, is_pending, is_checkpoint, is_done_checkpoint, last_checkpoint}
+use Rattle.ckpt_core.proofs.Names.{with_pins, grouped, records_of, is_checkpoint-kind, is_savepoint-kind, count_by-none, count_by-same, count_by-all}
 use Rattle.ckpt_ids.specs.declared.numbers.Kind.TheVariants as kind
-use Rattle.ckpt_ids.specs.Ordered.{IsIn, IsInOrder, in_order}
-use Rattle.ckpt_ids.specs.Records.{Record, Use}
-use Rattle.ckpt_ids.proofs.OrderedLemmas.{IsIn-append_cases, IsIn-append_right, IsIn-from_map, IsIn-in_order, IsIn-from_in_order, list_any-from_IsIn, IsIn-from_list_any, filter-all, filter-none}
-use Rattle.ckpt_model.specs.Soundness.{id_before}
-use Rattle.ckpt_model.specs.State.{is_pending, is_checkpoint, is_done_checkpoint, last_checkpoint}
-use Rattle.ckpt_core.specs.Inside.Grouped.{with_pins, grouped, records_of}
-use Rattle.ckpt_model.proofs.Records.Lists.{is_checkpoint-kind, is_savepoint-kind}
 use Rattle.ckpt_core.proofs.Records.Grouped.{AreApart, in_order-from_apart, apart_left, apart_right, same_records, in_order-filter}
 use Rattle.ckpt_core.proofs.Records.Lookups.{AreGroups, has_number, find-records_of, find-map, count_by-records_of}
-use Rattle.ckpt_ids.proofs.CountLemmas.{count_by-none, count_by-same, count_by-all}
 
 -- the record of a number: pending, or a checkpoint, or a savepoint
 pub record_of-groups : (id : ℕ) (us : List Use) (pending checkpoints savepoints : List Record) → AreApart (grouped us pending checkpoints savepoints) →

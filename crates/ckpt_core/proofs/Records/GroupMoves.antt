@@ -1,17 +1,8 @@
 -- What a change of the parts does to the records in rising number, and to their uses.
-use Rattle.std.proofs.Common.{◌≡◌, ℕ, ◌<◌, Bool, true, false, ◌&&◌, cond, eqb, List, [], ◌∷◌, ◌++◌, map, refl, sym, ap, subst, ◌∙◌, inl, inr, ⊎_elim, arith}
-use Rattle.std.specs.List.{filter, flat_map}
-use Rattle.std.proofs.lemmas.List.{append-nil, map-append}
-use Rattle.std.proofs.lemmas.List.Elements.{filter-append}
-use Rattle.std.proofs.lemmas.List.Concat.{flat_map-append}
-use Rattle.std.proofs.lemmas.Bool.{cases_Bool, both_ways, eqb-true, eq-eqb, ne_eqb, and_parts, and_from, and_left}
-use Rattle.ckpt_ids.specs.Ascending.{IsAscendingSet}
-use Rattle.ckpt_ids.specs.Ordered.{IsIn, IsInOrder, in_order, in_order_once}
-use Rattle.ckpt_ids.specs.Records.{Record, Use, Subtask, Pin, use_before, uses, uses_of}
-use Rattle.ckpt_ids.proofs.OrderedLemmas.{IsIn-append_left, IsIn-map, IsIn-from_filter, IsInOrder-append, filter-none}
-use Rattle.ckpt_model.specs.Soundness.{id_before}
-use Rattle.ckpt_core.specs.Inside.Grouped.{is_pin, pins, pins_of, with_pins, grouped, records_of}
-use Rattle.ckpt_model.proofs.Records.Counts.{map_same}
+use Rattle.ckpt_core.proofs.Names.{◌≡◌, ℕ, ◌<◌, Bool, true, false, ◌&&◌, cond, eqb, List, [], ◌∷◌, ◌++◌, map, refl, sym, ap, subst, ◌∙◌, inl, inr, ⊎_elim, arith, filter, flat_map, append-nil}
+use Rattle.ckpt_core.proofs.Names.{map-append, filter-append, flat_map-append, cases_Bool, both_ways, eqb-true, eq-eqb, ne_eqb, and_parts, and_from, and_left, IsAscendingSet, IsIn, IsInOrder}
+use Rattle.ckpt_core.proofs.Names.{in_order, in_order_once, Record, Use, Subtask, Pin, use_before, uses, uses_of, IsIn-append_left, IsIn-map, IsIn-from_filter, IsInOrder-append, filter-none}
+use Rattle.ckpt_core.proofs.Names.{id_before, is_pin, pins, pins_of, with_pins, grouped, records_of, map_same}
 use Rattle.ckpt_core.proofs.Records.Grouped.{AreApart, in_order-filter, in_order-newest}
 use Rattle.ckpt_core.proofs.Using.Order.{holds, from_holds, holds_in_order, in_order_once-itself, earlier_record}
 

@@ -1,11 +1,7 @@
 -- Records put in rising number: what a change of the groups does to them.
-use Rattle.std.proofs.Common.{◌≡◌, ◌<◌, Bool, true, false, cond, ltb, List, [], ◌∷◌, ◌++◌, map, refl, sym, ap, subst, ◌∙◌, inl, inr, ⊎_elim, arith}
-use Rattle.std.specs.List.{filter}
-use Rattle.std.proofs.lemmas.Bool.{cases_Bool, lt-ltb, ltb-true, ltb-false, le-ltb}
-use Rattle.ckpt_ids.specs.Ordered.{IsIn, ComesBefore, IsInOrder, put, in_order}
-use Rattle.ckpt_ids.specs.Records.{Record}
-use Rattle.ckpt_ids.proofs.OrderedLemmas.{IsIn-append_left, IsIn-append_right, IsIn-append_cases, IsIn-from_map, IsIn-filter, IsIn-from_filter, ComesBefore-at, ComesBefore-from, IsInOrder-filter, IsIn-put, IsIn-put_cases, IsIn-in_order, IsIn-from_in_order}
-use Rattle.ckpt_model.specs.Soundness.{id_before}
+use Rattle.ckpt_core.proofs.Names.{◌≡◌, ◌<◌, Bool, true, false, cond, ltb, List, [], ◌∷◌, ◌++◌, map, refl, sym, ap, subst, ◌∙◌, inl, inr, ⊎_elim, arith, filter, cases_Bool, lt-ltb, ltb-true}
+use Rattle.ckpt_core.proofs.Names.{ltb-false, le-ltb, IsIn, ComesBefore, IsInOrder, put, in_order, Record, IsIn-append_left, IsIn-append_right, IsIn-append_cases, IsIn-from_map, IsIn-filter}
+use Rattle.ckpt_core.proofs.Names.{IsIn-from_filter, ComesBefore-at, ComesBefore-from, IsInOrder-filter, IsIn-put, IsIn-put_cases, IsIn-in_order, IsIn-from_in_order, id_before}
 
 -- no record has the number of x
 abbrev pub IsNew : Record → List Record → Type 0

@@ -1,20 +1,9 @@
 -- What is found in the records in rising number is found in the groups.
-use Rattle.std.proofs.Common.{◌≡◌, ℕ, suc, ◌+◌, Bool, true, false, ◌&&◌, cond, eqb, List, [], ◌∷◌, ◌++◌, map, length, refl, sym, ap, subst, ◌∙◌, inl, inr, ⊎_elim, Some, None}
-use Rattle.std.specs.Prelude.{count_by, find}
-use Rattle.std.specs.Option.{option_map}
-use Rattle.std.proofs.lemmas.Bool.{cases_Bool, both_ways, eqb-true, and_parts, and_left, not_from_false, not_from_true}
-use Rattle.std.proofs.lemmas.List.{length-append, length-map}
+use Rattle.ckpt_core.proofs.Names.{◌≡◌, ℕ, suc, ◌+◌, Bool, true, false, ◌&&◌, cond, eqb, List, [], ◌∷◌, ◌++◌, map, length, refl, sym, ap, subst, ◌∙◌, inl, inr, ⊎_elim, Some, None, count_by, find}
+use Rattle.ckpt_core.proofs.Names.{option_map, cases_Bool, both_ways, eqb-true, and_parts, and_left, not_from_false, not_from_true, length-append, length-map, IsIn, put, in_order, Record, Use}
+use Rattle.ckpt_core.proofs.Names.{IsIn-append_cases, IsIn-in_order, IsIn-from_in_order, list_any-none, find-none, id_before, is_pending, pending_of, with_pins, grouped, records_of, count_by-append}
+use Rattle.ckpt_core.proofs.Names.{count_by-map, count_by-in_order, count_by-same, IsIn-from_find, fails-from_find, find_agree}
 use Rattle.ckpt_ids.specs.declared.numbers.Kind.TheVariants as kind
-use Rattle.ckpt_ids.specs.Ordered.{IsIn, put, in_order}
-use Rattle.ckpt_ids.specs.Records.{Record, Use}
-use Rattle.ckpt_ids.proofs.OrderedLemmas.{IsIn-append_cases, IsIn-in_order, IsIn-from_in_order, list_any-none}
-use Rattle.ckpt_ids.proofs.PlaceLemmas.{find-none}
-use Rattle.ckpt_model.specs.Soundness.{id_before}
-use Rattle.ckpt_model.specs.State.{is_pending}
-use Rattle.ckpt_model.specs.Refusals.{pending_of}
-use Rattle.ckpt_core.specs.Inside.Grouped.{with_pins, grouped, records_of}
-use Rattle.ckpt_ids.proofs.CountLemmas.{count_by-append, count_by-map, count_by-in_order, count_by-same}
-use Rattle.ckpt_model.proofs.Records.Counts.{IsIn-from_find, fails-from_find, find_agree}
 use Rattle.ckpt_core.proofs.Records.Grouped.{AreApart}
 
 -- counts

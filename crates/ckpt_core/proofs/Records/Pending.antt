@@ -1,30 +1,10 @@
 -- The pending records in rising number: what is found, added, changed and taken out.
-use Rattle.std.proofs.Common.{◌≡◌, ℕ, zero, suc, ◌+◌, ◌<◌, Bool, true, false, not, cond, ltb, eqb, ◌&&◌, ◌||◌, List, [], ◌∷◌, ◌++◌, map, length, get_or, Some, refl, sym, ap, subst, ◌∙◌, inl, inr, ⊎_elim, arith}
-use Rattle.std.specs.Prelude.{count_by, find, filter}
-use Rattle.std.specs.List.{list_any, remove, slice_set}
-use Rattle.std.specs.Int.{from_bool}
-use Rattle.std.proofs.lemmas.Bool.{cases_Bool, both_ways, lt-ltb, ltb-true, eqb-true, eq-eqb, ne_eqb}
-use Rattle.std.proofs.lemmas.Bool.Decides.{nat_tests}
-use Rattle.std.proofs.lemmas.List.Folds.{list_any-append}
-use Rattle.std.proofs.lemmas.List.Sums.{sum_by-remove}
-use Rattle.std.proofs.lemmas.Option.{slice_get-get_or}
-use Rattle.ckpt_ids.specs.declared.subtask.SubtaskId.{SubtaskId}
-use Rattle.ckpt_ids.specs.Ordered.{IsIn, IsInOrder}
-use Rattle.ckpt_ids.specs.Places.{LiesAt}
-use Rattle.ckpt_ids.specs.Records.{Record, has_acknowledged, acknowledged}
-use Rattle.ckpt_ids.proofs.CountLemmas.{count_by-cons, count_by-append, count_by-map, count_by-same}
-use Rattle.ckpt_ids.proofs.OrderedLemmas.{IsIn-from_map, IsIn-from_filter, IsIn-append_cases, IsInOrder-append, IsInOrder-filter, IsInOrder-map, ComesBefore-at, filter-same, filter-filter}
-use Rattle.ckpt_ids.proofs.AscendingLemmas.{numbers_in_order}
-use Rattle.ckpt_ids.proofs.PlaceLemmas.{first_differs, get_or_any}
-use Rattle.ckpt_pending.specs.Acknowledging.{IsPending, without_ack}
-use Rattle.ckpt_pending.proofs.PendingLemmas.{without-with_ack}
-use Rattle.ckpt_store.specs.Storing.{has_id, id_of}
-use Rattle.ckpt_store.proofs.RowLemmas.{find-place, remove-place}
-use Rattle.ckpt_model.specs.State.{is_checkpoint}
-use Rattle.ckpt_model.specs.Soundness.{id_before}
-use Rattle.ckpt_core.specs.Inside.PendingRecords.{acked, retracted, AreKept}
-use Rattle.ckpt_model.proofs.Records.Counts.{map_itself}
-use Rattle.std.proofs.lemmas.Simd.{map-map}
+use Rattle.ckpt_core.proofs.Names.{◌≡◌, ℕ, zero, suc, ◌+◌, ◌<◌, Bool, true, false, not, cond, ltb, eqb, ◌&&◌, ◌||◌, List, [], ◌∷◌, ◌++◌, map, length, get_or, Some, refl, sym, ap, subst, ◌∙◌, inl, inr}
+use Rattle.ckpt_core.proofs.Names.{⊎_elim, arith, count_by, find, filter, list_any, remove, slice_set, from_bool, cases_Bool, both_ways, lt-ltb, ltb-true, eqb-true, eq-eqb, ne_eqb, nat_tests}
+use Rattle.ckpt_core.proofs.Names.{list_any-append, sum_by-remove, slice_get-get_or, SubtaskId, IsIn, IsInOrder, LiesAt, Record, has_acknowledged, acknowledged, count_by-cons, count_by-append}
+use Rattle.ckpt_core.proofs.Names.{count_by-map, count_by-same, IsIn-from_map, IsIn-from_filter, IsIn-append_cases, IsInOrder-append, IsInOrder-filter, IsInOrder-map, ComesBefore-at, filter-same}
+use Rattle.ckpt_core.proofs.Names.{filter-filter, numbers_in_order, first_differs, get_or_any, IsPending, without_ack, without-with_ack, has_id, id_of, find-place, remove-place, is_checkpoint}
+use Rattle.ckpt_core.proofs.Names.{id_before, acked, retracted, AreKept, map_itself, map-map}
 
 -- the record of this number changed
 abbrev pub changed : ℕ → (Record → Record) → List Record → List Record

@@ -1,53 +1,24 @@
 -- What a tick does to the parts is what it does to the state.
-use Rattle.std.proofs.Common.{◌≡◌, ℕ, ◌+◌, ◌<◌, ◌≤◌, Bool, true, false, not, ◌&&◌, leb, ltb, List, [], ◌++◌, map, max, length, refl, sym, ap, ◌∙◌, ⊎_elim, arith, None}
-use Rattle.std.specs.Prelude.{count_by}
-use Rattle.std.specs.List.{filter}
-use Rattle.std.specs.declared.vec.Vec.{Vec}
-use Rattle.std.specs.declared.alloc.Global.{Global}
-use Rattle.std.proofs.lemmas.Bool.{cases_Bool, both_ways, and_parts, false_from_ne_true}
-use Rattle.std.proofs.lemmas.List.{length-map}
-use Rattle.std.proofs.lemmas.List.Sums.{length-filter}
-use Rattle.std.proofs.lemmas.List.Filters.{length-filter_both}
+use Rattle.ckpt_core.proofs.Names.{◌≡◌, ℕ, ◌+◌, ◌<◌, ◌≤◌, Bool, true, false, not, ◌&&◌, leb, ltb, List, [], ◌++◌, map, max, length, refl, sym, ap, ◌∙◌, ⊎_elim, arith, None, count_by, filter, Vec}
+use Rattle.ckpt_core.proofs.Names.{Global, cases_Bool, both_ways, and_parts, false_from_ne_true, length-map, length-filter, length-filter_both, Reply, TickEnd, Answer, Done, IsIn, Record, uses}
+use Rattle.ckpt_core.proofs.Names.{is_present, IsIn-append_left, IsIn-append_right, IsIn-append_cases, IsIn-map, IsIn-from_map, IsIn-filter, IsIn-from_filter, IsIn-in_order, IsIn-from_in_order}
+use Rattle.ckpt_core.proofs.Names.{is_known, Hold, FailureCount, Moments, gap, Parts, Expiry, with_pins, grouped, answer_wants, may_want_memory, Answers, AreSound, AreTied, IsAccepted, is_noted}
+use Rattle.ckpt_core.proofs.Names.{records_in, state_of, IsSound, id_before, IsExpiry, is_late, late_in, Starts, held_at, State, drop, is_checkpoint, is_expired, Stepped, effect, start_or_hold, tick}
+use Rattle.ckpt_core.proofs.Names.{triggered, failed_over, dropped_by, count_by-le, Running, new_record, count_by-none, count_by-same, step_accepted}
 use Rattle.ckpt_ids.specs.declared.numbers.Kind.TheVariants as kind
 use Rattle.ckpt_ids.specs.declared.call.Call.TheVariants as call
-use Rattle.ckpt_ids.specs.declared.reply.Reply.{Reply}
 use Rattle.ckpt_ids.specs.declared.reply.Reply.TheVariants as reply
-use Rattle.ckpt_ids.specs.declared.reply.TickEnd.{TickEnd}
 use Rattle.ckpt_ids.specs.declared.reply.TickEnd.TheVariants as ends
-use Rattle.ckpt_ids.specs.declared.reply.Answer.{Answer}
-use Rattle.ckpt_ids.specs.declared.reply.Answer.TheVariants.{Done, Refused}
-use Rattle.ckpt_ids.specs.Ordered.{IsIn}
-use Rattle.ckpt_ids.specs.Records.{Record, uses, is_present}
-use Rattle.ckpt_ids.proofs.OrderedLemmas.{IsIn-append_left, IsIn-append_right, IsIn-append_cases, IsIn-map, IsIn-from_map, IsIn-filter, IsIn-from_filter, IsIn-in_order, IsIn-from_in_order}
-use Rattle.ckpt_outbox.specs.Queues.{is_known}
-use Rattle.ckpt_rules.specs.declared.hold.Hold.{Hold}
+use Rattle.ckpt_ids.specs.declared.reply.Answer.TheVariants.{Refused}
 use Rattle.ckpt_rules.specs.declared.hold.Hold.TheVariants as hold
-use Rattle.ckpt_rules.specs.FailureCount.{FailureCount}
-use Rattle.ckpt_rules.specs.Moments.{Moments}
 use Rattle.ckpt_rules.specs.Trigger as trigger
-use Rattle.ckpt_rules.specs.Trigger.{gap}
-use Rattle.ckpt_core.specs.declared.parts.Parts.{Parts}
-use Rattle.ckpt_core.specs.declared.triggers.Expiry.{Expiry}
-use Rattle.ckpt_core.specs.Inside.Grouped.{with_pins, grouped}
-use Rattle.ckpt_model.specs.Memory.{answer_wants, may_want_memory}
-use Rattle.ckpt_core.specs.Inside.Parts.{Answers, AreSound, AreTied, IsAccepted, is_noted, records_in, state_of}
-use Rattle.ckpt_model.specs.Soundness.{IsSound, id_before}
-use Rattle.ckpt_core.specs.Inside.Expiring.{IsExpiry, is_late, late_in}
-use Rattle.ckpt_core.specs.Inside.Starting.{Starts, held_at}
-use Rattle.ckpt_model.specs.State.{State, drop, is_checkpoint, is_expired}
-use Rattle.ckpt_model.specs.Steps.{Stepped, effect, start_or_hold, tick, triggered, failed_over, dropped_by}
-use Rattle.ckpt_model.proofs.Records.Counts.{count_by-le}
 use Rattle.ckpt_core.proofs.Ending.Counts.{few_pending}
 use Rattle.ckpt_core.proofs.Triggering.TriggerParts.{limit_bound}
-use Rattle.ckpt_model.specs.declared.mode.Mode.TheVariants.{Running}
 use Rattle.ckpt_core.proofs.Records.Grouped.{AreApart, apart_left, apart_between}
 use Rattle.ckpt_core.proofs.Records.Lookups.{AreGroups, count_by-records_of, one_of_number, done_in}
 use Rattle.ckpt_core.proofs.Records.GroupLookups.{pending_checkpoints-groups}
 use Rattle.ckpt_core.proofs.Ending.Drops.{apart_in, numbers, noted-from_IsIn, IsIn-from_noted}
-use Rattle.ckpt_model.proofs.Soundness.Triggers.{new_record}
 use Rattle.ckpt_core.proofs.Triggering.TickStates.{started, starts_as, starts_done, starts_unused, stepped, tick_fails, tick_goes, tick_starts, ticked}
-use Rattle.ckpt_ids.proofs.CountLemmas.{count_by-none, count_by-same}
-use Rattle.ckpt_model.proofs.Answering.StepCases.{step_accepted}
 
 -- the clock
 

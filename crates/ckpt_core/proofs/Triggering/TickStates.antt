@@ -1,37 +1,15 @@
 -- What a tick does to a state: a checkpoint is started first, and what has expired is dropped after.
-use Rattle.std.proofs.Common.{◌≡◌, ℕ, ◌+◌, ◌<◌, Bool, true, false, not, ◌&&◌, cond, ltb, leb, List, [], ◌∷◌, ◌++◌, map, refl, sym, ap, subst, ◌∙◌, ◌⊎◌, inl, inr, ⊎_elim, arith, None}
-use Rattle.std.specs.Prelude.{count_by}
-use Rattle.std.specs.List.{filter}
-use Rattle.std.proofs.lemmas.Bool.{cases_Bool, both_ways, and_parts, and_right, not_from_false, lt-ltb, false_from_ne_true, and_from}
-use Rattle.std.proofs.lemmas.List.{map-append}
-use Rattle.std.proofs.lemmas.List.Elements.{filter-append}
+use Rattle.ckpt_core.proofs.Names.{◌≡◌, ℕ, ◌+◌, ◌<◌, Bool, true, false, not, ◌&&◌, cond, ltb, leb, List, [], ◌∷◌, ◌++◌, map, refl, sym, ap, subst, ◌∙◌, ◌⊎◌, inl, inr, ⊎_elim, arith, None, count_by}
+use Rattle.ckpt_core.proofs.Names.{filter, cases_Bool, both_ways, and_parts, and_right, not_from_false, lt-ltb, false_from_ne_true, and_from, map-append, filter-append, Ticked, TickEnd, Answer, Done}
+use Rattle.ckpt_core.proofs.Names.{IsIn, IsInOrder, Record, Use, uses, uses_of, is_present, released, numbers_in_order, IsIn-append_left, IsIn-append_right, IsIn-append_cases, IsIn-flat_map}
+use Rattle.ckpt_core.proofs.Names.{IsIn-from_flat_map, IsInOrder-append, same_from_members, filter-all, IsIn-from_test, Hold, gap, State, is_checkpoint, is_pending, is_expired, drop, kept, unpinned}
+use Rattle.ckpt_core.proofs.Names.{pins_now, in_outbox, IsSound, id_before, is_late, late_in, Starts, held_at, Stepped, triggered, start_or_hold, after_expiry, tick, failed_over, pending_checkpoints}
+use Rattle.ckpt_core.proofs.Names.{dropped_by, count_by-filter, count_by-cons, count_by-same, map_itself, IsHeld, Holds, IsHeld-from_present, present-from_IsHeld, Holds-from_use, ascending-released}
+use Rattle.ckpt_core.proofs.Names.{before-from_released, after-from_released, IsIn-released, IsSoundOutbox, new_record, outbox_triggered, held-from_pins, pins_stay, pins_same}
 use Rattle.ckpt_ids.specs.declared.numbers.Kind.TheVariants as kind
-use Rattle.ckpt_ids.specs.declared.reply.Reply.TheVariants.{Ticked}
-use Rattle.ckpt_ids.specs.declared.reply.TickEnd.{TickEnd}
 use Rattle.ckpt_ids.specs.declared.reply.TickEnd.TheVariants as ends
-use Rattle.ckpt_ids.specs.declared.reply.Answer.{Answer}
-use Rattle.ckpt_ids.specs.declared.reply.Answer.TheVariants.{Done}
-use Rattle.ckpt_ids.specs.Ordered.{IsIn, IsInOrder}
-use Rattle.ckpt_ids.specs.Records.{Record, Use, uses, uses_of, is_present, released}
-use Rattle.ckpt_ids.proofs.AscendingLemmas.{numbers_in_order}
-use Rattle.ckpt_ids.proofs.OrderedLemmas.{IsIn-append_left, IsIn-append_right, IsIn-append_cases, IsIn-flat_map, IsIn-from_flat_map, IsInOrder-append, same_from_members, filter-all, IsIn-from_test}
-use Rattle.ckpt_rules.specs.declared.hold.Hold.{Hold}
 use Rattle.ckpt_rules.specs.declared.hold.Hold.TheVariants as hold
-use Rattle.ckpt_rules.specs.Trigger.{gap}
-use Rattle.ckpt_model.specs.State.{State, is_checkpoint, is_pending, is_expired, drop, kept, unpinned, pins_now, in_outbox}
-use Rattle.ckpt_model.specs.Soundness.{IsSound, id_before}
-use Rattle.ckpt_core.specs.Inside.Expiring.{is_late, late_in}
-use Rattle.ckpt_core.specs.Inside.Starting.{Starts, held_at}
-use Rattle.ckpt_model.specs.Steps.{Stepped, triggered, start_or_hold, after_expiry, tick, failed_over, pending_checkpoints, dropped_by}
-use Rattle.ckpt_registry.proofs.ListLemmas.{count_by-filter}
-use Rattle.ckpt_ids.proofs.CountLemmas.{count_by-cons, count_by-same}
-use Rattle.ckpt_model.proofs.Records.Counts.{map_itself}
-use Rattle.ckpt_model.proofs.Records.Present.{IsHeld, Holds, IsHeld-from_present, present-from_IsHeld, Holds-from_use}
-use Rattle.ckpt_model.proofs.Records.Released.{ascending-released, before-from_released, after-from_released, IsIn-released}
-use Rattle.ckpt_model.proofs.Records.Lists.{IsSoundOutbox}
-use Rattle.ckpt_model.proofs.Soundness.Triggers.{new_record, outbox_triggered, held-from_pins}
 use Rattle.ckpt_core.proofs.Ending.Drops.{drop_same}
-use Rattle.ckpt_model.proofs.Records.Pins.{pins_stay, pins_same}
 
 -- the records after a trigger and a drop
 

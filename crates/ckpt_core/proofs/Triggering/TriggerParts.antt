@@ -1,32 +1,13 @@
 -- What a trigger does to the parts is what it does to the state.
-use Rattle.std.proofs.Common.{◌≡◌, ℕ, ◌+◌, ◌<◌, ◌≤◌, Bool, true, false, not, ◌&&◌, cond, ltb, eqb, List, [], ◌∷◌, ◌++◌, map, length, refl, sym, ap, subst, ◌∙◌, ⊎_elim, arith, Option, Some, None, unwrap_or, max}
-use Rattle.std.specs.Prelude.{count_by}
-use Rattle.std.specs.List.{filter}
-use Rattle.std.specs.Vec.{vec_capacity}
+use Rattle.ckpt_core.proofs.Names.{◌≡◌, ℕ, ◌+◌, ◌<◌, ◌≤◌, Bool, true, false, not, ◌&&◌, cond, ltb, eqb, List, [], ◌∷◌, ◌++◌, map, length, refl, sym, ap, subst, ◌∙◌, ⊎_elim, arith, Option, Some, None}
+use Rattle.ckpt_core.proofs.Names.{unwrap_or, max, count_by, filter, vec_capacity, CheckpointId, append-nil, length-append, filter-append, cases_Bool, ne_eqb, eq-eqb, not_from_false, not_from_true}
+use Rattle.ckpt_core.proofs.Names.{Kind, ascending_set, IsIn, IsInOrder, in_order_once, Record, Use, Pin, use_before, uses, uses_of, IsIn-append_cases, IsIn-append_left, IsIn-map, IsIn-from_map}
+use Rattle.ckpt_core.proofs.Names.{IsIn-flat_map, IsIn-from_flat_map, IsIn-in_order, IsIn-in_order_once, IsIn-from_in_order_once, IsInOrder-in_order_once, same_from_members, filter-all, filter-none}
+use Rattle.ckpt_core.proofs.Names.{numbers_in_order, Parts, Configuration, IsWithinLimits, limit, State, is_pending, is_checkpoint, is_done_checkpoint, pins_now, files_of, chosen, choice_of, IsSound}
+use Rattle.ckpt_core.proofs.Names.{id_before, triggered, with_pins, grouped, records_of, state_of, records_in, AreTied, present_in, count_by-cons, ascending-pins, chosen_in}
 use Rattle.std.specs.Global.{Vec}
-use Rattle.ckpt_ids.specs.declared.numbers.CheckpointId.{CheckpointId}
-use Rattle.std.proofs.lemmas.List.{append-nil, length-append}
-use Rattle.std.proofs.lemmas.List.Elements.{filter-append}
-use Rattle.std.proofs.lemmas.Bool.{cases_Bool, ne_eqb, eq-eqb, not_from_false, not_from_true}
-use Rattle.ckpt_ids.specs.declared.numbers.Kind.{Kind}
-use Rattle.ckpt_ids.specs.Ascending.{ascending_set}
-use Rattle.ckpt_ids.specs.Ordered.{IsIn, IsInOrder, in_order_once}
-use Rattle.ckpt_ids.specs.Records.{Record, Use, Pin, use_before, uses, uses_of}
-use Rattle.ckpt_ids.proofs.OrderedLemmas.{IsIn-append_cases, IsIn-append_left, IsIn-map, IsIn-from_map, IsIn-flat_map, IsIn-from_flat_map, IsIn-in_order, IsIn-in_order_once, IsIn-from_in_order_once, IsInOrder-in_order_once, same_from_members, filter-all, filter-none}
-use Rattle.ckpt_ids.proofs.AscendingLemmas.{numbers_in_order}
-use Rattle.ckpt_core.specs.declared.parts.Parts.{Parts}
-use Rattle.ckpt_ids.specs.Configuration.{Configuration, IsWithinLimits}
-use Rattle.ckpt_rules.specs.Trigger.{limit}
-use Rattle.ckpt_model.specs.State.{State, is_pending, is_checkpoint, is_done_checkpoint, pins_now, files_of, chosen, choice_of}
-use Rattle.ckpt_model.specs.Soundness.{IsSound, id_before}
-use Rattle.ckpt_model.specs.Steps.{triggered}
-use Rattle.ckpt_core.specs.Inside.Grouped.{with_pins, grouped, records_of}
-use Rattle.ckpt_core.specs.Inside.Parts.{state_of, records_in, AreTied}
-use Rattle.ckpt_model.specs.Reads.{present_in}
-use Rattle.ckpt_ids.proofs.CountLemmas.{count_by-cons}
 use Rattle.ckpt_core.proofs.Using.Order.{holds, from_holds, use_of_record}
 use Rattle.ckpt_core.proofs.Records.GroupMoves.{trigger_groups, trigger_uses, uses_of-triggered}
-use Rattle.ckpt_model.proofs.Soundness.Triggers.{ascending-pins, chosen_in}
 
 -- every use is of a record with an earlier number
 pub older_uses : (p : Parts) → AreTied p → IsSound (state_of p) → (u : Use) → IsIn u p.registry → u.id < p.next

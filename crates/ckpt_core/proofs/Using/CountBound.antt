@@ -1,26 +1,9 @@
 -- A file's count is at most the number of holders, so far below what a counter holds.
-use Rattle.std.proofs.Common.{◌≡◌, ℕ, suc, ◌*◌, ◌<◌, ◌≤◌, Bool, true, false, ltb, eqb, List, [], ◌∷◌, map, length, refl, sym, ap, subst, ◌∙◌, inl, inr, ⊎_elim, arith}
-use Rattle.std.specs.Prelude.{sum}
-use Rattle.std.specs.List.{flat_map}
-use Rattle.std.proofs.lemmas.List.{length-map}
-use Rattle.std.proofs.lemmas.Bool.{cases_Bool, both_ways, ltb-true, eqb-true}
-use Rattle.ckpt_ids.specs.declared.ack.Acked.{Acked}
-use Rattle.ckpt_ids.specs.declared.subtask.SubtaskId.{SubtaskId}
-use Rattle.ckpt_ids.specs.Acknowledged.{is_before, acknowledges_before}
-use Rattle.ckpt_ids.specs.Ascending.{IsAscendingSet}
-use Rattle.ckpt_ids.specs.Ordered.{IsIn, ComesBefore, IsInOrder, IsStrictOrder}
-use Rattle.ckpt_ids.specs.Records.{Record, Use, Holder, Subtask, Pin, uses, uses_of, count}
-use Rattle.ckpt_ids.specs.Shapes.{subtasks}
-use Rattle.ckpt_ids.proofs.OrderedLemmas.{ComesBefore-at, IsIn-from_map, IsInOrder-map, in_tail}
-use Rattle.ckpt_ids.proofs.OrderLemmas.{subtasks_in_order}
-use Rattle.ckpt_ids.proofs.ShapeLemmas.{length-subtasks_from}
-use Rattle.ckpt_pending.proofs.SubtaskLemmas.{IsInOrder-subtasks, IsIn-subtasks}
-use Rattle.ckpt_core.specs.declared.parts.Parts.{Parts}
-use Rattle.ckpt_core.specs.Inside.Parts.{state_of, AreTied}
-use Rattle.ckpt_model.specs.State.{State}
-use Rattle.ckpt_model.specs.Soundness.{IsSound, IsRecord}
-use Rattle.ckpt_ids.proofs.CountLemmas.{count_by-append, count_by_no}
-use Rattle.ckpt_model.proofs.Records.Counts.{count_by_at_most_more}
+use Rattle.ckpt_core.proofs.Names.{◌≡◌, ℕ, suc, ◌*◌, ◌<◌, ◌≤◌, Bool, true, false, ltb, eqb, List, [], ◌∷◌, map, length, refl, sym, ap, subst, ◌∙◌, inl, inr, ⊎_elim, arith, sum, flat_map, length-map}
+use Rattle.ckpt_core.proofs.Names.{cases_Bool, both_ways, ltb-true, eqb-true, Acked, SubtaskId, acknowledges_before, IsAscendingSet, IsIn, ComesBefore, IsInOrder, IsStrictOrder, Record, Use, Holder}
+use Rattle.ckpt_core.proofs.Names.{Subtask, Pin, uses, uses_of, count, subtasks, ComesBefore-at, IsIn-from_map, IsInOrder-map, in_tail, subtasks_in_order, length-subtasks_from, IsInOrder-subtasks}
+use Rattle.ckpt_core.proofs.Names.{IsIn-subtasks, Parts, state_of, AreTied, State, IsSound, IsRecord, count_by-append, count_by_no, count_by_at_most_more}
+use Rattle.ckpt_ids.specs.Acknowledged.{is_before}
 use Rattle.ckpt_core.proofs.Using.Order.{holds}
 use Rattle.ckpt_core.proofs.Triggering.TriggerParts.{live_bound}
 

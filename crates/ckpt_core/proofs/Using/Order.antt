@@ -1,16 +1,9 @@
 -- The uses of sound records are in strict order, and what a change of the records does to them.
-use Rattle.std.proofs.Common.{◌≡◌, ℕ, ◌<◌, Bool, true, false, ◌&&◌, ◌||◌, cond, ltb, eqb, List, [], ◌∷◌, ◌++◌, map, refl, sym, ap, subst, ◌∙◌, inl, inr, ⊎_elim, arith}
-use Rattle.std.specs.List.{filter, flat_map}
-use Rattle.std.proofs.lemmas.List.Elements.{filter-append}
-use Rattle.std.proofs.lemmas.Bool.{cases_Bool, lt-ltb, ltb-true, eq-eqb, or_left, or_right, and_from}
-use Rattle.ckpt_ids.specs.declared.ack.Acked.{Acked}
-use Rattle.ckpt_ids.specs.Acknowledged.{acknowledges_before, AreInSubtaskOrder}
-use Rattle.ckpt_ids.specs.Ascending.{IsAscendingSet}
-use Rattle.ckpt_ids.specs.Ordered.{IsIn, IsInOrder, in_order_once}
-use Rattle.ckpt_ids.specs.Records.{Record, Use, Holder, Subtask, Pin, use_before, holder_before, same_holder, uses, uses_of}
-use Rattle.ckpt_ids.proofs.OrderedLemmas.{IsIn-append_cases, IsIn-from_map, IsIn-from_flat_map, ComesBefore-at, IsInOrder-append, IsInOrder-map, same_from_members, IsInOrder-in_order_once, IsIn-in_order_once, IsIn-from_in_order_once}
-use Rattle.ckpt_ids.proofs.OrderLemmas.{uses_in_order, same_subtask-Decides}
-use Rattle.ckpt_model.specs.Soundness.{id_before, IsRecord}
+use Rattle.ckpt_core.proofs.Names.{◌≡◌, ℕ, ◌<◌, Bool, true, false, ◌&&◌, ◌||◌, cond, ltb, eqb, List, [], ◌∷◌, ◌++◌, map, refl, sym, ap, subst, ◌∙◌, inl, inr, ⊎_elim, arith, filter, flat_map}
+use Rattle.ckpt_core.proofs.Names.{filter-append, cases_Bool, lt-ltb, ltb-true, eq-eqb, or_left, or_right, and_from, Acked, acknowledges_before, AreInSubtaskOrder, IsAscendingSet, IsIn, IsInOrder}
+use Rattle.ckpt_core.proofs.Names.{in_order_once, Record, Use, Holder, Subtask, Pin, use_before, holder_before, same_holder, uses, uses_of, IsIn-append_cases, IsIn-from_map, IsIn-from_flat_map}
+use Rattle.ckpt_core.proofs.Names.{ComesBefore-at, IsInOrder-append, IsInOrder-map, same_from_members, IsInOrder-in_order_once, IsIn-in_order_once, IsIn-from_in_order_once, uses_in_order}
+use Rattle.ckpt_core.proofs.Names.{same_subtask-Decides, id_before, IsRecord}
 
 -- an earlier record's uses come first
 pub earlier_record : (u v : Use) → u.id < v.id → use_before u v ≡ true
