@@ -1,17 +1,8 @@
 -- What one change of the counters does to the count of each file.
-use Rattle.std.proofs.Common.{◌≡◌, ℕ, zero, suc, ◌+◌, ◌<◌, ◌≤◌, ◌^◌, cond, eqb, ltb, nat_eq, List, [], ◌∷◌, ◌++◌, length, get_or, take, refl, sym, ap, ◌∙◌, ⊎_elim, arith, Option, Some, None, Result, Ok, Err, unwrap_or, is_some, IfOk, if◌then◌else◌}
-use Rattle.std.proofs.lemmas.Bool.{cases_eq, eq-eqb, eqb-true, ne_eqb, lt-ltb, le-ltb, cases_lt, cond-true, cond-false}
-use Rattle.std.proofs.lemmas.Option.{none-some, same_Some}
-use Rattle.std.proofs.lemmas.List.Sums.{sum_by_more, sum_by-take-le}
-use Rattle.std.specs.Result.{IsOk, OnOk}
-use Rattle.std.proofs.lemmas.Bool.{false≢true}
-use Rattle.std.specs.List.{position, slice_get}
-use Rattle.std.specs.Map.{lookup, keys_of, values_of}
-use Rattle.std.proofs.lemmas.List.Quantifiers.{position-Some}
-use Rattle.indexmap.specs.IndexMap.{get, keys, values}
-use Rattle.ckpt_ids.proofs.CountLemmas.{one_if-true, one_if-false, count_by_push}
-use Rattle.ckpt_registry.specs.Counters.{Counts, Released, counter, counted_once, AreInRange, AreLowered, AreReleased, HasRoom}
-use Rattle.ckpt_ids.specs.Counting.{one_if, times}
+use Rattle.ckpt_registry.proofs.Names.{◌≡◌, ℕ, zero, suc, ◌+◌, ◌<◌, ◌≤◌, ◌^◌, cond, eqb, ltb, nat_eq, List, [], ◌∷◌, ◌++◌, length, get_or, take, refl, sym, ap, ◌∙◌, ⊎_elim, arith, Option, Some, None}
+use Rattle.ckpt_registry.proofs.Names.{Result, Ok, Err, unwrap_or, is_some, IfOk, if◌then◌else◌, cases_eq, eq-eqb, eqb-true, ne_eqb, lt-ltb, le-ltb, cases_lt, cond-true, cond-false, none-some}
+use Rattle.ckpt_registry.proofs.Names.{same_Some, sum_by_more, sum_by-take-le, IsOk, OnOk, false≢true, position, slice_get, lookup, keys_of, values_of, position-Some, get, keys, values, one_if-true}
+use Rattle.ckpt_registry.proofs.Names.{one_if-false, count_by_push, Counts, Released, counter, counted_once, AreInRange, AreLowered, AreReleased, HasRoom, one_if, times}
 
 -- n has w at k, and else what m has
 abbrev pub Sets : Counts → Counts → ℕ → Option ℕ → Type 0

@@ -1,14 +1,7 @@
 -- How a record's list of files stands for its parts.
-use Rattle.std.proofs.Common.{◌≡◌, ℕ, zero, suc, ◌+◌, ◌-◌, ◌<◌, ◌≤◌, List, [], ◌∷◌, ◌++◌, length, get_or, take, drop, refl, sym, ap, subst, ◌∙◌, arith, append_assoc, length-append}
-use Rattle.std.specs.List.{between}
-use Rattle.std.proofs.lemmas.List.{append-nil, drop-drop, drop_at, get_or-take, get_or_default, length-take, take-append-le, take_all, take_at, take_more, take-take}
-use Rattle.std.proofs.lemmas.Slice.{between_from_start, between_is}
-use Rattle.std.proofs.Math.Seq.{take-add}
-use Rattle.ckpt_ids.specs.Ascending.{IsAscending}
-use Rattle.ckpt_ids.specs.Counting.{times}
-use Rattle.ckpt_ids.proofs.CountLemmas.{times-append}
-use Rattle.ckpt_registry.specs.declared.parts.Cut.{Cut}
-use Rattle.ckpt_registry.specs.Parts.{AreCut, IsCutAt, Part, files_in, files_of, parts_from}
+use Rattle.ckpt_registry.proofs.Names.{◌≡◌, ℕ, zero, suc, ◌+◌, ◌-◌, ◌<◌, ◌≤◌, List, [], ◌∷◌, ◌++◌, length, get_or, take, drop, refl, sym, ap, subst, ◌∙◌, arith, append_assoc, length-append, between}
+use Rattle.ckpt_registry.proofs.Names.{append-nil, drop-drop, drop_at, get_or-take, get_or_default, length-take, take-append-le, take_all, take_at, take_more, take-take, between_from_start}
+use Rattle.ckpt_registry.proofs.Names.{between_is, take-add, IsAscending, times, times-append, Cut, AreCut, IsCutAt, Part, files_in, files_of, parts_from}
 use Rattle.ckpt_registry.proofs.PartLemmas.{times_of_take}
 
 -- where the last of these parts ends, if the first begins here

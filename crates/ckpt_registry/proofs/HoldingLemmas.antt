@@ -1,21 +1,9 @@
 -- What a change of what one record holds does to the uses that the row stands for.
-use Rattle.std.proofs.Common.{◌≡◌, ℕ, ◌+◌, ◌<◌, ◌≤◌, Bool, true, false, not, cond, eqb, ltb, ◌&&◌, ◌||◌, length, get_or, take, List, [], ◌∷◌, ◌++◌, refl, sym, ap, subst, ◌∙◌, ⊎_elim, arith, count_by, ◌⊎◌, inl, inr}
-use Rattle.std.specs.List.{filter, flat_map}
-use Rattle.std.proofs.lemmas.Bool.{cases_Bool, cond-true, cond-false, cases_eq, eq-eqb, ne_eqb}
-use Rattle.std.proofs.lemmas.Bool.Decides.{nat_tests}
-use Rattle.std.proofs.lemmas.List.{append-nil, take_more}
-use Rattle.std.proofs.lemmas.List.Filters.{sum_by-filter_both}
-use Rattle.std.proofs.lemmas.List.Elements.{filter-append}
-use Rattle.std.proofs.lemmas.Grind.{flat_map-append}
-use Rattle.ckpt_ids.specs.Counting.{times}
-use Rattle.ckpt_ids.specs.Ordered.{IsIn}
-use Rattle.ckpt_ids.specs.Records.{Use, Subtask, count}
-use Rattle.ckpt_ids.proofs.CountLemmas.{count_by-append, count_by-map, times-append}
-use Rattle.ckpt_ids.proofs.OrderedLemmas.{IsIn-from_flat_map, IsIn-from_map, IsInOrder-filter, filter-all, filter-same, filter-none, filter-filter}
-use Rattle.ckpt_registry.specs.declared.holdings.Holding.{Holding}
-use Rattle.ckpt_registry.specs.Holdings.{Acknowledged, AreRising, Extends, parts_of, uses_by, uses_in}
-use Rattle.ckpt_registry.specs.Uses.{triples, is_owned, without, without_record}
-use Rattle.ckpt_registry.specs.Parts.{Part, files_in, files_of}
+use Rattle.ckpt_registry.proofs.Names.{◌≡◌, ℕ, ◌+◌, ◌<◌, ◌≤◌, Bool, true, false, not, cond, eqb, ltb, ◌&&◌, ◌||◌, length, get_or, take, List, [], ◌∷◌, ◌++◌, refl, sym, ap, subst, ◌∙◌, ⊎_elim, arith}
+use Rattle.ckpt_registry.proofs.Names.{count_by, ◌⊎◌, inl, inr, filter, flat_map, cases_Bool, cond-true, cond-false, cases_eq, eq-eqb, ne_eqb, nat_tests, append-nil, take_more, sum_by-filter_both}
+use Rattle.ckpt_registry.proofs.Names.{filter-append, flat_map-append, times, IsIn, Use, Subtask, count, count_by-append, count_by-map, times-append, IsIn-from_flat_map, IsIn-from_map}
+use Rattle.ckpt_registry.proofs.Names.{IsInOrder-filter, filter-all, filter-same, filter-none, filter-filter, Holding, Acknowledged, AreRising, Extends, parts_of, uses_by, uses_in, triples, is_owned}
+use Rattle.ckpt_registry.proofs.Names.{without, without_record, Part, files_in, files_of}
 use Rattle.ckpt_registry.proofs.ListLemmas.{count_by-filter, count_by-filter_le}
 
 abbrev pub number : Holding → ℕ

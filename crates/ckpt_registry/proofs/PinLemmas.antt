@@ -1,28 +1,11 @@
 -- What the pins of records come to, and how they change with the records.
-use Rattle.std.proofs.Common.{◌≡◌, ℕ, ◌+◌, ◌<◌, ◌≤◌, Bool, true, false, not, cond, eqb, ltb, List, [], ◌∷◌, ◌++◌, length, get_or, take, drop, set, refl, sym, ap, subst, ◌∙◌, inl, inr, ⊎_elim, arith, ◌||◌, append_assoc, length-append}
-use Rattle.std.specs.List.{filter}
-use Rattle.std.specs.Vec.{vec_capacity}
-use Rattle.std.proofs.lemmas.Bool.{cases_Bool, cond-true, cond-false}
-use Rattle.std.proofs.lemmas.Grind.{flat_map-append}
-use Rattle.std.proofs.lemmas.List.{append-nil, drop_at, drop_more, get_or_at, length-drop, take_at, take_more, take_more_set, get_or-drop, drop-set-lt, drop-drop}
-use Rattle.std.proofs.lemmas.List.{take-append-le}
-use Rattle.std.proofs.lemmas.List.Elements.{filter-append}
-use Rattle.std.proofs.lemmas.List.Sums.{sum_by-cons}
-use Rattle.ckpt_ids.specs.Counting.{one_if, times}
-use Rattle.ckpt_ids.specs.Ordered.{IsIn}
-use Rattle.ckpt_ids.specs.Records.{Use, Pin, Subtask, count, same_holder}
-use Rattle.ckpt_ids.proofs.ComparisonLemmas.{eqb_turned}
-use Rattle.ckpt_ids.proofs.CountLemmas.{count_by-append, count_by-map, times-append}
-use Rattle.ckpt_ids.proofs.OrderedLemmas.{IsIn-from_filter, IsIn-from_flat_map, IsIn-from_map, IsIn-get_or, IsIn-append_cases, filter-all, filter-none}
-use Rattle.ckpt_registry.specs.declared.holdings.Holding.{Holding}
-use Rattle.ckpt_registry.specs.declared.pins.FirstParts.{FirstParts}
-use Rattle.ckpt_registry.specs.declared.pins.Pinner.{Pinner}
-use Rattle.ckpt_registry.specs.declared.pins.Pins.{Pins}
-use Rattle.ckpt_registry.specs.declared.pins.Pins.TheVariants.{Record, Files}
-use Rattle.ckpt_registry.specs.Holdings.{Acknowledged, Extends, parts_of, uses_by, uses_in}
-use Rattle.ckpt_registry.specs.Pins.{AreKept, AreSettled, IsKept, IsSettled, each_file, first_of, is_named, own_files, own_in, own_of, parts_pinned, pinned_by, pins_in, pins_of_records}
-use Rattle.ckpt_registry.specs.Uses.{is_owned, triples, without}
-use Rattle.ckpt_registry.specs.Parts.{Part, files_in, files_of}
+use Rattle.ckpt_registry.proofs.Names.{◌≡◌, ℕ, ◌+◌, ◌<◌, ◌≤◌, Bool, true, false, not, cond, eqb, ltb, List, [], ◌∷◌, ◌++◌, length, get_or, take, drop, set, refl, sym, ap, subst, ◌∙◌, inl, inr, ⊎_elim}
+use Rattle.ckpt_registry.proofs.Names.{arith, ◌||◌, append_assoc, length-append, filter, vec_capacity, cases_Bool, cond-true, cond-false, flat_map-append, append-nil, drop_at, drop_more, get_or_at}
+use Rattle.ckpt_registry.proofs.Names.{length-drop, take_at, take_more, take_more_set, get_or-drop, drop-set-lt, drop-drop, take-append-le, filter-append, sum_by-cons, one_if, times, IsIn, Use, Pin}
+use Rattle.ckpt_registry.proofs.Names.{Subtask, count, same_holder, eqb_turned, count_by-append, count_by-map, times-append, IsIn-from_filter, IsIn-from_flat_map, IsIn-from_map, IsIn-get_or}
+use Rattle.ckpt_registry.proofs.Names.{IsIn-append_cases, filter-all, filter-none, Holding, FirstParts, Pinner, Pins, Record, Files, Acknowledged, Extends, parts_of, uses_by, uses_in, AreKept}
+use Rattle.ckpt_registry.proofs.Names.{AreSettled, IsKept, IsSettled, each_file, first_of, is_named, own_files, own_in, own_of, parts_pinned, pinned_by, pins_in, pins_of_records, is_owned, triples}
+use Rattle.ckpt_registry.proofs.Names.{without, Part, files_in, files_of}
 use Rattle.ckpt_registry.proofs.HoldingLemmas.{count-parts_of}
 use Rattle.ckpt_registry.proofs.ListLemmas.{times-ascending_set}
 use Rattle.ckpt_registry.proofs.PartLemmas.{times_of_take}

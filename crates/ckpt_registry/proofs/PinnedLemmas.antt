@@ -1,22 +1,10 @@
 -- What a record pins, computed from the uses.
-use Rattle.std.proofs.Common.{◌≡◌, ℕ, Bool, true, false, ◌&&◌, ◌||◌, eqb, ltb, List, [], ◌∷◌, ◌++◌, filter, map, refl, sym, ap, subst, ◌∙◌, inl, inr, ⊎_elim, arith}
-use Rattle.std.specs.List.Sorted.{IsPermutation, IsSorted}
-use Rattle.std.specs.List.Retain.{IsFiltered, DiffersFromLast}
-use Rattle.std.specs.Ordering.{nat_cmp}
-use Rattle.std.proofs.lemmas.Bool.{and_parts, cases_Bool, both_ways, eqb-true, ltb-true}
-use Rattle.ckpt_ids.specs.Ascending.{IsAscendingSet, ascending, ascending_set}
-use Rattle.ckpt_ids.specs.Ordered.{IsIn, IsInOrder}
-use Rattle.ckpt_ids.specs.Records.{Use, Holder, Subtask, Pin, holder_before, same_holder, use_before}
-use Rattle.ckpt_ids.proofs.AscendingLemmas.{numbers_in_order}
-use Rattle.ckpt_ids.proofs.OrderLemmas.{uses_in_order}
-use Rattle.ckpt_ids.proofs.OrderedLemmas.{ComesBefore-at, ComesBefore-from, IsIn-append_left, IsIn-append_right, IsIn-append_cases, IsIn-filter, IsIn-flat_map, IsIn-from_filter, IsIn-from_flat_map, IsIn-from_map, IsIn-from_in_order_once, IsIn-in_order_once, IsIn-map, IsInOrder-filter, IsInOrder-in_order_once, same_from_members}
-use Rattle.ckpt_ids.proofs.SetLemmas.{ascending-from_dedup}
-use Rattle.ckpt_registry.specs.declared.pins.Pinner.{Pinner}
-use Rattle.ckpt_registry.specs.Holdings.{Acknowledged, uses_in}
-use Rattle.ckpt_registry.specs.Pins.{each_file, named_by, own_files, parts_pinned, pinned_by, pins_in}
-use Rattle.ckpt_registry.specs.Sound.{in_use, stored}
-use Rattle.ckpt_registry.specs.Uses.{pins_by, triples}
-use Rattle.ckpt_registry.specs.Parts.{files_in}
+use Rattle.ckpt_registry.proofs.Names.{◌≡◌, ℕ, Bool, true, false, ◌&&◌, ◌||◌, eqb, ltb, List, [], ◌∷◌, ◌++◌, filter, map, refl, sym, ap, subst, ◌∙◌, inl, inr, ⊎_elim, arith, IsPermutation, IsSorted}
+use Rattle.ckpt_registry.proofs.Names.{IsFiltered, DiffersFromLast, nat_cmp, and_parts, cases_Bool, both_ways, eqb-true, ltb-true, IsAscendingSet, ascending, ascending_set, IsIn, IsInOrder, Use}
+use Rattle.ckpt_registry.proofs.Names.{Holder, Subtask, Pin, holder_before, same_holder, use_before, numbers_in_order, uses_in_order, ComesBefore-at, ComesBefore-from, IsIn-append_left}
+use Rattle.ckpt_registry.proofs.Names.{IsIn-append_right, IsIn-append_cases, IsIn-filter, IsIn-flat_map, IsIn-from_filter, IsIn-from_flat_map, IsIn-from_map, IsIn-from_in_order_once}
+use Rattle.ckpt_registry.proofs.Names.{IsIn-in_order_once, IsIn-map, IsInOrder-filter, IsInOrder-in_order_once, same_from_members, ascending-from_dedup, Pinner, Acknowledged, uses_in, each_file}
+use Rattle.ckpt_registry.proofs.Names.{named_by, own_files, parts_pinned, pinned_by, pins_in, in_use, stored, pins_by, triples, files_in}
 use Rattle.ckpt_registry.proofs.PinLemmas.{uses_in-holder}
 
 abbrev pins_it : ℕ → Use → Bool

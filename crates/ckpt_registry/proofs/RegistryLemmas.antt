@@ -1,38 +1,19 @@
 -- How a change of the parts changes the uses that a registry stands for.
-use Rattle.std.proofs.Common.{◌≡◌, ℕ, ◌+◌, ◌-◌, ◌<◌, ◌≤◌, ◌^◌, Bool, true, false, not, eqb, ltb, ◌&&◌, ◌||◌, List, [], ◌∷◌, ◌++◌, map, length, refl, sym, ap, subst, ◌∙◌, inl, inr, ⊎_elim, arith, count_by, Some, unwrap_or}
-use Rattle.std.specs.List.{filter, IsDistinct, AllByRecursion}
-use Rattle.std.proofs.lemmas.List.{length-map}
-use Rattle.std.proofs.lemmas.Option.{none-some}
-use Rattle.std.specs.List.Sorted.{IsPermutation, IsSorted}
-use Rattle.std.specs.Ordering.{nat_cmp}
-use Rattle.std.proofs.lemmas.List.Sorted.{sum_by-IsPermutation}
-use Rattle.std.specs.Map.{lookup, keys_of}
-use Rattle.std.proofs.lemmas.Bool.{and_parts, cases_Bool, cases_lt, both_ways, cond-true, cond-false, ltb-true, ltb-false, lt-ltb, le-ltb, eq-eqb, eqb-true, eqb-false, not-true}
-use Rattle.std.proofs.Math.Bool.{or-false}
-use Rattle.std.proofs.lemmas.List.Elements.{filter-append}
-use Rattle.std.proofs.lemmas.Map.Keys.{IsDistinct-head, IsDistinct-tail}
-use Rattle.indexmap.specs.IndexMap.{index_map_len, IsUnique}
-use Rattle.ckpt_ids.specs.Ordered.{IsIn, IsInOrder, in_order_once, AreDistinct}
-use Rattle.ckpt_ids.specs.Ascending.{IsAscending, ascending_set}
-use Rattle.ckpt_ids.specs.declared.subtask.SubtaskId.{SubtaskId}
-use Rattle.ckpt_ids.specs.Records.{Use, Holder, Subtask, Pin, count, is_present, released, same_holder, use_before}
-use Rattle.ckpt_ids.proofs.OrderedLemmas.{IsIn-append_left, IsIn-append_cases, IsIn-map, IsIn-from_map, IsIn-filter, IsIn-from_filter, IsIn-in_order_once, AreDistinct-from_order, IsIn-from_in_order_once, IsInOrder-in_order_once, IsInOrder-filter, same_from_members, filter-same, filter-filter}
-use Rattle.ckpt_ids.proofs.AscendingLemmas.{numbers_in_order, IsAscending-from_sorted, set-from_distinct}
-use Rattle.ckpt_ids.proofs.OrderLemmas.{uses_in_order}
-use Rattle.ckpt_registry.specs.Counters.{Counts, counter, counted_once, AreInRange}
-use Rattle.ckpt_registry.specs.declared.pins.Pinner.{Pinner}
-use Rattle.ckpt_registry.specs.Holdings.{Acknowledged, AreRising, Extends, parts_of, uses_in}
-use Rattle.ckpt_registry.specs.Pins.{AreKept, IsKept, each_file, own_files, pinned_by, pins_in, pins_of_records}
-use Rattle.ckpt_registry.specs.Sound.{stored, in_use, AreCounted, StandsOnce, IsSound}
-use Rattle.ckpt_registry.specs.Uses.{IsEachOnce, HasNoUse, triples, files_by, is_owned, is_ended, without, after_end}
-use Rattle.ckpt_registry.specs.Parts.{files_in}
+use Rattle.ckpt_registry.proofs.Names.{◌≡◌, ℕ, ◌+◌, ◌-◌, ◌<◌, ◌≤◌, ◌^◌, Bool, true, false, not, eqb, ltb, ◌&&◌, ◌||◌, List, [], ◌∷◌, ◌++◌, map, length, refl, sym, ap, subst, ◌∙◌, inl, inr, ⊎_elim}
+use Rattle.ckpt_registry.proofs.Names.{arith, count_by, Some, unwrap_or, filter, IsDistinct, AllByRecursion, length-map, none-some, IsPermutation, IsSorted, nat_cmp, sum_by-IsPermutation, lookup}
+use Rattle.ckpt_registry.proofs.Names.{keys_of, and_parts, cases_Bool, cases_lt, both_ways, cond-true, cond-false, ltb-true, ltb-false, lt-ltb, le-ltb, eq-eqb, eqb-true, eqb-false, not-true, or-false}
+use Rattle.ckpt_registry.proofs.Names.{filter-append, IsDistinct-head, IsDistinct-tail, index_map_len, IsUnique, IsIn, IsInOrder, in_order_once, AreDistinct, IsAscending, ascending_set, SubtaskId}
+use Rattle.ckpt_registry.proofs.Names.{Use, Holder, Subtask, Pin, count, is_present, released, same_holder, use_before, IsIn-append_left, IsIn-append_cases, IsIn-map, IsIn-from_map, IsIn-filter}
+use Rattle.ckpt_registry.proofs.Names.{IsIn-from_filter, IsIn-in_order_once, AreDistinct-from_order, IsIn-from_in_order_once, IsInOrder-in_order_once, IsInOrder-filter, same_from_members, filter-same}
+use Rattle.ckpt_registry.proofs.Names.{filter-filter, numbers_in_order, IsAscending-from_sorted, set-from_distinct, uses_in_order, Counts, counter, counted_once, AreInRange, Pinner, Acknowledged}
+use Rattle.ckpt_registry.proofs.Names.{AreRising, Extends, parts_of, uses_in, AreKept, IsKept, each_file, own_files, pinned_by, pins_in, pins_of_records, stored, in_use, AreCounted, StandsOnce}
+use Rattle.ckpt_registry.proofs.Names.{IsSound, IsEachOnce, HasNoUse, triples, files_by, is_owned, is_ended, without, after_end, files_in, count_by-cons, count_by-append, count_by-map}
+use Rattle.ckpt_registry.proofs.Names.{counted-from_IsIn, IsIn-from_counted, times-from_IsIn, times_at_most_once, AreDistinct-from_times, IsIn-from_times, one_if, times}
 use Rattle.ckpt_registry.proofs.PinLemmas.{pins_in-extended, pins_in-holder, pins_in-push, uses_in-holder}
 use Rattle.ckpt_registry.proofs.SoundLemmas.{AreCounted-acknowledged, AreCounted-kept, AreCounted-pushed, count-stored, is_present-stored}
 use Rattle.ckpt_registry.proofs.HoldingLemmas.{count-used_by}
 use Rattle.ckpt_registry.proofs.CounterLemmas.{AreInRange-unchanged, counter-unchanged, get-from_counter, counted_once-above, counted_once-zero, counted_once-le, above_from_counted_once, zero_from_counted_once}
-use Rattle.ckpt_ids.proofs.CountLemmas.{count_by-cons, count_by-append, count_by-map, counted-from_IsIn, IsIn-from_counted, times-from_IsIn, times_at_most_once, AreDistinct-from_times, IsIn-from_times}
 use Rattle.ckpt_registry.proofs.ListLemmas.{count_by-in_order_once, in_order_once-filter, count_by-added, in_order_once-added, count_by-filtered}
-use Rattle.ckpt_ids.specs.Counting.{one_if, times}
 
 -- files and their uses
 

@@ -1,19 +1,8 @@
 -- What the counters say of the uses, and that it still holds when records are removed.
-use Rattle.std.proofs.Common.{◌≡◌, ℕ, ◌+◌, ◌<◌, ◌≤◌, ◌^◌, not, ltb, List, [], ◌∷◌, ◌++◌, refl, sym, ap, subst, ◌∙◌, ⊎_elim, arith, eqb}
-use Rattle.std.specs.List.{filter}
-use Rattle.std.proofs.lemmas.Bool.{cases_lt, lt-ltb, le-ltb}
-use Rattle.std.proofs.lemmas.List.{append-nil}
-use Rattle.ckpt_ids.specs.Counting.{times}
-use Rattle.ckpt_ids.specs.Records.{Use, Pin, count, is_present}
-use Rattle.ckpt_ids.proofs.CountLemmas.{count_by-append}
-use Rattle.ckpt_registry.specs.declared.holdings.Holding.{Holding}
-use Rattle.ckpt_registry.specs.declared.pins.Pinner.{Pinner}
-use Rattle.ckpt_registry.specs.Counters.{Counts, counter, counted_once, AreInRange}
-use Rattle.ckpt_registry.specs.Holdings.{Acknowledged, AreRising, Extends, parts_of, uses_in}
-use Rattle.ckpt_registry.specs.Pins.{AreKept, AreSettled, IsKept, is_named, own_files, own_in, own_of, pinned_by, pins_in, pins_of_records}
-use Rattle.ckpt_registry.specs.Sound.{AreCounted, stored}
-use Rattle.ckpt_registry.specs.Uses.{is_owned, triples, without, without_record}
-use Rattle.ckpt_registry.specs.Parts.{files_in}
+use Rattle.ckpt_registry.proofs.Names.{◌≡◌, ℕ, ◌+◌, ◌<◌, ◌≤◌, ◌^◌, not, ltb, List, [], ◌∷◌, ◌++◌, refl, sym, ap, subst, ◌∙◌, ⊎_elim, arith, eqb, filter, cases_lt, lt-ltb, le-ltb, append-nil, times}
+use Rattle.ckpt_registry.proofs.Names.{Use, Pin, count, is_present, count_by-append, Holding, Pinner, Counts, counter, counted_once, AreInRange, Acknowledged, AreRising, Extends, parts_of, uses_in}
+use Rattle.ckpt_registry.proofs.Names.{AreKept, AreSettled, IsKept, is_named, own_files, own_in, own_of, pinned_by, pins_in, pins_of_records, AreCounted, stored, is_owned, triples, without}
+use Rattle.ckpt_registry.proofs.Names.{without_record, files_in}
 use Rattle.ckpt_registry.proofs.CounterLemmas.{counted_once-above, counted_once-zero}
 use Rattle.ckpt_registry.proofs.HoldingLemmas.{has_id, parts_in}
 use Rattle.ckpt_registry.proofs.ListLemmas.{count_by-filter_le}
