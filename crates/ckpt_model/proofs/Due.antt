@@ -1,21 +1,9 @@
 -- When a tick may trigger, as far as the interval and the pause decide.
-use Rattle.std.proofs.Common.{◌≡◌, ℕ, ◌+◌, ◌<◌, ◌≤◌, max, Bool, false, ◌&&◌, cond, ltb, leb, refl, arith, Option, None}
-use Rattle.std.specs.Prelude.{count_by, ⊤}
-use Rattle.std.proofs.lemmas.Bool.{cond_both, ltb-true, ltb-false}
-use Rattle.ckpt_ids.specs.declared.call.Call.TheVariants.{Tick}
-use Rattle.ckpt_ids.specs.declared.reply.Refusal.{Refusal}
-use Rattle.ckpt_ids.specs.declared.reply.Answer.{Answer}
-use Rattle.ckpt_ids.specs.declared.reply.Answer.TheVariants.{Refused, Done}
-use Rattle.ckpt_ids.specs.declared.reply.Reply.TheVariants.{Ticked}
+use Rattle.ckpt_model.proofs.Names.{◌≡◌, ℕ, ◌+◌, ◌<◌, ◌≤◌, max, Bool, false, ◌&&◌, cond, ltb, leb, refl, arith, Option, None, count_by, ⊤, cond_both, ltb-true, ltb-false, Tick, Refusal, Answer}
+use Rattle.ckpt_model.proofs.Names.{Refused, Done, Ticked, Configuration, Record, Hold, Interval, AtOnce, Pause, Go, hold, limit, pause_ends, NoneIsEarlyFrom, NoneTriggersBefore, next_due}
+use Rattle.ckpt_model.proofs.Names.{triggered_one, was_early, State, drop, is_checkpoint, is_expired, Stepped, after_expiry, dropped_by, effect, failed_over, pending_checkpoints, start_or_hold, step}
+use Rattle.ckpt_model.proofs.Names.{tick}
 use Rattle.ckpt_ids.specs.declared.reply.TickEnd.TheVariants as end
-use Rattle.ckpt_ids.specs.Configuration.{Configuration}
-use Rattle.ckpt_ids.specs.Records.{Record}
-use Rattle.ckpt_rules.specs.declared.hold.Hold.{Hold}
-use Rattle.ckpt_rules.specs.declared.hold.Hold.TheVariants.{Interval, AtOnce, Pause, Go}
-use Rattle.ckpt_rules.specs.Trigger.{hold, limit, pause_ends}
-use Rattle.ckpt_model.specs.Reads.{NoneIsEarlyFrom, NoneTriggersBefore, next_due, triggered_one, was_early}
-use Rattle.ckpt_model.specs.State.{State, drop, is_checkpoint, is_expired}
-use Rattle.ckpt_model.specs.Steps.{Stepped, after_expiry, dropped_by, effect, failed_over, pending_checkpoints, start_or_hold, step, tick}
 use Rattle.ckpt_model.proofs.Answering.StepCases.{step_by}
 
 -- what each hold says about the moment

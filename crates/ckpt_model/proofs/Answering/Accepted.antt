@@ -1,20 +1,11 @@
 -- What is known of a call that is not refused: no row of the table of refusals holds.
-use Rattle.std.proofs.Common.{◌≡◌, ℕ, ◌+◌, ◌<◌, ◌≤◌, ◌^◌, Bool, true, false, not, ltb, leb, eqb, List, [], ◌∷◌, ◌++◌, length, refl, sym, ap, ◌∙◌}
-use Rattle.std.specs.Prelude.{find, Option, Some, None}
-use Rattle.std.specs.List.{list_any}
-use Rattle.std.proofs.lemmas.Bool.{both_ways, not-false, leb-false, ltb-false, lt-leb, le-ltb}
-use Rattle.ckpt_ids.specs.declared.subtask.SubtaskId.{SubtaskId}
-use Rattle.ckpt_ids.specs.declared.call.Target.{Target}
+use Rattle.ckpt_model.proofs.Names.{◌≡◌, ℕ, ◌+◌, ◌<◌, ◌≤◌, ◌^◌, Bool, true, false, not, ltb, leb, eqb, List, [], ◌∷◌, ◌++◌, length, refl, sym, ap, ◌∙◌, find, Option, Some, None, list_any, both_ways}
+use Rattle.ckpt_model.proofs.Names.{not-false, leb-false, ltb-false, lt-leb, le-ltb, SubtaskId, Target, Tick, Savepoint, Ack, Decline, Dispose, Restore, Cancel, Deleted, Undeleted, Refusal}
+use Rattle.ckpt_model.proofs.Names.{MomentTooLarge, NotRunning, TooManyFiles, RepeatedFile, UnknownCheckpoint, UnknownSubtask, AlreadyAcknowledged, NameTaken, FileGone, NoSuchSavepoint, InUse}
+use Rattle.ckpt_model.proofs.Names.{TooManySavepoints, NotTaken, IdsUsedUp, Record, uses, is_present, has_acknowledged, is_subtask, Mode, Running, Failed, Cancelled, State, is_known, refusal}
+use Rattle.ckpt_model.proofs.Names.{refuse_if, first_some, is_running, is_cancelled, has_repeats, pending_of, is_done_savepoint, savepoints, was_not_given, is_foreign, is_repeat, named, where_pending}
+use Rattle.ckpt_model.proofs.Names.{is_number}
 use Rattle.ckpt_ids.specs.declared.call.Target.TheVariants as target
-use Rattle.ckpt_ids.specs.declared.call.Call.TheVariants.{Tick, Savepoint, Ack, Decline, Dispose, Restore, Cancel, Deleted, Undeleted}
-use Rattle.ckpt_ids.specs.declared.reply.Refusal.{Refusal}
-use Rattle.ckpt_ids.specs.declared.reply.Refusal.TheVariants.{MomentTooLarge, NotRunning, TooManyFiles, RepeatedFile, UnknownCheckpoint, UnknownSubtask, AlreadyAcknowledged, NameTaken, FileGone, NoSuchSavepoint, InUse, TooManySavepoints, NotTaken, IdsUsedUp}
-use Rattle.ckpt_ids.specs.Records.{Record, uses, is_present, has_acknowledged}
-use Rattle.ckpt_ids.specs.Shapes.{is_subtask}
-use Rattle.ckpt_model.specs.declared.mode.Mode.{Mode}
-use Rattle.ckpt_model.specs.declared.mode.Mode.TheVariants.{Running, Failed, Cancelled}
-use Rattle.ckpt_model.specs.State.{State, is_known}
-use Rattle.ckpt_model.specs.Refusals.{refusal, refuse_if, first_some, is_running, is_cancelled, has_repeats, pending_of, is_done_savepoint, savepoints, was_not_given, is_foreign, is_repeat, named, where_pending, is_number}
 
 -- there is none
 abbrev IsNone : {X : Type 0} → Option X → Type 0

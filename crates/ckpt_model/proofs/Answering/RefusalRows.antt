@@ -1,7 +1,5 @@
 -- The rows of the table of refusals, one after the other.
-use Rattle.std.proofs.Common.{◌≡◌, List, [], ◌∷◌, ◌++◌, refl, sym, ap, ◌∙◌, Option, Some, None}
-use Rattle.ckpt_ids.specs.declared.reply.Refusal.{Refusal}
-use Rattle.ckpt_model.specs.Refusals.{first_some}
+use Rattle.ckpt_model.proofs.Names.{◌≡◌, List, [], ◌∷◌, ◌++◌, refl, sym, ap, ◌∙◌, Option, Some, None, Refusal, first_some}
 
 -- the row that holds decides
 pub row_holds : (why : Refusal) (row : Option Refusal) (rows : List (Option Refusal)) → Some why ≡ row → Some why ≡ first_some (row ∷ rows)

@@ -1,16 +1,6 @@
 -- A step is a refusal, or the effect of the call.
-use Rattle.std.proofs.Common.{◌≡◌, ℕ, max, Bool, true, false, List, refl, ap, ◌∙◌, Option, Some, None}
-use Rattle.std.proofs.lemmas.Bool.{both_ways}
-use Rattle.ckpt_ids.specs.declared.subtask.SubtaskId.{SubtaskId}
-use Rattle.ckpt_ids.specs.declared.call.Call.{Call}
-use Rattle.ckpt_ids.specs.declared.call.Call.TheVariants.{Ack}
-use Rattle.ckpt_ids.specs.Records.{Record}
-use Rattle.ckpt_ids.specs.declared.reply.Refusal.{Refusal}
-use Rattle.ckpt_ids.specs.declared.reply.Answer.{Answer}
-use Rattle.ckpt_ids.specs.declared.reply.Answer.TheVariants.{Refused}
-use Rattle.ckpt_model.specs.State.{State}
-use Rattle.ckpt_model.specs.Refusals.{refusal, moment_of, pending_of}
-use Rattle.ckpt_model.specs.Steps.{Stepped, ack, effect, at_moment, unless_refused, step}
+use Rattle.ckpt_model.proofs.Names.{◌≡◌, ℕ, max, Bool, true, false, List, refl, ap, ◌∙◌, Option, Some, None, both_ways, SubtaskId, Call, Ack, Record, Refusal, Answer, Refused, State, refusal}
+use Rattle.ckpt_model.proofs.Names.{moment_of, pending_of, Stepped, ack, effect, at_moment, unless_refused, step}
 
 pub step_refused : (m : State) (call : Call) (why : Refusal) → refusal m call ≡ Some why → step m call ≡ (m, Refused why)
 unfolding step

@@ -1,22 +1,7 @@
 -- The acknowledgements of a live record are exactly the accepted ones of its number.
-use Rattle.std.proofs.Common.{◌≡◌, ℕ, ◌<◌, ◌≤◌, ◌&&◌, eqb, List, [], ◌∷◌, ◌++◌, refl, sym, ap, subst, ◌∙◌, inl, inr, ⊎_elim, arith}
-use Rattle.std.specs.Prelude.{Option}
-use Rattle.std.proofs.lemmas.Bool.{and_from, and_left, and_right, eq-eqb, ne_eqb, cond-true, cond-false}
-use Rattle.std.proofs.lemmas.List.{append-nil, append_assoc}
-use Rattle.ckpt_ids.specs.declared.subtask.SubtaskId.{SubtaskId}
-use Rattle.ckpt_ids.specs.declared.ack.Acked.{Acked}
-use Rattle.ckpt_ids.specs.declared.call.Call.{Call}
-use Rattle.ckpt_ids.specs.declared.call.Call.TheVariants.{Ack}
-use Rattle.ckpt_ids.specs.Ordered.{IsIn, in_order}
-use Rattle.ckpt_ids.specs.Acknowledged.{acknowledges_before, put_ack}
-use Rattle.ckpt_ids.specs.Ascending.{ascending}
-use Rattle.ckpt_ids.specs.Records.{Record}
-use Rattle.ckpt_ids.proofs.OrderedLemmas.{IsIn-in_order}
-use Rattle.ckpt_model.specs.State.{State, Opening, opened}
-use Rattle.ckpt_model.specs.Steps.{step}
-use Rattle.ckpt_model.specs.Histories.{replay}
-use Rattle.ckpt_model.specs.Soundness.{IsSound}
-use Rattle.ckpt_model.specs.Laws.{CanOpen, AreCalls, is_ack_taken, along, accepted_by, Acknowledgements}
+use Rattle.ckpt_model.proofs.Names.{◌≡◌, ℕ, ◌<◌, ◌≤◌, ◌&&◌, eqb, List, [], ◌∷◌, ◌++◌, refl, sym, ap, subst, ◌∙◌, inl, inr, ⊎_elim, arith, Option, and_from, and_left, and_right, eq-eqb, ne_eqb}
+use Rattle.ckpt_model.proofs.Names.{cond-true, cond-false, append-nil, append_assoc, SubtaskId, Acked, Call, Ack, IsIn, in_order, acknowledges_before, put_ack, ascending, Record, IsIn-in_order, State}
+use Rattle.ckpt_model.proofs.Names.{Opening, opened, step, replay, IsSound, CanOpen, AreCalls, is_ack_taken, along, accepted_by, Acknowledgements}
 use Rattle.ckpt_model.proofs.Records.Acknowledged.{new_subtask}
 use Rattle.ckpt_model.proofs.Reordering.ExchangeLemmas.{acks_commute}
 use Rattle.ckpt_model.proofs.Histories.Moves.{IsMoved, IsTriggered, moved_from}

@@ -1,15 +1,7 @@
 -- The record that the choice names is live and done.
-use Rattle.std.proofs.Common.{◌≡◌, ℕ, Bool, true, false, not, ◌&&◌, cond, eqb, List, [], ◌∷◌, refl, sym, ap, subst, ◌∙◌, ◌⊎◌, inl, inr, ⊎_elim}
-use Rattle.std.specs.Prelude.{Option, Some, None}
-use Rattle.std.proofs.lemmas.Bool.{cases_Bool, and_parts, eqb-true, eq-eqb}
-use Rattle.ckpt_ids.specs.declared.call.Call.{Call}
-use Rattle.ckpt_ids.specs.Ordered.{IsIn, IsInOrder}
-use Rattle.ckpt_ids.specs.Records.{Record}
-use Rattle.ckpt_ids.proofs.OrderedLemmas.{IsIn-from_list_any}
-use Rattle.ckpt_model.specs.State.{State, Opening, opened, is_checkpoint, is_done_checkpoint, last_checkpoint, choice_from, choice_of, record_of}
-use Rattle.ckpt_model.specs.Histories.{replay}
-use Rattle.ckpt_model.specs.Soundness.{IsSound, id_before}
-use Rattle.ckpt_model.specs.Laws.{names, ChoiceIsLive}
+use Rattle.ckpt_model.proofs.Names.{◌≡◌, ℕ, Bool, true, false, not, ◌&&◌, cond, eqb, List, [], ◌∷◌, refl, sym, ap, subst, ◌∙◌, ◌⊎◌, inl, inr, ⊎_elim, Option, Some, None, cases_Bool, and_parts}
+use Rattle.ckpt_model.proofs.Names.{eqb-true, eq-eqb, Call, IsIn, IsInOrder, Record, IsIn-from_list_any, State, Opening, opened, is_checkpoint, is_done_checkpoint, last_checkpoint, choice_from}
+use Rattle.ckpt_model.proofs.Names.{choice_of, record_of, replay, IsSound, id_before, names, ChoiceIsLive}
 use Rattle.ckpt_model.proofs.Records.Present.{present-from_IsHeld}
 use Rattle.ckpt_model.proofs.Records.Replacing.{same_record}
 use Rattle.ckpt_model.proofs.Reordering.ExchangeLemmas.{find-only}

@@ -1,19 +1,6 @@
 -- A done savepoint stays, unchanged, until an accepted Dispose of its number.
-use Rattle.std.proofs.Common.{◌≡◌, ℕ, true, false, ◌&&◌, eqb, List, [], ◌∷◌, refl, sym, subst, ⊎_elim}
-use Rattle.std.specs.Prelude.{Some}
-use Rattle.std.proofs.lemmas.Bool.{both_ways, and_from, eq-eqb}
-use Rattle.std.proofs.lemmas.Option.{none-some}
-use Rattle.ckpt_ids.specs.declared.call.Call.{Call}
-use Rattle.ckpt_ids.specs.declared.call.Call.TheVariants.{Ack, Dispose}
-use Rattle.ckpt_ids.specs.declared.reply.Answer.{Answer}
-use Rattle.ckpt_ids.specs.declared.reply.Answer.TheVariants.{Done, Refused}
-use Rattle.ckpt_ids.specs.Ordered.{IsIn}
-use Rattle.ckpt_ids.specs.Records.{Record}
-use Rattle.ckpt_model.specs.State.{State, Opening, opened, is_checkpoint}
-use Rattle.ckpt_model.specs.Steps.{Stepped, step}
-use Rattle.ckpt_model.specs.Histories.{replay}
-use Rattle.ckpt_model.specs.Soundness.{IsSound}
-use Rattle.ckpt_model.specs.Laws.{CanOpen, AreCalls, is_disposed_by, IsNeverDisposed, Savepoints}
+use Rattle.ckpt_model.proofs.Names.{◌≡◌, ℕ, true, false, ◌&&◌, eqb, List, [], ◌∷◌, refl, sym, subst, ⊎_elim, Some, both_ways, and_from, eq-eqb, none-some, Call, Ack, Dispose, Answer, Done, Refused}
+use Rattle.ckpt_model.proofs.Names.{IsIn, Record, State, Opening, opened, is_checkpoint, Stepped, step, replay, IsSound, CanOpen, AreCalls, is_disposed_by, IsNeverDisposed, Savepoints}
 use Rattle.ckpt_model.proofs.Histories.Moves.{savepoint_moved, disposed_by}
 use Rattle.ckpt_model.proofs.Histories.Takings.{savepoint_kept}
 use Rattle.ckpt_model.proofs.Stepping.Changes.{IsPassedOver, IsTakenBy}

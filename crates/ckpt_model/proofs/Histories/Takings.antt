@@ -1,16 +1,6 @@
 -- What an acknowledgement that is accepted for a pending record does to the records: it puts one in the place of that record, and a completion drops some.
-use Rattle.std.proofs.Common.{◌≡◌, ℕ, Bool, true, false, not, ◌&&◌, ◌||◌, ltb, List, [], ◌++◌, map, refl, sym, ap, subst, ◌∙◌, ◌⊎◌, inl, inr, ⊎_elim}
-use Rattle.std.specs.List.{filter}
-use Rattle.std.proofs.lemmas.Bool.{both_ways, not_from_false, and_left, and_right, or_from}
-use Rattle.ckpt_ids.specs.declared.subtask.SubtaskId.{SubtaskId}
-use Rattle.ckpt_ids.specs.declared.ack.Acked.{Acked}
-use Rattle.ckpt_ids.specs.Ordered.{IsIn}
-use Rattle.ckpt_ids.specs.Acknowledged.{put_ack}
-use Rattle.ckpt_ids.specs.Ascending.{ascending}
-use Rattle.ckpt_ids.specs.Records.{Record}
-use Rattle.ckpt_model.specs.State.{State, is_checkpoint, is_pending, is_subsumed, is_surplus}
-use Rattle.ckpt_model.specs.Steps.{replaced, superseded}
-use Rattle.ckpt_model.specs.Soundness.{IsSound}
+use Rattle.ckpt_model.proofs.Names.{◌≡◌, ℕ, Bool, true, false, not, ◌&&◌, ◌||◌, ltb, List, [], ◌++◌, map, refl, sym, ap, subst, ◌∙◌, ◌⊎◌, inl, inr, ⊎_elim, filter, both_ways, not_from_false, and_left}
+use Rattle.ckpt_model.proofs.Names.{and_right, or_from, SubtaskId, Acked, IsIn, put_ack, ascending, Record, State, is_checkpoint, is_pending, is_subsumed, is_surplus, replaced, superseded, IsSound}
 use Rattle.ckpt_model.proofs.Records.Counts.{IsIn-changed, IsIn-from_changed}
 use Rattle.ckpt_model.proofs.Records.Replacing.{put_in, IsReplacing, put_in_replaces, unpinned_replaces}
 use Rattle.ckpt_model.proofs.Soundness.Acks.{IsAcking, with_ack, nothing_dropped}

@@ -1,39 +1,20 @@
 -- No answer depends on the order in which files were fetched.
-use Rattle.std.proofs.Common.{◌≡◌, ℕ, ◌+◌, max, Bool, true, false, not, ◌&&◌, ◌||◌, cond, ltb, eqb, List, [], ◌∷◌, ◌++◌, take, refl, sym, ap, subst, ◌∙◌, ⊎_elim}
-use Rattle.std.specs.Prelude.{count_by, length, Option, Some, None}
+use Rattle.ckpt_model.proofs.Names.{◌≡◌, ℕ, ◌+◌, max, Bool, true, false, not, ◌&&◌, ◌||◌, cond, ltb, eqb, List, [], ◌∷◌, ◌++◌, take, refl, sym, ap, subst, ◌∙◌, ⊎_elim, count_by, length, Option, Some}
+use Rattle.ckpt_model.proofs.Names.{None, filter, list_any, cases_Bool, both_ways, SubtaskId, Kind, Target, Call, Tick, Savepoint, Ack, Decline, Dispose, Restore, Cancel, Take, Deleted, Undeleted}
+use Rattle.ckpt_model.proofs.Names.{Show, Count, Choice, Answer, Done, Refusal, NameTaken, NotTaken, ascending, times, IsIn, Record, acknowledged, missing, uses, is_present, IsAscending-ascending}
+use Rattle.ckpt_model.proofs.Names.{same_from_times, times-ascending, times-append, times-filter, IsIn-append_left, IsIn-append_right, IsIn-append_cases, IsIn-in_order, IsIn-from_in_order}
+use Rattle.ckpt_model.proofs.Names.{filter-same, list_any-from_IsIn, IsIn-from_list_any, Hold, Interval, AtOnce, Pause, Go, gap, hold, State, is_checkpoint, is_pending, is_known, in_outbox}
+use Rattle.ckpt_model.proofs.Names.{is_expired, drop, released_by, choice_of, chosen, files_of, pins_now, refusal, moment_of, pending_of, first_some, named, where_pending, refuse_if, moment_too_large}
+use Rattle.ckpt_model.proofs.Names.{not_running, too_many_files, repeated_file, unknown_checkpoint, unknown_subtask, already_acknowledged, name_taken, file_gone, no_such_savepoint, in_use}
+use Rattle.ckpt_model.proofs.Names.{too_many_savepoints, not_taken, no_such_record, ids_used_up, Stepped, with_records, dropped_by, triggered, failed_over, pending_checkpoints, start_or_hold}
+use Rattle.ckpt_model.proofs.Names.{after_expiry, tick, replaced, superseded, cleared, completed_with, acknowledged_in, ack, dropping, failures_with, fails_the_job, decline_pending, decline, dispose}
+use Rattle.ckpt_model.proofs.Names.{restarted, restore, cancel, take_files, without, effect, at_moment, unless_refused, step, answers, AreAlike, GoesOnAs}
 use Rattle.std.specs.Prelude as prelude
-use Rattle.std.specs.List.{filter, list_any}
-use Rattle.std.proofs.lemmas.Bool.{cases_Bool, both_ways}
-use Rattle.ckpt_ids.specs.declared.subtask.SubtaskId.{SubtaskId}
-use Rattle.ckpt_ids.specs.declared.numbers.Kind.{Kind}
 use Rattle.ckpt_ids.specs.declared.numbers.Kind.TheVariants as kind
-use Rattle.ckpt_ids.specs.declared.call.Target.{Target}
 use Rattle.ckpt_ids.specs.declared.call.Target.TheVariants as target
-use Rattle.ckpt_ids.specs.declared.call.Call.{Call}
-use Rattle.ckpt_ids.specs.declared.call.Call.TheVariants.{Tick, Savepoint, Ack, Decline, Dispose, Restore, Cancel, Take, Deleted, Undeleted, Show, Count}
 use Rattle.ckpt_ids.specs.declared.reply.TickEnd.TheVariants as end
 use Rattle.ckpt_ids.specs.declared.reply.Reply.TheVariants as reply
-use Rattle.ckpt_ids.specs.declared.reply.Choice.{Choice}
 use Rattle.ckpt_ids.specs.declared.reply.Choice.TheVariants as choice
-use Rattle.ckpt_ids.specs.declared.reply.Answer.{Answer}
-use Rattle.ckpt_ids.specs.declared.reply.Answer.TheVariants.{Done}
-use Rattle.ckpt_ids.specs.declared.reply.Refusal.{Refusal}
-use Rattle.ckpt_ids.specs.declared.reply.Refusal.TheVariants.{NameTaken, NotTaken}
-use Rattle.ckpt_ids.specs.Ascending.{ascending}
-use Rattle.ckpt_ids.specs.Counting.{times}
-use Rattle.ckpt_ids.specs.Ordered.{IsIn}
-use Rattle.ckpt_ids.specs.Records.{Record, acknowledged, missing, uses, is_present}
-use Rattle.ckpt_ids.proofs.AscendingLemmas.{IsAscending-ascending, same_from_times, times-ascending}
-use Rattle.ckpt_ids.proofs.CountLemmas.{times-append, times-filter}
-use Rattle.ckpt_ids.proofs.OrderedLemmas.{IsIn-append_left, IsIn-append_right, IsIn-append_cases, IsIn-in_order, IsIn-from_in_order, filter-same, list_any-from_IsIn, IsIn-from_list_any}
-use Rattle.ckpt_rules.specs.declared.hold.Hold.{Hold}
-use Rattle.ckpt_rules.specs.declared.hold.Hold.TheVariants.{Interval, AtOnce, Pause, Go}
-use Rattle.ckpt_rules.specs.Trigger.{gap, hold}
-use Rattle.ckpt_model.specs.State.{State, is_checkpoint, is_pending, is_known, in_outbox, is_expired, drop, released_by, choice_of, chosen, files_of, pins_now}
-use Rattle.ckpt_model.specs.Refusals.{refusal, moment_of, pending_of, first_some, named, where_pending, refuse_if, moment_too_large, not_running, too_many_files, repeated_file, unknown_checkpoint, unknown_subtask, already_acknowledged, name_taken, file_gone, no_such_savepoint, in_use, too_many_savepoints, not_taken, no_such_record, ids_used_up}
-use Rattle.ckpt_model.specs.Steps.{Stepped, with_records, dropped_by, triggered, failed_over, pending_checkpoints, start_or_hold, after_expiry, tick, replaced, superseded, cleared, completed_with, acknowledged_in, ack, dropping, failures_with, fails_the_job, decline_pending, decline, dispose, restarted, restore, cancel, take_files, without, effect, at_moment, unless_refused, step}
-use Rattle.ckpt_model.specs.Histories.{answers}
-use Rattle.ckpt_model.specs.Images.{AreAlike, GoesOnAs}
 use Rattle.ckpt_model.proofs.Records.Counts.{find_agree}
 
 -- the same files, in whatever order

@@ -1,18 +1,8 @@
 -- A record with one acknowledgement more, and a record that has all of them.
-use Rattle.std.proofs.Common.{◌≡◌, ℕ, true, false, ltb, eqb, List, [], ◌∷◌, refl, sym, ap, subst, ◌∙◌, ⊎_elim, arith}
-use Rattle.std.proofs.lemmas.Bool.{cases_Bool, both_ways, eqb-false}
-use Rattle.ckpt_ids.specs.declared.subtask.SubtaskId.{SubtaskId}
-use Rattle.ckpt_ids.specs.declared.ack.Acked.{Acked}
-use Rattle.ckpt_ids.specs.Ordered.{IsIn, AreDistinct}
-use Rattle.ckpt_ids.specs.Acknowledged.{is_before, acknowledges_before, put_ack, AreInSubtaskOrder}
-use Rattle.ckpt_ids.specs.Ascending.{IsAscendingSet, ascending}
-use Rattle.ckpt_ids.specs.Records.{Record, missing, has_acknowledged, acknowledged}
-use Rattle.ckpt_ids.specs.Shapes.{IsShape, is_subtask, same_subtask}
-use Rattle.ckpt_ids.proofs.AscendingLemmas.{numbers_in_order}
-use Rattle.ckpt_ids.proofs.OrderLemmas.{subtasks_in_order, same_subtask-Decides}
-use Rattle.ckpt_ids.proofs.OrderedLemmas.{IsIn-put_cases, IsInOrder-put, IsInOrder-put_between, IsIn-from_in_order, list_any-from_IsIn}
-use Rattle.ckpt_model.specs.Soundness.{IsRecord}
-use Rattle.ckpt_pending.proofs.FullLemmas.{full_from_missing}
+use Rattle.ckpt_model.proofs.Names.{◌≡◌, ℕ, true, false, ltb, eqb, List, [], ◌∷◌, refl, sym, ap, subst, ◌∙◌, ⊎_elim, arith, cases_Bool, both_ways, eqb-false, SubtaskId, Acked, IsIn, AreDistinct}
+use Rattle.ckpt_model.proofs.Names.{is_before, acknowledges_before, put_ack, AreInSubtaskOrder, IsAscendingSet, ascending, Record, missing, has_acknowledged, acknowledged, IsShape, is_subtask}
+use Rattle.ckpt_model.proofs.Names.{same_subtask, numbers_in_order, subtasks_in_order, same_subtask-Decides, IsIn-put_cases, IsInOrder-put, IsInOrder-put_between, IsIn-from_in_order}
+use Rattle.ckpt_model.proofs.Names.{list_any-from_IsIn, IsRecord, full_from_missing}
 
 -- a subtask that has not acknowledged is that of no acknowledgement
 pub new_subtask : (r : Record) (s : SubtaskId) (a : Acked) → has_acknowledged r s ≡ false → IsIn a r.acks → s ≡ a.subtask → ⊥

@@ -1,11 +1,6 @@
 -- Counting in lists by a test, and what a filtered and changed list has.
-use Rattle.std.proofs.Common.{◌≡◌, suc, ◌≤◌, Bool, true, false, cond, List, [], ◌∷◌, map, refl, sym, ap, subst, ◌∙◌, inl, inr, ⊎_elim, arith}
-use Rattle.std.specs.Prelude.{count_by, find, Option, Some, None}
-use Rattle.std.specs.List.{filter}
-use Rattle.std.proofs.lemmas.Bool.{cases_Bool}
-use Rattle.ckpt_ids.specs.Ordered.{IsIn}
-use Rattle.ckpt_ids.proofs.CountLemmas.{count_by-cons, count_by_yes, count_by_no}
-use Rattle.ckpt_ids.proofs.OrderedLemmas.{IsIn-map, IsIn-from_map, IsIn-filter, IsIn-from_filter}
+use Rattle.ckpt_model.proofs.Names.{◌≡◌, suc, ◌≤◌, Bool, true, false, cond, List, [], ◌∷◌, map, refl, sym, ap, subst, ◌∙◌, inl, inr, ⊎_elim, arith, count_by, find, Option, Some, None, filter}
+use Rattle.ckpt_model.proofs.Names.{cases_Bool, IsIn, count_by-cons, count_by_yes, count_by_no, IsIn-map, IsIn-from_map, IsIn-filter, IsIn-from_filter}
 
 -- one more element adds at most one
 pub count_by_at_most_more : {X : Type 0} (p : X → Bool) (x : X) (xs : List X) → count_by p (x ∷ xs) ≤ suc (count_by p xs)

@@ -1,22 +1,11 @@
 -- What holds of a coordinator's records as a list, and that filtering, changing and appending keep it.
-use Rattle.std.proofs.Common.{◌≡◌, ◌≢◌, ℕ, ◌+◌, ◌<◌, ◌≤◌, ◌^◌, Bool, true, false, not, ◌&&◌, ltb, leb, List, [], ◌∷◌, ◌++◌, map, refl, sym, ap, subst, ◌∙◌, ⊎_elim, arith}
-use Rattle.std.specs.Prelude.{count_by, Some}
-use Rattle.std.specs.List.{filter}
-use Rattle.std.proofs.lemmas.Bool.{cases_Bool, both_ways, and_parts, and_from, and_left, and_right, not-true, not_from_false, ltb-true, lt-ltb, le-ltb, leb-false}
-use Rattle.ckpt_ids.specs.declared.numbers.Kind.{Kind}
+use Rattle.ckpt_model.proofs.Names.{◌≡◌, ◌≢◌, ℕ, ◌+◌, ◌<◌, ◌≤◌, ◌^◌, Bool, true, false, not, ◌&&◌, ltb, leb, List, [], ◌∷◌, ◌++◌, map, refl, sym, ap, subst, ◌∙◌, ⊎_elim, arith, count_by, Some, filter}
+use Rattle.ckpt_model.proofs.Names.{cases_Bool, both_ways, and_parts, and_from, and_left, and_right, not-true, not_from_false, ltb-true, lt-ltb, le-ltb, leb-false, Kind, IsIn, IsInOrder, ComesBefore}
+use Rattle.ckpt_model.proofs.Names.{AreDistinct, IsWithinLimits, Record, uses, is_present, IsShape, IsIn-append_cases, IsInOrder-append, IsInOrder-filter, IsInOrder-map, ComesBefore-at}
+use Rattle.ckpt_model.proofs.Names.{IsIn-from_test, test-from_IsIn, limit, Running, State, Opening, is_checkpoint, is_pending, is_done_checkpoint, is_done_savepoint, IsSound, IsRecord, id_before}
+use Rattle.ckpt_model.proofs.Names.{count_by-append, count_by_yes, count_by_no, count_by-same}
 use Rattle.ckpt_ids.specs.declared.numbers.Kind.TheVariants as kind
-use Rattle.ckpt_ids.specs.Ordered.{IsIn, IsInOrder, ComesBefore, AreDistinct}
-use Rattle.ckpt_ids.specs.Configuration.{IsWithinLimits}
-use Rattle.ckpt_ids.specs.Records.{Record, uses, is_present}
-use Rattle.ckpt_ids.specs.Shapes.{IsShape}
-use Rattle.ckpt_ids.proofs.OrderedLemmas.{IsIn-append_cases, IsInOrder-append, IsInOrder-filter, IsInOrder-map, ComesBefore-at, IsIn-from_test, test-from_IsIn}
-use Rattle.ckpt_rules.specs.Trigger.{limit}
-use Rattle.ckpt_model.specs.declared.mode.Mode.TheVariants.{Running}
-use Rattle.ckpt_model.specs.State.{State, Opening, is_checkpoint, is_pending, is_done_checkpoint}
-use Rattle.ckpt_model.specs.Refusals.{is_done_savepoint}
-use Rattle.ckpt_model.specs.Soundness.{IsSound, IsRecord, id_before}
 pub use Rattle.ckpt_model.specs.Soundness.{AreSoundRecords, is_pending_checkpoint}
-use Rattle.ckpt_ids.proofs.CountLemmas.{count_by-append, count_by_yes, count_by_no, count_by-same}
 use Rattle.ckpt_model.proofs.Records.Counts.{count_by-le, count_by-changed, IsIn-from_changed}
 
 -- a record is a checkpoint, or none, by its kind

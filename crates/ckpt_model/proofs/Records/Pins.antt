@@ -1,15 +1,8 @@
 -- What a record that is triggered pins does not change if no done record is dropped.
-use Rattle.std.proofs.Common.{◌≡◌, ℕ, Bool, true, false, cond, eqb, List, [], ◌∷◌, map, refl, sym, ap, subst, ◌∙◌, inl, inr, ⊎_elim}
-use Rattle.std.specs.Prelude.{Option, Some, None}
-use Rattle.std.specs.List.{filter}
-use Rattle.std.proofs.lemmas.Bool.{cases_Bool, both_ways, and_parts, eqb-true}
-use Rattle.ckpt_ids.specs.declared.reply.Choice.{Choice}
+use Rattle.ckpt_model.proofs.Names.{◌≡◌, ℕ, Bool, true, false, cond, eqb, List, [], ◌∷◌, map, refl, sym, ap, subst, ◌∙◌, inl, inr, ⊎_elim, Option, Some, None, filter, cases_Bool, both_ways, and_parts}
+use Rattle.ckpt_model.proofs.Names.{eqb-true, Choice, IsIn, IsInOrder, Record, State, is_checkpoint, is_done_checkpoint, last_checkpoint, choice_from, choice_of, chosen, files_of, record_of, pins_now}
+use Rattle.ckpt_model.proofs.Names.{IsSound, id_before, names}
 use Rattle.ckpt_ids.specs.declared.reply.Choice.TheVariants as choice
-use Rattle.ckpt_ids.specs.Ordered.{IsIn, IsInOrder}
-use Rattle.ckpt_ids.specs.Records.{Record}
-use Rattle.ckpt_model.specs.State.{State, is_checkpoint, is_done_checkpoint, last_checkpoint, choice_from, choice_of, chosen, files_of, record_of, pins_now}
-use Rattle.ckpt_model.specs.Soundness.{IsSound, id_before}
-use Rattle.ckpt_model.specs.Laws.{names}
 use Rattle.ckpt_model.proofs.Records.Counts.{IsIn-changed, IsIn-from_find}
 use Rattle.ckpt_model.proofs.Records.Lists.{in_order-changed}
 use Rattle.ckpt_model.proofs.Histories.Choice.{found, chosen_is_done}

@@ -1,14 +1,7 @@
 -- A file is present exactly if some record holds it, for an acknowledgement or as a pin.
-use Rattle.std.proofs.Common.{◌≡◌, ℕ, ◌<◌, Bool, true, false, eqb, List, map, refl, sym, ap, subst, ◌⊎◌, inl, inr, ⊎_elim}
-use Rattle.std.specs.Prelude.{count_by}
-use Rattle.std.specs.List.{flat_map}
-use Rattle.std.proofs.lemmas.Bool.{cases_Bool, both_ways, eqb-true, eq-eqb, ltb-true, lt-ltb}
-use Rattle.ckpt_ids.specs.declared.ack.Acked.{Acked}
-use Rattle.ckpt_ids.specs.Ordered.{IsIn}
-use Rattle.ckpt_ids.specs.Acknowledged.{acknowledges_before, put_ack}
-use Rattle.ckpt_ids.specs.Records.{Record, Use, Subtask, Pin, uses, uses_of, count, is_present}
-use Rattle.ckpt_ids.proofs.OrderedLemmas.{IsIn-append_left, IsIn-append_right, IsIn-append_cases, IsIn-map, IsIn-from_map, IsIn-flat_map, IsIn-from_flat_map, IsIn-put_cases, IsIn-put, IsIn-put_itself}
-use Rattle.ckpt_ids.proofs.CountLemmas.{counted-from_IsIn, IsIn-from_counted}
+use Rattle.ckpt_model.proofs.Names.{◌≡◌, ℕ, ◌<◌, Bool, true, false, eqb, List, map, refl, sym, ap, subst, ◌⊎◌, inl, inr, ⊎_elim, count_by, flat_map, cases_Bool, both_ways, eqb-true, eq-eqb, ltb-true}
+use Rattle.ckpt_model.proofs.Names.{lt-ltb, Acked, IsIn, acknowledges_before, put_ack, Record, Use, Subtask, Pin, uses, uses_of, count, is_present, IsIn-append_left, IsIn-append_right}
+use Rattle.ckpt_model.proofs.Names.{IsIn-append_cases, IsIn-map, IsIn-from_map, IsIn-flat_map, IsIn-from_flat_map, IsIn-put_cases, IsIn-put, IsIn-put_itself, counted-from_IsIn, IsIn-from_counted}
 
 -- a record holds a file
 abbrev pub Holds : ℕ → Record → Type 0

@@ -1,17 +1,9 @@
 -- What is released: files that were present before and are not after, ascending, so each once. Lists with no number twice.
-use Rattle.std.proofs.Common.{◌≡◌, ℕ, Bool, true, false, not, ltb, eqb, List, [], ◌∷◌, map, refl, sym, subst}
-use Rattle.std.specs.List.{list_any}
-use Rattle.std.proofs.lemmas.Bool.{both_ways, eq-eqb, lt-ltb, not-true, not_from_false, or_parts}
-use Rattle.ckpt_ids.specs.Ordered.{IsIn, AreDistinct}
-use Rattle.ckpt_ids.specs.Ascending.{IsAscendingSet, ascending_set}
-use Rattle.ckpt_ids.specs.Records.{Record, Use, uses, count, is_present, released}
-use Rattle.ckpt_ids.proofs.AscendingLemmas.{numbers_in_order}
-use Rattle.ckpt_ids.proofs.OrderedLemmas.{IsIn-map, IsIn-from_map, IsIn-filter, IsIn-from_filter, IsInOrder-filter, IsInOrder-in_order_once, IsIn-in_order_once, IsIn-from_in_order_once, list_any-from_IsIn}
-use Rattle.ckpt_model.specs.Refusals.{has_repeats}
+use Rattle.ckpt_model.proofs.Names.{◌≡◌, ℕ, Bool, true, false, not, ltb, eqb, List, [], ◌∷◌, map, refl, sym, subst, list_any, both_ways, eq-eqb, lt-ltb, not-true, not_from_false, or_parts, IsIn}
+use Rattle.ckpt_model.proofs.Names.{AreDistinct, IsAscendingSet, ascending_set, Record, Use, uses, count, is_present, released, numbers_in_order, IsIn-map, IsIn-from_map, IsIn-filter}
+use Rattle.ckpt_model.proofs.Names.{IsIn-from_filter, IsInOrder-filter, IsInOrder-in_order_once, IsIn-in_order_once, IsIn-from_in_order_once, list_any-from_IsIn, has_repeats, IsIn-flat_map, uses_of}
+use Rattle.ckpt_model.proofs.Names.{counted-from_IsIn}
 use Rattle.ckpt_model.proofs.Records.Present.{IsHeld-from_present, use-from_Holds}
-use Rattle.ckpt_ids.proofs.OrderedLemmas.{IsIn-flat_map}
-use Rattle.ckpt_ids.specs.Records.{uses_of}
-use Rattle.ckpt_ids.proofs.CountLemmas.{counted-from_IsIn}
 
 -- the files of a list of uses are ascending
 pub ascending-released : (before after : List Use) → IsAscendingSet (released before after)

@@ -1,13 +1,7 @@
 -- One record of a list put in the place of another with its number.
-use Rattle.std.proofs.Common.{◌≡◌, ℕ, ◌<◌, ◌≤◌, Bool, true, false, not, cond, eqb, List, [], ◌∷◌, map, refl, sym, ap, subst, ◌∙◌, ◌⊎◌, inl, inr, ⊎_elim, arith}
-use Rattle.std.specs.Prelude.{count_by, Some}
-use Rattle.std.specs.List.{filter}
-use Rattle.std.proofs.lemmas.Bool.{cases_Bool, both_ways, not-true, and_parts, cond-true, cond-false, eqb-true, eqb-false, eq-eqb, ne_eqb, ltb-true}
-use Rattle.ckpt_ids.specs.Ordered.{IsIn, IsInOrder}
-use Rattle.ckpt_ids.specs.Records.{Record}
-use Rattle.ckpt_ids.proofs.OrderedLemmas.{ComesBefore-at}
-use Rattle.ckpt_model.specs.State.{Opening, is_checkpoint, is_pending, is_done_checkpoint, unpinned}
-use Rattle.ckpt_model.specs.Soundness.{IsRecord, id_before}
+use Rattle.ckpt_model.proofs.Names.{◌≡◌, ℕ, ◌<◌, ◌≤◌, Bool, true, false, not, cond, eqb, List, [], ◌∷◌, map, refl, sym, ap, subst, ◌∙◌, ◌⊎◌, inl, inr, ⊎_elim, arith, count_by, Some, filter}
+use Rattle.ckpt_model.proofs.Names.{cases_Bool, both_ways, not-true, and_parts, cond-true, cond-false, eqb-true, eqb-false, eq-eqb, ne_eqb, ltb-true, IsIn, IsInOrder, Record, ComesBefore-at, Opening}
+use Rattle.ckpt_model.proofs.Names.{is_checkpoint, is_pending, is_done_checkpoint, unpinned, IsRecord, id_before}
 use Rattle.ckpt_model.proofs.Records.Counts.{count_by-changed}
 use Rattle.ckpt_model.proofs.Records.Lists.{AreSoundRecords, IsKept, changed_records, is_pending_checkpoint, pending_checkpoint_before}
 

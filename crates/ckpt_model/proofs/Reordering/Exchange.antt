@@ -1,22 +1,9 @@
 -- The law of exchange: two acknowledgements of one record go in either order.
-use Rattle.std.proofs.Common.{◌≡◌, ℕ, ◌+◌, max, true, false, not, ◌&&◌, ◌||◌, cond, eqb, List, ◌++◌, refl, sym, ap, subst, ◌∙◌, ⊎_elim, arith}
-use Rattle.std.specs.Prelude.{Option, Some, None}
-use Rattle.std.proofs.lemmas.Bool.{both_ways, not-true, not-false, not_from_true, and_parts, or_parts, or_from, cond_both, cond-false}
-use Rattle.ckpt_ids.specs.declared.ack.Acked.{Acked}
-use Rattle.ckpt_ids.specs.declared.call.Call.{Call}
+use Rattle.ckpt_model.proofs.Names.{◌≡◌, ℕ, ◌+◌, max, true, false, not, ◌&&◌, ◌||◌, cond, eqb, List, ◌++◌, refl, sym, ap, subst, ◌∙◌, ⊎_elim, arith, Option, Some, None, both_ways, not-true, not-false}
+use Rattle.ckpt_model.proofs.Names.{not_from_true, and_parts, or_parts, or_from, cond_both, cond-false, Acked, Call, Done, IsIn, ascending, Record, uses, is_present, missing, has_acknowledged}
+use Rattle.ckpt_model.proofs.Names.{is_subtask, IsIn-append_left, list_any-none, find-none, State, is_pending, is_known, in_outbox, refusal, pending_of, Stepped, replaced, with_records}
+use Rattle.ckpt_model.proofs.Names.{completed_with, acknowledged_in, ack, effect, step, IsSound, is_ack_pending, is_ack_taken, ShareNone, Part, ack_of, Exchange}
 use Rattle.ckpt_ids.specs.declared.reply.Reply.TheVariants as reply
-use Rattle.ckpt_ids.specs.declared.reply.Answer.TheVariants.{Done}
-use Rattle.ckpt_ids.specs.Ordered.{IsIn}
-use Rattle.ckpt_ids.specs.Ascending.{ascending}
-use Rattle.ckpt_ids.specs.Records.{Record, uses, is_present, missing, has_acknowledged}
-use Rattle.ckpt_ids.specs.Shapes.{is_subtask}
-use Rattle.ckpt_ids.proofs.OrderedLemmas.{IsIn-append_left, list_any-none}
-use Rattle.ckpt_ids.proofs.PlaceLemmas.{find-none}
-use Rattle.ckpt_model.specs.State.{State, is_pending, is_known, in_outbox}
-use Rattle.ckpt_model.specs.Refusals.{refusal, pending_of}
-use Rattle.ckpt_model.specs.Steps.{Stepped, replaced, with_records, completed_with, acknowledged_in, ack, effect, step}
-use Rattle.ckpt_model.specs.Soundness.{IsSound}
-use Rattle.ckpt_model.specs.Laws.{is_ack_pending, is_ack_taken, ShareNone, Part, ack_of, Exchange}
 use Rattle.ckpt_model.proofs.Records.Counts.{IsIn-from_find, fails-from_find}
 use Rattle.ckpt_model.proofs.Records.Present.{IsHeld, IsHeld-from_present, present-from_IsHeld, not_held, absent-from_not_held}
 use Rattle.ckpt_model.proofs.Answering.StepCases.{ack_step, not_refused-from_answer, step_by}

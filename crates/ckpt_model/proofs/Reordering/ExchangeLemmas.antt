@@ -1,21 +1,10 @@
 -- Putting two acknowledgements into one record, in either order.
-use Rattle.std.proofs.Common.{◌≡◌, ℕ, ◌+◌, Bool, true, false, not, ◌&&◌, eqb, List, [], ◌∷◌, map, refl, sym, ap, subst, ◌∙◌, inl, inr, ⊎_elim}
-use Rattle.std.specs.Prelude.{find, Some}
-use Rattle.std.proofs.lemmas.Bool.{cases_Bool, both_ways, not_from_true, not_from_false, and_parts, and_from, cond-true, cond-false, eqb-true, eq-eqb}
-use Rattle.ckpt_ids.specs.declared.subtask.SubtaskId.{SubtaskId}
-use Rattle.ckpt_ids.specs.declared.ack.Acked.{Acked}
-use Rattle.ckpt_ids.specs.Ordered.{IsIn, IsInOrder, put}
-use Rattle.ckpt_ids.specs.Acknowledged.{is_before, acknowledges_before, put_ack}
-use Rattle.ckpt_ids.specs.Records.{Record, missing, has_acknowledged, acknowledged}
-use Rattle.ckpt_ids.specs.Shapes.{subtasks, is_subtask, same_subtask}
-use Rattle.ckpt_ids.proofs.OrderLemmas.{subtasks_in_order, same_subtask-Decides}
-use Rattle.ckpt_ids.proofs.OrderedLemmas.{IsIn-map, IsIn-from_map, IsIn-put, IsIn-put_itself, IsIn-put_cases, IsIn-from_list_any, list_any-from_IsIn}
-use Rattle.ckpt_model.specs.State.{is_pending}
-use Rattle.ckpt_model.specs.Refusals.{pending_of}
-use Rattle.ckpt_model.specs.Steps.{replaced}
-use Rattle.ckpt_model.specs.Soundness.{id_before}
+use Rattle.ckpt_model.proofs.Names.{◌≡◌, ℕ, ◌+◌, Bool, true, false, not, ◌&&◌, eqb, List, [], ◌∷◌, map, refl, sym, ap, subst, ◌∙◌, inl, inr, ⊎_elim, find, Some, cases_Bool, both_ways, not_from_true}
+use Rattle.ckpt_model.proofs.Names.{not_from_false, and_parts, and_from, cond-true, cond-false, eqb-true, eq-eqb, SubtaskId, Acked, IsIn, IsInOrder, put, is_before, acknowledges_before, put_ack}
+use Rattle.ckpt_model.proofs.Names.{Record, missing, has_acknowledged, acknowledged, subtasks, is_subtask, same_subtask, subtasks_in_order, same_subtask-Decides, IsIn-map, IsIn-from_map, IsIn-put}
+use Rattle.ckpt_model.proofs.Names.{IsIn-put_itself, IsIn-put_cases, IsIn-from_list_any, list_any-from_IsIn, is_pending, pending_of, replaced, id_before, count_by_one_more, IsInOrder-subtasks}
+use Rattle.ckpt_model.proofs.Names.{IsIn-subtasks, same_subtask-itself}
 use Rattle.ckpt_model.proofs.Records.Counts.{IsIn-from_find}
-use Rattle.ckpt_pending.proofs.SubtaskLemmas.{count_by_one_more, IsInOrder-subtasks, IsIn-subtasks, same_subtask-itself}
 use Rattle.ckpt_model.proofs.Records.Replacing.{put_in, IsReplacing, put_in_replaces}
 
 -- two elements, one before the other, go into a list in either order

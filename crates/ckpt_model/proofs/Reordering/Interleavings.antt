@@ -1,19 +1,7 @@
 -- The missing acknowledgements of one record come to the same in every order.
-use Rattle.std.proofs.Common.{◌≡◌, ℕ, ◌+◌, ◌≤◌, Bool, true, false, cond, List, [], ◌∷◌, ◌++◌, map, refl, sym, ap, subst, ◌∙◌, inl, inr, ⊎_elim, arith}
-use Rattle.std.specs.Prelude.{count_by, Option, Some, None}
-use Rattle.std.specs.Option.{option_or, is_some}
-use Rattle.std.proofs.lemmas.Bool.{both_ways}
-use Rattle.ckpt_ids.specs.declared.call.Call.{Call}
-use Rattle.ckpt_ids.specs.declared.reply.Answer.{Answer}
-use Rattle.ckpt_ids.specs.Ordered.{IsIn}
-use Rattle.ckpt_ids.specs.Records.{Record}
-use Rattle.ckpt_ids.proofs.CountLemmas.{count_by-cons, count_by_yes, count_by_no}
-use Rattle.ckpt_ids.proofs.OrderedLemmas.{IsIn-append_right}
-use Rattle.ckpt_model.specs.State.{State}
-use Rattle.ckpt_model.specs.Steps.{step}
-use Rattle.ckpt_model.specs.Histories.{replay, answers}
-use Rattle.ckpt_model.specs.Soundness.{IsSound}
-use Rattle.ckpt_model.specs.Interleavings.{SameBySeat, NewFile, ack_with, AreApart, calls_of, completed_by, first_completed, is_completing, SameOutcome, AnyOrder}
+use Rattle.ckpt_model.proofs.Names.{◌≡◌, ℕ, ◌+◌, ◌≤◌, Bool, true, false, cond, List, [], ◌∷◌, ◌++◌, map, refl, sym, ap, subst, ◌∙◌, inl, inr, ⊎_elim, arith, count_by, Option, Some, None, option_or}
+use Rattle.ckpt_model.proofs.Names.{is_some, both_ways, Call, Answer, IsIn, Record, count_by-cons, count_by_yes, count_by_no, IsIn-append_right, State, step, replay, answers, IsSound, SameBySeat}
+use Rattle.ckpt_model.proofs.Names.{NewFile, ack_with, AreApart, calls_of, completed_by, first_completed, is_completing, SameOutcome, AnyOrder}
 use Rattle.ckpt_model.proofs.Records.Counts.{count_by_at_most_more}
 use Rattle.ckpt_model.proofs.Soundness.Calls.{step_keeps}
 use Rattle.ckpt_model.proofs.Reordering.Rearranged.{Rearranged, IsIn-midst, IsIn-rearranged, Rearranged-map, Rearranged-from_map, rearranged_by_seat, count_by-rearranged}

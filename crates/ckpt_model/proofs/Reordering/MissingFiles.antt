@@ -1,19 +1,8 @@
 -- The missing subtasks of a pending record, each with the next file from a first one on, meet the conditions of the law of any order.
-use Rattle.std.proofs.Common.{◌≡◌, ℕ, ◌+◌, ◌≤◌, Bool, true, false, not, ◌&&◌, eqb, List, [], ◌∷◌, map, refl, sym, ap, subst, ◌∙◌, inl, inr, ⊎_elim, arith}
-use Rattle.std.specs.Prelude.{find, Some}
-use Rattle.std.specs.List.{filter, enumerate_from}
-use Rattle.std.proofs.lemmas.Bool.{cases_Bool, both_ways, not-true, not_from_false, and_parts, and_from, cond-true, cond-false}
-use Rattle.ckpt_ids.specs.declared.subtask.SubtaskId.{SubtaskId}
-use Rattle.ckpt_ids.specs.Ordered.{IsIn, IsInOrder}
-use Rattle.ckpt_ids.specs.Acknowledged.{is_before}
-use Rattle.ckpt_ids.specs.Records.{Record, has_acknowledged}
-use Rattle.ckpt_ids.specs.Shapes.{subtasks}
-use Rattle.ckpt_ids.proofs.OrderLemmas.{subtasks_in_order}
-use Rattle.ckpt_ids.proofs.OrderedLemmas.{IsIn-from_filter, IsInOrder-filter, ComesBefore-at}
-use Rattle.ckpt_pending.proofs.SubtaskLemmas.{IsInOrder-subtasks, is_subtask-from_IsIn}
-use Rattle.ckpt_model.specs.State.{State, is_pending, record_of}
-use Rattle.ckpt_model.specs.Refusals.{pending_of}
-use Rattle.ckpt_model.specs.Interleavings.{NewFile, AreApart, AreMissing}
+use Rattle.ckpt_model.proofs.Names.{◌≡◌, ℕ, ◌+◌, ◌≤◌, Bool, true, false, not, ◌&&◌, eqb, List, [], ◌∷◌, map, refl, sym, ap, subst, ◌∙◌, inl, inr, ⊎_elim, arith, find, Some, filter, enumerate_from}
+use Rattle.ckpt_model.proofs.Names.{cases_Bool, both_ways, not-true, not_from_false, and_parts, and_from, cond-true, cond-false, SubtaskId, IsIn, IsInOrder, is_before, Record, has_acknowledged}
+use Rattle.ckpt_model.proofs.Names.{subtasks, subtasks_in_order, IsIn-from_filter, IsInOrder-filter, ComesBefore-at, IsInOrder-subtasks, is_subtask-from_IsIn, State, is_pending, record_of, pending_of}
+use Rattle.ckpt_model.proofs.Names.{NewFile, AreApart, AreMissing}
 use Rattle.ckpt_model.proofs.Records.Counts.{IsIn-from_find}
 
 -- the one that a test finds is found by a narrower test that it passes

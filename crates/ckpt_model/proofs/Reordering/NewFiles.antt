@@ -1,23 +1,10 @@
 -- Acknowledgements of missing subtasks, each with one new file: what one does to another.
-use Rattle.std.proofs.Common.{◌≡◌, ℕ, ◌<◌, ◌≤◌, ◌^◌, max, Bool, true, false, not, ◌&&◌, ◌||◌, cond, ltb, leb, eqb, List, [], ◌∷◌, ◌++◌, refl, sym, ap, subst, ◌∙◌, ◌⊎◌, inl, inr, ⊎_elim, arith}
-use Rattle.std.specs.Prelude.{Option, Some, None}
-use Rattle.std.proofs.lemmas.Bool.{cases_Bool, both_ways, not-true, not_from_false, and_parts, or_from, cond-false, eqb-true, leb-false, le-ltb, lt-leb}
-use Rattle.ckpt_ids.specs.declared.call.Call.{Call}
-use Rattle.ckpt_ids.specs.declared.reply.Refusal.{Refusal}
-use Rattle.ckpt_ids.specs.declared.reply.Refusal.TheVariants.{MomentTooLarge, UnknownCheckpoint, UnknownSubtask, AlreadyAcknowledged, NameTaken}
+use Rattle.ckpt_model.proofs.Names.{◌≡◌, ℕ, ◌<◌, ◌≤◌, ◌^◌, max, Bool, true, false, not, ◌&&◌, ◌||◌, cond, ltb, leb, eqb, List, [], ◌∷◌, ◌++◌, refl, sym, ap, subst, ◌∙◌, ◌⊎◌, inl, inr, ⊎_elim, arith}
+use Rattle.ckpt_model.proofs.Names.{Option, Some, None, cases_Bool, both_ways, not-true, not_from_false, and_parts, or_from, cond-false, eqb-true, leb-false, le-ltb, lt-leb, Call, Refusal}
+use Rattle.ckpt_model.proofs.Names.{MomentTooLarge, UnknownCheckpoint, UnknownSubtask, AlreadyAcknowledged, NameTaken, Done, Refused, ascending, IsIn, Record, uses, is_present, missing}
+use Rattle.ckpt_model.proofs.Names.{has_acknowledged, subtasks, is_subtask, IsIn-subtasks, State, is_pending, is_known, in_outbox, refusal, refuse_if, pending_of, was_not_given, is_foreign, is_repeat}
+use Rattle.ckpt_model.proofs.Names.{named, where_pending, Stepped, replaced, with_records, step, IsSound, is_ack_pending, is_ack_taken, Part, NewFile, ack_with, is_completing, counted-from_IsIn}
 use Rattle.ckpt_ids.specs.declared.reply.Reply.TheVariants as reply
-use Rattle.ckpt_ids.specs.declared.reply.Answer.TheVariants.{Done, Refused}
-use Rattle.ckpt_ids.specs.Ascending.{ascending}
-use Rattle.ckpt_ids.specs.Ordered.{IsIn}
-use Rattle.ckpt_ids.specs.Records.{Record, uses, is_present, missing, has_acknowledged}
-use Rattle.ckpt_ids.specs.Shapes.{subtasks, is_subtask}
-use Rattle.ckpt_pending.proofs.SubtaskLemmas.{IsIn-subtasks}
-use Rattle.ckpt_model.specs.State.{State, is_pending, is_known, in_outbox}
-use Rattle.ckpt_model.specs.Refusals.{refusal, refuse_if, pending_of, was_not_given, is_foreign, is_repeat, named, where_pending}
-use Rattle.ckpt_model.specs.Steps.{Stepped, replaced, with_records, step}
-use Rattle.ckpt_model.specs.Soundness.{IsSound}
-use Rattle.ckpt_model.specs.Laws.{is_ack_pending, is_ack_taken, Part}
-use Rattle.ckpt_model.specs.Interleavings.{NewFile, ack_with, is_completing}
 use Rattle.ckpt_model.proofs.Records.Counts.{IsIn-from_find}
 use Rattle.ckpt_model.proofs.Records.Present.{IsHeld, IsHeld-from_present, present-from_IsHeld}
 use Rattle.ckpt_model.proofs.Answering.Accepted.{not_refused-ack}
@@ -27,7 +14,6 @@ use Rattle.ckpt_model.proofs.Soundness.Calls.{step_keeps}
 use Rattle.ckpt_model.proofs.Records.Held.{held_or_named, held_still}
 use Rattle.ckpt_model.proofs.Reordering.ExchangeLemmas.{has_not_after, pending_of_replaced}
 use Rattle.ckpt_model.proofs.Reordering.Exchange.{step_ack, left_pending, exchange}
-use Rattle.ckpt_ids.proofs.CountLemmas.{counted-from_IsIn}
 use Rattle.ckpt_model.proofs.Answering.StepCases.{step_refused, step_accepted, step_by}
 use Rattle.ckpt_model.proofs.Stepping.Acknowledged.{acknowledged_is_taken}
 

@@ -1,13 +1,6 @@
 -- Lists with the same elements in another order. Two lists in which each seat has the same elements in the same order are such lists.
-use Rattle.std.proofs.Common.{◌≡◌, ℕ, Bool, true, false, cond, eqb, List, [], ◌∷◌, ◌++◌, map, refl, sym, ap, subst, ◌∙◌, ◌⊎◌, inl, inr, ⊎_elim, arith}
-use Rattle.std.specs.Prelude.{count_by}
-use Rattle.std.specs.List.{filter}
-use Rattle.std.proofs.lemmas.Bool.{cases_Bool, cond-true, cond-false, eqb-true, eq-eqb}
-use Rattle.std.proofs.lemmas.List.{map-append}
-use Rattle.ckpt_ids.specs.Ordered.{IsIn}
-use Rattle.ckpt_ids.proofs.CountLemmas.{count_by-cons}
-use Rattle.ckpt_ids.proofs.OrderedLemmas.{IsIn-append_left, IsIn-append_right, IsIn-append_cases}
-use Rattle.ckpt_model.specs.Interleavings.{of_seat, SameBySeat}
+use Rattle.ckpt_model.proofs.Names.{◌≡◌, ℕ, Bool, true, false, cond, eqb, List, [], ◌∷◌, ◌++◌, map, refl, sym, ap, subst, ◌∙◌, ◌⊎◌, inl, inr, ⊎_elim, arith, count_by, filter, cases_Bool, cond-true}
+use Rattle.ckpt_model.proofs.Names.{cond-false, eqb-true, eq-eqb, map-append, IsIn, count_by-cons, IsIn-append_left, IsIn-append_right, IsIn-append_cases, of_seat, SameBySeat}
 
 -- ys has the elements of xs, in some order
 abbrev pub Rearranged : {X : Type 0} → List X → List X → Type 0

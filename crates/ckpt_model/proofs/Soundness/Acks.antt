@@ -1,19 +1,9 @@
 -- An acknowledgement that leaves its record pending keeps a coordinator sound; and lemmas on one that completes it, for Completions.
-use Rattle.std.proofs.Common.{◌≡◌, ℕ, ◌≤◌, Bool, true, false, not, ◌&&◌, ◌||◌, cond, ltb, leb, eqb, List, [], ◌∷◌, ◌++◌, map, refl, sym, ap, subst, ◌∙◌, inl, inr, ⊎_elim, arith}
-use Rattle.std.specs.Prelude.{count_by, Option, Some, None}
-use Rattle.std.specs.List.{filter, list_any}
-use Rattle.std.proofs.lemmas.Bool.{cases_Bool, both_ways, not-true, not-false, not_from_false, and_parts, and_left, and_cases, and_from, or_parts, cond_both, ltb-false}
-use Rattle.ckpt_ids.specs.declared.subtask.SubtaskId.{SubtaskId}
-use Rattle.ckpt_ids.specs.declared.ack.Acked.{Acked}
-use Rattle.ckpt_ids.specs.Ordered.{IsIn, IsInOrder, AreDistinct}
-use Rattle.ckpt_ids.specs.Ascending.{ascending}
-use Rattle.ckpt_ids.specs.Records.{Record, uses, is_present, missing, has_acknowledged, acknowledged}
-use Rattle.ckpt_ids.specs.Shapes.{is_subtask}
-use Rattle.ckpt_ids.proofs.OrderedLemmas.{IsIn-append_cases, IsIn-from_in_order, filter-all, not_in-from_test}
-use Rattle.ckpt_model.specs.State.{State, is_checkpoint, is_pending, is_done_checkpoint, is_subsumed, is_surplus, is_known, in_outbox, kept, unpinned}
-use Rattle.ckpt_model.specs.Refusals.{pending_of}
-use Rattle.ckpt_model.specs.Steps.{replaced, with_records, superseded}
-use Rattle.ckpt_model.specs.Soundness.{IsSound, IsRecord, id_before}
+use Rattle.ckpt_model.proofs.Names.{◌≡◌, ℕ, ◌≤◌, Bool, true, false, not, ◌&&◌, ◌||◌, cond, ltb, leb, eqb, List, [], ◌∷◌, ◌++◌, map, refl, sym, ap, subst, ◌∙◌, inl, inr, ⊎_elim, arith, count_by}
+use Rattle.ckpt_model.proofs.Names.{Option, Some, None, filter, list_any, cases_Bool, both_ways, not-true, not-false, not_from_false, and_parts, and_left, and_cases, and_from, or_parts, cond_both}
+use Rattle.ckpt_model.proofs.Names.{ltb-false, SubtaskId, Acked, IsIn, IsInOrder, AreDistinct, ascending, Record, uses, is_present, missing, has_acknowledged, acknowledged, is_subtask}
+use Rattle.ckpt_model.proofs.Names.{IsIn-append_cases, IsIn-from_in_order, filter-all, not_in-from_test, State, is_checkpoint, is_pending, is_done_checkpoint, is_subsumed, is_surplus, is_known}
+use Rattle.ckpt_model.proofs.Names.{in_outbox, kept, unpinned, pending_of, replaced, with_records, superseded, IsSound, IsRecord, id_before}
 use Rattle.ckpt_model.proofs.Records.Counts.{count_by-changed, IsIn-from_changed, IsIn-from_find, fails-from_find}
 use Rattle.ckpt_model.proofs.Records.Present.{Holds, IsHeld, Holds-put_ack, absent-from_not_held, not_held}
 use Rattle.ckpt_model.proofs.Records.Released.{distinct-from_test}

@@ -1,18 +1,12 @@
 -- After a drop of records, done savepoints, idle states and the outbox are still as in a sound state. A later moment keeps a state sound.
-use Rattle.std.proofs.Common.{◌≡◌, ◌≢◌, ℕ, ◌<◌, ◌^◌, max, Bool, true, false, not, ◌&&◌, eqb, List, ◌++◌, map, ap, subst, ◌∙◌, ⊎_elim, arith}
-use Rattle.std.specs.List.{filter, list_any}
-use Rattle.std.proofs.lemmas.Bool.{cases_Bool, both_ways, not-true, not_from_false}
-use Rattle.ckpt_ids.specs.Ordered.{IsIn, AreDistinct}
-use Rattle.ckpt_ids.specs.Records.{Record, uses, is_present, released}
-use Rattle.ckpt_ids.proofs.OrderedLemmas.{IsIn-append_left, IsIn-append_right, IsIn-append_cases, IsIn-from_list_any, list_any-from_IsIn, AreDistinct-append, AreDistinct-left, AreDistinct-right, AreDistinct-apart, AreDistinct-from_order}
-use Rattle.ckpt_model.specs.declared.mode.Mode.TheVariants.{Running}
-use Rattle.ckpt_model.specs.State.{State, is_checkpoint, is_pending}
-use Rattle.ckpt_model.specs.Soundness.{IsSound}
+use Rattle.ckpt_model.proofs.Names.{◌≡◌, ◌≢◌, ℕ, ◌<◌, ◌^◌, max, Bool, true, false, not, ◌&&◌, eqb, List, ◌++◌, map, ap, subst, ◌∙◌, ⊎_elim, arith, filter, list_any, cases_Bool, both_ways, not-true}
+use Rattle.ckpt_model.proofs.Names.{not_from_false, IsIn, AreDistinct, Record, uses, is_present, released, IsIn-append_left, IsIn-append_right, IsIn-append_cases, IsIn-from_list_any}
+use Rattle.ckpt_model.proofs.Names.{list_any-from_IsIn, AreDistinct-append, AreDistinct-left, AreDistinct-right, AreDistinct-apart, AreDistinct-from_order, Running, State, is_checkpoint, is_pending}
+use Rattle.ckpt_model.proofs.Names.{IsSound, numbers_in_order}
 use Rattle.ckpt_model.proofs.Records.Counts.{IsIn-changed, IsIn-from_changed}
 use Rattle.ckpt_model.proofs.Records.Present.{Holds, IsHeld, IsHeld_before}
 use Rattle.ckpt_model.proofs.Records.Released.{ascending-released, after-from_released, held-from_released}
 use Rattle.ckpt_model.proofs.Records.Lists.{IsSoundOutbox, sound_from, outbox_of}
-use Rattle.ckpt_ids.proofs.AscendingLemmas.{numbers_in_order}
 
 -- a done savepoint with this number
 abbrev pub is_savepoint : ℕ → Record → Bool

@@ -1,33 +1,12 @@
 -- Triggering a checkpoint or savepoint keeps a coordinator sound, and when a tick may trigger one.
-use Rattle.std.proofs.Common.{◌≡◌, ℕ, ◌+◌, ◌<◌, ◌≤◌, ◌^◌, Bool, true, false, not, ◌&&◌, cond, ltb, leb, eqb, List, [], ◌∷◌, ◌++◌, map, sum, length, refl, sym, ap, subst, ◌∙◌, inl, ⊎_elim, arith}
-use Rattle.std.specs.Prelude.{count_by, Option, Some, None}
-use Rattle.std.specs.List.{list_any}
-use Rattle.std.proofs.lemmas.Bool.{cases_Bool, both_ways, and_left, and_cases, or_left, leb-false, ltb-false}
-use Rattle.std.proofs.lemmas.List.Sums.{sum_by-cons}
-use Rattle.std.proofs.lemmas.List.Folds.{list_any-append}
-use Rattle.std.proofs.lemmas.List.{append-nil}
-use Rattle.ckpt_ids.specs.declared.subtask.SubtaskId.{SubtaskId}
-use Rattle.ckpt_ids.specs.declared.numbers.Kind.{Kind}
+use Rattle.ckpt_model.proofs.Names.{◌≡◌, ℕ, ◌+◌, ◌<◌, ◌≤◌, ◌^◌, Bool, true, false, not, ◌&&◌, cond, ltb, leb, eqb, List, [], ◌∷◌, ◌++◌, map, sum, length, refl, sym, ap, subst, ◌∙◌, inl, ⊎_elim, arith}
+use Rattle.ckpt_model.proofs.Names.{count_by, Option, Some, None, list_any, cases_Bool, both_ways, and_left, and_cases, or_left, leb-false, ltb-false, sum_by-cons, list_any-append, append-nil}
+use Rattle.ckpt_model.proofs.Names.{SubtaskId, Kind, Choice, Configuration, IsIn, IsAscendingSet, Record, Use, uses, uses_of, missing, has_acknowledged, IsShape, subtasks, same_subtask}
+use Rattle.ckpt_model.proofs.Names.{numbers_in_order, length-subtasks_from, IsIn-append_cases, IsIn-from_map, IsIn-from_in_order_once, IsInOrder-in_order_once, hold, limit, pause_ends, Hold, Interval}
+use Rattle.ckpt_model.proofs.Names.{AtOnce, Pause, Go, Running, State, is_checkpoint, is_pending, is_expired, files_of, chosen, choice_of, pins_now, savepoints, triggered, pending_checkpoints}
+use Rattle.ckpt_model.proofs.Names.{IsSound, IsRecord, count_by-append, count_by_yes, count_by_no, counted-from_IsIn}
 use Rattle.ckpt_ids.specs.declared.numbers.Kind.TheVariants as kind
-use Rattle.ckpt_ids.specs.declared.reply.Choice.{Choice}
 use Rattle.ckpt_ids.specs.declared.reply.Choice.TheVariants as choice
-use Rattle.ckpt_ids.specs.Configuration.{Configuration}
-use Rattle.ckpt_ids.specs.Ordered.{IsIn}
-use Rattle.ckpt_ids.specs.Ascending.{IsAscendingSet}
-use Rattle.ckpt_ids.specs.Records.{Record, Use, uses, uses_of, missing, has_acknowledged}
-use Rattle.ckpt_ids.specs.Shapes.{IsShape, subtasks, same_subtask}
-use Rattle.ckpt_ids.proofs.AscendingLemmas.{numbers_in_order}
-use Rattle.ckpt_ids.proofs.ShapeLemmas.{length-subtasks_from}
-use Rattle.ckpt_ids.proofs.OrderedLemmas.{IsIn-append_cases, IsIn-from_map, IsIn-from_in_order_once, IsInOrder-in_order_once}
-use Rattle.ckpt_rules.specs.Trigger.{hold, limit, pause_ends}
-use Rattle.ckpt_rules.specs.declared.hold.Hold.{Hold}
-use Rattle.ckpt_rules.specs.declared.hold.Hold.TheVariants.{Interval, AtOnce, Pause, Go}
-use Rattle.ckpt_model.specs.declared.mode.Mode.TheVariants.{Running}
-use Rattle.ckpt_model.specs.State.{State, is_checkpoint, is_pending, is_expired, files_of, chosen, choice_of, pins_now}
-use Rattle.ckpt_model.specs.Refusals.{savepoints}
-use Rattle.ckpt_model.specs.Steps.{triggered, pending_checkpoints}
-use Rattle.ckpt_model.specs.Soundness.{IsSound, IsRecord}
-use Rattle.ckpt_ids.proofs.CountLemmas.{count_by-append, count_by_yes, count_by_no, counted-from_IsIn}
 use Rattle.ckpt_model.proofs.Records.Counts.{IsIn-from_find}
 use Rattle.ckpt_model.proofs.Records.Present.{Holds, IsHeld, Holds-from_use, absent-from_not_held, not_held}
 use Rattle.ckpt_model.proofs.Records.Lists.{AreSoundRecords, IsSoundOutbox, sound_from, outbox_of, appended_records, is_pending_checkpoint}

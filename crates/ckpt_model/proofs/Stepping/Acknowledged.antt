@@ -1,18 +1,7 @@
 -- What an acknowledgement that is accepted for a pending record changes: the record gets it, or is completed by it.
-use Rattle.std.proofs.Common.{◌≡◌, ℕ, ◌≤◌, true, false, eqb, List, [], ◌++◌, refl, arith}
-use Rattle.std.specs.Prelude.{Option, Some}
-use Rattle.std.specs.List.{list_any}
-use Rattle.std.proofs.lemmas.Bool.{cond_both, eqb-true}
-use Rattle.ckpt_ids.specs.declared.numbers.Kind.{Kind}
+use Rattle.ckpt_model.proofs.Names.{◌≡◌, ℕ, ◌≤◌, true, false, eqb, List, [], ◌++◌, refl, arith, Option, Some, list_any, cond_both, eqb-true, Kind, SubtaskId, ascending, Record, missing, Running}
+use Rattle.ckpt_model.proofs.Names.{State, is_checkpoint, drop, Stepped, superseded, cleared, with_records, replaced, completed_with, acknowledged_in, IsSound, given_as, is_ack_taken}
 use Rattle.ckpt_ids.specs.declared.numbers.Kind.TheVariants as kind
-use Rattle.ckpt_ids.specs.declared.subtask.SubtaskId.{SubtaskId}
-use Rattle.ckpt_ids.specs.Ascending.{ascending}
-use Rattle.ckpt_ids.specs.Records.{Record, missing}
-use Rattle.ckpt_model.specs.declared.mode.Mode.TheVariants.{Running}
-use Rattle.ckpt_model.specs.State.{State, is_checkpoint, drop}
-use Rattle.ckpt_model.specs.Steps.{Stepped, superseded, cleared, with_records, replaced, completed_with, acknowledged_in}
-use Rattle.ckpt_model.specs.Soundness.{IsSound}
-use Rattle.ckpt_model.specs.Laws.{given_as, is_ack_taken}
 use Rattle.ckpt_model.proofs.Records.Lists.{is_savepoint-kind}
 use Rattle.ckpt_model.proofs.Soundness.Drops.{is_savepoint}
 use Rattle.ckpt_model.proofs.Soundness.Acks.{IsAcking, with_ack, ack_pending_is_sound}

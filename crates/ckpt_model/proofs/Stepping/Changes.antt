@@ -1,26 +1,8 @@
 -- What any call changes; and what one that is no acknowledgement changes: nothing, the outbox, or records, by a drop with new settings or by a trigger.
-use Rattle.std.proofs.Common.{◌≡◌, ◌≢◌, ℕ, ◌+◌, ◌≤◌, Bool, true, false, not, ◌&&◌, eqb, List, [], ◌∷◌, ◌++◌, length, refl, sym, ap, subst, ◌∙◌, ◌⊎◌, inl, inr, ⊎_elim}
-use Rattle.std.specs.Prelude.{Option, Some, None}
+use Rattle.ckpt_model.proofs.Names.{◌≡◌, ◌≢◌, ℕ, ◌+◌, ◌≤◌, Bool, true, false, not, ◌&&◌, eqb, List, [], ◌∷◌, ◌++◌, length, refl, sym, ap, subst, ◌∙◌, ◌⊎◌, inl, inr, ⊎_elim, Option, Some, None}
+use Rattle.ckpt_model.proofs.Names.{list_any, not-true, not_from_false, and_parts, eqb-true, SubtaskId, Kind, Call, Ack, Refusal, Answer, Refused, IsIn, ascending, Record, IsShape, Mode, Running}
+use Rattle.ckpt_model.proofs.Names.{State, is_checkpoint, is_pending, drop, pins_now, Stepped, triggered, IsSound, IsCall, given_as, is_ack_taken}
 use Rattle.std.specs.Prelude as prelude
-use Rattle.std.specs.List.{list_any}
-use Rattle.std.proofs.lemmas.Bool.{not-true, not_from_false, and_parts, eqb-true}
-use Rattle.ckpt_ids.specs.declared.subtask.SubtaskId.{SubtaskId}
-use Rattle.ckpt_ids.specs.declared.numbers.Kind.{Kind}
-use Rattle.ckpt_ids.specs.declared.call.Call.{Call}
-use Rattle.ckpt_ids.specs.declared.call.Call.TheVariants.{Ack}
-use Rattle.ckpt_ids.specs.declared.reply.Refusal.{Refusal}
-use Rattle.ckpt_ids.specs.declared.reply.Answer.{Answer}
-use Rattle.ckpt_ids.specs.declared.reply.Answer.TheVariants.{Refused}
-use Rattle.ckpt_ids.specs.Ordered.{IsIn}
-use Rattle.ckpt_ids.specs.Ascending.{ascending}
-use Rattle.ckpt_ids.specs.Records.{Record}
-use Rattle.ckpt_ids.specs.Shapes.{IsShape}
-use Rattle.ckpt_model.specs.declared.mode.Mode.{Mode}
-use Rattle.ckpt_model.specs.declared.mode.Mode.TheVariants.{Running}
-use Rattle.ckpt_model.specs.State.{State, is_checkpoint, is_pending, drop, pins_now}
-use Rattle.ckpt_model.specs.Steps.{Stepped, triggered}
-use Rattle.ckpt_model.specs.Soundness.{IsSound, IsCall}
-use Rattle.ckpt_model.specs.Laws.{given_as, is_ack_taken}
 use Rattle.ckpt_model.proofs.Records.Lists.{sound_from, outbox_of, filtered_records}
 use Rattle.ckpt_model.proofs.Soundness.Drops.{is_savepoint, savepoint_stays, idle_stays, none_pending_left, outbox_filtered}
 use Rattle.ckpt_model.proofs.Soundness.Acks.{IsAcking}

@@ -1,22 +1,8 @@
 -- What a call does to the files: which it registers, hands out and deletes, and that none is lost.
-use Rattle.std.proofs.Common.{◌≡◌, ℕ, ◌+◌, ◌≤◌, true, false, not, eqb, List, [], ◌∷◌, ◌++◌, length, take, drop, refl, sym, ap, subst, ◌∙◌, ◌⊎◌, inl, inr, ⊎_elim, arith}
-use Rattle.std.specs.List.{filter}
-use Rattle.std.proofs.lemmas.Bool.{cases_Bool, eqb-true, not_from_false}
-use Rattle.std.proofs.lemmas.List.{length-drop, take-append-drop}
-use Rattle.ckpt_ids.specs.declared.call.Call.{Call}
-use Rattle.ckpt_ids.specs.declared.call.Call.TheVariants.{Ack, Deleted, Undeleted}
-use Rattle.ckpt_ids.specs.declared.reply.Refusal.{Refusal}
-use Rattle.ckpt_ids.specs.declared.reply.Answer.{Answer}
-use Rattle.ckpt_ids.specs.declared.reply.Answer.TheVariants.{Refused}
-use Rattle.ckpt_ids.specs.Counting.{one_if, times}
-use Rattle.ckpt_ids.specs.Ordered.{IsIn}
-use Rattle.ckpt_ids.specs.Records.{uses, is_present}
-use Rattle.ckpt_ids.proofs.OrderedLemmas.{IsIn-append_left, IsIn-append_right, IsIn-append_cases, IsIn-filter, IsIn-from_filter, IsIn-from_list_any}
-use Rattle.std.specs.List.{list_any}
-use Rattle.ckpt_model.specs.State.{State, is_known}
-use Rattle.ckpt_model.specs.Steps.{without}
-use Rattle.ckpt_model.specs.Soundness.{IsSound}
-use Rattle.ckpt_model.specs.Laws.{registered_as, deleted_as}
+use Rattle.ckpt_model.proofs.Names.{◌≡◌, ℕ, ◌+◌, ◌≤◌, true, false, not, eqb, List, [], ◌∷◌, ◌++◌, length, take, refl, sym, ap, subst, ◌∙◌, ◌⊎◌, inl, inr, ⊎_elim, arith, filter, cases_Bool, eqb-true}
+use Rattle.ckpt_model.proofs.Names.{not_from_false, length-drop, take-append-drop, Call, Ack, Deleted, Undeleted, Refusal, Answer, Refused, one_if, times, IsIn, uses, is_present, IsIn-append_left}
+use Rattle.ckpt_model.proofs.Names.{IsIn-append_right, IsIn-append_cases, IsIn-filter, IsIn-from_filter, IsIn-from_list_any, list_any, State, is_known, without, IsSound, registered_as, deleted_as}
+use Rattle.std.proofs.Common.{drop}
 use Rattle.ckpt_model.proofs.Records.Lists.{outbox_of}
 use Rattle.ckpt_model.proofs.Histories.Balances.{drop_front, drop_all}
 use Rattle.ckpt_model.proofs.Histories.Spreads.{IsSpread}
