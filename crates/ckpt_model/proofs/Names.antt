@@ -69,3 +69,4 @@ pub use Rattle.std.proofs.lemmas.Option.{none-some}
 pub use Rattle.std.specs.List.{enumerate_from, filter, flat_map, list_any, range_with_len}
 pub use Rattle.std.specs.Option.{is_some, option_or}
 pub use Rattle.std.specs.Prelude.{IfSome, None, Option, Some, count_by, find, unwrap_or, ⊤}
+pub use Rattle.std.proofs.lemmas.Grind.{common_steps}
