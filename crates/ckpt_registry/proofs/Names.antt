@@ -66,3 +66,4 @@ pub use Rattle.std.specs.Vec.{vec_capacity}
 pub use Rattle.std.specs.VecDeque.{deque_with_item}
 pub use Rattle.std.specs.declared.alloc.Global.{Global}
 pub use Rattle.std.specs.declared.vec.Vec.{Vec}
+pub use Rattle.std.proofs.lemmas.Grind.{common_steps}
