@@ -142,3 +142,4 @@ pub use denote.Enum.Bare.{sameb}
 pub use denote.Param.Send.{AllSend, IsSend, recorded_send, sendable, struct_send, view_send}
 pub use denote.Struct.Declared.{Declared, fields, row, shape}
 pub use denote.Struct.Struct.{Struct}
+pub use Rattle.std.proofs.lemmas.Grind.{common_steps}

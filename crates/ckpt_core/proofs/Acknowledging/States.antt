@@ -5,7 +5,7 @@ use Rattle.ckpt_core.proofs.Names.{missing, use_before, uses, uses_of, acknowled
 use Rattle.ckpt_core.proofs.Names.{IsIn-in_order_once, IsIn-from_in_order_once, uses_in_order, IsPending, missing-with_ack, triples, IsStored, Parts, IsMissing, with_pins, grouped, records_of}
 use Rattle.ckpt_core.proofs.Names.{may_want_memory, answer_wants, Answers, AreSound, AreTied, IsAccepted, Stays, records_in, state_of, present_in, acked, refusal, IsSound, id_before, State, Stepped}
 use Rattle.ckpt_core.proofs.Names.{ack, acknowledged_in, completed_with, replaced, step, with_records, accepted_ack, ack_step, IsAcknowledged, IsIn-from_find, map_same, same_record, IsAcking}
-use Rattle.ckpt_core.proofs.Names.{with_ack, with_ack_is, acking, taken_in}
+use Rattle.ckpt_core.proofs.Names.{with_ack, with_ack_is, acking, taken_in, common_steps}
 use Rattle.ckpt_ids.specs.declared.reply.Reply.TheVariants as reply
 use Rattle.ckpt_core.proofs.Acknowledging.Moves.{ack_groups, ack_uses, no_pin-holds, with_instead, id-with_instead, replaced_members}
 use Rattle.ckpt_core.proofs.Acknowledging.Takes.{found_record}
@@ -42,14 +42,7 @@ pub roomier_state : {p q : Parts} → IsRoomier p q → state_of q ≡ state_of 
 roomier_state {p} {q} r = ap state_of r.is ∙ roomy_state p r.spare r.places
 
 pub roomier_sound : {p q : Parts} → IsRoomier p q → AreSound p → AreSound q
-roomier_sound {p} {q} r sound =
-    let P : Parts → Type 0 = λ x. AreSound x in
-    let Q : State → Type 0 = λ m. IsSound m in
-    subst P (sym r.is) (record {
-      tied = record { uses_are = sound.tied.uses_are; retained = sound.tied.retained; tolerable = sound.tied.tolerable; spare = r.room; room = sound.tied.room };
-      sound = subst Q (sym (roomy_state p r.spare r.places)) sound.sound;
-      none_ended = sound.none_ended;
-    })
+roomier_sound {p} {q} r sound = grind (arith, common_steps, roomy_state)
 
 pub roomier_stays : {p q : Parts} → IsRoomier p q → AreSound p → Stays p q
 roomier_stays {p} {q} r sound = let s : AreSound q = roomier_sound r sound in record { state_is = roomier_state r; tied = s.tied; none_ended = s.none_ended }
@@ -156,16 +149,7 @@ taken_present {p} {now} {id} {s} {fresh} {reused} {r} t =
     present_more p.registry (taken_in p now id s fresh reused).registry fresh (taken_kept p.registry (triples id (Subtask s) (fresh ++ reused))) (taken_new p.registry id s fresh reused present)
 
 pub taken_tied : {p : Parts} {now id : ℕ} {s : SubtaskId} {fresh reused : List ℕ} {r : Record} → IsTaking p now id s fresh reused r → present_in p.registry + length fresh ≤ p.outbox.spare → AreTied (taken_in p now id s fresh reused)
-taken_tied {p} {now} {id} {s} {fresh} {reused} {r} t room =
-    let a : Record = with_ack (with_pins p.registry r) s fresh reused in
-    let old : length (records_in p) ≤ vec_capacity p.ended = t.sound.tied.room in
-    record {
-      uses_are = taken_uses t ∙ ap uses (sym (taken_records t));
-      retained = t.sound.tied.retained;
-      tolerable = t.sound.tied.tolerable;
-      spare = omega (arith, taken_present t, room);
-      room = omega (arith, ap length (taken_records t), length-map (records_in p) (with_instead a), old);
-    }
+taken_tied {p} {now} {id} {s} {fresh} {reused} {r} t room = grind (arith, common_steps, length-map, taken_present, taken_records, taken_uses, with_ack, with_instead)
 
 -- the state after it
 abbrev pub moved : Parts → ℕ → State
@@ -184,20 +168,15 @@ one_less {p} {now} {id} {s} {fresh} {reused} {r} t =
 pub taken_step : {p : Parts} {now id : ℕ} {s : SubtaskId} {fresh reused : List ℕ} {r : Record} → IsTaking p now id s fresh reused r →
     step (state_of p) (Ack now id s fresh reused) ≡ acknowledged_in (moved p now) (with_ack (with_pins p.registry r) s fresh reused)
 unfolding state_of ack
-taken_step {p} {now} {id} {s} {fresh} {reused} {r} t =
-    ack_step (state_of p) now id s fresh reused (Some (with_pins p.registry r)) t.accepted (found_record p id r t.sound.sound t.pending t.stored t.found)
+taken_step {p} {now} {id} {s} {fresh} {reused} {r} t = grind (arith, common_steps, ack_step, found_record)
 
 still_waiting : (m : State) (a : Record) → (missing a ≡ 0 → ⊥) → acknowledged_in m a ≡ (with_records m (replaced m.records a), Done (reply.AckPending (missing a)))
 unfolding acknowledged_in
-still_waiting m a some =
-    let done : Record = record a { done = true } in
-    ap (λ b. cond b (completed_with (with_records m (replaced m.records done)) done) (with_records m (replaced m.records a), Done (reply.AckPending (missing a)))) (ne_eqb (missing a) 0 some)
+still_waiting m a some = grind (arith, common_steps)
 
 pub now_complete : (m : State) (a : Record) → missing a ≡ 0 → acknowledged_in m a ≡ completed_with (with_records m (replaced m.records (record a { done = true }))) (record a { done = true })
 unfolding acknowledged_in
-now_complete m a none =
-    let done : Record = record a { done = true } in
-    ap (λ b. cond b (completed_with (with_records m (replaced m.records done)) done) (with_records m (replaced m.records a), Done (reply.AckPending (missing a)))) (eq-eqb (missing a) 0 none)
+now_complete m a none = grind (arith, common_steps)
 
 waiting_step : {p : Parts} {now id : ℕ} {s : SubtaskId} {fresh reused : List ℕ} {r : Record} (n : ℕ) → IsTaking p now id s fresh reused r → missing r ≡ n → 1 < n →
     step (state_of p) (Ack now id s fresh reused) ≡ (state_of (taken_in p now id s fresh reused), Done (reply.AckPending (n - 1)))

@@ -4,7 +4,7 @@ use Rattle.ckpt_core.proofs.Names.{filter, lt-ltb, and_from, and_left, and_right
 use Rattle.ckpt_core.proofs.Names.{IsIn-append_left, IsIn-append_right, IsIn-map, IsIn-from_map, IsIn-from_filter, IsIn-in_order, IsIn-from_in_order, IsInOrder-append, AreRising, IsAbove, Parts}
 use Rattle.ckpt_core.proofs.Names.{is_before, earlier, surplus, with_pins, grouped, is_noted, records_in, state_of, id_before, State, is_checkpoint, is_done_checkpoint, is_pending, is_subsumed}
 use Rattle.ckpt_core.proofs.Names.{is_surplus, dropped_by, replaced, superseded, with_records, IsIn-from_find, is_checkpoint-kind, is_savepoint-kind, count_by-none, count_by-same, taken_in, completed}
-use Rattle.ckpt_core.proofs.Names.{with_ack}
+use Rattle.ckpt_core.proofs.Names.{with_ack, common_steps}
 use Rattle.ckpt_ids.specs.declared.numbers.Kind.TheVariants as kind
 use Rattle.ckpt_core.specs.Inside.Completing as completing
 use Rattle.ckpt_core.proofs.Acknowledging.Moves.{replaced_members, still_in_replaced}
@@ -35,23 +35,13 @@ no_surplus : (m : State) (x : Record) → is_done_checkpoint x ≡ false → is_
 no_surplus m x e = ap (λ b. b && leb m.opening.config.retained (later_done m x)) e
 
 superseded_pending : (m : State) (c x : Record) → is_checkpoint c ≡ true → x.done ≡ false → superseded m c x ≡ is_before c.id x
-superseded_pending m c x e pending =
-    superseded_where m c x e
-    ∙ ap (λ b. is_subsumed c.id x || b) (no_surplus m x (and_left x.done (is_checkpoint x) pending))
-    ∙ or-false (is_subsumed c.id x)
-    ∙ pending_subsumed c.id x pending
+superseded_pending m c x e pending = grind (arith, common_steps)
 
 superseded_checkpoint : (m : State) (c x : Record) → is_checkpoint c ≡ true → x.done ≡ true → is_checkpoint x ≡ true → superseded m c x ≡ leb m.opening.config.retained (later_done m x)
-superseded_checkpoint m c x e done checkpoint =
-    superseded_where m c x e
-    ∙ ap (λ b. b || is_surplus m x) (done_not_subsumed c.id x done)
-    ∙ done_surplus m x (and_from x.done (is_checkpoint x) done checkpoint)
+superseded_checkpoint m c x e done checkpoint = grind (arith, common_steps)
 
 superseded_savepoint : (m : State) (c x : Record) → is_checkpoint c ≡ true → x.done ≡ true → is_checkpoint x ≡ false → superseded m c x ≡ false
-superseded_savepoint m c x e done savepoint =
-    superseded_where m c x e
-    ∙ ap (λ b. b || is_surplus m x) (done_not_subsumed c.id x done)
-    ∙ no_surplus m x (and_right x.done (is_checkpoint x) savepoint)
+superseded_savepoint m c x e done savepoint = grind (arith, common_steps)
 
 -- all completed checkpoints, the last one last
 abbrev pub row_of : Parts → Record → List Record

@@ -3,7 +3,8 @@
 use Rattle.ckpt_core.proofs.Names.{◌≡◌, ℕ, Bool, true, false, not, ◌&&◌, cond, eqb, List, [], ◌∷◌, ◌++◌, map, refl, sym, ap, subst, ◌∙◌, ◌⊎◌, inl, inr, ⊎_elim, Some, filter, flat_map, filter-append}
 use Rattle.ckpt_core.proofs.Names.{cases_Bool, eqb-true, eqb-false, eq-eqb, ne_eqb, and_parts, and_from, and_left, and_right, not-true, not_from_false, not_from_true, Acked, IsIn, in_order, Record}
 use Rattle.ckpt_core.proofs.Names.{Use, Subtask, Pin, uses, uses_of, IsIn-append_cases, IsIn-append_left, IsIn-append_right, IsIn-map, IsIn-from_map, IsIn-from_flat_map, IsIn-filter, IsIn-from_filter}
-use Rattle.ckpt_core.proofs.Names.{filter-all, filter-same, filter-none, filter-filter, id_before, unpinned, replaced, is_pin, pins, with_pins, grouped, records_of, map_same, map-map}
+use Rattle.ckpt_core.proofs.Names.{filter-all, filter-same, filter-none, filter-filter, id_before, unpinned, replaced, is_pin, pins, with_pins, grouped, records_of, map_same, map-map, common_steps}
+use Rattle.ckpt_core.proofs.Names.{arith}
 use Rattle.ckpt_core.proofs.Records.Grouped.{AreApart, in_order-filter, in_order-map, in_order_same, apart-filter, apart-map, apart-append, apart_left, apart_between}
 use Rattle.ckpt_core.proofs.Records.GroupMoves.{filter-map, with_pins_kept}
 use Rattle.ckpt_core.proofs.Acknowledging.Moves.{with_instead, id-with_instead, with_instead-other, with_instead-same, replaced_members, in_replaced, still_in_replaced}
@@ -143,12 +144,7 @@ and_swap false false = refl
 
 pub finish_uses : (keep : ℕ → Bool) (rs : List Record) (d : Record) → ((q : Record) → IsIn q rs → q.id ≡ d.id → q.acks ≡ d.acks) → d.pins ≡ [] →
     filter (still_used keep d.id) (uses rs) ≡ uses (filter (λ s. keep s.id) (replaced rs d))
-finish_uses keep rs d acks none =
-    let np : Use → Bool = λ u. not (pins d.id u) in
-    filter-same (still_used keep d.id) (λ u. np u && keep u.id) (uses rs) (λ u h. and_swap (keep u.id) (np u))
-    ∙ sym (filter-filter (λ u. keep u.id) np (uses rs))
-    ∙ ap (filter (λ u. keep u.id)) (sym (replaced_uses rs d acks none))
-    ∙ sym (uses-filter keep (replaced rs d))
+finish_uses keep rs d acks none = grind (arith, common_steps, and_swap, filter-filter, filter-same, replaced_uses, uses-filter)
 
 -- as a step says it: first the record is done, then its pins end and the others go
 

@@ -2,7 +2,7 @@
 use Rattle.ckpt_core.proofs.Names.{◌≡◌, ℕ, ◌+◌, ◌<◌, ◌≤◌, ◌^◌, Bool, true, false, ◌&&◌, leb, List, ◌++◌, map, refl, sym, ap, ◌∙◌, ⊎_elim, arith, Option, Some, None, list_any, option_map, both_ways}
 use Rattle.ckpt_core.proofs.Names.{leb-true, le-leb, and_parts, and_from, not_from_false, not_from_true, IsIn, Record, Use, IsIn-append_left, IsIn-append_cases, IsIn-map, IsIn-from_map, IsIn-in_order}
 use Rattle.ckpt_core.proofs.Names.{IsIn-from_in_order, IsIn-from_list_any, list_any-from_IsIn, IsPending, IsStored, Parts, with_pins, grouped, records_in, state_of, IsNextExpiry, has_come, IsSound}
-use Rattle.ckpt_core.proofs.Names.{id_before, is_pending}
+use Rattle.ckpt_core.proofs.Names.{id_before, is_pending, common_steps}
 use Rattle.ckpt_core.proofs.Ending.Drops.{groups_of}
 use Rattle.ckpt_core.proofs.Records.GroupLookups.{same_tests}
 use Rattle.ckpt_core.proofs.Records.Lookups.{AreGroups, done_in}
@@ -24,10 +24,7 @@ least_in : (xs : List Record) (s : ℕ) → TellsLeast xs (Some s) → (x : Reco
 least_in xs s told = let q = IsIn-from_list_any (λ (r : Record). leb r.started s) xs (told s ∙ le-leb s s (omega arith)) in (q.0, q.1, leb-true q.0.started s q.2)
 
 pending_there : (p : Parts) (x : Record) → IsIn x p.pending → IsIn (with_pins p.registry x) (records_in p)
-pending_there p x h =
-    let us : List Use = p.registry in
-    IsIn-in_order id_before (with_pins us x) (grouped us p.pending p.store.checkpoints p.store.savepoints)
-    (IsIn-append_left (with_pins us x) (map (with_pins us) p.pending) (p.store.checkpoints ++ p.store.savepoints) (IsIn-map (with_pins us) x p.pending h))
+pending_there p x h = grind (arith, common_steps, IsIn-append_left, IsIn-in_order, IsIn-map)
 
 -- it is below all moments, so the timeout can be added
 pub started_bound : (p : Parts) (s : ℕ) → IsSound (state_of p) → TellsLeast p.pending (Some s) → s < 2 ^ 62
