@@ -42,7 +42,7 @@ uses_in-filter t (h ∷ hs) =
 -- how often a record's parts have a file
 pub count-uses_by : (id f : ℕ) (parts : List Part) → count (uses_by id parts) f ≡ times f (files_in parts)
 count-uses_by id f [] = grind (arith, common_steps)
-count-uses_by id f (part ∷ parts) = grind (arith, common_steps, count-uses_by id f parts,)
+count-uses_by id f (part ∷ parts) = grind (arith, common_steps, count-uses_by id f parts)
 
 -- how often what these records hold has a file
 count-uses_in : (hs : List Holding) (f : ℕ) → count (uses_in hs) f ≡ times f (files_in (parts_in hs))

@@ -17,7 +17,7 @@ count-triples_of id f files = count_by-map (λ (u : Use). eqb u.file f) (λ (x :
 
 pub count-pins_in : (m : Acknowledged) (pinned : List Pinner) (f : ℕ) → count (pins_in m pinned) f ≡ pins_of_records m f pinned + times f (own_in pinned)
 count-pins_in m [] f = grind (arith, common_steps)
-count-pins_in m (one ∷ pinned) f = grind (arith, common_steps, count-pins_in m pinned f,)
+count-pins_in m (one ∷ pinned) f = grind (arith, common_steps, count-pins_in m pinned f)
 
 -- a record that is pinned is live, so each of its files has a use
 

@@ -119,7 +119,7 @@ one_kind false false = refl
 
 pub three_kinds : (rs : List Record) → count_by (λ r. is_pending r && is_checkpoint r) rs + (count_by is_done_checkpoint rs + count_by (λ r. not (is_checkpoint r)) rs) ≡ length rs
 three_kinds [] = refl
-three_kinds (r ∷ rs) = grind (arith, common_steps, three_kinds rs,)
+three_kinds (r ∷ rs) = grind (arith, common_steps, three_kinds rs)
 
 pub limit_bound : (c : Configuration) → IsWithinLimits c → limit c ≤ 64
 limit_bound c within = grind (arith, common_steps)

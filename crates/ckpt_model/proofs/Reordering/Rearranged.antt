@@ -26,7 +26,7 @@ IsIn-rearranged {X} y (x ∷ xs) ys r h =
 -- as many pass a test
 count_by-midst : {X : Type 0} (p : X → Bool) (x : X) (front back : List X) → count_by p (front ++ x ∷ back) ≡ count_by p (x ∷ front ++ back)
 count_by-midst p x [] back = grind (arith, common_steps)
-count_by-midst p x (y ∷ front) back = grind (arith, common_steps, count_by-midst p x front back,)
+count_by-midst p x (y ∷ front) back = grind (arith, common_steps, count_by-midst p x front back)
 
 pub count_by-rearranged : {X : Type 0} (p : X → Bool) (xs ys : List X) → Rearranged xs ys → count_by p xs ≡ count_by p ys
 count_by-rearranged p [] ys e = grind (arith, common_steps)
