@@ -1,6 +1,6 @@
 //! `relkvanu serve`: opens the database, replays the jobs from the log, and serves them until it is stopped.
 use crate::cli;
-use crate::config::Config;
+use crate::config::{Config, LogForm};
 use crate::database::Database;
 use crate::exit;
 use crate::history::{Door, Historian, Place};
@@ -12,7 +12,7 @@ use crate::model::wall;
 use crate::process;
 use crate::starting::Starting;
 use crate::stop::Stop;
-use crate::store::{DbError, Lite, LiteReader, Pg, PgReader, Reader, Store, Unusable};
+use crate::store::{count_no_memory, DbError, Lite, LiteReader, Pg, PgReader, Reader, Store, Unusable};
 use crate::writer::{queue, Board, Inbox, Message, Messages};
 use sd_notify::NotifyState;
 use std::sync::Arc;
@@ -33,8 +33,9 @@ const LEAVE_WITHIN: Duration = Duration::from_secs(1);
 /// Serves, and ends the process.
 pub fn run(given: &cli::Serve) -> ! {
     process::make_files_private();
+    count_no_memory();
     let config = Config::of(given).map_err(Stop::from);
-    if config.as_ref().is_ok_and(|config| config.log_json) {
+    if config.as_ref().is_ok_and(|config| config.log == LogForm::Json) {
         log::use_json();
     }
     let ended = config.and_then(serve);
@@ -62,7 +63,7 @@ fn serve(mut config: Config) -> Result<(), Stop> {
     let historian = shared.historian(&config)?;
     let leader = shared.leader(&config, store, messages)?;
     historian.start();
-    let working = std::thread::spawn(move || leader.run());
+    let working = process::thread("writer", move || leader.run());
     if answer_requests(app, listener)? {
         stop_writer(&shared, &working);
         log::info("stopped");
@@ -104,6 +105,7 @@ impl Shared {
             bodies: http::room(config.limits.all_bodies_bytes),
             answers: http::room(config.limits.all_answers_bytes),
             limits: config.limits.clone(),
+            names: config.names,
         })
     }
 
@@ -128,6 +130,7 @@ impl Shared {
             board: Arc::clone(&self.board),
             metrics: Arc::clone(&self.metrics),
             messages,
+            inbox: self.inbox.clone(),
             listen: config.listen.to_string(),
             keeping: config.keeping,
             accept_clock: config.accept_clock,

@@ -12,7 +12,7 @@ from harness import Kept, PgArchive, Server, configured, folder, free_port, unti
 from postgres import postgres
 from preloaded import Clocks
 from relkvanu_service import Service
-from writers import SETTINGS, Writer, check
+from writers import SETTINGS, NamedWriter, Writer, check
 
 JOBS = ["orders", "users"]
 SETTINGS = {**SETTINGS, "interval": 25, "timeout": 3000}
@@ -100,6 +100,10 @@ class Client(Writer):
             self.floor.raised(self.name_of_job, answer["seq"])
 
 
+class NamedClient(Client, NamedWriter):
+    """The same of a job that gives out names."""
+
+
 def family(database):
     """The processes of the database."""
     with open(f"{database.data}/postmaster.pid", encoding="utf-8") as it:
@@ -122,7 +126,7 @@ class Faults:
     def __init__(self, chance, database, servers, lines, clocks):
         self.chance, self.database, self.servers, self.lines, self.clocks = chance, database, servers, lines, clocks
         self.deck = []
-        self.made = {"cut": 0, "stopped": 0, "killed": 0, "clock": 0, "database stopped": 0, "both cut": 0}
+        self.made = {"cut": 0, "stopped": 0, "killed": 0, "clock": 0, "database stopped": 0, "both cut": 0, "all suspended": 0}
 
     def next(self):
         if not self.deck:
@@ -165,6 +169,15 @@ class Faults:
         time.sleep(min(seconds, 3))
         told(processes, signal.SIGCONT)
 
+    def all_suspended(self, _, seconds):
+        """As a machine with all of them is that its host suspends."""
+        processes = [*(server.process.pid for server in self.servers), *family(self.database)]
+        told(processes, signal.SIGSTOP)
+        time.sleep(seconds)
+        # in any order
+        self.chance.shuffle(processes)
+        told(processes, signal.SIGCONT)
+
 
 def run(seconds, seed=1):
     chance = random.Random(seed)
@@ -179,9 +192,9 @@ def run(seconds, seed=1):
         servers[1].stand_by()
         kept = [Kept(server) for server in servers]
         service, addresses, floor = Service(*(server.url for server in servers)), [server.url for server in servers], Floor()
-        for job in JOBS:
-            service.open(job, SETTINGS, SHAPE)
-        clients = [Client(addresses, JOBS[number % 2], number, floor) for number in range(10)]
+        for job, names in zip(JOBS, (False, True)):
+            service.open(job, SETTINGS, SHAPE, names=names)
+        clients = [(Client, NamedClient)[number % 2](addresses, JOBS[number % 2], number, floor) for number in range(10)]
         for it in (*kept, *clients):
             it.start()
         faults = Faults(chance, database, servers, lines, clocks)
@@ -207,7 +220,7 @@ def run(seconds, seed=1):
         assert not wrong, (wrong, [server.log()[-600:] for server in servers])
         assert made > 10 * seconds and int(epochs) > seconds // 30, (made, epochs, faults.made)
         said = ", ".join(f"{count} {fault}" for fault, count in faults.made.items())
-        return f"{seconds} s with faults ({said}), {epochs} leaders: {made} calls answered, {logged} in the log, {oracle} as ckpt_job answers them; {reads} reads, none old"
+        return f"{seconds} s with faults ({said}), {epochs} leaders: {made} calls answered, {logged} in the log, {oracle} as the proved programs answer them; {reads} reads, none old"
 
 
 if __name__ == "__main__":

@@ -1,9 +1,10 @@
 //! The tables of the history, in an SQLite file of their own.
 use super::error::Error;
-use super::files::Run;
+use super::files::{Born, Run};
 use super::records::Pending;
 use super::version::{foreign, steps_after, version};
 use crate::model::{shape_words, Call, Entry, Kind, SavedRecord};
+use crate::store::{many, ERASE};
 use crate::writer::JobState;
 use rusqlite::{params, Connection, OptionalExtension, Params, Row};
 use std::path::Path;
@@ -25,12 +26,18 @@ pub struct Tables(Connection);
 /// How many rows a piece of a deletion has, beside as many as came since the last one.
 pub const PIECE: u64 = 1000;
 
+/// The first words of a line.
+fn words(line: &str, count: usize) -> String {
+    line.split(' ').take(count).collect::<Vec<_>>().join(" ")
+}
+
 impl Tables {
     /// Opens the tables. Makes them if the file is new, and upgrades those of an earlier version.
     pub fn open(path: &Path) -> Result<Tables, Error> {
         let connection = Connection::open(path)?;
         connection.pragma_update(None, "journal_mode", "wal")?;
         connection.pragma_update(None, "synchronous", "normal")?;
+        connection.pragma_update_and_check(None, ERASE.0, ERASE.1, |_| Ok(()))?;
         let steps = steps_after(version(&connection)?)?;
         if !steps.is_empty() {
             connection.execute_batch(&format!("begin immediate; {} commit", steps.concat()))?;
@@ -148,7 +155,8 @@ impl Tables {
     /// Keeps a call without its lists of files, since the log may be cut before its files are deleted.
     pub fn place(&self, call: &Call, entry: &Entry) -> rusqlite::Result<()> {
         let line = match call {
-            Call::Ack { .. } => entry.line.splitn(5, ' ').take(4).collect::<Vec<_>>().join(" "),
+            Call::Ack { term: 0, .. } => words(&entry.line, 4),
+            Call::Ack { .. } => words(&entry.line, 6),
             _ => entry.line.clone(),
         };
         let answer = if matches!(call, Call::Take { .. }) { "take" } else { entry.answer.as_str() };
@@ -215,10 +223,12 @@ impl Tables {
         )
     }
 
-    /// A file is registered, whatever had its number before.
-    pub fn born(&self, job: i64, file: u64, seq: u64, bytes: Option<u64>) -> rusqlite::Result<()> {
-        let sql = "insert or replace into file(job, file, born, bytes) values(?, ?, ?, ?)";
-        self.run(sql, params![job, bits(file), signed(seq), bytes.map(signed)])
+    /// Files are registered, whatever had their numbers before. Of those of one number the last counts.
+    pub fn born(&self, job: i64, files: &[Born]) -> rusqlite::Result<()> {
+        many::insert(&self.0, "insert or replace into file(job, file, born, bytes)", files, |it| {
+            let bytes = many::maybe(it.bytes.map(|bytes| many::number(signed(bytes))));
+            [many::number(job), many::number(bits(it.file)), many::number(signed(it.seq)), bytes]
+        })
     }
 
     /// A late acknowledgement named a file. It registered the file if the number was free.

@@ -4,6 +4,7 @@ use super::reply::Reply;
 use super::route::Route;
 use crate::log;
 use crate::model::Call;
+use hyper::Method;
 use serde_json::{json, Value};
 use std::sync::{Mutex, PoisonError};
 use std::time::{Duration, Instant};
@@ -17,8 +18,12 @@ pub struct Did(String);
 impl Did {
     /// `None` if a task made all of them.
     pub fn of(calls: &[Call]) -> Option<Did> {
-        let is_users =
-            |call: &&Call| matches!(call, Call::Savepoint | Call::Dispose { .. } | Call::Restore { .. } | Call::Cancel);
+        let is_users = |call: &&Call| {
+            matches!(
+                call,
+                Call::Savepoint | Call::Dispose { .. } | Call::Restore { .. } | Call::Cancel | Call::Fence { .. }
+            )
+        };
         let names: Vec<&str> = calls.iter().filter(is_users).map(Call::name).collect();
         (!names.is_empty()).then(|| Did(names.join(" ")))
     }
@@ -26,7 +31,7 @@ impl Did {
 
 /// A request, for its line.
 pub struct Asked {
-    pub method: String,
+    pub method: Method,
     pub path: String,
     pub since: Instant,
 }
@@ -64,7 +69,7 @@ impl Audit {
             false => return,
         };
         let mut fields = vec![
-            ("method", json!(asked.method)),
+            ("method", json!(asked.method.as_str())),
             ("path", json!(asked.path)),
             ("status", json!(status)),
             ("by", json!(by.unwrap_or("nobody"))),

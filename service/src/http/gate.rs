@@ -4,7 +4,7 @@ use super::members::PATH;
 use super::reply::{as_problem, error, text, wants_problems, with_header, Reply};
 use super::route::{NoRoute, Route};
 use super::seats::{Kind, Seat};
-use super::{page, reads, room, stream, trace, writes, App};
+use super::{names, page, reads, room, stream, trace, writes, App};
 use crate::auth::Caller;
 use crate::log;
 use hyper::header::{HeaderMap, HeaderName, ALLOW, CONNECTION, CONTENT_TYPE, HOST, RETRY_AFTER, WWW_AUTHENTICATE};
@@ -33,11 +33,8 @@ pub async fn answer(app: Arc<App>, seat: &Arc<Seat>, request: Request<Body>) -> 
 async fn answered(app: Arc<App>, seat: &Arc<Seat>, request: Request<Body>) -> Reply {
     let route = Route::of(request.method(), request.uri().path());
     let name = route.as_ref().map_or("none", Route::name);
-    let asked = Asked {
-        method: request.method().to_string(),
-        path: request.uri().path().chars().take(PATH).collect(),
-        since: Instant::now(),
-    };
+    let asked =
+        Asked { method: request.method().clone(), path: shortened(request.uri().path()), since: Instant::now() };
     let known = route.as_ref().ok().cloned();
     let (kind, checked) = checked(&app, route, request.headers());
     let by = checked.as_ref().ok().and_then(|(_, caller)| caller.as_ref()).map(|caller| caller.name.clone());
@@ -51,12 +48,20 @@ async fn answered(app: Arc<App>, seat: &Arc<Seat>, request: Request<Body>) -> Re
             room::kept(&app, turn, dispatched(&app, route, caller, request).await).await
         }
     };
-    app.metrics.request(name, reply.status().as_u16());
+    app.metrics.request(name, reply.status().as_str());
     app.audit.answered(&asked, known.as_ref(), by.as_deref(), &mut reply);
     let reply = if wants_problems { as_problem(reply) } else { reply };
     match app.board.log() {
         "" => reply,
         log => with_header(reply, HeaderName::from_static(LOG), log),
+    }
+}
+
+fn shortened(path: &str) -> String {
+    if path.len() <= PATH {
+        path.to_string()
+    } else {
+        path.chars().take(PATH).collect()
     }
 }
 
@@ -95,6 +100,8 @@ async fn dispatch(app: &Arc<App>, route: Route, caller: &Caller, request: Reques
         Route::NewJob => writes::new_job(app, caller, request).await,
         Route::DeleteJob(job) => writes::delete_job(app, job, request.uri().query().unwrap_or("")).await,
         Route::Calls(job) => writes::calls(app, job, request).await,
+        Route::Fence(job) => names::fence(app, job, request).await,
+        Route::Garbage(job) => names::garbage(app, job, request).await,
         Route::Stream(job) => stream::answer(app, job, caller, &request).await,
         read => reads::answer(app, read, caller, request.uri().query().unwrap_or("")).await,
     }
@@ -185,7 +192,7 @@ pub fn busy(why: &str) -> Reply {
 
 /// Names the leader. Where there is none, this process may lead in far less than the second that `Retry-After` says at least, so
 /// clients pause as they do by themselves.
-async fn standby(app: &App) -> Reply {
+pub async fn standby(app: &App) -> Reply {
     let refused = error(503, "this process does not lead");
     let found = app.read_events(|reader| Ok(reader.leader()));
     match tokio::time::timeout(FIND_LEADER, found).await {

@@ -8,10 +8,14 @@ use serde_json::{json, Value};
 
 pub type Reply = Response<Body>;
 
+/// How many headers most answers have at most.
+const HEADERS: usize = 8;
+
 /// An answer of this type, with the headers that every answer has.
 pub fn with_type(status: u16, kind: &'static str, body: impl Into<Body>) -> Reply {
     let mut reply = Response::new(body.into());
     *reply.status_mut() = StatusCode::from_u16(status).unwrap_or(StatusCode::INTERNAL_SERVER_ERROR);
+    *reply.headers_mut() = HeaderMap::with_capacity(HEADERS);
     let headers = reply.headers_mut();
     headers.insert(CONTENT_TYPE, HeaderValue::from_static(kind));
     headers.insert(X_CONTENT_TYPE_OPTIONS, HeaderValue::from_static("nosniff"));
@@ -47,6 +51,8 @@ pub fn refusal(status: u16, members: Value) -> Reply {
 }
 
 const PROBLEM: &str = "application/problem+json";
+/// The type of a problem that a term or the names of a job are.
+const FENCED: &str = "urn:relkvanu:problem:fenced";
 
 /// Whether a client asks for errors as RFC 9457 describes them.
 pub fn wants_problems(headers: &HeaderMap) -> bool {
@@ -61,7 +67,7 @@ pub fn as_problem(mut reply: Reply) -> Reply {
         return reply;
     };
     let status = reply.status();
-    members["type"] = json!("about:blank");
+    members["type"] = json!(if members["fenced"].is_null() { "about:blank" } else { FENCED });
     members["title"] = json!(status.canonical_reason());
     members["status"] = json!(status.as_u16());
     members["detail"] = members["error"].clone();

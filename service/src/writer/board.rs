@@ -1,11 +1,12 @@
 //! The board: what the threads know of each other.
 use super::lag::Lag;
 use super::lease::Lease;
-use crate::model::{Job, Moment, Outcome};
-use serde_json::json;
+use crate::model::{Answer, Bases, Choice, Job, Moment, Outcome, Reply};
+use serde_json::Value;
 use std::collections::HashMap;
+use std::fmt::Write;
 use std::sync::atomic::{AtomicBool, AtomicU64, Ordering};
-use std::sync::{OnceLock, PoisonError, RwLock, RwLockReadGuard};
+use std::sync::{Mutex, OnceLock, PoisonError, RwLock, RwLockReadGuard};
 use std::time::{Duration, Instant};
 use tokio::sync::watch;
 
@@ -34,6 +35,7 @@ struct Watched {
     /// How far the history has read.
     read: AtomicU64,
     lag: Lag,
+    bases: Mutex<Bases>,
     last_event: watch::Sender<u64>,
 }
 
@@ -136,8 +138,15 @@ impl Board {
 
     /// The body that answers a request.
     pub fn answers(&self, outcomes: &[Outcome]) -> String {
-        let answers: Vec<_> = outcomes.iter().map(Outcome::json).collect();
-        json!({"epoch": self.epoch(), "log": self.log(), "answers": answers}).to_string()
+        let mut body = String::with_capacity(128 + 64 * outcomes.len());
+        body.push_str(r#"{"answers":["#);
+        for (place, outcome) in outcomes.iter().enumerate() {
+            body.push_str(if place > 0 { "," } else { "" });
+            write_answer(&mut body, outcome);
+        }
+        // a write to a text does not fail
+        let _ = write!(body, r#"],"epoch":{},"log":{}}}"#, self.epoch(), Value::from(self.log()));
+        body
     }
 
     pub fn publish(&self, job: &Job) {
@@ -145,6 +154,11 @@ impl Board {
             watched.length.store(job.seq, Ordering::SeqCst);
             watched.first.store(job.kept.first(), Ordering::SeqCst);
             watched.lag.note(job.seq, watched.read.load(Ordering::SeqCst));
+            let mut bases = watched.bases.lock().unwrap_or_else(PoisonError::into_inner);
+            if bases.changed() != job.bases.changed() {
+                bases.clone_from(&job.bases);
+            }
+            drop(bases);
             watched.last_event.send_if_modified(|last| std::mem::replace(last, job.last_event) != job.last_event);
             return;
         }
@@ -154,6 +168,7 @@ impl Board {
             first: AtomicU64::new(job.kept.first()),
             read: AtomicU64::new(0),
             lag: Lag::default(),
+            bases: Mutex::new(job.bases.clone()),
             last_event: watch::channel(job.last_event).0,
         };
         watched.lag.note(job.seq, 0);
@@ -204,6 +219,13 @@ impl Board {
         self.read().get(job).map_or(0, |watched| watched.read.load(Ordering::SeqCst))
     }
 
+    /// What a restore would have begun from before a call of a job; `None` if that is not known.
+    pub fn base(&self, job: &str, seq: u64) -> Option<Choice> {
+        let jobs = self.read();
+        let bases = jobs.get(job)?.bases.lock().unwrap_or_else(PoisonError::into_inner);
+        bases.before(seq)
+    }
+
     /// The place of a job's last event, as it changes.
     pub fn events(&self, job: &str) -> Option<watch::Receiver<u64>> {
         self.read().get(job).map(|watched| watched.last_event.subscribe())
@@ -211,5 +233,34 @@ impl Board {
 
     fn read(&self) -> RwLockReadGuard<'_, HashMap<String, Watched>> {
         self.jobs.read().unwrap_or_else(PoisonError::into_inner)
+    }
+}
+
+/// Writes the answer of a call. Nearly all calls have the first one, which takes no tree of values.
+fn write_answer(body: &mut String, outcome: &Outcome) {
+    let _ = match outcome {
+        Outcome::Made { seq: Some(seq), reply: Reply::Answered(Answer::AckPending { missing }), .. } => {
+            write!(body, r#"{{"ack":"pending","missing":{missing},"seq":{seq}}}"#)
+        }
+        other => write!(body, "{}", other.json()),
+    };
+}
+
+#[cfg(test)]
+mod tests {
+    use super::*;
+
+    #[test]
+    fn all_answers_are_written_alike() {
+        let reply = Reply::Answered(Answer::AckPending { missing: 3 });
+        let outcomes = [Outcome::Made { seq: Some(7), reply }, Outcome::NoMemory, Outcome::NotMade];
+        let told = outcomes.each_ref().map(Outcome::json);
+        let board = Board::new();
+        board.lead(4, "a\"b".to_string());
+        assert_eq!(
+            serde_json::from_str(&board.answers(&outcomes)).ok(),
+            Some(serde_json::json!({"answers": told, "epoch": 4, "log": "a\"b"}))
+        );
+        assert_eq!(board.answers(&outcomes[1..2]), r#"{"answers":[{"no_memory":true}],"epoch":4,"log":"a\"b"}"#);
     }
 }

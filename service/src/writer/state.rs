@@ -1,9 +1,9 @@
 //! The state of a job, as reads return it between two commits.
 use super::jobs::Jobs;
 use super::message::{Read, ReadDone};
-use crate::model::{Bytes, Choice, FileCounts, Job, KeptImage, Kind, LiveRecord, Mode, Opening};
+use crate::model::{Bytes, Choice, FileCounts, Job, KeptImage, Kind, LiveRecord, Mode, Opening, RunningTerm};
 
-#[derive(Debug)]
+#[derive(Clone, Debug)]
 pub struct JobState {
     pub opening: Opening,
     /// The shape that the job has now.
@@ -26,6 +26,8 @@ pub struct JobState {
     pub pending_savepoints: usize,
     /// The live records in rising number, each with how many subtasks are missing.
     pub live: Vec<(LiveRecord, u64)>,
+    /// `None` if the job gives out no names.
+    pub term: Option<RunningTerm>,
 }
 
 #[derive(Debug)]
@@ -34,13 +36,19 @@ pub struct RecordState {
     pub metadata: Option<String>,
 }
 
-/// Reads what is asked for, at the moment `now`.
-pub fn read(jobs: &mut Jobs, read: Read, now: u64) -> ReadDone {
+/// Reads what is asked for, at the moment `now`. A job whose coordinator is lent has had this state since.
+pub fn read(jobs: &mut Jobs, read: Read, now: u64, lent: Option<&JobState>) -> ReadDone {
+    let state = |job: &mut Job| match lent.filter(|lent| lent.opening.number == job.opening.number) {
+        Some(lent) => JobState { now, ..lent.clone() },
+        None => state(job, now),
+    };
     match read {
-        Read::Jobs => ReadDone::Jobs(jobs.all().map(|job| state(job, now)).collect()),
-        Read::Job(name) => of(jobs, &name, |job| ReadDone::Job(Box::new(state(job, now)))),
+        Read::Jobs => ReadDone::Jobs(jobs.all().map(state).collect()),
+        Read::Job(name) => of(jobs, &name, |job| ReadDone::Job(Box::new(state(job)))),
         Read::Record { job, id } => of(jobs, &job, |job| ReadDone::Record(record(job, id))),
         Read::Taken(name) => of(jobs, &name, |job| ReadDone::Taken(job.engine().taken())),
+        Read::Term(name) => of(jobs, &name, |job| ReadDone::Term(job.engine().term())),
+        Read::Garbage { job, files } => of(jobs, &job, |job| ReadDone::Garbage(job.engine().garbage(&files))),
         Read::File { job, file } => of(jobs, &job, |job| ReadDone::File {
             uses: job.engine().uses(file),
             bytes: job.sizes.bytes_of(file),
@@ -61,13 +69,14 @@ fn record(job: &mut Job, id: u64) -> Option<RecordState> {
     Some(RecordState { metadata: job.engine().show(id) })
 }
 
-fn state(job: &mut Job, now: u64) -> JobState {
+/// The state of a job at the moment `now`.
+pub fn state(job: &mut Job, now: u64) -> JobState {
     let records: Vec<LiveRecord> = job.live().values().copied().collect();
     let (checkpoints, savepoints) = (job.pending(Kind::Checkpoint), job.pending(Kind::Savepoint));
     let engine = job.engine();
     let live = records.iter().map(|record| (*record, engine.missing(record.id).unwrap_or(0))).collect();
     let (mode, due, oldest_expiry) = (engine.mode(), engine.due(), engine.oldest_expiry());
-    let (choice, files) = (engine.choice(), engine.counts());
+    let (choice, files, term) = (engine.choice(), engine.counts(), engine.term());
     JobState {
         opening: job.opening.clone(),
         shape: job.shape.clone(),
@@ -86,5 +95,6 @@ fn state(job: &mut Job, now: u64) -> JobState {
         pending_checkpoints: checkpoints,
         pending_savepoints: savepoints,
         live,
+        term,
     }
 }
