@@ -1,12 +1,6 @@
 -- What a text with a keyword and a space at its start says.
-use Rattle.std.proofs.Common.{◌≡◌, ℕ, List, ◌∷◌, ◌++◌, Option, Some, None, ap, sym, ◌∙◌, refl}
-use Rattle.std.proofs.lemmas.List.{append_cancel_left}
-use Rattle.std.specs.Option.{IfNone}
-use Rattle.ckpt_lines.specs.declared.keyword.Keyword.{Keyword}
-use Rattle.ckpt_lines.specs.declared.keyword.Keyword.TheVariants.{Config, Job, Start, Tick, Savepoint, Ack, Decline, Dispose, Restore, Cancel, Take, Deleted, Undeleted, Show, Count, All}
-use Rattle.ckpt_lines.specs.Keywords.{keyword_of, spelling}
-use Rattle.ckpt_lines.specs.Usual.{BeginsWith, BeginsWithNone, is_long, is_recognized}
-use Rattle.ckpt_lines.specs.Words.{words_of}
+use Rattle.ckpt_lines.proofs.Names.{◌≡◌, ℕ, List, ◌∷◌, ◌++◌, Option, Some, None, ap, sym, ◌∙◌, refl, append_cancel_left, IfNone, Keyword, Config, Job, Start, Tick, Savepoint, Ack, Decline, Dispose}
+use Rattle.ckpt_lines.proofs.Names.{Restore, Cancel, Take, Deleted, Undeleted, Show, Count, All, keyword_of, spelling, BeginsWith, BeginsWithNone, is_long, is_recognized, words_of}
 use Rattle.ckpt_lines.proofs.KeywordLemmas.{found}
 
 -- the keyword is the first word

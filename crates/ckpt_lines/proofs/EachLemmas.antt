@@ -1,8 +1,5 @@
 -- Reading words one after the other, as a loop does.
-use Rattle.std.proofs.Common.{◌≡◌, ℕ, List, [], ◌∷◌, ◌++◌, Result, Ok, Err, refl, sym, ap, ◌∙◌, append_assoc}
-use Rattle.std.proofs.lemmas.List.{append-nil}
-use Rattle.ckpt_lines.specs.declared.fault.LineFault.{LineFault}
-use Rattle.ckpt_lines.specs.Reading.{◌>>=◌, each}
+use Rattle.ckpt_lines.proofs.Names.{◌≡◌, ℕ, List, [], ◌∷◌, ◌++◌, Result, Ok, Err, refl, sym, ap, ◌∙◌, append_assoc, append-nil, LineFault, ◌>>=◌, each}
 
 -- what was read before, and then what is still to be read
 abbrev pub with_front : {X : Type 0} → List X → Result (List X) LineFault → Result (List X) LineFault

@@ -1,17 +1,9 @@
 -- The number at a text's start, byte by byte.
-use Rattle.std.proofs.Common.{◌≡◌, ℕ, zero, suc, add-one, add-suc, add-zero, pow-suc, lt-ltb, ◌+◌, ◌-◌, ◌*◌, ◌^◌, ◌<◌, ◌≤◌, ◌==◌, Bool, true, false, ltb, if◌then◌else◌, Result, sym, List, [], ◌∷◌, length, take, drop, get_or, Option, Some, None, Ok, Err, refl, ap, ◌∙◌, arith, ltb-true}
-use Rattle.std.specs.Char.{is_ascii_digit}
-use Rattle.std.specs.Option.{option_map}
-use Rattle.std.proofs.lemmas.Bool.Decides.{nat_tests}
-use Rattle.std.proofs.lemmas.List.{get_or-take, length-take-le, take_all}
-use Rattle.std.proofs.lemmas.List.Sums.{passes_at_first, fails_before_first, prefix_len-le-length}
+use Rattle.ckpt_lines.proofs.Names.{◌≡◌, ℕ, zero, suc, add-one, add-suc, add-zero, pow-suc, lt-ltb, ◌+◌, ◌-◌, ◌*◌, ◌^◌, ◌<◌, ◌≤◌, ◌==◌, Bool, true, false, ltb, if◌then◌else◌, Result, sym, List, []}
+use Rattle.ckpt_lines.proofs.Names.{◌∷◌, length, take, drop, get_or, Option, Some, None, Ok, Err, refl, ap, ◌∙◌, arith, ltb-true, is_ascii_digit, option_map, nat_tests, get_or-take, length-take-le}
+use Rattle.ckpt_lines.proofs.Names.{take_all, passes_at_first, fails_before_first, prefix_len-le-length, LineFault, FileWord, Fresh, Reused, file_place, number_place, file_word, is_fresh, number_of}
+use Rattle.ckpt_lines.proofs.Names.{signed, with_digit, begins_with_space, first_length, is_space, words_of}
 use Rattle.ckpt_lines.specs.declared.fault.LineFault.TheVariants as fault
-use Rattle.ckpt_lines.specs.declared.fault.LineFault.{LineFault}
-use Rattle.ckpt_lines.specs.declared.values.FileWord.{FileWord}
-use Rattle.ckpt_lines.specs.declared.values.FileWord.TheVariants.{Fresh, Reused}
-use Rattle.ckpt_lines.specs.Reading.{file_place, number_place}
-use Rattle.ckpt_lines.specs.Values.{file_word, is_fresh, number_of, signed, with_digit}
-use Rattle.ckpt_lines.specs.Words.{begins_with_space, first_length, is_space, words_of}
 use Rattle.ckpt_lines.proofs.NumberLemmas.{Spells, Spells-all, Spells-more, Spells-none}
 use Rattle.ckpt_lines.proofs.WordSplits.{one_more, words_of-split}
 

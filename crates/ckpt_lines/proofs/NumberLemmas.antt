@@ -1,14 +1,7 @@
 -- A number is read digit by digit.
-use Rattle.std.proofs.Common.{◌≡◌, ℕ, ◌+◌, ◌-◌, ◌*◌, ◌^◌, ◌<◌, ◌≤◌, Bool, true, false, ◌&&◌, cond, ltb, List, [], ◌∷◌, length, take, get_or, Option, Some, None, refl, sym, ap, ◌∙◌, arith, lt-ltb, ltb-true, zero, suc}
-use Rattle.std.specs.Char.{is_ascii_digit, digit_value}
-use Rattle.std.specs.Str.{all_ascii_digits}
-use Rattle.std.specs.Str.Parse.{digits_value}
-use Rattle.std.proofs.lemmas.Bool.{and_parts, and_from}
-use Rattle.std.proofs.lemmas.Bool.Decides.{nat_tests}
-use Rattle.std.proofs.lemmas.Int.Digits.{digits_value_more}
-use Rattle.std.proofs.lemmas.List.{take_all}
-use Rattle.std.proofs.lemmas.Str.Parse.{digits_value-take-le}
-use Rattle.ckpt_lines.specs.Values.{is_number, number_of, with_digit}
+use Rattle.ckpt_lines.proofs.Names.{◌≡◌, ℕ, ◌+◌, ◌-◌, ◌*◌, ◌^◌, ◌<◌, ◌≤◌, Bool, true, false, ◌&&◌, cond, ltb, List, [], ◌∷◌, length, take, get_or, Option, Some, None, refl, sym, ap, ◌∙◌, arith}
+use Rattle.ckpt_lines.proofs.Names.{lt-ltb, ltb-true, zero, suc, is_ascii_digit, digit_value, all_ascii_digits, digits_value, and_parts, and_from, nat_tests, digits_value_more, take_all}
+use Rattle.ckpt_lines.proofs.Names.{digits_value-take-le, is_number, number_of, with_digit}
 
 -- this many bytes from the start are digits, and spell the number
 pub record Spells (word : List ℕ) (place number : ℕ) : Type 0 where

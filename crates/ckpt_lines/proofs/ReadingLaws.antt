@@ -1,22 +1,11 @@
 -- The reading of a line never says that memory ran out.
-use Rattle.std.proofs.Common.{◌≡◌, ◌≢◌, ℕ, Bool, true, false, cond, ◌==◌, List, [], ◌∷◌, Option, Some, None, Result, Ok, Err, IfErr, refl}
-use Rattle.std.specs.Prelude.{codes}
-use Rattle.std.specs.Option.{ok_or}
-use Rattle.std.specs.Str.{bytes_eq}
-use Rattle.std.specs.Str.Lines.{strip_carriage_return}
-use Rattle.ckpt_ids.specs.declared.subtask.SubtaskId.{SubtaskId}
-use Rattle.ckpt_lines.specs.declared.fault.LineFault.{LineFault}
+use Rattle.ckpt_lines.proofs.Names.{◌≡◌, ◌≢◌, ℕ, Bool, true, false, cond, ◌==◌, List, [], ◌∷◌, Option, Some, None, Result, Ok, Err, IfErr, refl, codes, ok_or, bytes_eq, strip_carriage_return}
+use Rattle.ckpt_lines.proofs.Names.{SubtaskId, LineFault, Keyword, Line, FileWord, Fresh, Reused, keyword_of, ◌>>=◌, is_memory, place, number_place, subtask_place, retention_place, target_place}
+use Rattle.ckpt_lines.proofs.Names.{ended, each, config_line, job_line, some_parallelisms, number_line, file_places, ack_line, decline_line, restore_line, all_line, row, row_of, line_of, is_comment}
+use Rattle.ckpt_lines.proofs.Names.{is_too_long, reading, number, subtask, retention, target_of, savepoint, file_word, signed, number_of, subtask_of, words_of}
 use Rattle.ckpt_lines.specs.declared.fault.LineFault.TheVariants as fault
-use Rattle.ckpt_lines.specs.declared.keyword.Keyword.{Keyword}
 use Rattle.ckpt_lines.specs.declared.keyword.Keyword.TheVariants as keyword
-use Rattle.ckpt_lines.specs.declared.line.Line.{Line}
 use Rattle.ckpt_lines.specs.declared.line.Line.TheVariants as line
-use Rattle.ckpt_lines.specs.declared.values.FileWord.{FileWord}
-use Rattle.ckpt_lines.specs.declared.values.FileWord.TheVariants.{Fresh, Reused}
-use Rattle.ckpt_lines.specs.Keywords.{keyword_of}
-use Rattle.ckpt_lines.specs.Reading.{◌>>=◌, is_memory, place, number_place, subtask_place, retention_place, target_place, ended, each, config_line, job_line, some_parallelisms, number_line, file_places, ack_line, decline_line, restore_line, all_line, row, row_of, line_of, is_comment, is_too_long, reading}
-use Rattle.ckpt_lines.specs.Values.{number, subtask, retention, target_of, savepoint, file_word, signed, number_of, subtask_of}
-use Rattle.ckpt_lines.specs.Words.{words_of}
 
 abbrev pub NoMemory : {X : Type 0} → Result X LineFault → Type 0
 NoMemory read = IfErr read (λ why. is_memory why ≡ false)

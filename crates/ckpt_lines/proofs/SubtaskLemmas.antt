@@ -1,8 +1,6 @@
 -- A subtask's word: the part before its first dot, and the part after it.
-use Rattle.std.proofs.Common.{◌≡◌, ℕ, ◌+◌, ◌-◌, ◌≤◌, Bool, true, false, cond, ltb, ltb-false, List, [], length, take, drop, Option, Some, None, refl, ap, arith, length-drop}
-use Rattle.std.specs.List.{position_or_len}
-use Rattle.std.proofs.lemmas.List.{take_all, drop_all}
-use Rattle.ckpt_lines.specs.Values.{is_dot, joined, number_of, part_of, subtask_of}
+use Rattle.ckpt_lines.proofs.Names.{◌≡◌, ℕ, ◌+◌, ◌-◌, ◌≤◌, Bool, true, false, cond, ltb, ltb-false, List, [], length, take, drop, Option, Some, None, refl, ap, arith, length-drop, position_or_len}
+use Rattle.ckpt_lines.proofs.Names.{take_all, drop_all, is_dot, joined, number_of, part_of, subtask_of}
 
 abbrev dot_place : List ℕ → ℕ
 dot_place word = position_or_len is_dot word

@@ -1,17 +1,7 @@
 -- What a line of a keyword and one number says.
-use Rattle.std.proofs.Common.{◌≡◌, ◌≤◌, ℕ, true, List, [], ◌∷◌, length, Ok, ap, ◌∙◌, refl, arith}
-use Rattle.std.proofs.lemmas.Bool.Decides.{nat_tests}
-use Rattle.std.specs.Prelude.{false}
-use Rattle.std.specs.Str.Lines.{strip_carriage_return}
-use Rattle.ckpt_ids.specs.declared.call.Call.{Call}
-use Rattle.ckpt_lines.specs.declared.keyword.Keyword.{Keyword}
-use Rattle.ckpt_lines.specs.declared.limits.TheConstants.{LONGEST_LINE}
-use Rattle.ckpt_lines.specs.declared.line.Line.{Line}
+use Rattle.ckpt_lines.proofs.Names.{◌≡◌, ◌≤◌, ℕ, true, List, [], ◌∷◌, length, Ok, ap, ◌∙◌, refl, arith, nat_tests, false, strip_carriage_return, Call, Keyword, LONGEST_LINE, Line, SaysCall, meaning}
+use Rattle.ckpt_lines.proofs.Names.{ended, is_too_long, number_line, number_place, reading, row, BeginsWith, IsUsual, is_usual, words_of}
 use Rattle.ckpt_lines.specs.declared.meaning.Meaning.TheVariants as said
-use Rattle.ckpt_lines.specs.Meanings.{SaysCall, meaning}
-use Rattle.ckpt_lines.specs.Reading.{ended, is_too_long, number_line, number_place, reading, row}
-use Rattle.ckpt_lines.specs.Usual.{BeginsWith, IsUsual, is_usual}
-use Rattle.ckpt_lines.specs.Words.{words_of}
 use Rattle.ckpt_lines.proofs.BeginLemmas.{begins_once, words_of-begin}
 use Rattle.ckpt_lines.proofs.KeywordLemmas.{begins}
 

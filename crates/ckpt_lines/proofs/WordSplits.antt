@@ -1,9 +1,6 @@
 -- The first word of a text, and the words after it.
-use Rattle.std.proofs.Common.{◌≡◌, ℕ, suc, ◌+◌, ◌<◌, Bool, true, false, cond, not, List, [], ◌∷◌, length, take, drop, filter, refl, sym, ap, ◌∙◌, arith}
-use Rattle.std.proofs.lemmas.Bool.{eqb-true}
-use Rattle.std.specs.Prelude.{◌↔◌, ◌==◌, IsTrue}
-use Rattle.std.specs.List.{slice_split, onto_first}
-use Rattle.ckpt_lines.specs.Words.{is_space, is_word, words_of, begins_with_space, first_length}
+use Rattle.ckpt_lines.proofs.Names.{◌≡◌, ℕ, suc, ◌+◌, ◌<◌, Bool, true, false, cond, not, List, [], ◌∷◌, length, take, drop, filter, refl, sym, ap, ◌∙◌, arith, eqb-true, ◌↔◌, ◌==◌, IsTrue, slice_split}
+use Rattle.ckpt_lines.proofs.Names.{onto_first, is_space, is_word, words_of, begins_with_space, first_length}
 
 -- what `split` gives after a part: nothing, or the parts after one space
 abbrev parts_after : List ℕ → List (List ℕ)
