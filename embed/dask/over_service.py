@@ -25,7 +25,7 @@ class OverService:
     after the last one any more, the job begins again. If a backup of the service was restored, `OtherLog` ends the process."""
 
     def __init__(self, url: str, name: str, settings: Dict[str, int], shape: Sequence[int]) -> None:
-        self.remote = service.Service(url).open(name, settings, list(shape), names=False)  # the tasks number their files themselves
+        self.remote = service.Service(url).open(name, settings, list(shape), names=True)
         if self.remote.state()["choice"]["kind"] != "fresh":
             raise SystemExit(f"the service has checkpoints of the job {name}: --job names another one")
         self.begun = 0  # the place of the last restore in the log

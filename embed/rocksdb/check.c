@@ -1,6 +1,7 @@
 /* The checks at the end of a run: see check.h. */
 #define _GNU_SOURCE
 #include "check.h"
+#include "trace.h"
 
 #include <string.h>
 
@@ -78,7 +79,7 @@ static void check_recovery(struct job *job, const char *folder) {
     struct coordinator *c = &job->coordinator;
     char *before = coordinator_image(c);
     coordinator_close(c);
-    coordinator_open(c, folder, RELKVANU_STORE_EARLIER_IMAGE, (struct death){PLACES, 0});
+    coordinator_open(c, folder, trace_is_on() ? 0 : RELKVANU_STORE_EARLIER_IMAGE, (struct death){PLACES, 0});
     char *after = coordinator_image(c);
     CHECK(c->report.replayed != 0 && strcmp(before, after) == 0, "a recovery of %" PRIu64 " calls gives another state", c->report.replayed);
     job->storage.folder = relkvanu_store_folder(c->store);

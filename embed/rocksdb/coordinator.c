@@ -2,6 +2,8 @@
 #define _GNU_SOURCE
 #include "coordinator.h"
 
+#include "trace.h"
+
 #include <fcntl.h>
 #include <signal.h>
 #include <string.h>
@@ -66,17 +68,20 @@ void coordinator_open(struct coordinator *c, const char *folder, uint32_t flags,
     memset(c, 0, sizeof *c);
     pthread_mutex_init(&c->lock, NULL);
     c->death = death;
-    relkvanu_store_options options = {.flags = RELKVANU_STORE_CREATE | flags, .image_calls = IMAGE_CALLS, .storage = storage,
+    relkvanu_store_options options = {.flags = RELKVANU_STORE_CREATE | flags, .image_calls = trace_is_on() ? RELKVANU_STORE_NO_IMAGES : IMAGE_CALLS, .storage = storage,
         .settings = {.interval = 100, .at_once = 2, .timeout = 20000, .tolerable = 2, .retained = 2}, .shape = &shape, .shape_len = 1};
     int status = relkvanu_store_open(&c->store, path, &options, &c->report);
     CHECK(status == RELKVANU_STORE_OK, "the job is not opened: status %d, %s", status, c->report.message);
     CHECK(c->report.term != 0, "the job has no names");
+    trace_answered(c->report.image_place + c->report.replayed);
+    trace("process %" PRIu64 " starts", c->report.epoch);
     c->term = c->report.term;
     coordinator_look(c);
 }
 
 void coordinator_close(struct coordinator *c) {
     relkvanu_store_close(c->store);
+    trace("process %" PRIu64 " ends", c->report.epoch);
 }
 
 static void note_done(struct coordinator *c, relkvanu_answer answer) {
@@ -119,6 +124,7 @@ static void make(struct coordinator *c, relkvanu_store_call *call) {
         sleep_ms(100);
     }
     coordinator_check(c, "a call is not committed", status);
+    trace_answered(call->place);
 }
 
 static relkvanu_answer made(struct coordinator *c, relkvanu_store_call call) {
@@ -126,10 +132,27 @@ static relkvanu_answer made(struct coordinator *c, relkvanu_store_call call) {
     return noted(c, call.answer);
 }
 
+/* A call of a task that is refused has no line in the log: so the trace has it, with a moment that counts as the greatest. */
+static void trace_refusal(struct caller task, relkvanu_store_call call) {
+    static _Thread_local uint8_t line[8 * 1024];
+    call.call.now = 0;
+    relkvanu_answer written = relkvanu_call_line(&call.call, call.first, call.first_len, call.second, call.second_len, line, sizeof line);
+    CHECK(written.code == RELKVANU_DONE, "a line can't be written: %" PRIu32, written.what);
+    bool is_message = call.call.kind == RELKVANU_CALL_ACK || call.call.kind == RELKVANU_CALL_DECLINE;
+    if (is_message) {
+        trace("from 0.%u %" PRIu64, task.index, task.term);
+    }
+    trace("refused %.*s", (int)written.a, (const char *)line);
+}
+
 static relkvanu_answer made_by(struct coordinator *c, struct caller task, relkvanu_store_call call) {
     call.call.index = (uint16_t)task.index;
     call.call.term = task.term;
-    return made(c, call);
+    relkvanu_answer answer = made(c, call);
+    if (answer.code != RELKVANU_DONE && trace_is_on()) {
+        trace_refusal(task, call);
+    }
+    return answer;
 }
 
 bool coordinator_tick(struct coordinator *c, uint64_t ms, relkvanu_answer *answer) {
@@ -139,6 +162,7 @@ bool coordinator_tick(struct coordinator *c, uint64_t ms, relkvanu_answer *answe
         return false;
     }
     coordinator_check(c, "a tick is not committed", status);
+    trace_answered(tick.place);
     *answer = noted(c, tick.answer);
     return true;
 }
@@ -148,11 +172,15 @@ relkvanu_answer coordinator_savepoint(struct coordinator *c) {
 }
 
 relkvanu_answer coordinator_ack(struct coordinator *c, struct caller task, uint64_t id, const uint64_t *fresh, size_t fresh_len, const uint64_t *reused, size_t reused_len) {
-    return made_by(c, task, (relkvanu_store_call){.call = {.kind = RELKVANU_CALL_ACK, .number = id}, .first = fresh, .first_len = fresh_len,
-                                .second = reused, .second_len = reused_len});
+    relkvanu_store_call call = {.call = {.kind = RELKVANU_CALL_ACK, .number = id}, .first = fresh, .first_len = fresh_len, .second = reused, .second_len = reused_len};
+    trace_ack(task.index, task.term, id, fresh, fresh_len, reused, reused_len);
+    relkvanu_answer answer = made_by(c, task, call);
+    trace("answer to 0.%u %" PRIu64 " %s", task.index, task.term, answer.code != RELKVANU_DONE ? "refused" : answer.what == RELKVANU_ACK_LATE ? "late" : "accepted");
+    return answer;
 }
 
 relkvanu_answer coordinator_decline(struct coordinator *c, struct caller task, uint64_t id) {
+    trace("task 0.%u %" PRIu64 " sends decline %" PRIu64, task.index, task.term, id);
     return made_by(c, task, (relkvanu_store_call){.call = {.kind = RELKVANU_CALL_DECLINE, .number = id}});
 }
 

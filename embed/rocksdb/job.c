@@ -2,6 +2,7 @@
 #define _GNU_SOURCE
 #include "job.h"
 #include "stream.h"
+#include "trace.h"
 
 #include <string.h>
 #include <sys/stat.h>
@@ -196,6 +197,7 @@ static void send_barriers(struct job *job, uint64_t id) {
     struct message message = {.barrier = id};
     job->cut_of[id % CUTS] = id;
     for (unsigned index = 0; index < job->parallelism; index++) {
+        trace("barrier %" PRIu64 " to 0.%u %" PRIu64, id, index, job->tasks[index].caller.term);
         queue_put(&job->tasks[index].queue, &message);
     }
 }
@@ -265,7 +267,7 @@ static enum end drive_on(struct job *job) {
             return ROLLS_BACK;
         } else if (has_passed(job, 75) && progress.is_rolled_back && !is_rescaled) {
             return RESCALES;
-        } else if (is_over(job) && is_rescaled && progress.completed != 0 && progress.images >= LEAST_IMAGES && job->victim == TASKS) {
+        } else if (is_over(job) && is_rescaled && progress.completed != 0 && (progress.images >= LEAST_IMAGES || trace_is_on()) && job->victim == TASKS) {
             return OVER;
         }
         CHECK(now() - job->started < job->seconds * 1000 + GUARD_MS, "the job comes to no end");

@@ -1,12 +1,15 @@
 /* The thread that sweeps: see sweeper.h. */
 #define _GNU_SOURCE
 #include "sweeper.h"
+#include "trace.h"
 
 enum { PAUSE_MS = 20 };
 
 void sweeper_sweep(struct coordinator *c) {
     size_t left;
+    trace_deletes_as("sweeper");
     int status = relkvanu_store_sweep(c->store, &left);
+    trace_deletes_as(NULL);
     CHECK(status != RELKVANU_STORE_STORAGE, "the storage has no marker: it is not the job's, or not mounted");
     coordinator_check(c, "a sweep", status);
     CHECK(left == 0, "%zu files of garbage can't be deleted", left);

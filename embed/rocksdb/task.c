@@ -1,6 +1,7 @@
 /* The thread of a task: see task.h. */
 #define _GNU_SOURCE
 #include "task.h"
+#include "trace.h"
 
 #include <string.h>
 
@@ -45,6 +46,9 @@ relkvanu_answer task_ack(struct task *task, const struct upload *upload) {
     static _Thread_local uint64_t fresh[MOST_FILES], reused[MOST_FILES];
     size_t fresh_len = upload_numbers(fresh, &upload->fresh), reused_len = upload_numbers(reused, &upload->reused);
     storage_sync(task->storage); /* each file is synced: the coordinator must not know one that a loss of power takes */
+    for (size_t place = 0; place < fresh_len; place++) {
+        trace("task 0.%u %" PRIu64 " syncs %" PRIu64, task->caller.index, task->caller.term, fresh[place]);
+    }
     coordinator_step(task->coordinator);
     return coordinator_ack(task->coordinator, task->caller, upload->id, fresh, fresh_len, reused, reused_len);
 }
@@ -88,6 +92,7 @@ static void upload_file(void *with, const char *name) {
         add(&upload->reused, name, held->number);
     } else {
         uint64_t number = new_name(task);
+        trace("task 0.%u %" PRIu64 " writes %" PRIu64, task->caller.index, task->caller.term, number);
         storage_put(task->storage, number, uploading->folder, name);
         add(&upload->fresh, name, number);
         coordinator_step(task->coordinator);
@@ -147,6 +152,7 @@ static bool uploads(struct task *task, uint64_t id, const char *folder) {
  * acknowledged, and may name files again that go with the record. */
 static void take_part(struct task *task, uint64_t id) {
     char folder[PATH];
+    trace("task 0.%u %" PRIu64 " begins %" PRIu64, task->caller.index, task->caller.term, id);
     if (chance_below(&task->chance, 8) == 0) {
         sleep_ms(chance_below(&task->chance, 200));
     }
@@ -186,5 +192,6 @@ void task_start(struct task *task) {
     task->left.id = 0;
     atomic_store(&task->is_stopped, false);
     atomic_store(&task->stops_after, 0);
+    trace("task 0.%u %" PRIu64 " starts", task->caller.index, task->caller.term);
     CHECK(pthread_create(&task->thread, NULL, work, task) == 0, "no thread");
 }

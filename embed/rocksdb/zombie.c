@@ -1,6 +1,7 @@
 /* The thread of a task that goes on too late: see zombie.h. */
 #define _GNU_SOURCE
 #include "zombie.h"
+#include "trace.h"
 
 enum { STANDS_STILL_MS = 400 };
 
@@ -8,19 +9,27 @@ static void check_old(const char *what, relkvanu_answer answer) {
     CHECK(answer.code == RELKVANU_FENCED && answer.what == RELKVANU_OLD_TERM, "%s of an ended term is answered %" PRIu32 " %" PRIu32, what, answer.code, answer.what);
 }
 
+static void write_file(struct zombie *zombie, uint64_t number) {
+    trace("task 0.%u %" PRIu64 " writes %" PRIu64, zombie->caller.index, zombie->caller.term, number);
+    storage_write_again(zombie->storage, number);
+    coordinator_step(zombie->coordinator);
+}
+
 /* It writes files that it had begun, though a sweeper may have deleted them, and one under a name that it has left. */
 static void write_files(struct zombie *zombie) {
     const struct files *fresh = &zombie->left.fresh;
     for (size_t place = 0; place < fresh->len; place++) {
         if (chance_below(&zombie->chance, 2) == 0) {
-            storage_write_again(zombie->storage, fresh->items[place].number);
-            coordinator_step(zombie->coordinator);
+            write_file(zombie, fresh->items[place].number);
         }
     }
     if (zombie->names.next != zombie->names.end) {
-        storage_write_again(zombie->storage, zombie->names.next++);
+        write_file(zombie, zombie->names.next++);
     }
     storage_sync(zombie->storage);
+    for (size_t place = 0; place < fresh->len; place++) {
+        trace("task 0.%u %" PRIu64 " syncs %" PRIu64, zombie->caller.index, zombie->caller.term, fresh->items[place].number);
+    }
 }
 
 static void send(struct zombie *zombie) {
