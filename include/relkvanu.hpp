@@ -217,7 +217,11 @@ struct checkpoint { std::uint64_t id; };
 struct savepoint { std::uint64_t id; };
 struct fresh {};
 using choice = std::variant<fresh, checkpoint, savepoint>;
-struct restored { choice from; std::uint64_t released; };
+struct restored {
+    choice from;
+    std::uint64_t released;
+    std::uint64_t term = 0; /* of a Store whose job has names: the term that begins, for who starts the tasks */
+};
 
 /* The answer to each call. The last alternative says that nothing has changed. */
 /* embed/bindings makes the answers */

@@ -5,7 +5,7 @@ use crate::metrics::Metrics;
 use crate::model::{check_clock, lengths_text, shown, wall, Clock, Keeping, Moment};
 use crate::stop::Stop;
 use crate::store::{Lead, Reader, Store};
-use crate::writer::{Board, Jobs, Lease, Messages, StartError, Writer};
+use crate::writer::{Board, Imager, Inbox, Jobs, Lease, Messages, StartError, Writer};
 use std::sync::Arc;
 use std::time::Duration;
 
@@ -18,6 +18,7 @@ pub struct Leader {
     pub board: Arc<Board>,
     pub metrics: Arc<Metrics>,
     pub messages: Messages,
+    pub inbox: Inbox,
     pub listen: String,
     pub keeping: Keeping,
     /// Whether the clock may be far ahead of the log.
@@ -46,7 +47,7 @@ impl Leader {
         // the writer has published all jobs, so the first request finds them
         self.board.open();
         log::info(&format!("serves on {}", self.listen));
-        writer.run(&self.messages);
+        writer.run(&self.messages, &Imager::start(self.inbox));
     }
 
     /// Follows the log until this process may write. So a take-over has little to read. `None` if the process was told to stop first.

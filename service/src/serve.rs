@@ -12,7 +12,7 @@ use crate::model::wall;
 use crate::process;
 use crate::starting::Starting;
 use crate::stop::Stop;
-use crate::store::{DbError, Lite, LiteReader, Pg, PgReader, Reader, Store, Unusable};
+use crate::store::{count_no_memory, DbError, Lite, LiteReader, Pg, PgReader, Reader, Store, Unusable};
 use crate::writer::{queue, Board, Inbox, Message, Messages};
 use sd_notify::NotifyState;
 use std::sync::Arc;
@@ -33,6 +33,7 @@ const LEAVE_WITHIN: Duration = Duration::from_secs(1);
 /// Serves, and ends the process.
 pub fn run(given: &cli::Serve) -> ! {
     process::make_files_private();
+    count_no_memory();
     let config = Config::of(given).map_err(Stop::from);
     if config.as_ref().is_ok_and(|config| config.log == LogForm::Json) {
         log::use_json();
@@ -62,7 +63,7 @@ fn serve(mut config: Config) -> Result<(), Stop> {
     let historian = shared.historian(&config)?;
     let leader = shared.leader(&config, store, messages)?;
     historian.start();
-    let working = std::thread::spawn(move || leader.run());
+    let working = process::thread("writer", move || leader.run());
     if answer_requests(app, listener)? {
         stop_writer(&shared, &working);
         log::info("stopped");
@@ -129,6 +130,7 @@ impl Shared {
             board: Arc::clone(&self.board),
             metrics: Arc::clone(&self.metrics),
             messages,
+            inbox: self.inbox.clone(),
             listen: config.listen.to_string(),
             keeping: config.keeping,
             accept_clock: config.accept_clock,

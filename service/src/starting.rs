@@ -1,5 +1,6 @@
 //! Asks systemd for patience while a start opens the database: to make the indexes of an upgrade may take minutes, and before that the
 //! service is not ready.
+use crate::process;
 use sd_notify::NotifyState;
 use std::sync::mpsc::{channel, RecvTimeoutError, Sender};
 use std::time::Duration;
@@ -16,7 +17,7 @@ pub struct Starting {
 impl Starting {
     pub fn begin() -> Starting {
         let (held, over) = channel::<()>();
-        std::thread::spawn(move || loop {
+        process::thread("starting", move || loop {
             // without systemd there is nothing to report to
             let _ = sd_notify::notify(false, &[NotifyState::ExtendTimeoutUsec(LONGER)]);
             if over.recv_timeout(REPORT_EACH) != Err(RecvTimeoutError::Timeout) {

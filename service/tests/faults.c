@@ -2,8 +2,8 @@
    that has only what was synced: after a kill, the copies are what the harshest loss of power leaves.
    - A write makes its range dirty, and a sync copies the dirty ranges to FILE.safe. A sync that is made to fail forgets them: Linux takes
      their pages as written from then on, so no later sync writes them.
-   - FAIL_SYNC=n lets the n-th sync fail of files whose path ends with FAIL_ON; FAIL_EACH=n one in n, at random. FULL_AT=n gives them room for
-     n bytes: writes behind these fail with the error FULL_ERROR. */
+   - FAIL_SYNC=n lets the n-th sync fail of files whose path ends with FAIL_ON; FAIL_EACH=n one in n, at random. FULL_EACH=n lets them grow by
+     n bytes from one sync to the next: writes behind these fail with the error FULL_ERROR. */
 #define _GNU_SOURCE
 #include <dlfcn.h>
 #include <errno.h>
@@ -31,6 +31,7 @@ enum { FILES = 16, PIECE = 1 << 16 };
 static file files[FILES];
 static pthread_mutex_t lock = PTHREAD_MUTEX_INITIALIZER;
 static long syncs;
+static off_t written, synced_to;
 
 __attribute__((constructor)) static void seed(void) { srandom((unsigned)(time(NULL) ^ getpid())); }
 
@@ -48,9 +49,12 @@ static int ends_with(const char *path, const char *end) {
     return length >= tail && !strcmp(path + length - tail, end);
 }
 
-static int is_full(const char *path, off_t end) {
-    const char *on = getenv("FAIL_ON"), *at = getenv("FULL_AT");
-    return on && at && ends_with(path, on) && end > atol(at);
+static int is_full(int fd, const char *path, off_t at, off_t end) {
+    const char *on = getenv("FAIL_ON"), *each = getenv("FULL_EACH");
+    struct stat state;
+    if (!on || !each || !ends_with(path, on)) return 0;
+    if (at < synced_to) synced_to = at; /* a log that begins again */
+    return end > synced_to + atol(each) && !fstat(fd, &state) && end > state.st_size;
 }
 
 static int fails(const char *path) {
@@ -115,6 +119,7 @@ static int sync_of(int fd, const char *name) {
     }
     int result = real(fd);
     if (!result) synced(fd, path, 1);
+    if (getenv("FAIL_ON") && ends_with(path, getenv("FAIL_ON"))) synced_to = written;
     return result;
 }
 
@@ -124,11 +129,12 @@ int fsync(int fd) { return sync_of(fd, "fsync"); }
 ssize_t pwrite64(int fd, const void *bytes, size_t length, off_t at) {
     char path[512];
     int is_ours = path_of(fd, path, sizeof path);
-    if (is_ours && is_full(path, at + (off_t)length)) {
+    if (is_ours && is_full(fd, path, at, at + (off_t)length)) {
         errno = atoi(getenv("FULL_ERROR"));
         return -1;
     }
     ssize_t result = real_write()(fd, bytes, length, at);
+    if (is_ours && getenv("FAIL_ON") && ends_with(path, getenv("FAIL_ON"))) written = at + (off_t)length;
     if (result > 0 && is_ours) dirty(path, at, (size_t)result);
     return result;
 }

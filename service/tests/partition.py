@@ -126,7 +126,7 @@ class Faults:
     def __init__(self, chance, database, servers, lines, clocks):
         self.chance, self.database, self.servers, self.lines, self.clocks = chance, database, servers, lines, clocks
         self.deck = []
-        self.made = {"cut": 0, "stopped": 0, "killed": 0, "clock": 0, "database stopped": 0, "both cut": 0}
+        self.made = {"cut": 0, "stopped": 0, "killed": 0, "clock": 0, "database stopped": 0, "both cut": 0, "all suspended": 0}
 
     def next(self):
         if not self.deck:
@@ -167,6 +167,15 @@ class Faults:
         processes = family(self.database)
         told(processes, signal.SIGSTOP)
         time.sleep(min(seconds, 3))
+        told(processes, signal.SIGCONT)
+
+    def all_suspended(self, _, seconds):
+        """As a machine with all of them is that its host suspends."""
+        processes = [*(server.process.pid for server in self.servers), *family(self.database)]
+        told(processes, signal.SIGSTOP)
+        time.sleep(seconds)
+        # in any order
+        self.chance.shuffle(processes)
         told(processes, signal.SIGCONT)
 
 

@@ -6,7 +6,7 @@ import shutil
 import subprocess
 from contextlib import contextmanager
 
-from harness import folder, free_port
+from harness import folder, free_port, until
 from run import Skipped
 
 
@@ -63,6 +63,28 @@ class Postgres:
 
     def sql(self, text):
         return self.run("psql", "-XAtq", self.url, "-c", text).strip()
+
+
+class Replica(Postgres):
+    """A copy of a database in a folder beside it, which follows it. Each commit waits until the copy has it on its disk."""
+
+    def __init__(self, primary):
+        self.bin, self.user, self.environment = primary.bin, primary.user, primary.environment
+        self.port, self.data = free_port(), f"{os.path.dirname(primary.data)}/replica"
+        self.url = primary.url.replace(str(primary.port), str(self.port))
+        os.mkdir(self.data, 0o700)
+        if self.user:
+            shutil.chown(self.data, "postgres", "postgres")
+        self.run("pg_basebackup", "-D", self.data, "-d", primary.url, "--write-recovery-conf", "--checkpoint=fast", "--no-sync")
+        with open(f"{self.data}/postgresql.conf", "a", encoding="utf-8") as it:
+            it.write(f"port = {self.port}\ncluster_name = replica\n")
+        self.start()
+        primary.sql("alter system set synchronous_standby_names = 'replica'")
+        primary.sql("select pg_reload_conf()")
+        until(lambda: primary.sql("select sync_state from pg_stat_replication") == "sync")
+
+    def promote(self):
+        self.run("pg_ctl", "-D", self.data, "-w", "promote")
 
 
 @contextmanager

@@ -91,8 +91,7 @@ def test_a_summary_that_postgresql_has_no_room_for():
 
 
 def test_an_image_that_sqlite_has_no_room_for():
-    """The write-ahead log has room for calls until it is brought into the database, and not for the image: on a full disk, and by a
-    quota."""
+    """The write-ahead log has room for calls, and not for a part of the image: on a full disk, and by a quota."""
     with folder() as at:
         server = Server(at, args=["--image-calls", "0"]).start()
         job = Service(server.url).open("orders", SETTINGS, [76])
@@ -104,12 +103,12 @@ def test_an_image_that_sqlite_has_no_room_for():
         server.args = ["--image-calls", "20"]
         library = built(at, "faults")
         for number in (errno.ENOSPC, errno.EDQUOT):
-            server.prefix = ["env", f"LD_PRELOAD={library}", "FAIL_ON=-wal", "FULL_AT=5000000", f"FULL_ERROR={number}"]
+            server.prefix = ["env", f"LD_PRELOAD={library}", "FAIL_ON=-wal", "FULL_EACH=150000", f"FULL_ERROR={number}"]
             server.start()
             put_off = server.log().count("an image of job orders is put off")
-            answered = sum(tick(server) for _ in range(60))
-            assert answered == 60, (number, answered, server.log()[-400:])
-            assert server.log().count("an image of job orders is put off") > put_off, server.log()[-400:]
+            until(lambda: tick(server) and server.log().count("an image of job orders is put off") > put_off)
+            answered = sum(tick(server) for _ in range(20))
+            assert answered == 20, (number, answered, server.log()[-400:])
             assert metric(server, FAILING) == 1 and server.process.poll() is None
             server.kill()
         server.prefix = []

@@ -23,7 +23,8 @@ use Rattle.ckpt_embed.specs.declared.asked.Asked.TheVariants as ask
 use Rattle.ckpt_embed.specs.declared.writing.CallFields.{CallFields}
 use Rattle.ckpt_embed.specs.Asking.{meaning_said, said}
 use Rattle.ckpt_embed.specs.Calls.{shape_of, target_of}
-use Rattle.ckpt_embed.specs.Saying.{CallHasLists, HasLists, call_fields, call_first, call_has_no_fields, call_second, fields_of, first_of, has_no_fields, second_of, target_number}
+use Rattle.ckpt_embed.specs.Saying.{CallHasLists, HasLists, call_fields, call_first, call_has_no_fields, call_second, fields_of, first_of}
+use Rattle.ckpt_embed.specs.Saying.{has_no_fields, second_of, target_number}
 use Rattle.ckpt_embed.specs.Told.{bad_shape}
 use Rattle.ckpt_embed.specs.Writing.{ReadsBack, SaysBack, bad_kind, call_given, given, kinds, line_of_asked, with_term}
 
@@ -60,9 +61,11 @@ kept_shape_given term now (target.Savepoint id) named = restore_given term now (
 new_shape_given : (term now : ℕ) (t : Target) (shape : List ℕ) → call_has_no_fields (call.Restore now t (Some shape)) ≡ false → IsShape shape
     → call_given (call_fields term (call.Restore now t (Some shape))) shape [] ≡ Ok (call.Restore now t (Some shape))
 new_shape_given term now target.Latest shape named is =
-    restore_given term now target.Latest (Some shape) (is_new shape (shape_holds shape is)) (shape_back shape (shape_holds shape is)) refl
+    let whole = shape_holds shape is in
+    restore_given term now target.Latest (Some shape) (is_new shape whole) (shape_back shape whole) refl
 new_shape_given term now (target.Savepoint id) shape named is =
-    restore_given term now (target.Savepoint id) (Some shape) (is_new shape (shape_holds shape is)) (shape_back shape (shape_holds shape is)) (target_back (target.Savepoint id) named)
+    let whole = shape_holds shape is in
+    restore_given term now (target.Savepoint id) (Some shape) (is_new shape whole) (shape_back shape whole) (target_back (target.Savepoint id) named)
 
 -- every call of a script
 call_back : (term : ℕ) (c : Call) → CallHasLists c → call_has_no_fields c ≡ false → call_given (call_fields term c) (call_first c) (call_second c) ≡ Ok c

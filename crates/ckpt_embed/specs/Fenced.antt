@@ -1,6 +1,7 @@
 -- The answers about terms and names, and what a call does through a handle, whether its tasks reserve names or not.
 use Rattle.std.specs.Prelude.{◌≡◌, ◌≢◌, ℕ, Bool, true, false, ◌||◌, nat_lt, nat_le, filter, if◌then◌else◌, List, length, Option, Some, None}
 use Rattle.ckpt_ids.specs.declared.call.Call.{Call}
+use Rattle.ckpt_ids.specs.declared.subtask.SubtaskId.{SubtaskId}
 use Rattle.ckpt_model.specs.State.{State}
 use Rattle.ckpt_terms.specs.declared.call.FencedCall.{FencedCall}
 use Rattle.ckpt_terms.specs.declared.call.FencedCall.TheVariants as fencing
@@ -18,6 +19,7 @@ use Rattle.ckpt_terms.specs.Wants.{wants_memory}
 use Rattle.ckpt_embed.specs.declared.answer.Answer.{Answer}
 use Rattle.ckpt_embed.specs.declared.handle.Handle.{Handle}
 use Rattle.ckpt_embed.specs.Buffers.{StandsInFront}
+use Rattle.ckpt_embed.specs.Calls.{ack_of}
 use Rattle.ckpt_embed.specs.Told.{answer, bad_argument, done, no_memory, out_of_memory, told, too_short_for}
 
 -- the code of a call that a term or the names refuse
@@ -65,6 +67,10 @@ call_step k call = ((machine_step k call).0, fenced_told 0 (machine_step k call)
 abbrev pub term_step : Machine → FencedCall → Machine × Answer
 term_step (machine.Plain m) call = (machine.Plain m, no_names)
 term_step (machine.Fenced m) call = let s : FencedStepped = fenced_step m call in (machine.Fenced s.0, fenced_told (count_of call) s.1)
+
+-- an acknowledgement with a term
+abbrev pub ack_step : Machine → ℕ → ℕ → ℕ → SubtaskId → List ℕ → List ℕ → Machine × Answer
+ack_step k term now id subtask fresh reused = term_step k (fencing.Make term (ack_of now id subtask fresh reused))
 
 -- the step is made and its answer returned, unless memory ran out
 abbrev pub IsTaken : (Machine → Machine × Answer) → Machine → Machine → Answer → Type 0

@@ -9,8 +9,8 @@ ghost use Rattle.ckpt_terms.specs.declared.call.FencedCall.TheVariants as fencin
 ghost use Rattle.ckpt_terms.specs.declared.machine.Machine.TheVariants as machine;
 ghost use Rattle.ckpt_terms.specs.Machines.{names_in};
 ghost use Rattle.ckpt_terms.specs.Wants.{wants_memory};
-ghost use Rattle.ckpt_embed.specs.Calls.{HasNoNumbers, StaysAsItWas, StaysClosed, ack_of};
-ghost use Rattle.ckpt_embed.specs.Fenced.{IsHandled, IsTaken, WantsNames, count_of, fence_step, term_step, term_told, term_wants};
+ghost use Rattle.ckpt_embed.specs.Calls.{HasNoNumbers, StaysAsItWas, StaysClosed};
+ghost use Rattle.ckpt_embed.specs.Fenced.{IsHandled, IsTaken, WantsNames, ack_step, count_of, fence_step, term_step, term_told, term_wants};
 ghost use Rattle.ckpt_embed.specs.Naming.{IsNamedOpening, IsNotOpenedNamed, IsOpenedNamed, IsWhyNotNamed};
 ghost use Rattle.ckpt_embed.specs.Opening.{OpeningWantsMemory, StaysOpen, opening_of};
 ghost use Rattle.ckpt_embed.specs.Told.{no_memory};
@@ -184,7 +184,7 @@ pub fn ack_in(
     reused: &[u64],
 ) -> Answer
     ensures closed { StaysClosed handle.old.value handle.new.value result }
-    ensures handled { IsHandled (λ k. term_step k (fencing.Make term (ack_of now id subtask fresh.now reused.now))) handle.old handle.new result }
+    ensures handled { IsHandled (λ k. ack_step k term now id subtask fresh.now reused.now) handle.old handle.new result }
     ensures numbers { HasNoNumbers result }
     ensures unchanged { StaysAsItWas handle.old.value handle.new.value result }
     ensures names_unchanged { result.code ≡ no_memory → handle.new.names ≡ handle.old.names }
@@ -237,7 +237,7 @@ pub(crate) fn in_term(machine: &mut Machine, call: &FencedCall) -> Answer
 }
 
 fn make(terms: &mut Terms, call: &FencedCall) -> Answer
-    ensures handled { result.code ≢ no_memory → (machine.Fenced terms.new ≡ (term_step (machine.Fenced terms.old) call.now).0) × (result ≡ (term_step (machine.Fenced terms.old) call.now).1) }
+    ensures handled { IsTaken (λ k. term_step k call.now) (machine.Fenced terms.old) (machine.Fenced terms.new) result }
     ensures memory { result.code ≡ no_memory → wants_memory terms.old call.now ≡ true }
     ensures numbers { HasNoNumbers result }
     ensures unchanged { result.code ≡ no_memory → terms.new ≡ terms.old }

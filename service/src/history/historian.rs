@@ -8,6 +8,7 @@ use super::tables::Tables;
 use crate::log;
 use crate::metrics::Metrics;
 use crate::model::{Keeping, KeptSummary};
+use crate::process;
 use crate::store::{room_of, Reader};
 use crate::writer::{Board, ForKeeping, Inbox, Message, Read, ReadDone};
 use std::collections::hash_map::Entry;
@@ -50,7 +51,11 @@ impl Historian {
     pub fn start(mut self) {
         let (opened, is_opened) = channel();
         self.opened = Some(opened);
-        std::thread::spawn(move || self.run());
+        process::thread("historian", move || {
+            // calls do not wait for what it does
+            process::yield_to_others();
+            self.run();
+        });
         let _ = is_opened.recv_timeout(OPEN_WITHIN);
     }
 

@@ -4,12 +4,9 @@ use super::error::Error;
 use super::follow::Follower;
 use super::read::{record_of, RecordRow, RECORD};
 use super::tables::{signed, Tables};
-use crate::model::{shape_words, PastRecord, SummaryPart};
+use crate::model::{parts, shape_words, PastRecord, SummaryPart};
 use rusqlite::{params, Row};
 use serde::{Deserialize, Serialize};
-
-/// How many bytes a part has at most.
-const PART_BYTES: usize = 256 << 10;
 
 /// The columns of a file that was not reported as deleted: its number, and the places of `born`, `released` and `taken`.
 type File = (i64, Option<i64>, Option<i64>, Option<i64>);
@@ -66,17 +63,17 @@ impl Summary {
     /// Its parts, for the place of the follower that it was made of.
     pub fn parts(&self, follower: &Follower) -> Result<Vec<SummaryPart>, Error> {
         let text = serde_json::to_string(self).map_err(|error| Error::BadLog(error.to_string()))?;
-        let pieces = pieces(&text);
-        let (job, seq, last) = (follower.job, follower.upto, pieces.len() - 1);
+        let texts = parts(&text);
+        let (job, seq, last) = (follower.job, follower.upto, texts.len() - 1);
         let whole = |part| if part == last { text.len() as u64 } else { 0 };
-        let part = |(part, piece): (usize, &str)| SummaryPart {
+        let part = |(part, text): (usize, &str)| SummaryPart {
             job,
             seq,
             part: part as u64,
             whole: whole(part),
-            text: piece.to_string(),
+            text: text.to_string(),
         };
-        Ok(pieces.into_iter().enumerate().map(part).collect())
+        Ok(texts.into_iter().enumerate().map(part).collect())
     }
 
     /// Puts it into the tables, in place of what they say of the job's files and live records.
@@ -106,19 +103,6 @@ impl Summary {
         let of_it = self.acked.iter().filter(move |(record, _)| *record == id);
         of_it.flat_map(|(_, subtasks)| subtasks).map(String::as_str)
     }
-}
-
-/// A text in pieces, which is not empty.
-fn pieces(text: &str) -> Vec<&str> {
-    let (mut pieces, mut rest) = (Vec::new(), text);
-    while rest.len() > PART_BYTES {
-        let at = (0..=PART_BYTES).rfind(|at| rest.is_char_boundary(*at)).unwrap_or(rest.len());
-        let (piece, after) = rest.split_at(at);
-        pieces.push(piece);
-        rest = after;
-    }
-    pieces.push(rest);
-    pieces
 }
 
 impl Tables {
@@ -161,19 +145,5 @@ impl Tables {
             fresh, full, saved
         ];
         self.run(&sql, given)
-    }
-}
-
-#[cfg(test)]
-mod tests {
-    use super::*;
-
-    #[test]
-    fn pieces_are_the_text() {
-        let text = format!("{}{}", "ü".repeat(PART_BYTES), "x".repeat(PART_BYTES - 1));
-        let pieces = pieces(&text);
-        assert!(pieces.len() == 3 && pieces.iter().all(|piece| !piece.is_empty() && piece.len() <= PART_BYTES));
-        assert_eq!(pieces.concat(), text);
-        assert_eq!(super::pieces("{}"), ["{}"]);
     }
 }

@@ -59,7 +59,7 @@ impl Metrics {
             commit_rows: histogram("relkvanu_commit_calls", "How many calls share a commit.", &ROWS)?,
             image_seconds: histogram(
                 "relkvanu_image_seconds",
-                "How long the writer makes an image of a job, and no calls.",
+                "How long an image of a job is made, while calls of that job wait.",
                 &SECONDS,
             )?,
             images_fail: gauge(
@@ -142,8 +142,8 @@ impl Metrics {
         self.clock_ahead.set(ahead as f64 / 1000.0);
     }
 
-    pub fn request(&self, route: &str, status: u16) {
-        self.requests.with_label_values(&[route, &status.to_string()]).inc();
+    pub fn request(&self, route: &str, status: &str) {
+        self.requests.with_label_values(&[route, status]).inc();
     }
 
     /// The gauge of open connections.

@@ -3,6 +3,7 @@ use super::call::Call;
 use super::live::Live;
 use super::outcome::Reply;
 use relkvanu::{Answer, Choice, Fenced, FileCounts, Garbage, Mode, Refusal, RunningTerm, Said, Settings};
+use std::ops::{Deref, DerefMut};
 use thiserror::Error;
 
 /// Why a call changed nothing. The text is the name of a refusal, or of what the term or the names refuse it for.
@@ -174,6 +175,41 @@ impl Engine {
     pub fn live(&self) -> Live {
         let core = &self.0;
         (0..).map_while(|place| core.live(place)).map(|record| (record.id, record)).collect()
+    }
+}
+
+/// The coordinator of a job, which may be lent to another thread. Nobody looks at it meanwhile: a coordinator has one caller at a time.
+pub struct Lendable(Option<Engine>);
+
+impl Lendable {
+    pub fn of(engine: Engine) -> Lendable {
+        Lendable(Some(engine))
+    }
+
+    pub fn lend(&mut self) -> Option<Engine> {
+        self.0.take()
+    }
+
+    pub fn is_lent(&self) -> bool {
+        self.0.is_none()
+    }
+}
+
+const LENT: &str = "the coordinator is lent";
+
+impl Deref for Lendable {
+    type Target = Engine;
+
+    fn deref(&self) -> &Engine {
+        let Some(engine) = &self.0 else { panic!("{LENT}") };
+        engine
+    }
+}
+
+impl DerefMut for Lendable {
+    fn deref_mut(&mut self) -> &mut Engine {
+        let Some(engine) = &mut self.0 else { panic!("{LENT}") };
+        engine
     }
 }
 

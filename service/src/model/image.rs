@@ -1,5 +1,6 @@
 //! Images of a job: its whole state at a place in its log. A start does not make the calls up to there again.
 use super::call::Subtask;
+use super::parts::{parts, PART_BYTES};
 use super::settings::shape_words;
 use relkvanu::Kind;
 use serde::de::IgnoredAny;
@@ -17,6 +18,15 @@ pub struct Image {
     pub last_completed: Option<u64>,
     pub last_event: u64,
     /// The coordinator's image, as docs/IMAGE.md has it.
+    pub text: String,
+}
+
+/// A part of the text of a long image.
+#[derive(Clone, Debug, PartialEq, Eq)]
+pub struct ImagePart {
+    pub job: i64,
+    pub seq: u64,
+    pub part: u64,
     pub text: String,
 }
 
@@ -38,6 +48,28 @@ pub struct Contents {
 }
 
 impl Image {
+    /// Whether the database has its text in parts.
+    pub fn is_long(&self) -> bool {
+        self.text.len() > PART_BYTES
+    }
+
+    /// The text that the image's own row has.
+    pub fn row_text(&self) -> &str {
+        if self.is_long() {
+            ""
+        } else {
+            &self.text
+        }
+    }
+
+    /// The part of a long image with this number, and whether it is the last one.
+    pub fn part(&self, number: usize) -> Option<(ImagePart, bool)> {
+        let texts = parts(&self.text);
+        let text = texts.get(number)?;
+        let part = ImagePart { job: self.job, seq: self.seq, part: number as u64, text: (*text).to_string() };
+        Some((part, number + 1 == texts.len()))
+    }
+
     /// SHA-256 of its content, in hexadecimal digits. Without it a changed digit could give the image of another state. Databases have
     /// digests of this text, so it stays as it is: an image that has another one counts as damaged.
     pub fn digest(&self) -> String {

@@ -1,7 +1,7 @@
 //! One job: its coordinator, its place in the log, and when the timer has to tick it.
 use super::bases::Bases;
 use super::call::Call;
-use super::engine::{Engine, Fault, NoJob};
+use super::engine::{Engine, Fault, Lendable, NoJob};
 use super::image::Image;
 use super::kept::Kept;
 use super::live::{ended, Live};
@@ -77,13 +77,13 @@ pub struct Job {
     /// The bytes of files, if this process leads.
     pub sizes: Sizes,
     pub is_deleted: bool,
-    engine: Engine,
+    engine: Lendable,
     live: Live,
 }
 
 impl Job {
     pub fn open(opening: Opening) -> Result<Job, NoJob> {
-        let engine = Engine::open(&opening.settings, &opening.shape, opening.started)?;
+        let engine = Lendable::of(Engine::open(&opening.settings, &opening.shape, opening.started)?);
         let (shape, at, kept) = (opening.shape.clone(), opening.started, Kept::default());
         let (live, sizes) = (Live::new(), Sizes::default());
         let (seq, last_completed, last_event, is_deleted) = (0, None, 0, false);
@@ -93,7 +93,7 @@ impl Job {
 
     /// Goes on from an image.
     pub fn resume(&mut self, image: &Image) -> Result<(), Fault> {
-        self.engine = Engine::of_image(&image.text)?;
+        self.engine = Lendable::of(Engine::of_image(&image.text)?);
         self.live = self.engine.live();
         self.shape.clone_from(&image.shape);
         (self.seq, self.at) = (image.seq, image.at);
@@ -107,15 +107,31 @@ impl Job {
         self.is_deleted = true;
         (self.kept, self.sizes, self.live) = (Kept::default(), Sizes::default(), Live::new());
         if let Ok(engine) = Engine::open(&self.opening.settings, &self.opening.shape, self.opening.started) {
-            self.engine = engine;
+            self.engine = Lendable::of(engine);
         }
     }
 
     /// The image of the job as it is now; `None` if memory ran out.
     pub fn image(&self) -> Option<Image> {
+        Some(self.image_of(self.engine.image()?))
+    }
+
+    /// The image of the job as it is now, with this text.
+    fn image_of(&self, text: String) -> Image {
         let Job { seq, at, last_completed, last_event, .. } = *self;
-        let (job, shape, text) = (self.opening.number, self.shape.clone(), self.engine.image()?);
-        Some(Image { job, seq, at, shape, last_completed, last_event, text })
+        let (job, shape) = (self.opening.number, self.shape.clone());
+        Image { job, seq, at, shape, last_completed, last_event, text }
+    }
+
+    /// Gives the coordinator away, with all of the job's image but its text, which the coordinator has. Until it is [back](Job::take_back)
+    /// the job has no calls, and no reads but that of its live records.
+    pub fn lend(&mut self) -> Option<(Engine, Image)> {
+        let engine = self.engine.lend()?;
+        Some((engine, self.image_of(String::new())))
+    }
+
+    pub fn take_back(&mut self, engine: Engine) {
+        self.engine = Lendable::of(engine);
     }
 
     /// Makes a call. If it changed something, also returns its row, which has to be committed before the call is answered.
@@ -251,7 +267,7 @@ impl Job {
 
     /// The moment at which the timer has to tick: a checkpoint is due and may be triggered, or a record expires.
     pub fn wake(&mut self) -> Option<u64> {
-        if self.is_deleted || self.engine.mode() != Mode::Running {
+        if self.is_deleted || self.engine.is_lent() || self.engine.mode() != Mode::Running {
             return None;
         }
         let expiry = self.engine.oldest_expiry();

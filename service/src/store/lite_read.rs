@@ -4,13 +4,19 @@ use super::error::DbError;
 use super::lite::{signed, BUSY};
 use super::reader::Reader;
 use super::room::room_of;
-use super::rows::{whole, LogPage, Room, SavedImage, COLUMNS, IMAGE_COLUMNS, IS_EVENT, PAGE_BYTES};
+use super::rows::{image_columns, whole, LogPage, Room, SavedImage, COLUMNS, IS_EVENT, PAGE_BYTES};
 use crate::model::{AckBytes, Entry, FileBytes, KeptImage, KeptSummary, Opening, PastRecord};
 use rusqlite::{params, Connection, OpenFlags, OptionalExtension, Params};
 use std::path::Path;
 
-/// A connection that only reads.
-pub struct LiteReader(Connection);
+/// The text of a long image. An aggregate of SQLite gets its rows in the order of the subquery.
+const JOINED: &str = "select group_concat(part.text, '') from (
+    select text from image_part where image_part.job = image.job and image_part.seq = image.seq order by image_part.part) part";
+
+const HAS_PARTS: &str = "select count(*) from sqlite_master where name = 'image_part'";
+
+/// A connection that only reads, and the columns by which it reads images.
+pub struct LiteReader(Connection, String);
 
 impl LiteReader {
     /// Opens a database that a [`Lite`](super::Lite) has made.
@@ -18,9 +24,10 @@ impl LiteReader {
         let flags = OpenFlags::SQLITE_OPEN_READ_ONLY | OpenFlags::SQLITE_OPEN_NO_MUTEX;
         let opened = Connection::open_with_flags(path, flags).and_then(|connection| {
             connection.busy_timeout(BUSY)?;
-            Ok(connection)
+            let parts: i64 = connection.query_row(HAS_PARTS, [], |row| row.get(0))?;
+            Ok(LiteReader(connection, image_columns((parts > 0).then_some(JOINED))))
         });
-        opened.map(LiteReader).map_err(DbError::unopened(path))
+        opened.map_err(DbError::unopened(path))
     }
 
     fn all<T: FromRow>(&self, sql: &str, given: impl Params) -> Result<Vec<T>, DbError> {
@@ -86,7 +93,7 @@ impl Reader for LiteReader {
     }
 
     fn image(&mut self, job: i64, after: u64) -> Result<Option<SavedImage>, DbError> {
-        let sql = format!("select {IMAGE_COLUMNS} from image where job = ? and seq > ? order by seq limit 1");
+        let sql = format!("select {} from image where job = ? and seq > ? order by seq limit 1", self.1);
         self.one(&sql, params![job, signed(after)])
     }
 

@@ -1,8 +1,9 @@
 //! Writes a group to an SQLite file.
 use super::lite::signed;
-use super::rows::{GoneJob, Group, Keyed};
+use super::many::{insert, maybe, number, text};
+use super::rows::{GoneJob, Group, Keyed, SavedImage};
 use crate::model::{
-    config_line, shape_words, sizes_text, AckBytes, Cut, Entry, Image, Opening, PastRecord, SummaryPart,
+    config_line, shape_words, sizes_text, AckBytes, Cut, Entry, ImagePart, Opening, PastRecord, SummaryPart,
 };
 use rusqlite::{params, Connection};
 use std::collections::BTreeMap;
@@ -14,6 +15,7 @@ pub fn write(connection: &mut Connection, group: &Group) -> rusqlite::Result<()>
     write_entries(&transaction, &group.entries)?;
     write_requests(&transaction, &group.requests)?;
     write_images(&transaction, &group.images)?;
+    write_image_parts(&transaction, &group.image_parts)?;
     drop_images(&transaction, &group.dropped)?;
     cut(&transaction, &group.cuts)?;
     write_summaries(&transaction, &group.summaries)?;
@@ -35,37 +37,44 @@ fn write_jobs(within: &Connection, jobs: &[Opening]) -> rusqlite::Result<()> {
 }
 
 fn write_entries(within: &Connection, entries: &[Entry]) -> rusqlite::Result<()> {
-    let mut insert = within.prepare_cached("insert into call values(?, ?, ?, ?, ?, ?, ?, ?)")?;
-    for entry in entries {
-        let numbers = [entry.seq, entry.at, entry.waiting].map(signed);
-        let ([seq, at, waiting], record) = (numbers, entry.record.map(signed));
-        insert.execute(params![entry.job, seq, at, record, entry.line, entry.answer, entry.ended, waiting])?;
-    }
-    Ok(())
+    insert(within, "insert into call", entries, |entry| {
+        let [seq, at, waiting] = [entry.seq, entry.at, entry.waiting].map(|it| number(signed(it)));
+        let (record, ended) =
+            (maybe(entry.record.map(|it| number(signed(it)))), maybe(entry.ended.as_deref().map(text)));
+        [number(entry.job), seq, at, record, text(&entry.line), text(&entry.answer), ended, waiting]
+    })
 }
 
 fn write_requests(within: &Connection, requests: &[Keyed]) -> rusqlite::Result<()> {
-    let mut insert = within.prepare_cached("insert into request values(?, ?, ?, ?, ?)")?;
-    for request in requests {
-        insert.execute(params![request.job, request.key, signed(request.at), request.digest, request.answers])?;
+    insert(within, "insert into request", requests, |it| {
+        [number(it.job), text(&it.key), number(signed(it.at)), text(&it.digest), text(&it.answers)]
+    })
+}
+
+fn write_images(within: &Connection, images: &[SavedImage]) -> rusqlite::Result<()> {
+    let mut insert = within.prepare_cached("insert into image values(?, ?, ?, ?, ?, ?, ?, ?, ?)")?;
+    for SavedImage { image, digest } in images {
+        let numbers = [image.seq, image.at, image.last_event, image.text.len() as u64].map(signed);
+        let ([seq, at, event, bytes], completed) = (numbers, image.last_completed.map(signed));
+        let shape = shape_words(&image.shape);
+        insert.execute(params![image.job, seq, at, digest, shape, completed, event, bytes, image.row_text()])?;
     }
     Ok(())
 }
 
-fn write_images(within: &Connection, images: &[Image]) -> rusqlite::Result<()> {
-    let mut insert = within.prepare_cached("insert into image values(?, ?, ?, ?, ?, ?, ?, ?, ?)")?;
-    for image in images {
-        let numbers = [image.seq, image.at, image.last_event, image.text.len() as u64].map(signed);
-        let ([seq, at, event, bytes], completed) = (numbers, image.last_completed.map(signed));
-        let (digest, shape) = (image.digest(), shape_words(&image.shape));
-        insert.execute(params![image.job, seq, at, digest, shape, completed, event, bytes, image.text])?;
-    }
-    Ok(())
+fn write_image_parts(within: &Connection, parts: &[ImagePart]) -> rusqlite::Result<()> {
+    let mut insert = within.prepare_cached("insert or replace into image_part values(?, ?, ?, ?)")?;
+    parts
+        .iter()
+        .try_for_each(|it| insert.execute(params![it.job, signed(it.seq), signed(it.part), it.text]).map(|_| ()))
 }
 
 fn drop_images(within: &Connection, places: &[(i64, u64)]) -> rusqlite::Result<()> {
-    let mut delete = within.prepare_cached("delete from image where job = ? and seq = ?")?;
-    places.iter().try_for_each(|(job, seq)| delete.execute(params![job, signed(*seq)]).map(|_| ()))
+    for table in ["image", "image_part"] {
+        let mut delete = within.prepare_cached(&format!("delete from {table} where job = ? and seq = ?"))?;
+        places.iter().try_for_each(|(job, seq)| delete.execute(params![job, signed(*seq)]).map(|_| ()))?;
+    }
+    Ok(())
 }
 
 fn cut(within: &Connection, cuts: &[Cut]) -> rusqlite::Result<()> {
@@ -96,12 +105,12 @@ fn drop_summaries(within: &Connection, places: &[(i64, u64)]) -> rusqlite::Resul
 }
 
 fn write_sizes(within: &Connection, sizes: &BTreeMap<(i64, u64), Option<u64>>) -> rusqlite::Result<()> {
-    let mut insert = within.prepare_cached("insert or replace into size values(?, ?, ?)")?;
+    let known: Vec<[i64; 3]> =
+        sizes.iter().filter_map(|((job, file), size)| Some([*job, *file as i64, signed((*size)?)])).collect();
+    insert(within, "insert or replace into size", &known, |row| row.map(number))?;
     let mut delete = within.prepare_cached("delete from size where job = ? and file = ?")?;
-    sizes.iter().try_for_each(|((job, file), size)| match size {
-        Some(bytes) => insert.execute(params![job, *file as i64, signed(*bytes)]).map(|_| ()),
-        None => delete.execute(params![job, *file as i64]).map(|_| ()),
-    })
+    let mut gone = sizes.iter().filter(|(_, size)| size.is_none());
+    gone.try_for_each(|((job, file), _)| delete.execute(params![job, *file as i64]).map(|_| ()))
 }
 
 fn write_said(within: &Connection, said: &[AckBytes]) -> rusqlite::Result<()> {

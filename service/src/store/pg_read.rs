@@ -3,7 +3,7 @@ use super::cells::{FromRow, Row};
 use super::error::DbError;
 use super::pq::{Connection, Failed, Rows};
 use super::reader::Reader;
-use super::rows::{whole, LogPage, Room, SavedImage, COLUMNS, IMAGE_COLUMNS, IS_EVENT, PAGE_BYTES};
+use super::rows::{image_columns, whole, LogPage, Room, SavedImage, COLUMNS, IS_EVENT, PAGE_BYTES};
 use crate::model::{AckBytes, Entry, FileBytes, KeptImage, KeptSummary, Opening, PastRecord};
 use std::time::Duration;
 
@@ -14,15 +14,24 @@ const IDLE: Duration = Duration::from_secs(5);
 /// How long that may take.
 const TRY: Duration = Duration::from_secs(3);
 
+/// The text of a long image.
+const JOINED: &str = "select string_agg(part.text, '' order by part.part) from image_part part
+    where part.job = image.job and part.seq = image.seq";
+const HAS_PARTS: &str = "select 1 where to_regclass('image_part') is not null";
+
 pub struct PgReader {
     url: String,
     connection: Connection,
+    /// The columns by which it reads images.
+    image: String,
 }
 
 impl PgReader {
     pub fn open(url: &str) -> Result<PgReader, DbError> {
-        let connection = connect(url)?;
-        Ok(PgReader { url: url.to_string(), connection })
+        let mut connection = connect(url)?;
+        let parts = connection.run(HAS_PARTS)?;
+        let image = image_columns((!parts.is_empty()).then_some(JOINED));
+        Ok(PgReader { url: url.to_string(), connection, image })
     }
 
     fn query(&mut self, sql: &str, given: &[&str]) -> Result<Rows, DbError> {
@@ -106,7 +115,7 @@ impl Reader for PgReader {
 
     fn image(&mut self, job: i64, after: u64) -> Result<Option<SavedImage>, DbError> {
         let rest = "where job = $1::bigint and seq > $2::bigint order by seq limit 1";
-        self.one(&format!("select {IMAGE_COLUMNS} from image {rest}"), &[&job.to_string(), &signed(after)])
+        self.one(&format!("select {} from image {rest}", self.image), &[&job.to_string(), &signed(after)])
     }
 
     fn images(&mut self, job: i64) -> Result<Vec<KeptImage>, DbError> {
@@ -222,7 +231,7 @@ impl Reader for PgReader {
     fn images_at(&mut self, places: &[(i64, u64)]) -> Result<Vec<SavedImage>, DbError> {
         let from = "image join unnest($1::bigint[], $2::bigint[]) u(job, seq) using (job, seq)";
         let [jobs, places] = arrays(places);
-        self.all(&format!("select {IMAGE_COLUMNS} from {from}"), &[&jobs, &places])
+        self.all(&format!("select {} from {from}", self.image), &[&jobs, &places])
     }
 
     fn firsts(&mut self, jobs: &[i64]) -> Result<Vec<(i64, u64)>, DbError> {

@@ -1,6 +1,6 @@
 //! What a database of the service does: commits groups, and reads the log.
 use super::error::{DbError, Failure};
-use crate::model::{AckBytes, Cut, Entry, Image, Logged, Opening, PastRecord, SummaryPart};
+use crate::model::{AckBytes, Cut, Entry, Image, ImagePart, Logged, Opening, PastRecord, SummaryPart};
 use std::collections::BTreeMap;
 use std::time::Duration;
 
@@ -10,8 +10,10 @@ pub struct Group {
     pub jobs: Vec<Opening>,
     pub entries: Vec<Entry>,
     pub requests: Vec<Keyed>,
-    pub images: Vec<Image>,
-    /// Images to delete: their jobs and places.
+    pub images: Vec<SavedImage>,
+    /// Parts of the texts of long images. An image counts once its row is there, which comes with the last part.
+    pub image_parts: Vec<ImagePart>,
+    /// Images to delete, with their parts: their jobs and places.
     pub dropped: Vec<(i64, u64)>,
     pub cuts: Vec<Cut>,
     pub summaries: Vec<SummaryPart>,
@@ -36,7 +38,7 @@ pub struct GoneJob {
 }
 
 /// The tables with rows of jobs, by which columns, and how many rows of it one piece of a deletion has at most: some are large.
-pub const OF_JOBS: [(&str, &str, u64); 7] = [
+pub const OF_JOBS: [(&str, &str, u64); 8] = [
     ("call", "job, seq", 1000),
     ("ack_size", "job, seq", 1000),
     ("request", "job, key", 1000),
@@ -44,6 +46,7 @@ pub const OF_JOBS: [(&str, &str, u64); 7] = [
     ("size", "job, file", 1000),
     ("summary", "job, seq, part", 8),
     ("image", "job, seq", 1),
+    ("image_part", "job, seq, part", 8),
 ];
 
 impl Group {
@@ -59,7 +62,8 @@ impl Group {
         let has_calls =
             !(self.gone.is_empty() && self.jobs.is_empty() && self.entries.is_empty() && self.requests.is_empty());
         let has_history = !(self.summaries.is_empty() && self.past.is_empty() && self.dropped_summaries.is_empty());
-        !has_calls && !has_history && self.images.is_empty() && self.dropped.is_empty() && self.cuts.is_empty()
+        let has_images = !(self.images.is_empty() && self.image_parts.is_empty() && self.dropped.is_empty());
+        !has_calls && !has_history && !has_images && self.cuts.is_empty()
     }
 }
 
@@ -86,7 +90,7 @@ pub struct SavedImage {
 pub const MOST_STARTS: i64 = 64;
 
 /// The version of the tables. Each database has a step of SQL for each: only a start over tables of an earlier version runs it.
-pub const VERSION: usize = 3;
+pub const VERSION: usize = 4;
 
 /// The steps after a version, each of which makes or changes tables. They can be run again.
 pub fn steps_after(found: i64, steps: [&'static str; VERSION]) -> impl Iterator<Item = &'static str> {
@@ -109,8 +113,8 @@ pub trait Store: Send {
     /// Tries to lead. The lease counts from before this was called.
     fn lead(&mut self) -> Result<Lead, DbError>;
 
-    /// Gives the log the identity `name`, now that this process leads and each job has this many calls. Fails if it no
-    /// longer leads.
+    /// Gives the log the identity `name`, now that this process leads and each job has this many calls, and deletes parts of images that
+    /// an earlier leader did not write whole. Fails if it no longer leads.
     fn begin(&mut self, name: &str, lengths: &str) -> Result<(), DbError>;
 
     /// Commits a group, or renews the lease if it is empty.
@@ -144,8 +148,12 @@ pub const IS_EVENT: &str = include_str!("../../sql/event.sql");
 /// The columns of an [`Entry`].
 pub const COLUMNS: &str = "job, seq, at, record, line, answer, ended, waiting";
 
-/// The columns of a [`SavedImage`].
-pub const IMAGE_COLUMNS: &str = "job, seq, at, digest, shape, completed, event, text";
+/// The columns of a [`SavedImage`]. `joined` selects the parts of a long image's text, put together; tables of an earlier version have none.
+/// One statement reads them, so an image that is deleted meanwhile is there whole or not at all.
+pub fn image_columns(joined: Option<&str>) -> String {
+    let text = joined.map_or("text".to_string(), |joined| format!("coalesce(({joined}), text)"));
+    format!("job, seq, at, digest, shape, completed, event, {text}")
+}
 
 /// How many bytes something takes, and how many its disk has left, if that can be known here.
 #[derive(Clone, Copy, Debug, PartialEq, Eq)]

@@ -1,6 +1,6 @@
 //! The messages that share a commit, and the answers that were given before under their keys, read for all at once.
 use super::message::{Key, Message};
-use super::{Jobs, Messages, MOST_CALLS};
+use super::Jobs;
 use crate::store::{DbError, Keyed, Store};
 use std::collections::HashMap;
 
@@ -24,20 +24,7 @@ impl Answered {
     }
 }
 
-/// The messages that wait behind a first one, until their calls fill a commit.
-pub fn gather(first: Option<Message>, inbox: &Messages) -> Vec<Message> {
-    let (mut batch, mut calls) = (Vec::new(), 0);
-    let mut next = first;
-    while let Some(message) = next {
-        calls += calls_of(&message);
-        let is_last = calls >= MOST_CALLS || matches!(message, Message::Stop);
-        batch.push(message);
-        next = if is_last { None } else { inbox.try_recv() };
-    }
-    batch
-}
-
-fn calls_of(message: &Message) -> usize {
+pub fn calls_of(message: &Message) -> usize {
     match message {
         Message::Calls { calls, .. } => calls.len(),
         _ => 0,

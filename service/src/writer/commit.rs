@@ -80,7 +80,8 @@ impl Writer {
         }
         for (read, reply) in round.reads {
             self.renew();
-            let _ = reply.send(state::read(&mut self.jobs, read, self.clock.now()));
+            let lent = self.lent.as_ref().map(|lent| &lent.state);
+            let _ = reply.send(state::read(&mut self.jobs, read, self.clock.now(), lent));
         }
     }
 

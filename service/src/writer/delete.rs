@@ -46,6 +46,7 @@ impl Writer {
             Err(Failure::Lost(why)) => lose(&why),
         }
         self.jobs.delete(place);
+        self.keeper.forget(place);
         self.timer.set(place, None);
         self.board.forget(name);
         self.metrics.forget(name);

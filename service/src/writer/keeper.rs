@@ -1,13 +1,14 @@
 //! Images and cuts of the log, which each round writes beside its calls.
 use super::board::Board;
+use super::imager::Imaged;
+use super::images::Images;
 use super::jobs::Jobs;
 use super::round::Round;
 use crate::log;
 use crate::metrics::Metrics;
 use crate::model::{Job, Keeping, Kept, Moment};
-use crate::store::Group;
 use std::collections::{BTreeMap, BTreeSet};
-use std::time::{Duration, Instant};
+use std::time::Duration;
 
 /// How many old calls a round deletes, beside as many as it adds.
 const CUT_CALLS: u64 = 1000;
@@ -23,6 +24,7 @@ pub struct Keeper {
     /// The jobs whose last image or cut could not be written.
     failing: BTreeMap<usize, Pause>,
     last_failure: Option<Moment>,
+    images: Images,
     /// How many bytes the log of each job may take, and when that was reckoned.
     level: u64,
     reckoned: Option<Moment>,
@@ -39,15 +41,20 @@ struct Pause {
 
 /// What a round writes for one job beside calls, and what the database has of its log if that can't be written.
 pub struct Upkeep {
-    place: usize,
-    before: Kept,
+    pub place: usize,
+    pub before: Kept,
+    /// The place of a long image, of which the database may have parts if this can't be written.
+    pub long: Option<u64>,
+    /// Whether it is no part of an image before the last.
+    pub is_whole: bool,
 }
 
 impl Keeper {
     /// Looks at all jobs first.
     pub fn new(keeping: Keeping, jobs: usize) -> Keeper {
         let attend = (0..jobs).collect();
-        Keeper { keeping, attend, failing: BTreeMap::new(), last_failure: None, level: u64::MAX, reckoned: None }
+        let (failing, last_failure, images) = (BTreeMap::new(), None, Images::default());
+        Keeper { keeping, attend, failing, last_failure, images, level: u64::MAX, reckoned: None }
     }
 
     /// What is kept of a job: fewer calls if the logs of all jobs take too many bytes.
@@ -80,17 +87,17 @@ impl Keeper {
         self.attend.extend(places);
     }
 
-    /// A round that writes the image of one job at most, and deletes a piece of its log. Between two rounds a job is as
-    /// the log says. `added` calls were written in the last one.
-    pub fn work(&mut self, jobs: &mut Jobs, board: &Board, metrics: &Metrics, added: usize) -> Round {
+    /// A round that writes a part of one image at most, or deletes a piece of a log. Between two rounds a job is as the log says. `added`
+    /// calls were written in the last one.
+    pub fn work(&mut self, jobs: &mut Jobs, board: &Board, added: usize) -> Round {
         let mut round = Round::default();
         self.reckon(jobs);
-        if self.last_failure.is_some_and(|at| at.elapsed() < PAUSE) {
+        if self.last_failure.is_some_and(|at| at.elapsed() < PAUSE) || self.work_on_image(jobs, &mut round) {
             return round;
         }
         let mut later = BTreeSet::new();
         while let Some(place) = self.attend.pop_first() {
-            if self.failing.get(&place).is_some_and(|pause| pause.since.elapsed() < pause.length) {
+            if is_put_off(&self.failing, place) || self.images.is_of(place) {
                 later.insert(place);
                 continue;
             }
@@ -98,17 +105,21 @@ impl Keeper {
             if job.is_deleted {
                 continue;
             }
-            let before = job.kept.clone();
             if job.kept.wants_image(job.seq, self.keeping(job)) {
-                self.save(job, metrics, &mut round.group);
+                later.insert(place);
+                if self.images.begin(place) {
+                    continue;
+                }
+                break;
             }
+            let before = job.kept.clone();
             let (number, most) = (job.opening.number, CUT_CALLS + added as u64);
             let (images, summaries) = job.kept.take_old();
             round.group.dropped.extend(images.into_iter().map(|seq| (number, seq)));
             round.group.dropped_summaries.extend(summaries.into_iter().map(|seq| (number, seq)));
             round.group.cuts.extend(job.kept.cut(number, most, board.history(&job.opening.name)));
             if !round.group.is_empty() {
-                round.upkeep = Some(Upkeep { place, before });
+                round.upkeep = Some(Upkeep { place, before, long: None, is_whole: true });
                 round.touched.insert(place);
                 later.insert(place);
                 break;
@@ -120,47 +131,74 @@ impl Keeper {
         round
     }
 
-    fn save(&self, job: &mut Job, metrics: &Metrics, group: &mut Group) {
-        let started = Instant::now();
-        let Some(image) = job.image() else {
+    /// Adds to a round what is to be written or deleted of an image. Returns whether there is something.
+    fn work_on_image(&mut self, jobs: &mut Jobs, round: &mut Round) -> bool {
+        let given_up = self.images.given_up().find(|place| !is_put_off(&self.failing, *place));
+        if let Some(place) = given_up {
+            self.images.forget(place, jobs, round);
+        } else if let Some(place) = self.images.to_write() {
+            let keeping = self.keeping(jobs.at(place));
+            self.images.write(jobs, keeping, round);
+        }
+        round.upkeep.is_some()
+    }
+
+    /// The job at a place was deleted.
+    pub fn forget(&mut self, place: usize) {
+        self.images.forget_job(place);
+    }
+
+    /// The place of the job whose image is to be made. It is told once.
+    pub fn wanted(&mut self) -> Option<usize> {
+        self.images.wanted()
+    }
+
+    /// An image was made, or memory ran out.
+    pub fn made(&mut self, jobs: &mut Jobs, imaged: Imaged, metrics: &Metrics) {
+        if let Some(place) = self.images.made(imaged) {
+            let job = jobs.at(place);
             log::warn(&format!("image job={} calls={}: memory ran out; the log grows", job.opening.name, job.seq));
             metrics.image_fails(&job.opening.name, true);
-            return job.kept.postpone(job.seq);
-        };
-        metrics.image(started.elapsed());
-        let keeping = self.keeping(job);
-        let gone = job.kept.add(&image, keeping);
-        group.dropped.extend(gone.into_iter().map(|seq| (image.job, seq)));
-        group.images.push(image);
+            job.kept.postpone(job.seq);
+        }
     }
 
     /// The database rolled a round back: takes the image or the cut out of it, so its calls are written without.
     pub fn put_off(&mut self, jobs: &mut Jobs, round: &mut Round, metrics: &Metrics, why: &str) {
-        let Some(Upkeep { place, before }) = round.upkeep.take() else {
+        let Some(Upkeep { place, before, long, .. }) = round.upkeep.take() else {
             return;
         };
         let group = &mut round.group;
-        let images = std::mem::take(&mut group.images);
+        let is_image = long.is_some() || !group.images.is_empty();
+        group.images.clear();
+        group.image_parts.clear();
         group.dropped.clear();
         group.dropped_summaries.clear();
         group.cuts.clear();
+        if let Some(long) = long {
+            self.images.give_up(place, long);
+        }
         let job = jobs.at(place);
         job.kept = before;
         let length = self.failing.get(&place).map_or(PAUSE, |pause| (pause.length * 2).min(LONGEST_PAUSE));
         self.failing.insert(place, Pause { since: Moment::now(), length });
         self.last_failure = Some(Moment::now());
-        let (name, what) = (&job.opening.name, if images.is_empty() { "a cut" } else { "an image" });
+        let (name, what) = (&job.opening.name, if is_image { "an image" } else { "a cut" });
         log::warn(&format!("{what} of job {name} is put off for {} s, and calls go on: {why}", length.as_secs()));
         metrics.image_fails(name, true);
     }
 
     /// A round was written.
     pub fn written(&mut self, round: &Round, jobs: &Jobs, metrics: &Metrics) {
-        if let Some(upkeep) = &round.upkeep {
-            self.failing.remove(&upkeep.place);
-            metrics.image_fails(jobs.name(upkeep.place), false);
+        if let Some(Upkeep { place, is_whole: true, .. }) = &round.upkeep {
+            self.failing.remove(place);
+            metrics.image_fails(jobs.name(*place), false);
         }
     }
+}
+
+fn is_put_off(failing: &BTreeMap<usize, Pause>, place: usize) -> bool {
+    failing.get(&place).is_some_and(|pause| pause.since.elapsed() < pause.length)
 }
 
 fn bytes_of(job: &Job) -> u64 {

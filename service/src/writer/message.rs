@@ -1,5 +1,6 @@
 //! The messages to the writer, and its answers.
 use super::delete::Delete;
+use super::imager::{Imaged, Returned};
 use super::state::{JobState, RecordState};
 use crate::model::{Call, Fault, FileCounts, Garbage, NoJob, Outcome, PastRecord, RunningTerm, Settings, SummaryPart};
 use thiserror::Error;
@@ -30,6 +31,9 @@ pub enum Message {
     /// What the history gives to the database. The answer says whether it was committed.
     Keep(ForKeeping, oneshot::Sender<bool>),
     Delete(Delete),
+    /// The coordinator of a job, of which an image was made.
+    Returned(Returned),
+    Imaged(Imaged),
     Stop,
 }
 

@@ -3,11 +3,14 @@ mod batch;
 mod board;
 mod commit;
 mod delete;
+mod imager;
+mod images;
 mod jobs;
 mod keeper;
 mod lag;
 mod lease;
 mod leftovers;
+mod lent;
 mod message;
 mod old_keys;
 mod queue;
@@ -18,6 +21,7 @@ mod timer;
 
 pub use board::Board;
 pub use delete::Delete;
+pub use imager::Imager;
 pub use jobs::Jobs;
 pub use lease::Lease;
 pub use message::{CallsDone, Created, Deletion, ForKeeping, Key, Message, Names, Read, ReadDone};
@@ -29,12 +33,14 @@ use crate::log;
 use crate::metrics::Metrics;
 use crate::model::{Call, Clock, Keeping, Moment, Outcome};
 use crate::store::Store;
-use batch::Answered;
+use batch::{calls_of, Answered};
 use commit::lose;
 use keeper::Keeper;
 use leftovers::Leftovers;
+use lent::Lent;
 use old_keys::OldKeys;
 use round::Round;
+use std::collections::VecDeque;
 use std::sync::mpsc::RecvTimeoutError;
 use std::sync::Arc;
 use std::time::Duration;
@@ -61,6 +67,9 @@ pub struct Writer {
     next: Round,
     old_keys: OldKeys,
     leftovers: Leftovers,
+    /// The job whose coordinator the imager has, and messages that waited for one.
+    lent: Option<Lent>,
+    waited: VecDeque<Message>,
     followed: Moment,
     noted: Moment,
     lease: Lease,
@@ -91,6 +100,8 @@ impl Writer {
             next,
             old_keys,
             leftovers,
+            lent: None,
+            waited: VecDeque::new(),
             followed: now,
             noted: now,
             lease,
@@ -101,8 +112,8 @@ impl Writer {
         writer
     }
 
-    /// Works until a message says to stop.
-    pub fn run(mut self, inbox: &Messages) {
+    /// Works until a message says to stop. Images are made by the imager.
+    pub fn run(mut self, inbox: &Messages, imager: &Imager) {
         loop {
             let first = match inbox.recv_timeout(self.patience()) {
                 Ok(message) => Some(message),
@@ -110,7 +121,7 @@ impl Writer {
                 Err(RecvTimeoutError::Disconnected) => return,
             };
             let mut round = std::mem::take(&mut self.next);
-            let messages = batch::gather(first, inbox);
+            let messages = self.gather(first, inbox);
             let answered = Answered::read(&messages, &self.jobs, self.store.as_mut()).unwrap_or_else(|why| lose(&why));
             for message in messages {
                 self.take_in(&mut round, &answered, message);
@@ -130,8 +141,60 @@ impl Writer {
             }
             self.old_keys.work(self.store.as_mut(), &self.metrics, keys, self.clock.now());
             self.leftovers.work(self.store.as_mut());
-            self.next = self.keeper.work(&mut self.jobs, &self.board, &self.metrics, added);
+            self.next = self.keeper.work(&mut self.jobs, &self.board, added);
+            if let Some(place) = self.keeper.wanted() {
+                self.lend(place, imager);
+            }
             self.look_at_clock();
+        }
+    }
+
+    /// The messages that wait, until their calls fill a commit.
+    fn gather(&mut self, first: Option<Message>, inbox: &Messages) -> Vec<Message> {
+        let (mut batch, mut calls, mut first) = (Vec::new(), 0, first);
+        while calls < MOST_CALLS && !matches!(batch.last(), Some(Message::Stop)) {
+            let next = self.waited.pop_front().or_else(|| first.take()).or_else(|| inbox.try_recv());
+            let Some(message) = next else {
+                break;
+            };
+            if let Some(message) = self.admit(message) {
+                calls += calls_of(&message);
+                batch.push(message);
+            }
+        }
+        self.waited.extend(first);
+        batch
+    }
+
+    /// A message that can be worked on. One of a job whose coordinator is lent waits.
+    fn admit(&mut self, message: Message) -> Option<Message> {
+        match message {
+            Message::Returned(returned) => {
+                self.metrics.image(returned.took);
+                self.jobs.at(returned.place).take_back(returned.engine);
+                self.waited.extend(self.lent.take().map_or(Vec::new(), Lent::into_held));
+                self.publish(returned.place);
+                None
+            }
+            Message::Imaged(imaged) => {
+                self.keeper.made(&mut self.jobs, imaged, &self.metrics);
+                None
+            }
+            message => match &mut self.lent {
+                Some(lent) => lent.hold(message),
+                None => Some(message),
+            },
+        }
+    }
+
+    /// Gives the imager a job's coordinator. Until it is back the job is neither called nor ticked.
+    fn lend(&mut self, place: usize, imager: &Imager) {
+        let job = self.jobs.at(place);
+        let state = state::state(job, self.clock.now());
+        if let Some((engine, image)) = job.lend() {
+            self.lent = Some(Lent::new(state));
+            self.timer.set(place, None);
+            imager.make(place, engine, image);
         }
     }
 
@@ -155,7 +218,8 @@ impl Writer {
     fn patience(&self) -> Duration {
         let beat = self.store.beat().saturating_sub(self.lease.age()).min(SLEEP).min(self.old_keys.wait());
         let beat = self.leftovers.wait().map_or(beat, |wait| beat.min(wait));
-        let beat = if self.next.group.is_empty() { beat.max(Duration::from_millis(1)) } else { Duration::ZERO };
+        let is_idle = self.next.group.is_empty() && self.waited.is_empty();
+        let beat = if is_idle { beat.max(Duration::from_millis(1)) } else { Duration::ZERO };
         match self.timer.next() {
             None => beat,
             Some(moment) => beat.min(Duration::from_millis(moment.saturating_sub(self.clock.now()))),
@@ -165,6 +229,8 @@ impl Writer {
     fn take_in(&mut self, round: &mut Round, answered: &Answered, message: Message) {
         match message {
             Message::Stop => round.stop = true,
+            // taken in as the batch was gathered
+            Message::Returned(_) | Message::Imaged(_) => {}
             Message::Read(read, reply) => round.reads.push((read, reply)),
             Message::Keep(given, reply) => round.given.push((given, reply)),
             Message::Delete(delete) => round.deletions.push(delete),

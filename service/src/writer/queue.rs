@@ -48,6 +48,12 @@ impl Inbox {
         })
     }
 
+    /// Puts a message in once there is room; none is there for it if the writer has ended.
+    pub fn send(&self, message: Message) -> Result<(), NotSent> {
+        self.length.fetch_add(1, Ordering::SeqCst);
+        self.to.send((Instant::now(), message)).map_err(|_| NotSent::Ended)
+    }
+
     pub fn len(&self) -> usize {
         self.length.load(Ordering::SeqCst)
     }

@@ -3,7 +3,7 @@ use super::jobs::Jobs;
 use super::message::{Read, ReadDone};
 use crate::model::{Bytes, Choice, FileCounts, Job, KeptImage, Kind, LiveRecord, Mode, Opening, RunningTerm};
 
-#[derive(Debug)]
+#[derive(Clone, Debug)]
 pub struct JobState {
     pub opening: Opening,
     /// The shape that the job has now.
@@ -36,11 +36,15 @@ pub struct RecordState {
     pub metadata: Option<String>,
 }
 
-/// Reads what is asked for, at the moment `now`.
-pub fn read(jobs: &mut Jobs, read: Read, now: u64) -> ReadDone {
+/// Reads what is asked for, at the moment `now`. A job whose coordinator is lent has had this state since.
+pub fn read(jobs: &mut Jobs, read: Read, now: u64, lent: Option<&JobState>) -> ReadDone {
+    let state = |job: &mut Job| match lent.filter(|lent| lent.opening.number == job.opening.number) {
+        Some(lent) => JobState { now, ..lent.clone() },
+        None => state(job, now),
+    };
     match read {
-        Read::Jobs => ReadDone::Jobs(jobs.all().map(|job| state(job, now)).collect()),
-        Read::Job(name) => of(jobs, &name, |job| ReadDone::Job(Box::new(state(job, now)))),
+        Read::Jobs => ReadDone::Jobs(jobs.all().map(state).collect()),
+        Read::Job(name) => of(jobs, &name, |job| ReadDone::Job(Box::new(state(job)))),
         Read::Record { job, id } => of(jobs, &job, |job| ReadDone::Record(record(job, id))),
         Read::Taken(name) => of(jobs, &name, |job| ReadDone::Taken(job.engine().taken())),
         Read::Term(name) => of(jobs, &name, |job| ReadDone::Term(job.engine().term())),
@@ -65,7 +69,8 @@ fn record(job: &mut Job, id: u64) -> Option<RecordState> {
     Some(RecordState { metadata: job.engine().show(id) })
 }
 
-fn state(job: &mut Job, now: u64) -> JobState {
+/// The state of a job at the moment `now`.
+pub fn state(job: &mut Job, now: u64) -> JobState {
     let records: Vec<LiveRecord> = job.live().values().copied().collect();
     let (checkpoints, savepoints) = (job.pending(Kind::Checkpoint), job.pending(Kind::Savepoint));
     let engine = job.engine();

@@ -1,0 +1,121 @@
+"""Images of jobs with many files: they are made beside the writer and written in parts, so no call of another job waits for one."""
+import os
+import sqlite3
+import threading
+
+from harness import Server, check_log, folder, until
+from postgres import postgres
+from preloaded import built
+from relkvanu_service import Service, ack, savepoint
+
+SETTINGS = {"interval": 1 << 40}
+TICK = {"call": "tick"}
+PART = 256 << 10
+OPENED = 76  # calls of `opened`
+NOT_WHOLE = "select count(*) from image_part it where not exists (select 1 from image where image.job = it.job and image.seq = it.seq)"
+
+
+def opened(service, name="large"):
+    """A job with 300,000 files, whose image has some 5 MB."""
+    job = service.open(name, SETTINGS, [76])
+    job.call(savepoint())
+    for subtask in range(75):
+        first = 10**15 + subtask * 4000
+        job.call(ack(1, f"0.{subtask}", range(first, first + 4000)))
+    return job
+
+
+def ticked_to(job, seq):
+    while job.call(TICK)["seq"] < seq:
+        pass
+
+
+def test_other_jobs_are_called_while_an_image_is_made():
+    with folder() as at:
+        held = f"{at}/held"
+        server = Server(at, prefix=["env", f"LD_PRELOAD={built(at, 'held')}", f"HELD={held}"], args=["--image-calls", "80"]).start()
+        service = Service(server.url, patience=10)
+        large, others = opened(service), [service.open(f"j{number}", SETTINGS, [1]) for number in range(50)]
+        with open(held, "w", encoding="utf-8"):
+            ticked_to(large, 80)
+        until(lambda: os.path.exists(f"{held}.waits"))
+        # from here on the image is being made, until the file goes
+        told = []
+        waiting = threading.Thread(target=lambda: told.append(large.within(60).call(TICK)["seq"]))
+        waiting.start()
+        for round_ in range(1, 4):
+            assert [job.call(TICK)["seq"] for job in others] == [round_] * len(others)
+        states = {state["name"]: state for state in service.jobs()}
+        assert states["large"] == {**large.state(), "now": states["large"]["now"]} and states["large"]["seq"] == 80, states["large"]
+        assert states["large"]["image"] is None and len(states) == 51 and states["j7"]["seq"] == 3
+        assert server.get("/metrics")[0] == 200 and waiting.is_alive() and not told
+        os.remove(held)
+        waiting.join(30)
+        assert told == [81], told
+        image = until(lambda: large.state()["image"])
+        assert image["seq"] == 80 and image["bytes"] > 4_000_000, image
+        with sqlite3.connect(server.database) as base:
+            parts = [length for (length,) in base.execute("select length(text) from image_part order by part")]
+        assert len(parts) == -(-image["bytes"] // PART) and sum(parts) == image["bytes"] and max(parts) == PART, parts
+        before = large.state()
+        server.kill()
+        server.start()
+        assert server.replayed()[-1] == 1 + 3 * 50 and large.state()["files"] == before["files"], server.replayed()
+        large.call(ack(1, "0.75", [1]))
+        state, log = large.state(), list(large.log())
+        server.stop()
+        check_log(state, [76], log)
+        return f"{3 * len(others)} calls of other jobs while an image of {image['bytes'] / 1e6:.1f} MB was made; {len(parts)} parts"
+
+
+def test_each_part_has_a_commit_of_its_own():
+    with postgres() as database, folder() as at:
+        server = Server(at, database.url, ["--image-calls", "80"]).start()
+        job = opened(Service(server.url))
+        database.sql("""create table written(tx bigint, what text);
+            create function noted() returns trigger language plpgsql as 'begin insert into written values(txid_current(), tg_table_name); return new; end';
+            create trigger noted before insert on image_part for each row execute function noted();
+            create trigger noted before insert on image for each row execute function noted()""")
+        ticked_to(job, 80)
+        image = until(lambda: job.state()["image"])
+        parts, commits = map(int, database.sql("select count(*), count(distinct tx) from written where what = 'image_part'").split("|"))
+        assert parts == commits == -(-image["bytes"] // PART), (parts, commits, image)
+        assert database.sql("select (select tx from written where what = 'image') = (select max(tx) from written)") == "t"
+        # the next image takes the place of this one, with its parts
+        server.stop()
+        server.args = ["--image-calls", "80", "--keep-calls", "0"]
+        server.start()
+        assert server.replayed()[-1] == 0, server.replayed()
+        server.stop()
+        return f"{parts} commits"
+
+
+def test_an_image_that_is_not_written_whole():
+    """Its parts go: those of one that was put off, and those that a process left which was killed."""
+    with postgres() as database, folder() as at:
+        server = Server(at, database.url, ["--image-calls", "80"]).start()
+        job = opened(Service(server.url))
+        database.sql("""create function refused() returns trigger language plpgsql as
+            $$ begin raise exception 'no room' using errcode = '53100'; end $$;
+            create trigger refused before insert on image_part for each row when (new.part = 3) execute function refused()""")
+        ticked_to(job, 80)
+        until(lambda: "an image of job large is put off" in server.log())
+        assert database.sql(NOT_WHOLE) == "3" and job.call(TICK)["seq"] == 81 and job.state()["image"] is None
+        # they are deleted before the next try
+        until(lambda: database.sql(NOT_WHOLE) == "0", 10, 0.01)
+        until(lambda: database.sql(NOT_WHOLE) == "3", 10, 0.01)
+        server.kill()
+        assert database.sql(NOT_WHOLE) == "3"
+        database.sql("drop trigger refused on image_part; create trigger refused before insert on image_part for each row execute function refused()")
+        server.start()
+        assert database.sql(NOT_WHOLE) == "0" and server.replayed()[-1] == 81, server.replayed()
+        database.sql("drop trigger refused on image_part")
+        image = until(lambda: job.call(TICK) and job.state()["image"], 30)
+        assert database.sql(NOT_WHOLE) == "0" and int(database.sql("select sum(length(text)) from image_part")) == image["bytes"]
+        before = job.state()
+        server.kill()
+        server.start()
+        after = job.state()
+        assert after["files"] == before["files"] and server.replayed()[-1] == before["seq"] - image["seq"], (server.replayed(), before)
+        server.stop()
+        return f"put off, then left by a kill, then whole: {image['bytes'] / 1e6:.1f} MB"

@@ -1,0 +1,45 @@
+"""A replica of PostgreSQL that is promoted, with services and writers at work. With synchronous replication it has each call that was answered."""
+import os
+import signal
+import time
+
+import kills
+from harness import Kept, PgArchive, Server, configured, folder
+from partition import family, told
+from postgres import Replica, postgres
+
+
+def test_a_replica_that_is_promoted():
+    with postgres() as database, folder() as at:
+        replica = Replica(database)
+        try:
+            hosts = f"127.0.0.1:{database.port},127.0.0.1:{replica.port}"
+            url = f"postgres://postgres@{hosts}/postgres?target_session_attrs=read-write"
+            servers = [Server(at, url, configured(at, "lease_seconds = 1\n" + kills.KEEPING)) for _ in range(2)]
+            servers[0].start()
+            servers[1].stand_by()
+            archive, found = PgArchive(database), []
+            kept = [Kept(server) for server in servers]
+            for it in kept:
+                it.start()
+            with kills.writers_at([server.url for server in servers], found, archive) as writers:
+                time.sleep(1.5)
+                told(family(database), signal.SIGKILL)
+                os.remove(f"{database.data}/postmaster.pid")
+                before = sum(len(writer.made) for writer in writers)
+                replica.promote()
+                archive.database = replica
+                began = time.monotonic()
+                while sum(len(writer.made) for writer in writers) < before + 200:
+                    assert time.monotonic() < began + 60, [server.log()[-600:] for server in servers]
+                    time.sleep(0.05)
+            for it in kept:
+                it.over.set()
+                it.join()
+            wrong = [status for it in kept for status in it.ended if status != 75]
+            assert not wrong and before > 50, (wrong, before, [server.log()[-600:] for server in servers])
+            for server in servers:
+                server.stop()
+            return f"{before} calls answered before; {found[0]}"
+        finally:
+            replica.stop()
