@@ -3,6 +3,8 @@ package relkvanu
 // #include <relkvanu.h>
 import "C"
 
+import "unsafe"
+
 // Terms and names. A coordinator with names gives out the numbers of the files that tasks will write, each once, and counts the terms of the
 // job. Each accepted restore and cancel ends the term. What a task of an ended term sends returns FencedOldTerm, and changes nothing. A
 // coordinator without names returns FencedNoNames for each of these calls, except Fence.
@@ -46,7 +48,10 @@ type RunningTerm struct{ Term, NextName uint64 }
 // Term is the term that runs, and the next name. Whoever restarts the tasks reads it after the restore, and tells each of them once the restore
 // is durable. A task never asks for it: one that should be dead would learn the new term.
 func (c *Coordinator) Term() (RunningTerm, error) {
-	answer, err := c.only(C.RELKVANU_TERM, func(handle *C.relkvanu) C.relkvanu_answer { return C.relkvanu_term(handle) })
+	return runningTerm(c.only(C.RELKVANU_TERM, func(handle *C.relkvanu) C.relkvanu_answer { return C.relkvanu_term(handle) }))
+}
+
+func runningTerm(answer C.relkvanu_answer, err error) (RunningTerm, error) {
 	if err != nil {
 		return RunningTerm{}, err
 	}
@@ -101,15 +106,30 @@ type Garbage struct {
 // Garbage sorts files of a storage, at any time, also while tasks run: those that may be deleted, and those that nobody deletes. It changes
 // nothing. Ask a coordinator whose calls are durable: one that forgot a call also forgets which files are in use.
 func (c *Coordinator) Garbage(files []uint64) (Garbage, error) {
-	garbage, unissued := make([]uint64, len(files)), make([]uint64, len(files))
-	answer, err := c.only(C.RELKVANU_GARBAGE, func(handle *C.relkvanu) C.relkvanu_answer {
-		at, length := list(files)
-		garbageAt, garbageLength := list(garbage)
-		unissuedAt, unissuedLength := list(unissued)
-		return C.relkvanu_garbage(handle, at, length, garbageAt, garbageLength, unissuedAt, unissuedLength)
-	})
+	rooms := newSorting(files)
+	return rooms.sorted(c.only(C.RELKVANU_GARBAGE, func(handle *C.relkvanu) C.relkvanu_answer {
+		return C.relkvanu_garbage(handle, rooms.at(rooms.files), rooms.length, rooms.at(rooms.garbage), rooms.length, rooms.at(rooms.unissued), rooms.length)
+	}))
+}
+
+// sorting has files, and room for those that are garbage and for those that were not given out. Each has a place more, so that it has an address.
+type sorting struct {
+	files, garbage, unissued []uint64
+	length                   C.size_t
+}
+
+func newSorting(files []uint64) sorting {
+	room := func() []uint64 { return make([]uint64, len(files)+1) }
+	it := sorting{room(), room(), room(), C.size_t(len(files))}
+	copy(it.files, files)
+	return it
+}
+
+func (s sorting) at(room []uint64) *C.uint64_t { return (*C.uint64_t)(unsafe.Pointer(&room[0])) }
+
+func (s sorting) sorted(answer C.relkvanu_answer, err error) (Garbage, error) {
 	if err != nil {
 		return Garbage{}, err
 	}
-	return Garbage{Garbage: garbage[:answer.a], Unissued: unissued[:answer.b]}, nil
+	return Garbage{Garbage: s.garbage[:answer.a], Unissued: s.unissued[:answer.b]}, nil
 }

@@ -345,6 +345,20 @@ func TestNamesOfDamagedImages(t *testing.T) {
 	fenced(t, errorOf(plain.Term()), relkvanu.FencedNoNames, 0)
 }
 
+func TestNamesInTheLastTerm(t *testing.T) {
+	job := busy()
+	image := strings.Replace(string(must(job.Save())), `"term":2`, fmt.Sprint(`"term":`, uint64(namesEnd)), 1)
+	job.Close()
+	job = must(relkvanu.OpenSaved([]byte(image)))
+	defer job.Close()
+	before := seen(job)
+	fenced(t, errorOf(job.Restore(4000, nil)), relkvanu.FencedTermsUsedUp, 0)
+	fenced(t, errorOf(job.Cancel(4000)), relkvanu.FencedTermsUsedUp, 0)
+	equal(t, seen(job), before)
+	runs(t, job, namesEnd, 14)
+	equal(t, must(ackIn(job, namesEnd, 4000, 3, 12)).String(), "ack completed 1 2")
+}
+
 // Goroutines that reserve, give up, sort and read in one coordinator: no name is given out twice, and each gets its own answer.
 func TestNamesForGoroutines(t *testing.T) {
 	const goroutines, rounds = 8, 300

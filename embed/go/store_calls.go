@@ -211,26 +211,15 @@ func (s *Store) told(what C.uint32_t, call func(answer *C.relkvanu_answer) C.int
 // Term is the term that runs, and the next name. Whoever starts tasks takes the term from its own restore: another restore may have ended that
 // one. A task never asks.
 func (s *Store) Term() (RunningTerm, error) {
-	answer, err := s.told(C.RELKVANU_TERM, func(answer *C.relkvanu_answer) C.int { return C.relkvanu_store_term(s.store, answer) })
-	if err != nil {
-		return RunningTerm{}, err
-	}
-	return RunningTerm{Term: uint64(answer.a), NextName: uint64(answer.b)}, nil
+	return runningTerm(s.told(C.RELKVANU_TERM, func(answer *C.relkvanu_answer) C.int { return C.relkvanu_store_term(s.store, answer) }))
 }
 
 // Garbage sorts files of a storage, at any time, also while tasks run: those that may be deleted, and those that nobody deletes.
 func (s *Store) Garbage(files []uint64) (Garbage, error) {
-	rooms := make([]uint64, 3*len(files)+1)
-	given, garbage, unissued := rooms[:len(files)], rooms[len(files):2*len(files)], rooms[2*len(files):]
-	copy(given, files)
-	answer, err := s.told(C.RELKVANU_GARBAGE, func(answer *C.relkvanu_answer) C.int {
-		at := func(part []uint64) *C.uint64_t { return (*C.uint64_t)(unsafe.Pointer(&part[:1][0])) }
-		return C.relkvanu_store_garbage(s.store, at(given), C.size_t(len(files)), at(garbage), at(unissued), answer)
-	})
-	if err != nil {
-		return Garbage{}, err
-	}
-	return Garbage{Garbage: garbage[:answer.a], Unissued: unissued[:answer.b]}, nil
+	rooms := newSorting(files)
+	return rooms.sorted(s.told(C.RELKVANU_GARBAGE, func(answer *C.relkvanu_answer) C.int {
+		return C.relkvanu_store_garbage(s.store, rooms.at(rooms.files), rooms.length, rooms.at(rooms.garbage), rooms.at(rooms.unissued), answer)
+	}))
 }
 
 // Dispose disposes of a completed savepoint for a user.

@@ -12,7 +12,7 @@ use crate::model::wall;
 use crate::process;
 use crate::starting::Starting;
 use crate::stop::Stop;
-use crate::store::{DbError, Lite, LiteReader, Pg, PgReader, Reader, Store, Unusable};
+use crate::store::{count_no_memory, DbError, Lite, LiteReader, Pg, PgReader, Reader, Store, Unusable};
 use crate::writer::{queue, Board, Inbox, Message, Messages};
 use sd_notify::NotifyState;
 use std::sync::Arc;
@@ -33,6 +33,7 @@ const LEAVE_WITHIN: Duration = Duration::from_secs(1);
 /// Serves, and ends the process.
 pub fn run(given: &cli::Serve) -> ! {
     process::make_files_private();
+    count_no_memory();
     let config = Config::of(given).map_err(Stop::from);
     if config.as_ref().is_ok_and(|config| config.log == LogForm::Json) {
         log::use_json();

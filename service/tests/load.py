@@ -55,18 +55,25 @@ def values(server):
     return {words[0]: float(words[1]) for words in lines if len(words) == 2}
 
 
+def processor_times(server):
+    """The seconds that its threads have run, as users and in the system."""
+    with open(f"/proc/{server.process.pid}/stat", encoding="utf-8") as it:
+        return [int(ticks) / os.sysconf("SC_CLK_TCK") for ticks in it.read().rpartition(")")[2].split()[11:13]]
+
+
 def loaded(server, ways, seconds):
-    """A line for each way, and how many acknowledgements were made."""
+    """A line for each way, and how many acknowledgements were made. The processor time is that of the service, which depends less on what
+    else the machine does."""
     job = Service(server.url).open("load", {"interval": 10, "at_once": 64, "timeout": 3_600_000}, [4096])
     until(lambda: len(job.state()["live"]) >= 4)
     told, made = [], 0
     for connections, batch in ways:
-        before = job.state()["seq"]
+        before, ran = job.state()["seq"], sum(processor_times(server))
         rate, bad, slow = wrk(server.url, connections, batch, seconds)
-        acks = job.state()["seq"] - before
+        acks, ran = job.state()["seq"] - before, sum(processor_times(server)) - ran
         made += acks
         assert bad == 0, f"{bad} requests were not answered with 200"
-        told.append((connections, batch, rate * batch, slow, acks))
+        told.append((connections, batch, rate * batch, slow, acks, 1e6 * ran / max(acks, 1)))
     return told, made
 
 
@@ -163,8 +170,8 @@ def forget_images(server, database):
 
 def measure(at, seconds, database):
     server = Server(at, database and database.url, ["--keep-calls", "1000000000"]).start()
-    for connections, batch, rate, slow, acks in loaded(server, WAYS, seconds)[0]:
-        print(f"{connections} connections, {batch} a request: {rate:.0f} acknowledgements/s, 99% within {slow}, {acks} calls logged", flush=True)
+    for connections, batch, rate, slow, acks, each in loaded(server, WAYS, seconds)[0]:
+        print(f"{connections} connections, {batch} a request: {rate:.0f} acknowledgements/s, 99% within {slow}, {acks} calls logged, {each:.0f} µs of a processor each", flush=True)
     print(f"memory with the job of 4096 subtasks: {memory(server) / 1024:.0f} MiB")
     made, state = values(server), server.get("/v1/jobs/load")[2]
     count, took = made["relkvanu_image_seconds_count"], made["relkvanu_image_seconds_sum"]

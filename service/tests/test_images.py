@@ -1,7 +1,6 @@
 """Images of jobs: a start begins with the last one, the log is cut behind it, and nothing that was promised is lost. Also damaged
 images, file numbers that were chosen against a coordinator of an image, and databases of other versions."""
 import hashlib
-import os
 import re
 import signal
 import sqlite3
@@ -9,6 +8,7 @@ import subprocess
 import threading
 
 from harness import PROGRAM, TOP, Archive, PgArchive, Server, caught_up, check_log, configured, folder, lose_history, over_copy, served, until
+from load import processor_times
 from postgres import postgres
 from relkvanu_service import Service, ack, deleted, dispose, savepoint
 from writers import check_kept
@@ -66,11 +66,6 @@ def test_a_start_goes_from_the_last_image():
         return f"{server.replayed()[-1]} of {len(whole)} calls made again, {first - 1} cut; a key from before the cut is answered"
 
 
-def processor_time(server):
-    with open(f"/proc/{server.process.pid}/stat", encoding="utf-8") as it:
-        return int(it.read().rpartition(")")[2].split()[11]) / os.sysconf("SC_CLK_TCK")
-
-
 def cost_from_an_image(kind):
     """The processor time, in seconds, of a service that starts with an image of a job which names 24,000 files, and goes on with them.
     tests/meeting.c makes the numbers: `random`, or `meeting`, which collide in maps that hash under words that are 0."""
@@ -87,7 +82,7 @@ def cost_from_an_image(kind):
         assert server.replayed()[-1] == 0, server.replayed()
         job.calls([savepoint(), *(ack(2, f"0.{index}", reused=part) for index, part in enumerate(parts)), dispose(1), dispose(2)])
         assert job.state()["files"]["waiting"] == 24000, job.state()
-        return processor_time(server)
+        return processor_times(server)[0]
 
 
 def test_chosen_file_numbers_cost_no_more_after_a_start_from_an_image():

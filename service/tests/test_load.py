@@ -30,5 +30,5 @@ def test_load_by_wrk():
         assert len(log) >= made
         # the first part of a log is a log
         compared = check_log(job.state(), [4096], log[:20_000])
-        rates = ", ".join(f"{rate:.0f}/s with {connections} of {batch}" for connections, batch, rate, _, _ in told)
+        rates = ", ".join(f"{rate:.0f}/s with {connections} of {batch}" for connections, batch, rate, *_ in told)
         return f"{rates}; {made} acknowledged, the first {compared} answered alike by ckpt_job"

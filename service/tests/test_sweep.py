@@ -2,6 +2,7 @@
 import json
 import os
 import re
+import shutil
 import subprocess
 import threading
 import time
@@ -10,6 +11,7 @@ from contextlib import contextmanager
 
 from harness import PROGRAM, SERVICE, folder, free_port, served, until
 from relkvanu_service import Fenced, OldTerm, Refused, Service, deleted, dispose, savepoint
+from run import Skipped
 
 SETTINGS = {"interval": 1 << 40}
 
@@ -265,3 +267,40 @@ def test_commands():
         assert "reserve * 65536" in asked("log", "old")[1] and "reserve 1 65536" in asked("log", "old", "--terms")[1]
         assert "next name" in asked("show", "a")[1]
         return "restore, term, fence and log"
+
+
+def test_the_unit():
+    """The command of the unit sweeps, and the unit is hardened."""
+    unit = f"{SERVICE}/deploy/relkvanu-sweep@.service"
+    with open(unit, encoding="utf-8") as it:
+        text = it.read()
+    (line,) = re.findall(r"^ExecStart=/usr/local/bin/relkvanu (.*)$", text, re.M)
+    (every,) = re.findall(r"^Environment=EVERY=(.*)$", text, re.M)
+    with a_job() as (server, job, place):
+        with open(f"{place}/../token", "w", encoding="utf-8") as it:
+            it.write("w" * 20)
+        task = job.begin().session(block=3)
+        write(place, f"s-{task.name()}")
+        job.begin()
+        known = {"%i": "a", "%d": f"{place}/..", "${FOLDER}": place, "${EVERY}": every, "$OPTIONS": f"--prefix s- --url {server.url}"}
+        for name, value in known.items():
+            assert name in line, name
+            line = line.replace(name, value)
+        run = subprocess.Popen([PROGRAM, *line.split()], stdout=subprocess.PIPE, text=True)
+        until(lambda: names_in(place) == [])
+        time.sleep(0.3)
+        assert run.poll() is None, "it does not go on"
+        run.terminate()
+        told = run.communicate(timeout=20)[0]
+        assert told.startswith("deleted s-1 5\nlisted=1 garbage=1 bytes=5 deleted=1 failed=0 unissued=0"), told
+    if not shutil.which("systemd-analyze"):
+        raise Skipped("systemd-analyze is not here")
+    with folder() as at:
+        shutil.copy(unit, f"{at}/relkvanu-sweep@orders.service")
+        words = ["systemd-analyze", "security", "--offline=true", f"{at}/relkvanu-sweep@orders.service"]
+        told = subprocess.run(words, text=True, stdout=subprocess.PIPE, stderr=subprocess.STDOUT, check=False).stdout
+    found = re.search(r"Overall exposure level for relkvanu-sweep@orders.service: ([0-9.]+)", told)
+    if not found:
+        raise Skipped(f"systemd-analyze does not run here: {told.strip().splitlines()[-1:]}")
+    assert float(found[1]) < 3, found[0]
+    return f"it sweeps each {every}, exposure {found[1]}"

@@ -105,18 +105,18 @@ fn fault(alloc: Global, image: &Image) -> Option<ImageFault> {
     Core::from_image(alloc, image, Secret::fixed()).err()
 }
 
+/// The image is damaged. The case says what is wrong with it.
+fn is_damaged(rt: &impl Abort, alloc: Global, image: &Image, case: u32) {
+    assert!(rt; fault(alloc, image) == Some(ImageFault::Damaged), "{case}");
+}
+
 #[test]
 fn refuses_a_state_that_no_image_may_have(rt: HostRuntime) -> Result<(), Fail> {
     let alloc = rt.alloc();
-    assert_eq!(rt; fault(alloc, &saved(alloc)?), None);
+    assert!(rt; fault(alloc, &saved(alloc)?).is_none());
     for wrong in ALL {
         let image = spoiled(alloc, saved(alloc)?, wrong)?;
-        assert_eq!(rt;
-            fault(alloc, &image),
-            Some(ImageFault::Damaged),
-            "{}",
-            wrong as u32
-        );
+        is_damaged(&rt, alloc, &image, wrong as u32);
     }
     Ok(())
 }
@@ -133,9 +133,9 @@ fn refuses_a_first_number_that_no_record_has(rt: HostRuntime) -> Result<(), Fail
     let alloc = rt.alloc();
     let mut image = opened(alloc, (1 << 62) - 1)?;
     image.next = 1 << 62;
-    assert_eq!(rt; fault(alloc, &image), None);
+    assert!(rt; fault(alloc, &image).is_none());
     image.first = 1 << 62;
-    assert_eq!(rt; fault(alloc, &image), Some(ImageFault::Damaged));
+    is_damaged(&rt, alloc, &image, 0);
     Ok(())
 }
 
@@ -161,8 +161,8 @@ fn takes_1000_savepoints_and_no_more(rt: HostRuntime) -> Result<(), Fail> {
     for id in 1..=1000 {
         image.records.push(savepoint(alloc, id)?)?;
     }
-    assert_eq!(rt; fault(alloc, &image), None);
+    assert!(rt; fault(alloc, &image).is_none());
     image.records.push(savepoint(alloc, 1001)?)?;
-    assert_eq!(rt; fault(alloc, &image), Some(ImageFault::Damaged));
+    is_damaged(&rt, alloc, &image, 1001);
     Ok(())
 }

@@ -36,9 +36,9 @@ fn numbers_are_used_up(rt: HostRuntime) -> Result<(), Fail> {
 fn a_fault_tells_its_refusal(rt: HostRuntime) -> Result<(), Fail> {
     let gone = CoreFault::Refused(Refusal::FileGone(FileId(11)));
     let told = format!(in rt.alloc(); "{gone}")?;
-    assert_eq!(rt; told.as_str(), "refused FileGone 11");
+    assert!(rt; told.as_str() == "refused FileGone 11");
     let full = CoreFault::Memory;
     let told = format!(in rt.alloc(); "{full}")?;
-    assert_eq!(rt; told.as_str(), "out of memory");
+    assert!(rt; told.as_str() == "out of memory");
     Ok(())
 }

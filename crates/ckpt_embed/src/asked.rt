@@ -1,14 +1,16 @@
 //! What a line of a log asks of a handle.
 
-ghost use Rattle.std.specs.Prelude.{◌≡◌, ◌≢◌, true, Ok, Err, IfOk, IfErr};
+ghost use Rattle.std.specs.Prelude.{◌≡◌, ◌≢◌, true, Ok, Err, IfOk, IfErr, IfSome};
+ghost use Rattle.ckpt_terms.specs.declared.call.FencedCall.TheVariants.{Make};
+ghost use Rattle.ckpt_embed.specs.declared.asked.Asked.TheVariants as ask;
 ghost use Rattle.ckpt_embed.specs.Asking.{asked_by, fault_told, reading_wants, said};
 ghost use Rattle.ckpt_embed.specs.Calls.{HasNoNumbers};
 ghost use Rattle.ckpt_embed.specs.Told.{no_memory};
 
 use crate::answer::Answer;
 use crate::calls::BAD_SHAPE;
-use ckpt_ids::ShapeFault;
-use ckpt_lines::{LineFault, Meaning};
+use ckpt_ids::{Call, ShapeFault};
+use ckpt_lines::{LineFault, Meaning, usual_call};
 use ckpt_term_lines::{TermMeaning, parse_term_line};
 use ckpt_terms::FencedCall;
 use std::alloc::Global;
@@ -39,6 +41,15 @@ pub(crate) enum Asked {
     },
     /// A call. The call of a script's line has term 0, which belongs to no task.
     Call(FencedCall),
+}
+
+/// The call of a usual line, which has no term, or `None` for any other line. Most lines of a long log
+/// are usual. So their calls are made without what lines of every kind have room for.
+#[inline(always)]
+pub(crate) fn usual(line: &[u8]) -> Option<Call>
+    ensures { IfSome result (λ call. said line.now ≡ Ok (ask.Call (Make 0 call))) }
+{
+    usual_call(line)
 }
 
 /// What the line asks for, or the answer if it asks for nothing.

@@ -18,7 +18,7 @@ ghost use Rattle.ckpt_embed.specs.Lines.{said_files, said_wants, says_numbers, s
 ghost use Rattle.ckpt_embed.specs.Told.{no_memory};
 
 use crate::answer::Answer;
-use crate::asked::{Asked, of_line_fault, said};
+use crate::asked::{Asked, of_line_fault, said, usual};
 use crate::buffers::{show_from, take_from};
 use crate::calls::answer;
 use crate::fencing::{fence_machine, in_term};
@@ -87,6 +87,9 @@ fn make_line(alloc: Global, machine: &mut Machine, line: &[u8], files: &mut [u64
     ensures names { is_free_line (said line.now) ≡ true → names_in machine.new ≡ names_in machine.old }
     ensures unchanged { result.code ≡ no_memory → machine.new ≡ machine.old }
 {
+    if let Some(call) = usual(line) {
+        return make_plain(alloc, machine, &call, files);
+    }
     match said(alloc, line) {
         Ok(Asked::Fence { first }) => fence_machine(alloc, machine, first),
         Ok(Asked::Call(call)) => make_call(alloc, machine, &call, files),

@@ -1,8 +1,9 @@
 //! Texts of images in each kind of state that no image may have: each is damaged, with ample memory.
 //! What is wrong follows from docs/RULES.md and docs/IMAGE.md.
+use crate::support::{holds, with};
 use ckpt_core::{Core, ImageFault, Secret};
 use ckpt_image::parse_image;
-use std::alloc::{AllocError, Global};
+use std::alloc::Global;
 use std::process::Abort;
 use std::test::Fail;
 
@@ -35,21 +36,25 @@ const OPENED: &str = r#"{"base":null,"clock":{"completed":null,"due":10,"latest"
   "first":7,"shape":[1],"start":0},
 "outbox":{"taken":[],"waiting":[]},"records":[],"shape":[1],"version":1}"#;
 
-/// The text with `other` in place of `part`, or empty if it lacks the part.
-fn with(alloc: Global, whole: &str, part: &str, other: &str) -> Result<String, AllocError> {
-    let mut text = String::new(alloc);
-    if let Some((front, back)) = whole.split_once(part) {
-        text.push_str(front)?;
-        text.push_str(other)?;
-        text.push_str(back)?;
-    }
-    Ok(text)
-}
-
 /// Why no coordinator is made from the image that a text describes, or `None` if one is.
 fn fault(alloc: Global, text: &str) -> Result<Option<ImageFault>, Fail> {
     let image = parse_image(alloc, text)?;
     Ok(Core::from_image(alloc, &image, Secret::fixed()).err())
+}
+
+/// The text is found so with each of these replacements.
+fn find(
+    rt: &impl Abort,
+    alloc: Global,
+    whole: &str,
+    rows: &[(&str, &str)],
+    expected: Option<ImageFault>,
+) -> Result<(), Fail> {
+    for (part, other) in rows {
+        let text = with(alloc, whole, part, other)?;
+        holds(rt, fault(alloc, text.as_str())? == expected, other);
+    }
+    Ok(())
 }
 
 /// Parts of the second text, and such as no opening has.
@@ -73,19 +78,9 @@ const OPENED_SO: [(&str, &str); 3] = [
 #[test]
 fn refuses_an_opening_that_no_coordinator_has(rt: HostRuntime) -> Result<(), Fail> {
     let alloc = rt.alloc();
-    assert_eq!(rt; fault(alloc, OPENED)?, None);
-    for (part, other) in OPENED_SO {
-        let text = with(alloc, OPENED, part, other)?;
-        assert!(rt; fault(alloc, text.as_str())?.is_none(), "{other}");
-    }
-    for (part, other) in NOT_OPENED {
-        let text = with(alloc, OPENED, part, other)?;
-        assert!(rt;
-            fault(alloc, text.as_str())? == Some(ImageFault::Damaged),
-            "{other}"
-        );
-    }
-    Ok(())
+    assert!(rt; fault(alloc, OPENED)?.is_none());
+    find(&rt, alloc, OPENED, &OPENED_SO, None)?;
+    find(&rt, alloc, OPENED, &NOT_OPENED, Some(ImageFault::Damaged))
 }
 
 /// Parts of the first text, and what is wrong in their place.
@@ -144,31 +139,25 @@ const DAMAGED: [(&str, &str); 28] = [
 
 #[test]
 fn refuses_each_kind_of_damage(rt: HostRuntime) -> Result<(), Fail> {
-    let alloc = rt.alloc();
-    assert_eq!(rt; fault(alloc, IMAGE)?, None);
-    for (part, other) in DAMAGED {
-        let text = with(alloc, IMAGE, part, other)?;
-        assert!(rt;
-            fault(alloc, text.as_str())? == Some(ImageFault::Damaged),
-            "{other}"
-        );
-    }
-    Ok(())
+    assert!(rt; fault(rt.alloc(), IMAGE)?.is_none());
+    find(&rt, rt.alloc(), IMAGE, &DAMAGED, Some(ImageFault::Damaged))
 }
 
 /// A checkpoint is pending, and the next one is done: an older one is done when a newer one is.
-const NEWER_DONE: (&str, &str) = (
+const NEWER_DONE: [(&str, &str); 1] = [(
     ",{\"files\":[14],\"index\":1,\"vertex\":0}],\n   \"id\":2,\"kind\":\"checkpoint\",\"pins\":[],\"shape\":[2],\"started\":700,\"state\":\"done\"},\n  {\"acks\":[{\"files\":[15],\"index\":0,\"vertex\":0}],\n   \"id\":3,\"kind\":\"checkpoint\",\"pins\":[14,13],\"shape\":[2],\"started\":1400,\"state\":\"pending\"",
     "],\n   \"id\":2,\"kind\":\"checkpoint\",\"pins\":[],\"shape\":[2],\"started\":700,\"state\":\"pending\"},\n  {\"acks\":[{\"files\":[15],\"index\":0,\"vertex\":0},{\"files\":[],\"index\":1,\"vertex\":0}],\n   \"id\":3,\"kind\":\"checkpoint\",\"pins\":[],\"shape\":[2],\"started\":1400,\"state\":\"done\"",
-);
+)];
 
 #[test]
 fn refuses_a_pending_checkpoint_that_is_older_than_a_done_one(rt: HostRuntime) -> Result<(), Fail> {
-    let alloc = rt.alloc();
-    let (part, other) = NEWER_DONE;
-    let text = with(alloc, IMAGE, part, other)?;
-    assert_eq!(rt; fault(alloc, text.as_str())?, Some(ImageFault::Damaged));
-    Ok(())
+    find(
+        &rt,
+        rt.alloc(),
+        IMAGE,
+        &NEWER_DONE,
+        Some(ImageFault::Damaged),
+    )
 }
 
 /// States that no list of calls reaches, and that are taken: docs/IMAGE.md names them.
@@ -179,14 +168,11 @@ const UNREACHED: [(&str, &str); 4] = [
     ("\"due\":2000", "\"due\":0"),
 ];
 
+/// The same, of a job that was just opened.
+const FAILED: [(&str, &str); 1] = [("\"mode\":\"running\"", "\"mode\":\"failed\"")];
+
 #[test]
 fn takes_some_sound_states_that_no_call_reaches(rt: HostRuntime) -> Result<(), Fail> {
-    let alloc = rt.alloc();
-    for (part, other) in UNREACHED {
-        let text = with(alloc, IMAGE, part, other)?;
-        assert!(rt; fault(alloc, text.as_str())?.is_none(), "{other}");
-    }
-    let failed = with(alloc, OPENED, "\"mode\":\"running\"", "\"mode\":\"failed\"")?;
-    assert_eq!(rt; fault(alloc, failed.as_str())?, None);
-    Ok(())
+    find(&rt, rt.alloc(), IMAGE, &UNREACHED, None)?;
+    find(&rt, rt.alloc(), OPENED, &FAILED, None)
 }

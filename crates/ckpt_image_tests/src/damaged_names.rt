@@ -1,6 +1,7 @@
 //! Texts of images with names in each kind of state that no image may have: each is damaged, with
 //! ample memory. What is wrong follows from docs/IMAGE.md.
-use crate::names::{WRITTEN, fenced, with};
+use crate::names::{WRITTEN, fenced};
+use crate::support::{holds, with};
 use ckpt_core::{ImageFault, Secret};
 use ckpt_terms::Terms;
 use std::alloc::Global;
@@ -11,6 +12,20 @@ use std::test::Fail;
 fn fault(alloc: Global, text: &str) -> Result<Option<ImageFault>, Fail> {
     let image = fenced(alloc, text)?;
     Ok(Terms::from_image(alloc, &image, Secret::fixed()).err())
+}
+
+/// The text is found so with each of these replacements.
+fn find(
+    rt: &impl Abort,
+    alloc: Global,
+    rows: &[(&str, &str)],
+    expected: Option<ImageFault>,
+) -> Result<(), Fail> {
+    for (part, other) in rows {
+        let text = with(alloc, WRITTEN, part, other)?;
+        holds(rt, fault(alloc, text.as_str())? == expected, other);
+    }
+    Ok(())
 }
 
 /// Parts of the text, and what is wrong in their place.
@@ -49,16 +64,8 @@ const DAMAGED: [(&str, &str); 19] = [
 
 #[test]
 fn refuses_each_kind_of_damaged_names(rt: HostRuntime) -> Result<(), Fail> {
-    let alloc = rt.alloc();
-    assert_eq!(rt; fault(alloc, WRITTEN)?, None);
-    for (part, other) in DAMAGED {
-        let text = with(alloc, part, other)?;
-        assert!(rt;
-            fault(alloc, text.as_str())? == Some(ImageFault::Damaged),
-            "{other}"
-        );
-    }
-    Ok(())
+    assert!(rt; fault(rt.alloc(), WRITTEN)?.is_none());
+    find(&rt, rt.alloc(), &DAMAGED, Some(ImageFault::Damaged))
 }
 
 /// States at their limits. The last three have no name that is held.
@@ -71,28 +78,23 @@ const TAKEN: [(&str, &str); 5] = [
         "\"next\":7,\"term\":1,\"unspent\":[]",
     ),
     (
-        "\"mode\":\"running\",\n \"names\":{\"next\":11,\"term\":1,\"unspent\":[[5,6],[7,9],[9,11]]",
-        "\"mode\":\"cancelled\",\n \"names\":{\"next\":11,\"term\":1,\"unspent\":[]",
+        "\"mode\":\"running\",\"names\":{\"next\":11,\"term\":1,\"unspent\":[[5,6],[7,9],[9,11]]",
+        "\"mode\":\"cancelled\",\"names\":{\"next\":11,\"term\":1,\"unspent\":[]",
     ),
 ];
 
 #[test]
 fn takes_states_at_their_limits(rt: HostRuntime) -> Result<(), Fail> {
-    for (part, other) in TAKEN {
-        let text = with(rt.alloc(), part, other)?;
-        assert!(rt; fault(rt.alloc(), text.as_str())?.is_none(), "{other}");
-    }
-    Ok(())
+    find(&rt, rt.alloc(), &TAKEN, None)
 }
 
 /// A job that holds so many names would have run out of memory, too.
+const ALL_NAMES: [(&str, &str); 1] = [(
+    "\"next\":11,\"term\":1,\"unspent\":[[5,6],[7,9],[9,11]]",
+    "\"next\":4611686018427387904,\"term\":1,\"unspent\":[[7,4611686018427387904]]",
+)];
+
 #[test]
 fn has_no_room_for_all_names(rt: HostRuntime) -> Result<(), Fail> {
-    let text = with(
-        rt.alloc(),
-        "\"next\":11,\"term\":1,\"unspent\":[[5,6],[7,9],[9,11]]",
-        "\"next\":4611686018427387904,\"term\":1,\"unspent\":[[7,4611686018427387904]]",
-    )?;
-    assert_eq!(rt; fault(rt.alloc(), text.as_str())?, Some(ImageFault::Memory));
-    Ok(())
+    find(&rt, rt.alloc(), &ALL_NAMES, Some(ImageFault::Memory))
 }

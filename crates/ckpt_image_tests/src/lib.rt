@@ -12,4 +12,6 @@ mod names;
 #[cfg(test)]
 mod reading;
 #[cfg(test)]
+mod support;
+#[cfg(test)]
 mod writing;

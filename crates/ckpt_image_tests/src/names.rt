@@ -1,4 +1,5 @@
 //! The text of a job with names, and the coordinator that is made from it.
+use crate::support::{are_equal, holds, with};
 use ckpt_core::Secret;
 use ckpt_ids::{Call, CheckpointId, Config, FileId, Files, Shape, SubtaskId};
 use ckpt_image::{TextFault, parse_image};
@@ -8,33 +9,24 @@ use std::alloc::{AllocError, Global};
 use std::process::Abort;
 use std::test::Fail;
 
-/// Names 5 to 8 and then 9 and 10 were reserved, and checkpoint 1 has file 6. The text without the
-/// newlines and the spaces at the beginnings of lines.
-pub const WRITTEN: &str = r#"
-{"base":null,
- "clock":{"completed":1040,"due":2000,"latest":1040},
- "failures":0,
- "mode":"running",
- "names":{"next":11,"term":1,"unspent":[[5,6],[7,9],[9,11]]},
- "next":2,
- "opening":{
-  "config":{"at_once":1,"interval":1000,"keep_on_cancel":false,"pause":0,"retained":1,"timeout":600000,"tolerable":0},
-  "first":1,"shape":[1],"start":0},
- "outbox":{"taken":[],"waiting":[]},
- "records":[
-  {"acks":[{"files":[6],"index":0,"vertex":0}],
-   "id":1,"kind":"checkpoint","pins":[],"shape":[1],"started":1000,"state":"done"}],
- "shape":[1],
- "version":2}
-"#;
-
-fn written(alloc: Global) -> Result<String, AllocError> {
-    let mut text = String::new(alloc);
-    for line in WRITTEN.lines() {
-        text.push_str(line.trim())?;
-    }
-    Ok(text)
-}
+/// Names 5 to 8 and then 9 and 10 were reserved, and checkpoint 1 has file 6.
+pub const WRITTEN: &str = concat!(
+    r#"{"base":null,"#,
+    r#""clock":{"completed":1040,"due":2000,"latest":1040},"#,
+    r#""failures":0,"#,
+    r#""mode":"running","#,
+    r#""names":{"next":11,"term":1,"unspent":[[5,6],[7,9],[9,11]]},"#,
+    r#""next":2,"#,
+    r#""opening":{"#,
+    r#""config":{"at_once":1,"interval":1000,"keep_on_cancel":false,"pause":0,"retained":1,"timeout":600000,"tolerable":0},"#,
+    r#""first":1,"shape":[1],"start":0},"#,
+    r#""outbox":{"taken":[],"waiting":[]},"#,
+    r#""records":["#,
+    r#"{"acks":[{"files":[6],"index":0,"vertex":0}],"#,
+    r#""id":1,"kind":"checkpoint","pins":[],"shape":[1],"started":1000,"state":"done"}],"#,
+    r#""shape":[1],"#,
+    r#""version":2}"#,
+);
 
 /// A task of the first term acknowledges with this file.
 fn ack(alloc: Global, now: u64, id: u64, file: u64) -> Result<FencedCall, AllocError> {
@@ -82,8 +74,7 @@ pub fn fenced(alloc: Global, text: &str) -> Result<TermsImage, Fail> {
 #[test]
 fn writes_a_job_with_names(rt: HostRuntime) -> Result<(), Fail> {
     let text = names_image_text(rt.alloc(), &job(rt.alloc())?.image()?)?;
-    let expected = written(rt.alloc())?;
-    assert_eq!(rt; text.as_str(), expected.as_str());
+    are_equal(&rt, text.as_str(), WRITTEN);
     Ok(())
 }
 
@@ -97,8 +88,7 @@ fn answer_alike(cut: &mut Terms, whole: &mut Terms, call: FencedCall) -> Result<
 #[test]
 fn goes_on_from_its_text(rt: HostRuntime) -> Result<(), Fail> {
     let alloc = rt.alloc();
-    let text = written(alloc)?;
-    let image = fenced(alloc, text.as_str())?;
+    let image = fenced(alloc, WRITTEN)?;
     let mut whole = job(alloc)?;
     let mut cut = Terms::from_image(alloc, &image, Secret::fixed())?;
     assert!(rt; answer_alike(&mut cut, &mut whole, ack(alloc, 1050, 1, 5)?)?);
@@ -109,34 +99,22 @@ fn goes_on_from_its_text(rt: HostRuntime) -> Result<(), Fail> {
     assert!(rt; answer_alike(&mut cut, &mut whole, ack(alloc, 2010, 2, 11)?)?);
     let text = names_image_text(alloc, &whole.image()?)?;
     let again = names_image_text(alloc, &cut.image()?)?;
-    assert_eq!(rt; again.as_str(), text.as_str());
+    are_equal(&rt, again.as_str(), text.as_str());
     Ok(())
 }
 
 #[test]
 fn reads_what_an_image_holds(rt: HostRuntime) -> Result<(), Fail> {
-    let text = written(rt.alloc())?;
-    let image = fenced(rt.alloc(), text.as_str())?;
+    let image = fenced(rt.alloc(), WRITTEN)?;
     let terms = Terms::from_image(rt.alloc(), &image, Secret::fixed())?;
-    assert_eq!(rt; (terms.term(), terms.next_name()), (1, 11));
+    assert!(rt; terms.term() == 1 && terms.next_name() == 11);
     let spans = terms.unspent();
-    assert_eq!(rt; spans.len(), 3);
+    assert!(rt; spans.len() == 3);
     match spans.get(1) {
         Some(span) => assert!(rt; span.from == 7 && span.to == 9),
         None => return Err(Fail::new("one range")),
     }
     Ok(())
-}
-
-/// The text with `other` in place of `part`, or empty if it lacks the part.
-pub fn with(alloc: Global, part: &str, other: &str) -> Result<String, AllocError> {
-    let mut text = String::new(alloc);
-    if let Some((front, back)) = WRITTEN.split_once(part) {
-        text.push_str(front)?;
-        text.push_str(other)?;
-        text.push_str(back)?;
-    }
-    Ok(text)
 }
 
 /// Parts of the text, and what no image has in their place.
@@ -176,9 +154,9 @@ fn refusal(alloc: Global, text: &str) -> Result<Option<TextFault>, TextFault> {
 #[test]
 fn refuses_what_is_no_image_with_names(rt: HostRuntime) -> Result<(), Fail> {
     for (part, other) in REFUSED {
-        let text = with(rt.alloc(), part, other)?;
+        let text = with(rt.alloc(), WRITTEN, part, other)?;
         let fault = refusal(rt.alloc(), text.as_str())?;
-        assert!(rt; fault == Some(TextFault::NoImage), "{other}");
+        holds(&rt, fault == Some(TextFault::NoImage), other);
     }
     Ok(())
 }
@@ -190,7 +168,7 @@ fn tells_the_two_by_their_version(rt: HostRuntime) -> Result<(), Fail> {
         Ok(_) => return Err(Fail::new("an image with names is read as one without")),
         Err(fault) => assert!(rt; told(fault)? == TextFault::NoImage),
     }
-    let text = with(rt.alloc(), "\"version\":2", "\"version\":1")?;
+    let text = with(rt.alloc(), WRITTEN, "\"version\":2", "\"version\":1")?;
     let saved = parse_names_image(rt.alloc(), text.as_str())?;
     assert!(rt; matches!(&saved, SavedImage::Plain(_)));
     Ok(())

@@ -1,6 +1,7 @@
 //! Texts that are read as images, and texts that are refused.
 //!
 //! What is written is read back: that is proved, and `writing` has the text of a job.
+use crate::support::{holds, holds_at, with};
 use ckpt_image::{TextFault, parse_image};
 use std::alloc::{AllocError, Global};
 use std::process::Abort;
@@ -49,8 +50,8 @@ fn refusal(alloc: Global, text: &str) -> Result<Option<TextFault>, TextFault> {
 #[test]
 fn reads_members_in_any_order_and_passes_over_others(rt: HostRuntime) -> Result<(), Fail> {
     let image = parse_image(rt.alloc(), OPENED)?;
-    assert_eq!(rt; (image.next, image.latest, image.due), (1, 0, 10));
-    assert_eq!(rt; (image.completed, image.base), (None, None));
+    assert!(rt; image.next == 1 && image.latest == 0 && image.due == 10);
+    assert!(rt; image.completed.is_none() && image.base.is_none());
     assert!(rt; image.records.is_empty());
     assert!(rt; !image.config.keep_on_cancel());
     Ok(())
@@ -62,7 +63,7 @@ fn refuses_a_text_that_is_cut_short(rt: HostRuntime) -> Result<(), Fail> {
     for end in 0..bytes.len() {
         let text = std::str::from_utf8(&bytes[..end])?;
         let fault = refusal(rt.alloc(), text)?;
-        assert!(rt; fault == Some(TextFault::NotJson), "{end}");
+        holds_at(&rt, fault == Some(TextFault::NotJson), end);
     }
     Ok(())
 }
@@ -93,21 +94,24 @@ fn refuses_an_image_that_lacks_a_member(rt: HostRuntime) -> Result<(), Fail> {
     for place in 0..MEMBERS {
         let text = renamed(rt.alloc(), place)?.unwrap_or(String::new(rt.alloc()));
         let fault = refusal(rt.alloc(), text.as_str())?;
-        assert!(rt; fault == Some(TextFault::NoImage), "{place}");
+        holds_at(&rt, fault == Some(TextFault::NoImage), place);
     }
     assert!(rt; renamed(rt.alloc(), MEMBERS)?.is_none());
     Ok(())
 }
 
-/// The text with `other` in place of `part`.
-fn with(alloc: Global, part: &str, other: &str) -> Result<String, AllocError> {
-    let mut text = String::new(alloc);
-    if let Some((front, back)) = IMAGE.split_once(part) {
-        text.push_str(front)?;
-        text.push_str(other)?;
-        text.push_str(back)?;
+/// The text is refused so with each of these replacements, or is read.
+fn read_each(
+    rt: &impl Abort,
+    alloc: Global,
+    rows: &[(&str, &str)],
+    expected: Option<TextFault>,
+) -> Result<(), Fail> {
+    for (part, other) in rows {
+        let text = with(alloc, IMAGE, part, other)?;
+        holds(rt, refusal(alloc, text.as_str())? == expected, other);
     }
-    Ok(text)
+    Ok(())
 }
 
 /// Parts of the text, and valid replacements: each number at its limits.
@@ -134,11 +138,7 @@ const TAKEN: [(&str, &str); 15] = [
 
 #[test]
 fn takes_each_number_at_its_limits(rt: HostRuntime) -> Result<(), Fail> {
-    for (part, other) in TAKEN {
-        let text = with(rt.alloc(), part, other)?;
-        assert!(rt; refusal(rt.alloc(), text.as_str())?.is_none(), "{other}");
-    }
-    Ok(())
+    read_each(&rt, rt.alloc(), &TAKEN, None)
 }
 
 /// Replacements that are not valid: numbers past their limits, and values of another kind.
@@ -181,12 +181,7 @@ const REFUSED: [(&str, &str); 34] = [
 
 #[test]
 fn refuses_each_value_that_no_image_has(rt: HostRuntime) -> Result<(), Fail> {
-    for (part, other) in REFUSED {
-        let text = with(rt.alloc(), part, other)?;
-        let fault = refusal(rt.alloc(), text.as_str())?;
-        assert!(rt; fault == Some(TextFault::NoImage), "{other}");
-    }
-    Ok(())
+    read_each(&rt, rt.alloc(), &REFUSED, Some(TextFault::NoImage))
 }
 
 /// Texts that are JSON and no object with the members of an image, and texts that are no JSON.
@@ -205,7 +200,7 @@ const OTHERS: [(&str, TextFault); 9] = [
 #[test]
 fn refuses_json_that_is_no_object(rt: HostRuntime) -> Result<(), Fail> {
     for (text, fault) in OTHERS {
-        assert!(rt; refusal(rt.alloc(), text)? == Some(fault), "{text}");
+        holds(&rt, refusal(rt.alloc(), text)? == Some(fault), text);
     }
     Ok(())
 }

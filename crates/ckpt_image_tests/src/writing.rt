@@ -1,5 +1,6 @@
 //! The text that is written for a job that ran, and the coordinator that is made from it. The job
 //! and its text are those of docs/IMAGE.md.
+use crate::support::are_equal;
 use ckpt_core::{Core, Secret};
 use ckpt_ids::{Call, CheckpointId, Config, FileId, Files, Shape, SubtaskId};
 use ckpt_image::{image_text, parse_image};
@@ -7,25 +8,25 @@ use std::alloc::{AllocError, Global};
 use std::process::Abort;
 use std::test::Fail;
 
-/// The text without the newlines and the spaces at the beginnings of lines.
-const WRITTEN: &str = r#"
-{"base":null,
- "clock":{"completed":2020,"due":4000,"latest":3010},
- "failures":0,
- "mode":"running",
- "next":4,
- "opening":{
-  "config":{"at_once":1,"interval":1000,"keep_on_cancel":false,"pause":0,"retained":1,"timeout":600000,"tolerable":0},
-  "first":1,"shape":[2],"start":0},
- "outbox":{"taken":[12],"waiting":[21]},
- "records":[
-  {"acks":[{"files":[11,13],"index":0,"vertex":0},{"files":[22],"index":1,"vertex":0}],
-   "id":2,"kind":"checkpoint","pins":[],"shape":[2],"started":2000,"state":"done"},
-  {"acks":[{"files":[11,14],"index":0,"vertex":0}],
-   "id":3,"kind":"checkpoint","pins":[11,13,22],"shape":[2],"started":3000,"state":"pending"}],
- "shape":[2],
- "version":1}
-"#;
+/// Its text.
+const WRITTEN: &str = concat!(
+    r#"{"base":null,"#,
+    r#""clock":{"completed":2020,"due":4000,"latest":3010},"#,
+    r#""failures":0,"#,
+    r#""mode":"running","#,
+    r#""next":4,"#,
+    r#""opening":{"#,
+    r#""config":{"at_once":1,"interval":1000,"keep_on_cancel":false,"pause":0,"retained":1,"timeout":600000,"tolerable":0},"#,
+    r#""first":1,"shape":[2],"start":0},"#,
+    r#""outbox":{"taken":[12],"waiting":[21]},"#,
+    r#""records":["#,
+    r#"{"acks":[{"files":[11,13],"index":0,"vertex":0},{"files":[22],"index":1,"vertex":0}],"#,
+    r#""id":2,"kind":"checkpoint","pins":[],"shape":[2],"started":2000,"state":"done"},"#,
+    r#"{"acks":[{"files":[11,14],"index":0,"vertex":0}],"#,
+    r#""id":3,"kind":"checkpoint","pins":[11,13,22],"shape":[2],"started":3000,"state":"pending"}],"#,
+    r#""shape":[2],"#,
+    r#""version":1}"#,
+);
 
 fn files(alloc: Global, numbers: &[u64]) -> Result<Files, AllocError> {
     let mut list = Vec::with_capacity(alloc, numbers.len())?;
@@ -72,28 +73,18 @@ fn job(alloc: Global) -> Result<Core, Fail> {
     Ok(core)
 }
 
-fn written(alloc: Global) -> Result<String, AllocError> {
-    let mut text = String::new(alloc);
-    for line in WRITTEN.lines() {
-        text.push_str(line.trim())?;
-    }
-    Ok(text)
-}
-
 #[test]
 fn writes_a_job_that_ran(rt: HostRuntime) -> Result<(), Fail> {
     let text = image_text(rt.alloc(), &job(rt.alloc())?.image()?)?;
-    let expected = written(rt.alloc())?;
-    assert_eq!(rt; text.as_str(), expected.as_str());
+    are_equal(&rt, text.as_str(), WRITTEN);
     Ok(())
 }
 
 #[test]
 fn opens_a_job_from_its_text(rt: HostRuntime) -> Result<(), Fail> {
-    let text = written(rt.alloc())?;
-    let image = parse_image(rt.alloc(), text.as_str())?;
+    let image = parse_image(rt.alloc(), WRITTEN)?;
     let core = Core::from_image(rt.alloc(), &image, Secret::fixed())?;
     let again = image_text(rt.alloc(), &core.image()?)?;
-    assert_eq!(rt; again.as_str(), text.as_str());
+    are_equal(&rt, again.as_str(), WRITTEN);
     Ok(())
 }

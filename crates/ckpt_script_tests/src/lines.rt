@@ -43,6 +43,12 @@ fn is_written(alloc: Global, line: &str, written: &str) -> Result<bool, AllocErr
     }
 }
 
+/// It is so, of this line. An assertion with a text of its own is a proof of that text, so one function
+/// has it.
+fn holds(rt: &impl Abort, so: bool, line: &[u8]) {
+    assert!(rt; so, "{line:?}");
+}
+
 /// Lines of calls, and how the calls are written: files ascend, and numbers have no leading zeros.
 const CALLS: [(&str, &str); 19] = [
     ("  tick   8 ", "tick 8"),
@@ -69,7 +75,7 @@ const CALLS: [(&str, &str); 19] = [
 #[test]
 fn calls(rt: HostRuntime) -> Result<(), Fail> {
     for (line, written) in CALLS {
-        assert!(rt; is_written(rt.alloc(), line, written)?, "{line}");
+        holds(&rt, is_written(rt.alloc(), line, written)?, line.as_bytes());
     }
     Ok(())
 }
@@ -111,7 +117,7 @@ const FAULTS: [(&[u8], LineFault); 30] = [
 #[test]
 fn faults(rt: HostRuntime) -> Result<(), Fail> {
     for (line, fault) in FAULTS {
-        assert!(rt; read(rt.alloc(), line)? == Said::Fault(fault), "{line:?}");
+        holds(&rt, read(rt.alloc(), line)? == Said::Fault(fault), line);
     }
     Ok(())
 }
@@ -147,7 +153,7 @@ fn lines_that_say_no_call(rt: HostRuntime) -> Result<(), Fail> {
         (b"restore 5 latest 2 0", Said::NoShape),
     ];
     for (line, expected) in cases {
-        assert!(rt; read(alloc, line)? == expected, "{line:?}");
+        holds(&rt, read(alloc, line)? == expected, line);
     }
     Ok(())
 }
@@ -166,6 +172,6 @@ fn numbers_keep_their_order(rt: HostRuntime) -> Result<(), Fail> {
     let list = Numbers::of([3, 1].to_vec(rt.alloc())?);
     assert!(rt; list.len() == 2 && !list.is_empty());
     assert!(rt; list.get(1) == Some(1) && list.get(2) == None);
-    assert_eq!(rt; list.as_slice(), [3, 1].as_slice());
+    assert!(rt; list.as_slice() == [3, 1].as_slice());
     Ok(())
 }

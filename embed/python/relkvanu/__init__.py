@@ -18,9 +18,9 @@ from relkvanu.replies import (
 
 __all__ = [
     "AckCompleted", "AckLate", "AckPending", "BadArgument", "BadLine", "Cancelled", "Chosen", "Closed", "Coordinator", "Counted",
-    "DeclineAborted", "DeclineFailed", "DeclineLate", "Deleted", "Discarded", "Discarder", "Disposed", "Error", "Failed", "Fenced", "FileCounts",
-    "Forfeited", "Garbage", "HeldAtOnce", "HeldInterval", "HeldPause", "Kind", "Live", "Mode", "Named", "OutOfMemory", "OutOfRange", "Outbox",
-    "Patience", "Refused", "Reply", "Reserved", "RestoredCheckpoint", "RestoredFresh", "RestoredSavepoint", "RunningTerm",
-    "SavepointTriggered", "Settings", "Shown", "Standing", "Taken", "TooShort", "Triggered", "Undeleted", "Unknown",
+    "DeclineAborted", "DeclineFailed", "DeclineLate", "Deleted", "Discarded", "Discarder", "Disposed", "Error", "Failed", "Fenced",
+    "FileCounts", "Forfeited", "Garbage", "HeldAtOnce", "HeldInterval", "HeldPause", "Kind", "Live", "Mode", "Named", "OutOfMemory",
+    "OutOfRange", "Outbox", "Patience", "Refused", "Reply", "Reserved", "RestoredCheckpoint", "RestoredFresh", "RestoredSavepoint",
+    "RunningTerm", "SavepointTriggered", "Settings", "Shown", "Standing", "Taken", "TooShort", "Triggered", "Undeleted", "Unknown",
     "calls", "lines", "version",
 ]

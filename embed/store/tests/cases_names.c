@@ -153,6 +153,29 @@ static void reserved_and_killed(void) {
     }
 }
 
+/* The last image is damaged: by the one before it and the log the names are those of the last call. */
+static void by_an_earlier_image(void) {
+    relkvanu_store_options options = named_options(RELKVANU_STORE_CREATE, 5);
+    relkvanu_store *store = opens(&options, RELKVANU_STORE_OK);
+    uint64_t term = 1;
+    for (uint64_t i = 1; i <= 17; i++) {
+        CHECK(reserved(store, term, 1) == i, "name %" PRIu64, i);
+        if (i % 4 == 0) {
+            term = made(store, (relkvanu_call){.kind = RELKVANU_CALL_RESTORE, .now = RELKVANU_STORE_NOW}).term;
+        }
+    }
+    relkvanu_store_close(store);
+    run_sql(in("x.db"), "UPDATE image SET sum = sum + 1 WHERE place = (SELECT max(place) FROM image)");
+    options.flags = RELKVANU_STORE_RECOVER;
+    opens(&options, RELKVANU_STORE_DAMAGED);
+    options.flags = RELKVANU_STORE_EARLIER_IMAGE;
+    store = opens(&options, RELKVANU_STORE_OK);
+    CHECK(report.replayed != 0 && report.image_place + report.replayed == 21 && report.term == 5 && report.next_name == 18, "term %" PRIu64 ", next name %" PRIu64,
+        report.term, report.next_name);
+    CHECK(reserved(store, 5, 1) == 18, "names are given once");
+    relkvanu_store_close(store);
+}
+
 static void forfeits(void) {
     relkvanu_store *store = named_job();
     relkvanu_answer answer;
@@ -555,6 +578,6 @@ static void a_sweeper_beside_tasks(void) {
     relkvanu_store_close(fleet.store);
 }
 
-const struct test name_cases[] = {{"terms_and_names", terms_and_names}, {"reserved_and_killed", reserved_and_killed}, {"forfeits", forfeits}, {"no_names", no_names},
+const struct test name_cases[] = {{"terms_and_names", terms_and_names}, {"reserved_and_killed", reserved_and_killed}, {"by_an_earlier_image", by_an_earlier_image}, {"forfeits", forfeits}, {"no_names", no_names},
     {"sweeps_at_any_time", sweeps_at_any_time}, {"a_later_opening", a_later_opening}, {"adopts", adopts}, {"a_fence", a_fence}, {"a_fence_without_a_folder", a_fence_without_a_folder},
     {"an_old_file", an_old_file}, {"a_sweeper_beside_tasks", a_sweeper_beside_tasks}, {NULL, NULL}};

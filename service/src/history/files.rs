@@ -2,8 +2,9 @@
 //! coordinator hands files out in the order of their release. So the counts of released files determine which call released
 //! which file.
 use super::follow::Made;
+use super::records::is_late;
 use super::tables::Tables;
-use crate::model::{AckBytes, Answer, Call, Entry, Reply};
+use crate::model::{AckBytes, Call, Entry, Reply};
 use std::collections::VecDeque;
 
 /// The place of the call that released a file, if that call was cut before it was read.
@@ -17,18 +18,27 @@ pub struct Run {
     pub files: u64,
 }
 
+/// A file that an acknowledgement registered at this place, and its bytes if it said them.
+pub struct Born {
+    pub file: u64,
+    pub seq: u64,
+    pub bytes: Option<u64>,
+}
+
 /// The outbox of one job.
 #[derive(Default)]
 pub struct Outbox {
     runs: VecDeque<Run>,
     next: u64,
+    /// Files that the tables do not have yet.
+    born: Vec<Born>,
 }
 
 impl Outbox {
     /// The outbox of these runs, which are in order.
     pub fn of(runs: Vec<Run>) -> Outbox {
         let next = runs.last().map_or(0, |run| run.place + 1);
-        Outbox { runs: runs.into(), next }
+        Outbox { runs: runs.into(), next, born: Vec::new() }
     }
 
     /// Adds a call of the log.
@@ -42,8 +52,12 @@ impl Outbox {
         if names_files || entry.waiting > 0 {
             tables.place(call, entry)?;
         }
+        if !matches!((call, reply), (Call::Ack { .. }, Reply::Answered(answer)) if !is_late(answer)) {
+            // it may be about one of them
+            self.write(tables, entry.job)?;
+        }
         match call {
-            Call::Ack { fresh, .. } => Outbox::ack(tables, fresh, reply, entry, *said)?,
+            Call::Ack { fresh, .. } => self.ack(tables, fresh, reply, entry, *said)?,
             Call::Take { .. } => return self.take(tables, reply, entry),
             Call::Deleted { file } => return tables.deleted(entry.job, *file, entry.seq),
             Call::Undeleted { file } => {
@@ -55,8 +69,14 @@ impl Outbox {
         self.push(tables, entry.job, entry.seq, entry.waiting)
     }
 
+    /// Writes what the tables do not have yet.
+    pub fn write(&mut self, tables: &Tables, job: i64) -> rusqlite::Result<()> {
+        tables.born(job, &std::mem::take(&mut self.born))
+    }
+
     /// An acknowledgement brings its fresh files. A late one brings only those that were handed out.
     fn ack(
+        &mut self,
         tables: &Tables,
         fresh: &[u64],
         reply: &Reply,
@@ -64,8 +84,9 @@ impl Outbox {
         said: Option<&AckBytes>,
     ) -> rusqlite::Result<()> {
         let bytes = |file: u64| said?.bytes_of(file);
-        if !matches!(reply, Reply::Answered(Answer::AckLate { .. })) {
-            return fresh.iter().try_for_each(|file| tables.born(entry.job, *file, entry.seq, bytes(*file)));
+        if !matches!(reply, Reply::Answered(answer) if is_late(answer)) {
+            self.born.extend(fresh.iter().map(|file| Born { file: *file, seq: entry.seq, bytes: bytes(*file) }));
+            return Ok(());
         }
         if entry.waiting == 0 {
             return Ok(());

@@ -140,6 +140,7 @@ impl Follower {
                 (self.upto, self.at) = (entry.seq, entry.at);
             }
             self.records.write(tables, self.job)?;
+            self.outbox.write(tables, self.job)?;
             tables.set_progress(self.job, self.upto, self.at, &self.records.shape)?;
             Ok(ended)
         })

@@ -179,7 +179,7 @@ impl Records {
     }
 }
 
-fn is_late(answer: &Answer) -> bool {
+pub fn is_late(answer: &Answer) -> bool {
     matches!(answer, Answer::AckLate { .. })
 }
 

@@ -1,9 +1,10 @@
 //! The tables of the history, in an SQLite file of their own.
 use super::error::Error;
-use super::files::Run;
+use super::files::{Born, Run};
 use super::records::Pending;
 use super::version::{foreign, steps_after, version};
 use crate::model::{shape_words, Call, Entry, Kind, SavedRecord};
+use crate::store::{many, ERASE};
 use crate::writer::JobState;
 use rusqlite::{params, Connection, OptionalExtension, Params, Row};
 use std::path::Path;
@@ -36,6 +37,7 @@ impl Tables {
         let connection = Connection::open(path)?;
         connection.pragma_update(None, "journal_mode", "wal")?;
         connection.pragma_update(None, "synchronous", "normal")?;
+        connection.pragma_update_and_check(None, ERASE.0, ERASE.1, |_| Ok(()))?;
         let steps = steps_after(version(&connection)?)?;
         if !steps.is_empty() {
             connection.execute_batch(&format!("begin immediate; {} commit", steps.concat()))?;
@@ -221,10 +223,12 @@ impl Tables {
         )
     }
 
-    /// A file is registered, whatever had its number before.
-    pub fn born(&self, job: i64, file: u64, seq: u64, bytes: Option<u64>) -> rusqlite::Result<()> {
-        let sql = "insert or replace into file(job, file, born, bytes) values(?, ?, ?, ?)";
-        self.run(sql, params![job, bits(file), signed(seq), bytes.map(signed)])
+    /// Files are registered, whatever had their numbers before. Of those of one number the last counts.
+    pub fn born(&self, job: i64, files: &[Born]) -> rusqlite::Result<()> {
+        many::insert(&self.0, "insert or replace into file(job, file, born, bytes)", files, |it| {
+            let bytes = many::maybe(it.bytes.map(|bytes| many::number(signed(bytes))));
+            [many::number(job), many::number(bits(it.file)), many::number(signed(it.seq)), bytes]
+        })
     }
 
     /// A late acknowledgement named a file. It registered the file if the number was free.

@@ -4,6 +4,7 @@ use super::reply::Reply;
 use super::route::Route;
 use crate::log;
 use crate::model::Call;
+use hyper::Method;
 use serde_json::{json, Value};
 use std::sync::{Mutex, PoisonError};
 use std::time::{Duration, Instant};
@@ -30,7 +31,7 @@ impl Did {
 
 /// A request, for its line.
 pub struct Asked {
-    pub method: String,
+    pub method: Method,
     pub path: String,
     pub since: Instant,
 }
@@ -68,7 +69,7 @@ impl Audit {
             false => return,
         };
         let mut fields = vec![
-            ("method", json!(asked.method)),
+            ("method", json!(asked.method.as_str())),
             ("path", json!(asked.path)),
             ("status", json!(status)),
             ("by", json!(by.unwrap_or("nobody"))),

@@ -33,11 +33,8 @@ pub async fn answer(app: Arc<App>, seat: &Arc<Seat>, request: Request<Body>) -> 
 async fn answered(app: Arc<App>, seat: &Arc<Seat>, request: Request<Body>) -> Reply {
     let route = Route::of(request.method(), request.uri().path());
     let name = route.as_ref().map_or("none", Route::name);
-    let asked = Asked {
-        method: request.method().to_string(),
-        path: request.uri().path().chars().take(PATH).collect(),
-        since: Instant::now(),
-    };
+    let asked =
+        Asked { method: request.method().clone(), path: shortened(request.uri().path()), since: Instant::now() };
     let known = route.as_ref().ok().cloned();
     let (kind, checked) = checked(&app, route, request.headers());
     let by = checked.as_ref().ok().and_then(|(_, caller)| caller.as_ref()).map(|caller| caller.name.clone());
@@ -51,12 +48,20 @@ async fn answered(app: Arc<App>, seat: &Arc<Seat>, request: Request<Body>) -> Re
             room::kept(&app, turn, dispatched(&app, route, caller, request).await).await
         }
     };
-    app.metrics.request(name, reply.status().as_u16());
+    app.metrics.request(name, reply.status().as_str());
     app.audit.answered(&asked, known.as_ref(), by.as_deref(), &mut reply);
     let reply = if wants_problems { as_problem(reply) } else { reply };
     match app.board.log() {
         "" => reply,
         log => with_header(reply, HeaderName::from_static(LOG), log),
+    }
+}
+
+fn shortened(path: &str) -> String {
+    if path.len() <= PATH {
+        path.to_string()
+    } else {
+        path.chars().take(PATH).collect()
     }
 }
 

@@ -8,10 +8,14 @@ use serde_json::{json, Value};
 
 pub type Reply = Response<Body>;
 
+/// How many headers most answers have at most.
+const HEADERS: usize = 8;
+
 /// An answer of this type, with the headers that every answer has.
 pub fn with_type(status: u16, kind: &'static str, body: impl Into<Body>) -> Reply {
     let mut reply = Response::new(body.into());
     *reply.status_mut() = StatusCode::from_u16(status).unwrap_or(StatusCode::INTERNAL_SERVER_ERROR);
+    *reply.headers_mut() = HeaderMap::with_capacity(HEADERS);
     let headers = reply.headers_mut();
     headers.insert(CONTENT_TYPE, HeaderValue::from_static(kind));
     headers.insert(X_CONTENT_TYPE_OPTIONS, HeaderValue::from_static("nosniff"));

@@ -136,6 +136,8 @@ pub(super) async fn read_body(
     let mut reading = Reading { app, bytes, room: room_for(app, 0)?, units: 0 };
     reading.reserve(length.unwrap_or(0))?;
     tokio::select! {
+        // most bodies are there at once, and need no timer
+        biased;
         read = tokio::time::timeout(time, reading.read(request.into_body())) => match read {
             Ok(read) => read?,
             Err(_) => return Err(error(408, &format!("the body did not come within {} s", time.as_secs())).into()),

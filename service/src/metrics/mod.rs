@@ -142,8 +142,8 @@ impl Metrics {
         self.clock_ahead.set(ahead as f64 / 1000.0);
     }
 
-    pub fn request(&self, route: &str, status: u16) {
-        self.requests.with_label_values(&[route, &status.to_string()]).inc();
+    pub fn request(&self, route: &str, status: &str) {
+        self.requests.with_label_values(&[route, status]).inc();
     }
 
     /// The gauge of open connections.

@@ -31,6 +31,19 @@ const FORGET_PARTS: &str = "delete from image_part
 /// No lease has to be renewed: this only bounds how long the writer sleeps.
 const BEAT: Duration = Duration::from_secs(5);
 
+/// How many prepared statements are kept.
+const STATEMENTS: usize = 64;
+
+/// SQLite counts no memory that it takes: else each request of one thread for some waits for those of the others. To be called before
+/// SQLite is used.
+pub fn count_no_memory() {
+    // SAFETY: SQLite is not used yet, and takes an int for this option.
+    unsafe { ffi::sqlite3_config(ffi::SQLITE_CONFIG_MEMSTATUS, 0) };
+}
+
+/// Deleted bytes are overwritten where a page is written anyway. Debian's default also writes each page that becomes free.
+pub const ERASE: (&str, &str) = ("secure_delete", "fast");
+
 /// The writer's connection, and the lock file that keeps other processes out.
 pub struct Lite {
     connection: Connection,
@@ -67,8 +80,10 @@ impl Lite {
 /// mode.
 fn prepare(connection: &Connection, found: i64) -> rusqlite::Result<String> {
     connection.busy_timeout(BUSY)?;
+    connection.set_prepared_statement_cache_capacity(STATEMENTS);
     let mode = connection.pragma_update_and_check(None, "journal_mode", "wal", |row| row.get(0))?;
     connection.pragma_update(None, "synchronous", "full")?;
+    connection.pragma_update_and_check(None, ERASE.0, ERASE.1, |_| Ok(()))?;
     let steps: String = steps_after(found, STEPS).collect();
     connection.execute_batch(&format!("begin immediate; {steps} pragma user_version = {VERSION}; commit"))?;
     Ok(mode)

@@ -1,5 +1,6 @@
 //! Writes a group to an SQLite file.
 use super::lite::signed;
+use super::many::{insert, maybe, number, text};
 use super::rows::{GoneJob, Group, Keyed, SavedImage};
 use crate::model::{
     config_line, shape_words, sizes_text, AckBytes, Cut, Entry, ImagePart, Opening, PastRecord, SummaryPart,
@@ -36,21 +37,18 @@ fn write_jobs(within: &Connection, jobs: &[Opening]) -> rusqlite::Result<()> {
 }
 
 fn write_entries(within: &Connection, entries: &[Entry]) -> rusqlite::Result<()> {
-    let mut insert = within.prepare_cached("insert into call values(?, ?, ?, ?, ?, ?, ?, ?)")?;
-    for entry in entries {
-        let numbers = [entry.seq, entry.at, entry.waiting].map(signed);
-        let ([seq, at, waiting], record) = (numbers, entry.record.map(signed));
-        insert.execute(params![entry.job, seq, at, record, entry.line, entry.answer, entry.ended, waiting])?;
-    }
-    Ok(())
+    insert(within, "insert into call", entries, |entry| {
+        let [seq, at, waiting] = [entry.seq, entry.at, entry.waiting].map(|it| number(signed(it)));
+        let (record, ended) =
+            (maybe(entry.record.map(|it| number(signed(it)))), maybe(entry.ended.as_deref().map(text)));
+        [number(entry.job), seq, at, record, text(&entry.line), text(&entry.answer), ended, waiting]
+    })
 }
 
 fn write_requests(within: &Connection, requests: &[Keyed]) -> rusqlite::Result<()> {
-    let mut insert = within.prepare_cached("insert into request values(?, ?, ?, ?, ?)")?;
-    for request in requests {
-        insert.execute(params![request.job, request.key, signed(request.at), request.digest, request.answers])?;
-    }
-    Ok(())
+    insert(within, "insert into request", requests, |it| {
+        [number(it.job), text(&it.key), number(signed(it.at)), text(&it.digest), text(&it.answers)]
+    })
 }
 
 fn write_images(within: &Connection, images: &[SavedImage]) -> rusqlite::Result<()> {
@@ -107,12 +105,12 @@ fn drop_summaries(within: &Connection, places: &[(i64, u64)]) -> rusqlite::Resul
 }
 
 fn write_sizes(within: &Connection, sizes: &BTreeMap<(i64, u64), Option<u64>>) -> rusqlite::Result<()> {
-    let mut insert = within.prepare_cached("insert or replace into size values(?, ?, ?)")?;
+    let known: Vec<[i64; 3]> =
+        sizes.iter().filter_map(|((job, file), size)| Some([*job, *file as i64, signed((*size)?)])).collect();
+    insert(within, "insert or replace into size", &known, |row| row.map(number))?;
     let mut delete = within.prepare_cached("delete from size where job = ? and file = ?")?;
-    sizes.iter().try_for_each(|((job, file), size)| match size {
-        Some(bytes) => insert.execute(params![job, *file as i64, signed(*bytes)]).map(|_| ()),
-        None => delete.execute(params![job, *file as i64]).map(|_| ()),
-    })
+    let mut gone = sizes.iter().filter(|(_, size)| size.is_none());
+    gone.try_for_each(|((job, file), _)| delete.execute(params![job, *file as i64]).map(|_| ()))
 }
 
 fn write_said(within: &Connection, said: &[AckBytes]) -> rusqlite::Result<()> {

@@ -24,34 +24,35 @@ impl Parameter {
 
     /// An array of `bigint`.
     pub fn numbers(items: impl Iterator<Item = Option<i64>>) -> Parameter {
-        array(INT8_OID, items.map(|item| item.map(|number| number.to_be_bytes().to_vec())))
+        array(INT8_OID, items.map(|item| item.map(i64::to_be_bytes)))
     }
 
     /// An array of `text`.
-    pub fn texts(items: impl Iterator<Item = Option<String>>) -> Parameter {
-        array(TEXT_OID, items.map(|item| item.map(String::into_bytes)))
+    pub fn texts<T: AsRef<[u8]>>(items: impl Iterator<Item = Option<T>>) -> Parameter {
+        array(TEXT_OID, items)
     }
 }
 
 /// An array of one dimension: its header, and each item with its length, which is -1 for null.
-fn array(oid: i32, items: impl Iterator<Item = Option<Vec<u8>>>) -> Parameter {
-    let (mut body, mut length) = (Vec::new(), 0i32);
+fn array<T: AsRef<[u8]>>(oid: i32, items: impl Iterator<Item = Option<T>>) -> Parameter {
+    // with a place for the length, which an empty array does not have
+    let mut whole: Vec<u8> = [1, 1, oid, 0, 1].into_iter().flat_map(i32::to_be_bytes).collect();
+    let mut length = 0i32;
     for item in items {
         length += 1;
         match item {
-            None => body.extend((-1i32).to_be_bytes()),
-            Some(bytes) => {
-                body.extend(count(bytes.len()).to_be_bytes());
-                body.extend(bytes);
+            None => whole.extend((-1i32).to_be_bytes()),
+            Some(item) => {
+                let bytes = item.as_ref();
+                whole.extend(count(bytes.len()).to_be_bytes());
+                whole.extend_from_slice(bytes);
             }
         }
     }
-    let dimensions = i32::from(length > 0);
-    let mut whole: Vec<u8> = [dimensions, 1, oid].into_iter().flat_map(i32::to_be_bytes).collect();
-    if length > 0 {
-        whole.extend([length, 1].into_iter().flat_map(i32::to_be_bytes));
+    if length == 0 {
+        return Parameter::Array([0, 1, oid].into_iter().flat_map(i32::to_be_bytes).collect());
     }
-    whole.extend(body);
+    whole[12..16].copy_from_slice(&length.to_be_bytes());
     Parameter::Array(whole)
 }
 

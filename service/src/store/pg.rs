@@ -3,7 +3,8 @@
 use super::cells::Row;
 use super::error::{DbError, Failure, Unusable};
 use super::parameter::Parameter;
-use super::pg_columns::columns;
+use super::pg_columns::Columns;
+use super::pg_commit::{Statements, CALLS};
 use super::pq::{Connection, Failed, Rows};
 use super::rows::{steps_after, Group, Keyed, Lead, Store, Written, MOST_STARTS, OF_JOBS, VERSION};
 use crate::model::Moment;
@@ -22,8 +23,6 @@ const STEPS: [&str; VERSION] = [
     include_str!("../../sql/pg_3.sql"),
     include_str!("../../sql/pg_parts.sql"),
 ];
-const COMMIT: &str = include_str!("../../sql/pg_commit.sql");
-const COMMIT_NAME: &CStr = c"commit_group";
 const LOOK: &str = "select epoch, until, lease, until = '-infinity' from leader";
 /// Leads if nobody has renewed the lease since that was seen.
 const LEAD: &str =
@@ -47,6 +46,7 @@ const KEYED_NAME: &CStr = c"keyed";
 /// The writer's connection, and its lease.
 pub struct Pg {
     connection: Connection,
+    statements: Statements,
     holder: String,
     lease: Duration,
     epoch: u64,
@@ -77,15 +77,19 @@ impl Pg {
             upgrade(&mut connection)?;
         }
         connection.limit(PATIENCE)?;
-        connection.prepare(COMMIT_NAME, COMMIT)?;
         connection.prepare(KEYED_NAME, KEYED)?;
-        Ok(Pg { connection, holder: holder.to_string(), lease, epoch: 0, seen: None })
+        // those of a renewal and of calls, which a leader needs in any case
+        let mut statements = Statements::default();
+        statements.name(&mut connection, &[])?;
+        statements.name(&mut connection, CALLS)?;
+        Ok(Pg { connection, statements, holder: holder.to_string(), lease, epoch: 0, seen: None })
     }
 
-    fn write(&mut self, group: &Group) -> Result<Rows, Failed> {
+    fn write(&mut self, columns: Columns) -> Result<Rows, Failed> {
+        let name = self.statements.name(&mut self.connection, &columns.parts)?;
         let mut given = vec![Parameter::text(&self.seconds())?, Parameter::text(&self.epoch.to_string())?];
-        given.extend(columns(group));
-        self.connection.run_prepared(COMMIT_NAME, &given)
+        given.extend(columns.given);
+        self.connection.run_prepared(&name, &given)
     }
 
     /// Notes a lease as the database has it. Returns whether it was renewed since it was seen last. A leader of an earlier version
@@ -134,8 +138,9 @@ impl Store for Pg {
     }
 
     fn commit(&mut self, group: &Group) -> Written {
-        let rows = self.write(group).map_err(failure)?;
-        let wanted = [1, group.jobs.len(), group.entries.len(), group.requests.len(), group.images.len()];
+        let columns = Columns::of(group);
+        let wanted: Vec<usize> = std::iter::once(1).chain(columns.counts.iter().copied()).collect();
+        let rows = self.write(columns).map_err(failure)?;
         let written = (0..wanted.len()).map(|column| cell(&rows, column).and_then(|text| text.parse().ok()));
         if written.eq(wanted.into_iter().map(Some)) {
             return Ok(());

@@ -6,23 +6,44 @@ use crate::model::{
 };
 use std::collections::BTreeMap;
 
-/// The columns of all tables, in the order of `sql/pg_commit.sql`.
-pub fn columns(group: &Group) -> Vec<Parameter> {
-    let mut given = Vec::new();
-    given.extend(job_columns(&group.jobs));
-    given.extend(call_columns(&group.entries));
-    given.extend(request_columns(&group.requests));
-    given.extend(image_columns(&group.images));
-    given.extend(dropped_columns(&group.dropped));
-    given.extend(cut_columns(&group.cuts));
-    given.extend(summary_columns(&group.summaries));
-    given.extend(past_columns(&group.past));
-    given.extend(dropped_columns(&group.dropped_summaries));
-    given.extend(size_columns(&group.sizes));
-    given.extend(said_columns(&group.said));
-    given.extend(gone_columns(&group.gone));
-    given.extend(image_part_columns(&group.image_parts));
-    given
+/// What a statement has of a group: its parts by their places in `sql/pg_commit.sql`, and the columns of all of them.
+pub struct Columns {
+    pub parts: Vec<usize>,
+    pub given: Vec<Parameter>,
+    /// How many rows each part has that is counted.
+    pub counts: Vec<usize>,
+}
+
+impl Columns {
+    pub fn of(group: &Group) -> Columns {
+        let mut columns = Columns { parts: Vec::new(), given: Vec::new(), counts: Vec::new() };
+        columns.add_counted(0, group.jobs.len(), || job_columns(&group.jobs));
+        columns.add_counted(1, group.entries.len(), || call_columns(&group.entries));
+        columns.add_counted(2, group.requests.len(), || request_columns(&group.requests));
+        columns.add_counted(3, group.images.len(), || image_columns(&group.images));
+        columns.add(4, group.image_parts.len(), || image_part_columns(&group.image_parts));
+        columns.add(5, group.dropped.len(), || dropped_columns(&group.dropped));
+        columns.add(6, group.cuts.len(), || cut_columns(&group.cuts));
+        columns.add(7, group.summaries.len(), || summary_columns(&group.summaries));
+        columns.add(8, group.past.len(), || past_columns(&group.past));
+        columns.add(9, group.dropped_summaries.len(), || dropped_columns(&group.dropped_summaries));
+        columns.add(10, group.sizes.len(), || size_columns(&group.sizes));
+        columns.add(11, group.said.len(), || said_columns(&group.said));
+        columns.add(12, group.gone.len(), || gone_columns(&group.gone));
+        columns
+    }
+
+    fn add<const N: usize>(&mut self, part: usize, rows: usize, columns: impl FnOnce() -> [Parameter; N]) {
+        if rows > 0 {
+            self.parts.push(part);
+            self.given.extend(columns());
+        }
+    }
+
+    fn add_counted<const N: usize>(&mut self, part: usize, rows: usize, columns: impl FnOnce() -> [Parameter; N]) {
+        self.add(part, rows, columns);
+        self.counts.extend((rows > 0).then_some(rows));
+    }
 }
 
 fn number(number: u64) -> i64 {
@@ -32,11 +53,11 @@ fn number(number: u64) -> i64 {
 fn job_columns(jobs: &[Opening]) -> [Parameter; 6] {
     [
         Parameter::numbers(jobs.iter().map(|job| Some(job.number))),
-        Parameter::texts(jobs.iter().map(|job| Some(job.name.clone()))),
+        Parameter::texts(jobs.iter().map(|job| Some(job.name.as_str()))),
         Parameter::texts(jobs.iter().map(|job| Some(config_line(&job.settings)))),
         Parameter::texts(jobs.iter().map(|job| Some(shape_words(&job.shape)))),
         Parameter::numbers(jobs.iter().map(|job| Some(number(job.started)))),
-        Parameter::texts(jobs.iter().map(|_| Some(env!("CARGO_PKG_VERSION").to_string()))),
+        Parameter::texts(jobs.iter().map(|_| Some(env!("CARGO_PKG_VERSION")))),
     ]
 }
 
@@ -46,9 +67,9 @@ fn call_columns(entries: &[Entry]) -> [Parameter; 8] {
         Parameter::numbers(entries.iter().map(|entry| Some(number(entry.seq)))),
         Parameter::numbers(entries.iter().map(|entry| Some(number(entry.at)))),
         Parameter::numbers(entries.iter().map(|entry| entry.record.map(number))),
-        Parameter::texts(entries.iter().map(|entry| Some(entry.line.clone()))),
-        Parameter::texts(entries.iter().map(|entry| Some(entry.answer.clone()))),
-        Parameter::texts(entries.iter().map(|entry| entry.ended.clone())),
+        Parameter::texts(entries.iter().map(|entry| Some(entry.line.as_str()))),
+        Parameter::texts(entries.iter().map(|entry| Some(entry.answer.as_str()))),
+        Parameter::texts(entries.iter().map(|entry| entry.ended.as_deref())),
         Parameter::numbers(entries.iter().map(|entry| Some(number(entry.waiting)))),
     ]
 }
@@ -56,10 +77,10 @@ fn call_columns(entries: &[Entry]) -> [Parameter; 8] {
 fn request_columns(requests: &[Keyed]) -> [Parameter; 5] {
     [
         Parameter::numbers(requests.iter().map(|request| Some(request.job))),
-        Parameter::texts(requests.iter().map(|request| Some(request.key.clone()))),
+        Parameter::texts(requests.iter().map(|request| Some(request.key.as_str()))),
         Parameter::numbers(requests.iter().map(|request| Some(number(request.at)))),
-        Parameter::texts(requests.iter().map(|request| Some(request.digest.clone()))),
-        Parameter::texts(requests.iter().map(|request| Some(request.answers.clone()))),
+        Parameter::texts(requests.iter().map(|request| Some(request.digest.as_str()))),
+        Parameter::texts(requests.iter().map(|request| Some(request.answers.as_str()))),
     ]
 }
 
@@ -69,12 +90,12 @@ fn image_columns(images: &[SavedImage]) -> [Parameter; 9] {
         Parameter::numbers(all().map(|image| Some(image.job))),
         Parameter::numbers(all().map(|image| Some(number(image.seq)))),
         Parameter::numbers(all().map(|image| Some(number(image.at)))),
-        Parameter::texts(images.iter().map(|saved| Some(saved.digest.clone()))),
+        Parameter::texts(images.iter().map(|saved| Some(saved.digest.as_str()))),
         Parameter::texts(all().map(|image| Some(shape_words(&image.shape)))),
         Parameter::numbers(all().map(|image| image.last_completed.map(number))),
         Parameter::numbers(all().map(|image| Some(number(image.last_event)))),
         Parameter::numbers(all().map(|image| Some(number(image.text.len() as u64)))),
-        Parameter::texts(all().map(|image| Some(image.row_text().to_string()))),
+        Parameter::texts(all().map(|image| Some(image.row_text()))),
     ]
 }
 
@@ -83,7 +104,7 @@ fn image_part_columns(parts: &[ImagePart]) -> [Parameter; 4] {
         Parameter::numbers(parts.iter().map(|it| Some(it.job))),
         Parameter::numbers(parts.iter().map(|it| Some(number(it.seq)))),
         Parameter::numbers(parts.iter().map(|it| Some(number(it.part)))),
-        Parameter::texts(parts.iter().map(|it| Some(it.text.clone()))),
+        Parameter::texts(parts.iter().map(|it| Some(it.text.as_str()))),
     ]
 }
 
@@ -108,7 +129,7 @@ fn summary_columns(parts: &[SummaryPart]) -> [Parameter; 5] {
         Parameter::numbers(parts.iter().map(|part| Some(number(part.seq)))),
         Parameter::numbers(parts.iter().map(|part| Some(number(part.part)))),
         Parameter::numbers(parts.iter().map(|part| Some(number(part.whole)))),
-        Parameter::texts(parts.iter().map(|part| Some(part.text.clone()))),
+        Parameter::texts(parts.iter().map(|part| Some(part.text.as_str()))),
     ]
 }
 
@@ -116,7 +137,7 @@ fn past_columns(records: &[PastRecord]) -> [Parameter; 3] {
     [
         Parameter::numbers(records.iter().map(|record| Some(record.job))),
         Parameter::numbers(records.iter().map(|record| Some(number(record.id)))),
-        Parameter::texts(records.iter().map(|record| Some(record.text.clone()))),
+        Parameter::texts(records.iter().map(|record| Some(record.text.as_str()))),
     ]
 }
 
@@ -145,7 +166,7 @@ fn said_columns(said: &[AckBytes]) -> [Parameter; 4] {
 fn gone_columns(jobs: &[GoneJob]) -> [Parameter; 3] {
     [
         Parameter::numbers(jobs.iter().map(|it| Some(it.job))),
-        Parameter::texts(jobs.iter().map(|it| Some(it.name.clone()))),
+        Parameter::texts(jobs.iter().map(|it| Some(it.name.as_str()))),
         Parameter::numbers(jobs.iter().map(|it| Some(number(it.at)))),
     ]
 }

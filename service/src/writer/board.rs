@@ -1,9 +1,10 @@
 //! The board: what the threads know of each other.
 use super::lag::Lag;
 use super::lease::Lease;
-use crate::model::{Bases, Choice, Job, Moment, Outcome};
-use serde_json::json;
+use crate::model::{Answer, Bases, Choice, Job, Moment, Outcome, Reply};
+use serde_json::Value;
 use std::collections::HashMap;
+use std::fmt::Write;
 use std::sync::atomic::{AtomicBool, AtomicU64, Ordering};
 use std::sync::{Mutex, OnceLock, PoisonError, RwLock, RwLockReadGuard};
 use std::time::{Duration, Instant};
@@ -137,8 +138,15 @@ impl Board {
 
     /// The body that answers a request.
     pub fn answers(&self, outcomes: &[Outcome]) -> String {
-        let answers: Vec<_> = outcomes.iter().map(Outcome::json).collect();
-        json!({"epoch": self.epoch(), "log": self.log(), "answers": answers}).to_string()
+        let mut body = String::with_capacity(128 + 64 * outcomes.len());
+        body.push_str(r#"{"answers":["#);
+        for (place, outcome) in outcomes.iter().enumerate() {
+            body.push_str(if place > 0 { "," } else { "" });
+            write_answer(&mut body, outcome);
+        }
+        // a write to a text does not fail
+        let _ = write!(body, r#"],"epoch":{},"log":{}}}"#, self.epoch(), Value::from(self.log()));
+        body
     }
 
     pub fn publish(&self, job: &Job) {
@@ -225,5 +233,34 @@ impl Board {
 
     fn read(&self) -> RwLockReadGuard<'_, HashMap<String, Watched>> {
         self.jobs.read().unwrap_or_else(PoisonError::into_inner)
+    }
+}
+
+/// Writes the answer of a call. Nearly all calls have the first one, which takes no tree of values.
+fn write_answer(body: &mut String, outcome: &Outcome) {
+    let _ = match outcome {
+        Outcome::Made { seq: Some(seq), reply: Reply::Answered(Answer::AckPending { missing }), .. } => {
+            write!(body, r#"{{"ack":"pending","missing":{missing},"seq":{seq}}}"#)
+        }
+        other => write!(body, "{}", other.json()),
+    };
+}
+
+#[cfg(test)]
+mod tests {
+    use super::*;
+
+    #[test]
+    fn all_answers_are_written_alike() {
+        let reply = Reply::Answered(Answer::AckPending { missing: 3 });
+        let outcomes = [Outcome::Made { seq: Some(7), reply }, Outcome::NoMemory, Outcome::NotMade];
+        let told = outcomes.each_ref().map(Outcome::json);
+        let board = Board::new();
+        board.lead(4, "a\"b".to_string());
+        assert_eq!(
+            serde_json::from_str(&board.answers(&outcomes)).ok(),
+            Some(serde_json::json!({"answers": told, "epoch": 4, "log": "a\"b"}))
+        );
+        assert_eq!(board.answers(&outcomes[1..2]), r#"{"answers":[{"no_memory":true}],"epoch":4,"log":"a\"b"}"#);
     }
 }

@@ -372,6 +372,22 @@ class NamesTest {
         }
     }
 
+    @Test
+    void theLastTerm() {
+        String text;
+        try (Coordinator job = busy()) {
+            text = Lines.text(job.save()).replace("\"term\":2", "\"term\":" + END);
+        }
+        try (Coordinator job = Coordinator.openSaved(Jobs.line(text))) {
+            List<Object> before = seen(job);
+            fenced(Fenced.TERMS_USED_UP, () -> job.restoreLatest(4000));
+            fenced(Fenced.TERMS_USED_UP, () -> job.cancel(4000));
+            assertEquals(before, seen(job));
+            assertEquals(new RunningTerm(END, 14), job.term());
+            assertEquals(new Reply.AckCompleted(1, 2), ack(job, END, 4000, 3, 12));
+        }
+    }
+
     /** Threads that reserve, give up, sort and read in one coordinator: no name is given out twice, and each gets its own answer. */
     @Test
     void eightThreads() throws Exception {
