@@ -11,6 +11,7 @@ from distributed import ActorFuture, Client
 from cluster import WAIT, Worker
 from relkvanu import AckLate, Fenced, Refused
 from task import Task
+from tracing import tell
 
 Message = Union[int, Dict[int, int]]  # the number of a barrier; or ends of partitions, up to which to count
 RESERVED = 32  # names at once
@@ -39,8 +40,9 @@ class Channel(threading.Thread):
         self.pause: float = WAIT  # after each file of it
         self.tells_loss = True
         self.was_fenced = False  # it went on after a restore, and was told so
+        self.task = "%d.%d" % subtask + f" {term}"  # its name in the trace
         self.actor = client.submit(
-            Task, str(job.storage.path), job.seed, subtask[0], self.partitions, list(files),
+            Task, self.task, str(job.storage.path), job.seed, subtask[0], self.partitions, list(files),
             actor=True, workers=[worker.address], allow_other_workers=False, pure=False,
         ).result(timeout=WAIT)
         self.ends: Dict[int, int] = self.call("offsets")  # of what was put
@@ -128,6 +130,7 @@ class Channel(threading.Thread):
         """The task's part of a record, which a task of an ended term has none in. If a file that it reuses is gone, for example because another
         task declined the file's record, it is refused. Then the task writes everything anew."""
         self.record = id
+        tell(f"task {self.task} begins {id}")
         fresh, reused = self.snapshot(id)
         try:
             reply = self.job.ack(self.term, id, self.subtask, fresh, reused)

@@ -25,6 +25,7 @@ from cluster import WAIT, Cluster, wait_for
 from relkvanu import AckCompleted, DeclineFailed, Failed, Fenced, Refused, Reply, RestoredCheckpoint
 from storage import Storage
 from stream import PARTITIONS, VERTICES, State, counted, read
+from tracing import tell
 
 WORKERS, LARGE, SMALL = 3, (2, 6, 3), (2, 4, 3)  # worker processes, and the larger and the smaller shape of the job
 SETTINGS = {"interval": 200, "timeout": 4000, "tolerable": 0, "retained": 2}  # milliseconds
@@ -60,6 +61,7 @@ class Job:
             self.deleted += not fails
         if fails:
             raise PermissionError(f"file {file} is not to be deleted yet")
+        tell(f"discarder unlinks {file}")
         self.storage.delete(file)
 
     def called(self, call: Callable[..., Reply], *arguments: Any) -> Reply:
@@ -100,6 +102,7 @@ class Job:
         with self.stream:
             self.cuts[id] = dict(self.ends)
             for channel in channels:
+                tell(f"barrier {id} to {channel.task}")
                 channel.put(id)
 
     def channels_of(self, shape: Sequence[int], term: int, files: Dict[Tuple[int, int], Tuple[int, ...]]) -> List[Channel]:
@@ -128,6 +131,7 @@ class Job:
             with self.stream:
                 self.channels, self.ends = channels, dict(ends)
             for channel in channels:
+                tell(f"task {channel.task} starts")
                 channel.start()
 
     def ends_of(self, reply: Reply, channels: Sequence[Channel]) -> Dict[int, int]:
@@ -258,6 +262,7 @@ class Job:
 
     def delete_taken(self, files: Iterable[int]) -> None:
         for file in files:
+            tell(f"discarder unlinks {file}")
             self.storage.delete(file)
             self.coordinator.deleted(file)
 

@@ -9,7 +9,8 @@ from relkvanu import (
     RestoredCheckpoint, RestoredFresh, Taken,
 )
 
-from storage import Storage
+from relkvanu.sweep import of_service, sweep
+from storage import Storage, Swept
 
 Subtask = Tuple[int, int]
 # What an answer is here, by the call's name and the value under that name.
@@ -62,10 +63,8 @@ class OverService:
 
     def sweep(self, storage: Storage) -> None:
         """Deletes the garbage of the folder, at any time."""
-        garbage, unissued = self.remote.garbage(sorted(storage.numbers()))
-        assert not unissued, unissued
-        for file in garbage:
-            storage.delete(file)
+        swept = sweep(Swept(storage), of_service(self.remote), True)
+        assert not swept.failed and not swept.unissued, swept
 
     def look(self, storage: Storage) -> None:
         """A service shows no records between two calls of others."""

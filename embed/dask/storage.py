@@ -7,7 +7,9 @@ import fcntl
 import os
 import pathlib
 import secrets
-from typing import Set
+from typing import Dict, Iterable, Iterator, Set
+
+from tracing import tell
 
 MARKER = ".relkvanu-job"
 
@@ -76,3 +78,30 @@ class Storage:
             os.unlink(str(file), dir_fd=self.folder)
         except FileNotFoundError:
             self.check_marker()
+
+    def size(self, file: int) -> int:
+        try:
+            return os.stat(str(file), dir_fd=self.folder).st_size
+        except FileNotFoundError:
+            return 0  # deleted since
+
+
+class Swept:
+    """The storage, as relkvanu.sweep has it."""
+
+    def __init__(self, storage: Storage) -> None:
+        self.storage = storage
+
+    def check(self) -> None:
+        self.storage.check_marker()
+
+    def sizes(self, most: int = 0) -> Iterator[Dict[int, int]]:
+        """One page: the folder is small."""
+        yield {file: self.storage.size(file) for file in sorted(self.storage.numbers())}
+
+    def delete(self, files: Iterable[int]) -> Dict[int, str]:
+        for file in files:
+            tell(f"sweeper unlinks {file}")
+            self.storage.delete(file)
+        self.storage.sync()
+        return {}

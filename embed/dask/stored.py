@@ -16,10 +16,12 @@ from typing import Any, Callable, Dict, Optional, Sequence, Set, Tuple
 
 import bookkeeping
 from cluster import wait_for
-from relkvanu import Error, Live, OutOfMemory, Refused, Reply, Settings, Taken, Triggered
+import tracing
+from relkvanu import AckLate, Error, Fenced, Live, OutOfMemory, Refused, Reply, Settings, Taken, Triggered, header, lines
 from relkvanu.replies import Reserved
 from relkvanu.store import Call, Made, Step, Store, StoreError
-from storage import Storage
+from relkvanu.sweep import sweep
+from storage import Storage, Swept
 
 Subtask = Tuple[int, int]
 IMAGE_CALLS = 400
@@ -38,6 +40,20 @@ def or_end(call: Callable[..., Any], *arguments: Any) -> Any:
                 raise
             print(f"a call has no answer: {fault!r}", file=sys.stderr, flush=True)
             os._exit(1)
+
+
+def tell_refusal(call: Call) -> None:
+    """A call of a task that is refused has no line in the log: so the trace has it, with a moment that counts as the greatest."""
+    subtask = call.vertex, call.index
+    if call.kind == header.CALL_RESERVE:
+        tracing.tell("refused " + lines.reserve_line(call.term, call.number))
+    elif call.kind == header.CALL_FORFEIT:
+        tracing.tell("refused " + lines.forfeit_line(call.term, call.first))
+    elif call.kind in (header.CALL_ACK, header.CALL_DECLINE):
+        line = lines.ack_line if call.kind == header.CALL_ACK else lines.decline_line
+        files = (call.first, call.second) if call.kind == header.CALL_ACK else ()
+        tracing.tell("from %d.%d" % subtask + f" {call.term}")
+        tracing.tell("refused " + line(0, call.number, *subtask, *files, term=call.term))
 
 
 def used_by(reads: Any, wanted: Callable[[Live], bool]) -> Set[int]:
@@ -59,12 +75,14 @@ class Stored:
         with tempfile.TemporaryDirectory() as copy:
             bookkeeping.copy_job(folder, copy)
             try:
-                self.job = Store(folder / "job.db", Settings(**settings), shape, storage=storage.path, create=True, image_calls=IMAGE_CALLS)
+                self.job = Store(folder / "job.db", Settings(**settings), shape, storage=storage.path, create=True, image_calls=None if tracing.PATH else IMAGE_CALLS)
             except StoreError as fault:
                 raise SystemExit(f"the job is not opened: {fault}") from None
             books = bookkeeping.of_job(pathlib.Path(copy))
         self.term = self.job.report.term
         assert self.term != 0, "the job has no names"
+        tracing.answered(self.job.report.image_place + self.job.report.replayed)
+        tracing.tell(f"process {self.job.report.epoch} starts")
         self.looks = 0
         self.calls = itertools.count(1)
         self.made: Dict[int, Reply] = {}  # replies of this process, by the places of their calls
@@ -79,7 +97,12 @@ class Stored:
         assert not missing, f"files in use are missing: {missing}"
 
     def made_call(self, call: Call) -> Made:
-        made: Made = or_end(self.job.call, call)
+        try:
+            made: Made = or_end(self.job.call, call)
+        except (Refused, Fenced):
+            tell_refusal(call)
+            raise
+        tracing.answered(made.place)
         if next(self.calls) == self.dies_after:
             os.kill(os.getpid(), signal.SIGKILL)
         self.made[made.place] = made.reply
@@ -89,9 +112,17 @@ class Stored:
         return self.made_call(call).reply
 
     def ack(self, term: int, id: int, subtask: Subtask, fresh: Sequence[int], reused: Sequence[int]) -> Reply:
-        return self.call(Call.ack(id, *subtask, fresh, reused, term=term))
+        task, word = "%d.%d" % subtask + f" {term}", "refused"
+        tracing.tell(f"task {task} sends ack {id}" + tracing.signed("+", fresh) + tracing.signed("=", reused))
+        try:
+            reply = self.call(Call.ack(id, *subtask, fresh, reused, term=term))
+            word = "late" if isinstance(reply, AckLate) else "accepted"
+        finally:
+            tracing.tell(f"answer to {task} {word}")
+        return reply
 
     def decline(self, term: int, id: int, subtask: Subtask) -> Reply:
+        tracing.tell("task %d.%d" % subtask + f" {term} sends decline {id}")
         return self.call(Call.decline(id, *subtask, term=term))
 
     def reserve(self, term: int, most: int) -> Sequence[int]:
@@ -143,8 +174,8 @@ class Stored:
 
     def sweep(self, storage: Storage) -> None:
         """Deletes the garbage of the folder, at any time."""
-        left = or_end(self.job.sweep)
-        assert left == 0, left
+        swept = or_end(sweep, Swept(storage), self.job.garbage, True)
+        assert not swept.failed and not swept.unissued, swept
 
     def look(self, storage: Storage) -> None:
         """Each file of a done record is in the folder. All calls wait meanwhile."""
@@ -198,6 +229,7 @@ class Stored:
         except (Refused, StoreError):  # a decline has failed the job since, or it is over
             return None
         if made is not None:
+            tracing.answered(made.place)
             self.made[made.place] = made.reply
             job.note(made.reply)
         return made
@@ -205,6 +237,7 @@ class Stored:
     def close(self) -> None:
         """Closes the store, and compares the job, and what this process was answered, with what its lines say."""
         self.job.close()
+        tracing.tell(f"process {self.job.report.epoch} ends")
         books = bookkeeping.of_job(self.folder)
         assert books is not None
         for place, reply in self.made.items():  # those before were cut off

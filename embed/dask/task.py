@@ -5,13 +5,16 @@ from typing import Dict, List, Sequence, Tuple
 
 from storage import Storage
 from stream import State, read
+from tracing import tell
 
 
 class Task:
     """Counts the partitions that it is given. Its calls come one after the other."""
 
-    def __init__(self, storage: str, seed: int, vertex: int, partitions: Sequence[int], files: Sequence[int]) -> None:
-        """Begins with the states of its partitions among the files that a record has of its vertex, and opens each of them."""
+    def __init__(self, name: str, storage: str, seed: int, vertex: int, partitions: Sequence[int], files: Sequence[int]) -> None:
+        """Begins with the states of its partitions among the files that a record has of its vertex, and opens each of them. The name is for the
+        trace."""
+        self.name = name
         self.storage = Storage(pathlib.Path(storage))
         self.storage.check_marker()
         self.seed = seed
@@ -44,10 +47,13 @@ class Task:
         for partition, state in self.states.items():
             if partition not in self.held:
                 number = numbers[len(fresh)]
+                tell(f"task {self.name} writes {number}")
                 self.storage.write(number, state.text(partition))
                 fresh.append(number)
                 time.sleep(pause)
         self.storage.sync()
+        for number in fresh:
+            tell(f"task {self.name} syncs {number}")
         self.written: Dict[int, int] = dict(zip((p for p in self.states if p not in self.held), fresh))
         return fresh, reused
 

@@ -1,5 +1,5 @@
 /* The trace of a run, for relkvanu-conform (docs/PROTOCOL.md). ENGINE_TRACE names the file; without it nothing is written. A line has in front the
- * greatest place in the log that this process was answered so far: embed/rocksdb/traced.py puts the lines of the log between. */
+ * greatest place in the log that this process was answered so far: embed/traced.py puts the lines of the log between. */
 #ifndef ENGINE_TRACE_H
 #define ENGINE_TRACE_H
 

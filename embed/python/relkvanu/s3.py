@@ -104,6 +104,7 @@ class Bucket:
                 yield page
 
     def beside(self, start: str) -> List[str]:
+        """The names of objects beside the marker that begin so."""
         folder = posixpath.dirname(self.marker.name)
         keys = (it["Key"] for objects in self._objects(posixpath.join(folder, start), MOST_KEYS) for it in objects)
         return [posixpath.relpath(key, folder or ".") for key in keys]

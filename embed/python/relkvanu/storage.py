@@ -54,14 +54,17 @@ class Storage(Protocol):
         """The numbers of all files, also of those that were put in part. Raises StorageError: then the list is not whole."""
 
 
-class SizedStorage(Storage, Protocol):
-    """A storage that tells how large its files are, and which other jobs have files beside them."""
+class SizedStorage(Protocol):
+    """What a sweeper needs of a storage."""
+
+    def check(self) -> None:
+        """That of a Storage."""
+
+    def delete(self, files: Iterable[int]) -> Dict[int, str]:
+        """That of a Storage."""
 
     def sizes(self, most: int = PAGE) -> Iterator[Dict[int, int]]:
-        """pages(), with the bytes of each file."""
-
-    def beside(self, start: str) -> List[str]:
-        """The names of files beside the marker that begin so."""
+        """The pages of a Storage, with the bytes of each file."""
 
 
 class Marker(NamedTuple):
@@ -202,6 +205,7 @@ class Folder:
             yield sizes
 
     def beside(self, start: str) -> List[str]:
+        """The names of files beside the marker that begin so."""
         try:
             return sorted(name for name in os.listdir(self._folder) if name.startswith(start))
         except OSError as error:

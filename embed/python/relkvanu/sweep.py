@@ -149,8 +149,8 @@ def module(name: str, what: str) -> Any:
 
 
 @contextlib.contextmanager
-def place(given: argparse.Namespace, marker: Marker) -> Iterator[SizedStorage]:
-    """The storage, if it has the marker."""
+def place(given: argparse.Namespace, marker: Marker) -> Iterator[Any]:
+    """The storage, a Folder or a Bucket, if it has the marker."""
     if given.folder is not None:
         with Folder(given.folder, given.job, prefix=given.prefix, suffix=given.suffix, marker=marker) as folder:
             yield folder
@@ -160,7 +160,7 @@ def place(given: argparse.Namespace, marker: Marker) -> Iterator[SizedStorage]:
                     keeps_versions=given.keeps_versions, marker=marker)
 
 
-def check_names(storage: SizedStorage, given: argparse.Namespace) -> None:
+def check_names(storage: Any, given: argparse.Namespace) -> None:
     """Without a prefix and a suffix a file of another job beside those of this one would be taken for one of this job."""
     if posixpath.basename(given.prefix) or given.suffix:
         return

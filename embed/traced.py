@@ -1,9 +1,10 @@
 #!/usr/bin/env python3
-"""traced.py FOLDER TRACE: puts the lines of the log of FOLDER/job.db into what the engine has told of itself (trace.h), and has relkvanu-conform judge
+"""embed/traced.py FOLDER TRACE: puts the lines of the log of FOLDER/job.db into what an engine has told of itself, and has relkvanu-conform judge
 the whole: it obeys the rules. Then one line is left out or added in turn, and the rule is named that is broken then. Prints how many lines there are.
 
-The engine tells before a step or after an answer, and notes how much of the log it was answered by then. More of the log may have been
-committed: where a step rests on that, as the deletion of a file that was taken, lines are put in until it does."""
+The engine tells before a step or after an answer. Each line has in front the greatest place in the log that the process was answered by then, or 0 if
+who tells does not know it. More of the log may have been committed: where a step rests on that, as the deletion of a file that was taken, lines are
+put in until it does."""
 import pathlib
 import sqlite3
 import sys
@@ -75,6 +76,8 @@ class Merged:
             self.put_until_so(lambda: int(words[2]) in self.core.taken_files())
         elif words[0] == "sweeper":
             self.put_until_so(lambda: self.core.garbage([int(words[2])]).garbage)
+        elif words[0] == "task" and words[3] == "writes":
+            self.put_until_so(lambda: self.core.term().next_name > int(words[4]))
         elif words[0] == "refused":
             self.put_until_so(lambda: self.is_refused(text.partition(" ")[2]))
         self.trace.append(text)
@@ -124,7 +127,7 @@ def main(folder, told):
     for rule, lines_of in broken(trace):
         rules = [it.rule for it in check(lines_of) if it.rule is not None]
         assert rules and rules[0] == rule, (rule, rules[:5])
-    print(f"rocksdb: relkvanu-conform found that a trace of {len(trace)} lines obeys the rules, and which rule is broken where one line is changed")
+    print(f"traced: relkvanu-conform found that a trace of {len(trace)} lines obeys the rules, and which rule is broken where one line is changed")
 
 
 if __name__ == "__main__":
