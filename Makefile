@@ -8,7 +8,7 @@
 #   make first                  a first look: a script of calls, unproved
 #   make job                    the script's program, proved, on that script
 #   make demo                   a job that runs for a minute with threads, a clock and files
-#   make programs               ckpt_job, ckpt_chart and ckpt_demo, proved and built
+#   make programs               ckpt_job, ckpt_log, ckpt_chart and ckpt_demo, proved and built
 #   make check                  all proofs, wrong bodies, tests and programs (.ci/run); in a release, the tests of its library (packaging/check)
 #   make note VERSION=..        the note of a release: the news for its users in CHANGELOG.md; VERSION=next for what is not released yet
 #   make clean                  removes build/
@@ -21,7 +21,7 @@ INSTALL = install
 LIBRARY = build/librelkvanu.a build/librelkvanu.so.0
 # The durable coordinator, where SQLite and zlib are there to build it, or in a release that has it.
 STORE := $(if $(wildcard build/librelkvanu-store.a)$(shell pkg-config --exists sqlite3 zlib 2> /dev/null && echo yes),build/librelkvanu-store.a)
-PROGRAMS = ckpt_job ckpt_chart ckpt_demo
+PROGRAMS = ckpt_job ckpt_log ckpt_chart ckpt_demo
 VERSION := $(shell sed -n 's/^\#define RELKVANU_VERSION "\(.*\)"/\1/p' include/relkvanu.h)
 HEADERS = include/relkvanu.h include/relkvanu.hpp include/relkvanu_alloc.h $(if $(STORE),include/relkvanu_store.h include/relkvanu_store.hpp)
 into = $(DESTDIR)$(PREFIX)
@@ -118,6 +118,7 @@ demo:
 
 programs:
 	cd crates/ckpt_job && rt run < ../../examples/first-checkpoint.script
+	cd crates/ckpt_log && rt run < ../../examples/first-checkpoint.script
 	cd crates/ckpt_chart && rt run < ../../examples/first-checkpoint.script
 	(cat demo/SETTINGS; echo duration 1000) | (cd crates/ckpt_demo && rt run)
 

@@ -70,7 +70,7 @@ LAST = "SELECT max(place) FROM log WHERE line LIKE "
 
 
 def with_a_file_changed(folder, *_):
-    change(folder, f"UPDATE log SET line = replace(line, '+', '+1') WHERE place = ({LAST} 'ack %+%')")
+    change(folder, f"UPDATE log SET line = replace(line, '+', '+1') WHERE place = ({LAST} '%ack %+%')")
 
 
 def with_an_image_changed(folder, *_):
@@ -82,7 +82,7 @@ def with_a_moment_changed(folder, *_):
 
 
 def with_an_answer_changed(folder, *_):
-    change(folder, f"UPDATE log SET a = a + 1 WHERE place = ({LAST} 'ack %')")
+    change(folder, f"UPDATE log SET a = a + 1 WHERE place = ({LAST} '%ack %')")
 
 
 def with_a_checksum_changed(folder, *_):

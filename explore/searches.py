@@ -45,11 +45,6 @@ def switches():
     return [Switch(int(rule), name, tuple(scope)) for rule, name, *scope in table("RULES")]
 
 
-def has_names():
-    """Whether the library has terms and names."""
-    return "relkvanu_reserve(" in (TOP / "include/relkvanu.h").read_text(encoding="utf-8")
-
-
 def scopes(kind):
     return [words for found, *words in table("SCOPES") if found == kind]
 

@@ -92,11 +92,12 @@ typedef struct {
 /* A call, for relkvanu_call_line and of relkvanu_line_call. The first does not read fields that its kind does not use; the second
  * sets them to 0. */
 typedef struct {
-    uint32_t kind;   /* RELKVANU_CALL_TICK to RELKVANU_CALL_COUNT */
+    uint32_t kind;   /* RELKVANU_CALL_TICK to RELKVANU_CALL_FORFEIT */
     uint16_t vertex; /* with index: the subtask of an ack or a decline */
     uint16_t index;
     uint64_t now;    /* the moment, if the kind has one */
-    uint64_t number; /* the number of the record or file; for a restore the savepoint or 0; for a take the most files */
+    uint64_t number; /* of the record or file; for a restore the savepoint or 0; a take the most files; a fence the first name; a reserve how many */
+    uint64_t term;   /* the term of the caller, or 0 for none; a fence has none */
 } relkvanu_call;
 
 /* code */
@@ -151,7 +152,7 @@ typedef struct {
 #define RELKVANU_NOT_PENDING 36u
 #define RELKVANU_MOMENT 55u /* a: moment */
 
-/* what, if a line of a script is RELKVANU_DONE */
+/* what, if a line is RELKVANU_DONE */
 #define RELKVANU_SKIPPED 37u     /* the line makes no call: it has no words or is a comment */
 #define RELKVANU_LINE_SKIP 38u   /* a: 0 */
 #define RELKVANU_LINE_CONFIG 39u /* a: 7, the numbers at the start of the buffer: those of relkvanu_settings, in its order */
@@ -227,7 +228,7 @@ typedef struct {
 #define RELKVANU_FAULT_MISSING 3u  /* the line ends before a word that it needs */
 #define RELKVANU_FAULT_NUMBER 4u   /* not a number, or not a subtask */
 #define RELKVANU_FAULT_EXTRA 5u    /* a word follows the last one */
-#define RELKVANU_FAULT_NO_CALL 6u  /* a config, job, start or all line: it was read, and makes no call */
+#define RELKVANU_FAULT_NO_CALL 6u  /* a config, job, start or all line, or in and a term before what is no call: it was read, and makes no call */
 
 /* kind of a call */
 #define RELKVANU_CALL_TICK 1u
@@ -242,6 +243,9 @@ typedef struct {
 #define RELKVANU_CALL_UNDELETED 10u
 #define RELKVANU_CALL_SHOW 11u
 #define RELKVANU_CALL_COUNT 12u
+#define RELKVANU_CALL_FENCE 13u   /* relkvanu_fence */
+#define RELKVANU_CALL_RESERVE 14u /* relkvanu_reserve */
+#define RELKVANU_CALL_FORFEIT 15u /* relkvanu_forfeit */
 
 /* The same numbers as types, for debuggers, and for a compiler that warns of a switch which lacks one: switch ((enum relkvanu_refusal)
  * answer.what). A later version may give others. The packages of other languages and relkvanu_answer_text are made from these, and from the
@@ -392,7 +396,10 @@ enum relkvanu_call_kind {
     relkvanu_call_kind_deleted = RELKVANU_CALL_DELETED,
     relkvanu_call_kind_undeleted = RELKVANU_CALL_UNDELETED,
     relkvanu_call_kind_show = RELKVANU_CALL_SHOW,
-    relkvanu_call_kind_count = RELKVANU_CALL_COUNT
+    relkvanu_call_kind_count = RELKVANU_CALL_COUNT,
+    relkvanu_call_kind_fence = RELKVANU_CALL_FENCE,
+    relkvanu_call_kind_reserve = RELKVANU_CALL_RESERVE,
+    relkvanu_call_kind_forfeit = RELKVANU_CALL_FORFEIT
 };
 
 /* Opens a coordinator in a closed handle, from the moment now on. Its first record has the number first, 1 to 2^62 - 1.
@@ -529,9 +536,9 @@ size_t relkvanu_refusal_text(uint32_t what, uint8_t *text, size_t text_len);
 size_t relkvanu_answer_text(const relkvanu_answer *answer, uint8_t *text, size_t text_len);
 #define RELKVANU_ANSWER_TEXT 128 /* no text of an answer has more bytes */
 
-/* Lines of a script, which docs/SCRIPT.md defines: to replay a log of calls, and for programs that read scripts. A
- * line is the bytes before its newline, at most 131072. A carriage return at its end is dropped. A log may have any
- * number of lines. */
+/* Lines of a log, to replay its calls, and of a script. docs/SCRIPT.md defines the lines of scripts. docs/LOGS.md defines those that scripts
+ * do not have, for calls on names and calls with a term: fence, reserve, forfeit and in. A line is the bytes before its newline, at most
+ * 131072. A carriage return at its end is dropped. A log may have any number of lines. */
 
 /* Makes the call of a line, and returns what the function of that call returns.
  *
@@ -540,32 +547,39 @@ size_t relkvanu_answer_text(const relkvanu_answer *answer, uint8_t *text, size_t
  * relkvanu_show returns with an empty buffer. A restore line with a bad shape returns RELKVANU_BAD_ARGUMENT with
  * RELKVANU_BAD_SHAPE. A line that has no words or is a comment returns RELKVANU_SKIPPED. A line that can't be read, or makes no
  * call, returns RELKVANU_BAD_LINE. Only RELKVANU_TAKEN changes the buffer. The call takes memory as its own function does, and for the
- * lists of an ack, job or restore line. So such a line may return RELKVANU_NO_MEMORY instead of a refusal. */
+ * lists of an ack, job, restore or forfeit line. So such a line may return RELKVANU_NO_MEMORY instead of a refusal.
+ *
+ * A line with fence, reserve or forfeit returns what relkvanu_fence, relkvanu_reserve or relkvanu_forfeit returns. An ack or a decline line
+ * after in and a term returns what relkvanu_ack_in or relkvanu_decline_in returns. Each other call after in and a term returns what it
+ * returns alone, but RELKVANU_FENCED with RELKVANU_NO_NAMES on a handle without names. After in and the term 0 a call is the one without a
+ * term. */
 RELKVANU_NODISCARD relkvanu_answer relkvanu_line(relkvanu *handle, const uint8_t *line, size_t line_len, uint64_t *files, size_t files_len);
 
 /* Returns the kind of the line, RELKVANU_LINE_SKIP to RELKVANU_LINE_ALL. If the line makes no call, writes its numbers to the start
  * of numbers, in the line's order; keep is 1 and delete is 0. Checks no number against the limits of a job.
  *
  * RELKVANU_TOO_SHORT, and a is how many places it needs; or RELKVANU_BAD_LINE with the fault. Neither changes the buffer. A restore
- * line with a bad shape is RELKVANU_LINE_CALL: relkvanu_line says what is wrong with it. Takes memory only for the lists of an
- * ack, job or restore line. */
+ * line with a bad shape is RELKVANU_LINE_CALL, and so is each line with fence, reserve, forfeit or in: relkvanu_line says what is wrong
+ * with it. Takes memory only for the lists of an ack, job, restore or forfeit line. */
 RELKVANU_NODISCARD relkvanu_answer relkvanu_line_says(const uint8_t *line, size_t line_len, uint64_t *numbers, size_t numbers_len);
 
-/* Writes the call that a line says: its kind and numbers to call, and its lists to the start of first and second. For an ack these
- * are the fresh and the reused files, each in ascending order. For a restore, first is the new shape, or empty. It is the
- * inverse of relkvanu_call_line: that function writes a line that says this call.
+/* Writes the call that a line says: its kind, numbers and term to call, and its lists to the start of first and second. For an ack these
+ * are the fresh and the reused files, each in ascending order. For a restore, first is the new shape, or empty. For a forfeit, first is the
+ * names, in ascending order. It is the inverse of relkvanu_call_line: that function writes a line that says this call.
  *
  * RELKVANU_LINE_CALL, and a and b are how many items first and second have; RELKVANU_TOO_SHORT, and a and b are how many places they
  * need. A line that says no call, or a restore line with a bad shape, has the answer of relkvanu_line: RELKVANU_SKIPPED,
  * RELKVANU_BAD_LINE or RELKVANU_BAD_ARGUMENT. A restore line with the savepoint 0 is RELKVANU_REFUSED with
  * RELKVANU_NO_SUCH_SAVEPOINT, since 0 stands for the latest record in a relkvanu_call. Only RELKVANU_LINE_CALL changes call and the
- * buffers. Takes memory only for the lists of an ack, job or restore line. */
+ * buffers. Takes memory only for the lists of an ack, job, restore or forfeit line. */
 RELKVANU_NODISCARD relkvanu_answer relkvanu_line_call(const uint8_t *line, size_t line_len, relkvanu_call *call, uint64_t *first, size_t first_len, uint64_t *second, size_t second_len);
 
 /* Writes the line of a call, without a newline and without a zero at its end. relkvanu_line reads it as that call.
  *
  * For an ack, first and second are the fresh and the reused files, in any order. For a restore, first is the new shape, or
- * empty. RELKVANU_WRITTEN; RELKVANU_TOO_SHORT, and a is how many bytes it needs; RELKVANU_BAD_ARGUMENT with RELKVANU_BAD_KIND or
+ * empty. For a forfeit, first is the names, in any order. A call with a term other than 0 is written after in and the term.
+ *
+ * RELKVANU_WRITTEN; RELKVANU_TOO_SHORT, and a is how many bytes it needs; RELKVANU_BAD_ARGUMENT with RELKVANU_BAD_KIND or
  * RELKVANU_BAD_SHAPE; RELKVANU_BAD_LINE with RELKVANU_FAULT_TOO_LONG if the line would be too long. No line is cut. Only
  * RELKVANU_WRITTEN changes the buffer. Takes memory. */
 RELKVANU_NODISCARD relkvanu_answer relkvanu_call_line(const relkvanu_call *call, const uint64_t *first, size_t first_len, const uint64_t *second, size_t second_len, uint8_t *line, size_t line_len);
@@ -635,13 +649,13 @@ RELKVANU_NODISCARD relkvanu_answer relkvanu_taken_files(relkvanu *handle, uint64
  * Conditions for the caller:
  * - Whoever restarts the tasks reads the term after the restore, and tells each of them. A task never asks for the term: one that
  *   should be dead would learn the new one.
- * - A log has all calls on names, with their terms, and in their order. A reservation is in the durable log before a task uses
- *   one of its names, and so is a restore before the tasks learn the term that it began. Otherwise a crash forgets them, and the
- *   names are given out again.
+ * - A log has all calls on names, with their terms, and in their order: relkvanu_call_line writes their lines, and relkvanu_line
+ *   makes them again. A reservation is in the durable log before a task uses one of its names, and so is a restore before the tasks
+ *   learn the term that it began. Otherwise a crash forgets them, and the names are given out again.
  *
  * On a handle with names a call without a term has the term 0, which none has: relkvanu_ack and relkvanu_decline are refused with
- * RELKVANU_OLD_TERM, and so are the lines of such calls. relkvanu_restore and relkvanu_cancel end the term; after 2^62 terms they are
- * refused with RELKVANU_TERMS_USED_UP. All other functions work as without.
+ * RELKVANU_OLD_TERM, and so are the lines of such calls, unless they begin with in and the term. relkvanu_restore and relkvanu_cancel end
+ * the term; after 2^62 terms they are refused with RELKVANU_TERMS_USED_UP. All other functions work as without.
  *
  * RELKVANU_FENCED and its reasons come before any RELKVANU_REFUSED. */
 

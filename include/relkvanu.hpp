@@ -91,7 +91,7 @@ enum class error : int {
     line_missing = RELKVANU_BAD_LINE << 8 | RELKVANU_FAULT_MISSING, /* The line ends before a word that it needs. */
     line_number = RELKVANU_BAD_LINE << 8 | RELKVANU_FAULT_NUMBER, /* Not a number, or not a subtask. */
     line_extra = RELKVANU_BAD_LINE << 8 | RELKVANU_FAULT_EXTRA, /* A word follows the last one. */
-    line_no_call = RELKVANU_BAD_LINE << 8 | RELKVANU_FAULT_NO_CALL, /* A config, job, start or all line: it was read, and makes no call. */
+    line_no_call = RELKVANU_BAD_LINE << 8 | RELKVANU_FAULT_NO_CALL, /* A config, job, start or all line, or in and a term before what is no call: it was read, and makes no call. */
     fenced_old_term = RELKVANU_FENCED << 8 | RELKVANU_OLD_TERM, /* The term of the task has ended, or has not begun. */
     fenced_ended = RELKVANU_FENCED << 8 | RELKVANU_ENDED, /* The job was cancelled, and no task runs. */
     fenced_bad_count = RELKVANU_FENCED << 8 | RELKVANU_BAD_COUNT, /* It would reserve no name, or more than 65536. */
@@ -217,7 +217,11 @@ struct checkpoint { std::uint64_t id; };
 struct savepoint { std::uint64_t id; };
 struct fresh {};
 using choice = std::variant<fresh, checkpoint, savepoint>;
-struct restored { choice from; std::uint64_t released; };
+struct restored {
+    choice from;
+    std::uint64_t released;
+    std::uint64_t term = 0; /* of a Store whose job has names: the term that begins, for who starts the tasks */
+};
 
 /* The answer to each call. The last alternative says that nothing has changed. */
 /* embed/bindings makes the answers */

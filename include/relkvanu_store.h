@@ -1,4 +1,5 @@
 /* A coordinator whose calls are durable: one SQLite file for each job, so that an engine writes no log, lock, sync, replay or recovery.
+ * It gives out the names of the files that tasks write, and tells in which term the tasks run.
  *
  * Link librelkvanu-store.a, librelkvanu.a, SQLite (3.37 or later), zlib and threads, or use `pkg-config relkvanu-store`. For Linux.
  * A call is made, its line and its answer are committed and synced, and only then does the function return. Any number of threads may
@@ -7,9 +8,18 @@
  * Files: PATH (the log and the images), PATH-wal, PATH-shm and PATH.lock. Never delete one of them, also not when the store is closed.
  * While a store is open no other program or connection can read PATH, and nobody may copy it. Use a local file system, not NFS.
  *
+ * A job has names unless it was made with RELKVANU_STORE_PLAIN. Then its files are safe as follows:
+ * - A task is started with the term from the answer to the restore before it (relkvanu_store_call.term), or report.term if the job is new. It never
+ *   asks for a term, and no barrier carries one: a task that should be dead would go on with it. Its calls have the term (relkvanu_call.term).
+ * - It reserves names (RELKVANU_CALL_RESERVE), makes a file by each (relkvanu_store_put), and acknowledges them. What it does not acknowledge, as after
+ *   a failed put, it forfeits (RELKVANU_CALL_FORFEIT). It deletes nothing.
+ * - The discarder deletes what it takes (relkvanu_store_discard), and the sweeper deletes garbage (relkvanu_store_sweep). All three may run at any time,
+ *   twice, late, or from a process that should be dead: no live file is deleted.
+ *
  * Conditions for the caller:
  * - A failed job is restored by the engine: when the mode is failed (relkvanu_store_await_tick tells it, and so do the answers) it ends all tasks,
  *   restores, sweeps, tells the sinks again and starts the tasks. A task that ends while the job runs needs the same: no task starts alone.
+ *   For the files of a job with names it is enough that the old tasks are told to end: what they send later is refused with RELKVANU_OLD_TERM.
  * - An engine that reads the coordinator's files from another thread than the one that called sees committed calls only.
  * - Nobody acts on an answer unless the status is RELKVANU_STORE_OK and its code is RELKVANU_DONE: no file is deleted or kept, no barrier
  *   is sent. With any other status each answer is RELKVANU_STORE_NOT_MADE.
@@ -45,7 +55,7 @@ typedef struct relkvanu_store relkvanu_store;
 #define RELKVANU_STORE_CLOSED 10      /* an earlier commit failed */
 #define RELKVANU_STORE_FORKED 11      /* this process is a child of the one that opened the store */
 #define RELKVANU_STORE_TIMED_OUT 12   /* await: the time is up */
-#define RELKVANU_STORE_NOT_NOW 13     /* unknown: no sweep is safe now; discard: another thread discards */
+#define RELKVANU_STORE_NOT_NOW 13     /* unknown: no sweep of a job without names is safe now; discard: another thread discards */
 #define RELKVANU_STORE_STOPPED 14     /* await, discard: relkvanu_store_stop was called */
 #define RELKVANU_STORE_NOT_PUT 15     /* put: the file was not made, and errno says why */
 /* What failed at an opening, or in a commit, which closes the store. */
@@ -64,6 +74,7 @@ typedef struct relkvanu_store relkvanu_store;
 #define RELKVANU_STORE_CREATE_ONLY 2u   /* makes a job, and there may be none */
 #define RELKVANU_STORE_ADOPT 4u         /* makes a job also if the storage folder has files. THE NEXT SWEEP DELETES THEM ALL, if their names are numbers */
 #define RELKVANU_STORE_EARLIER_IMAGE 8u /* begins with the image before the last one, which is damaged. The log after it is whole */
+#define RELKVANU_STORE_PLAIN 16u        /* a job that is made has no names: the engine gives out the numbers of files, and sweeps only when no task runs */
 
 /* A moment of a call: that of the store's clock. The clock goes on from the greatest moment of the log, and never jumps. */
 #define RELKVANU_STORE_NOW UINT64_MAX
@@ -107,11 +118,17 @@ typedef struct {
     uint64_t moment;      /* the greatest moment so far */
     relkvanu_answer mode, choice;
     char message[RELKVANU_STORE_MESSAGE]; /* what went wrong and where, if the status is not RELKVANU_STORE_OK; otherwise empty */
-    uint64_t reserved[4];
+    uint64_t term;      /* that runs: of a new job, its tasks are started with it. 0: the job has no names */
+    uint64_t next_name; /* that will be given out; 0: the job has no names */
+    uint64_t reserved[2];
 } relkvanu_store_report;
 
 /* Makes or recovers the job at path. A recovery opens the last image, makes the calls after it again, and compares each answer.
  * *store is NULL unless the status is RELKVANU_STORE_OK. The lock is kept until relkvanu_store_close or the end of the process.
+ *
+ * A new job gives out names from 1 on, or from above each number of a file that it adopts in options.storage. A recovered one keeps what it has:
+ * RELKVANU_STORE_PLAIN is read for a new job only. A job that was made without names, also by an earlier version of the library, gets names by
+ * one RELKVANU_CALL_FENCE (see relkvanu_store_calls). A library that knows no names refuses the file of a job with names: RELKVANU_STORE_NOT_A_STORE.
  *
  * With options.storage a new job puts its marker, the file .relkvanu-job (.relkvanu-job.new while it is written), into the folder, and a recovery
  * looks for it. So it refuses a folder of another job and one that is not mounted. The marker names the last opening, so a copy of
@@ -120,8 +137,9 @@ typedef struct {
  * that it lacks.
  *
  * With options.storage NULL none of this is there: no marker (a folder that is not mounted is not noticed), no refusal of an older copy, no
- * refusal to begin a new job over old files (RELKVANU_STORE_CREATE after PATH was lost begins at epoch 1, and its sweep deletes all), and no sync
- * of the folder in relkvanu_store_discard. The engine does each of them itself (docs/EMBEDDING.md, section 15). */
+ * refusal to begin a new job over old files (RELKVANU_STORE_CREATE after PATH was lost begins at epoch 1, gives out names from 1 on, and without
+ * names its sweep deletes all), and no sync of the folder in relkvanu_store_discard. The engine does each of them itself (docs/EMBEDDING.md, section 15). A
+ * job over a storage of the engine's own that has files is made with RELKVANU_STORE_PLAIN, and gets names above all of these by a fence. */
 int relkvanu_store_open(relkvanu_store **store, const char *path, const relkvanu_store_options *options, relkvanu_store_report *report);
 
 /* Waits for the group under way and for each submit, makes an image, so that the next opening replays nothing, and closes. NULL is
@@ -131,7 +149,7 @@ void relkvanu_store_close(relkvanu_store *store);
 /* A call of a list. The fields up to reserved are read; the others are written. */
 typedef struct {
     relkvanu_call call;     /* call.now may be RELKVANU_STORE_NOW */
-    const uint64_t *first;  /* ack: the fresh files; restore: the new shape */
+    const uint64_t *first;  /* ack: the fresh files; restore: the new shape; forfeit: the names */
     size_t first_len;
     const uint64_t *second; /* ack: the reused files */
     size_t second_len;
@@ -141,15 +159,33 @@ typedef struct {
     relkvanu_answer answer;
     relkvanu_answer choice; /* after a trigger: the record that its barrier names beside it */
     uint64_t place;         /* of the call in the log, from 1; 0 if it changed nothing, and has no line */
+    uint64_t term;          /* after a restore, cancel or fence of a job with names: the term that begins, for who starts the tasks; otherwise 0 */
 } relkvanu_store_call;
 
 /* Makes 1 to 4096 calls, in this order and with no other in between, and returns once they are committed. A refused call changes
  * nothing, and the next ones are made. After an answer with RELKVANU_NO_MEMORY the later ones are RELKVANU_STORE_NOT_MADE, and the earlier ones
- * stand. RELKVANU_CALL_SHOW and RELKVANU_CALL_COUNT are reads: see relkvanu_store_read. */
+ * stand. RELKVANU_CALL_SHOW and RELKVANU_CALL_COUNT are reads: see relkvanu_store_read.
+ *
+ * In a job with names an acknowledgement and a decline have the term of their task in call.term: RELKVANU_FENCED otherwise, and nothing has changed. A
+ * reservation that was answered is durable, and its names are not given out again, whatever happens.
+ *
+ * RELKVANU_CALL_FENCE gives names to a job without, from call.number on. Make it after a restore and before tasks start, and start them with the term
+ * of its answer. Each number that a task was told of has to be below the first name. The store looks at the files in options.storage: a number from
+ * the first name on is RELKVANU_FENCED with RELKVANU_NAME_IN_USE, as one that the coordinator knows. RELKVANU_STORE_STORAGE: the folder has no marker,
+ * or can't be read. From then on the file is one of a job with names, for good. */
 int relkvanu_store_calls(relkvanu_store *store, relkvanu_store_call *calls, size_t calls_len);
 
-/* One acknowledgement, with flat arguments. */
+/* One acknowledgement, with flat arguments, in a job without names. */
 int relkvanu_store_ack(relkvanu_store *store, uint64_t now, uint64_t id, uint16_t vertex, uint16_t index, const uint64_t *fresh, size_t fresh_len, const uint64_t *reused, size_t reused_len, relkvanu_answer *answer);
+
+/* The same of a task of this term, in a job with names. */
+int relkvanu_store_ack_in(relkvanu_store *store, uint64_t term, uint64_t now, uint64_t id, uint16_t vertex, uint16_t index, const uint64_t *fresh, size_t fresh_len, const uint64_t *reused, size_t reused_len, relkvanu_answer *answer);
+
+/* One reservation of 1 to 65536 names, as relkvanu_reserve: RELKVANU_RESERVED has the first one and how many. */
+int relkvanu_store_reserve(relkvanu_store *store, uint64_t term, uint64_t count, relkvanu_answer *answer);
+
+/* Gives up at most 65536 names, as relkvanu_forfeit. A list of more than 4096 is several calls, with no other in between. */
+int relkvanu_store_forfeit(relkvanu_store *store, uint64_t term, const uint64_t *names, size_t names_len, relkvanu_answer *answer);
 
 /* For event loops: as relkvanu_store_calls, but returns at once. calls and their lists and buffers stay until relkvanu_store_completed returns
  * the token; then the answers are there. With another status than RELKVANU_STORE_OK nothing was submitted. */
@@ -167,7 +203,7 @@ size_t relkvanu_store_completed(relkvanu_store *store, relkvanu_store_completion
 int relkvanu_store_descriptor(const relkvanu_store *store);
 
 /* Between the two the handle has exactly what is committed, and all callers wait. Use the reads of relkvanu.h, relkvanu_show,
- * relkvanu_count and relkvanu_save only. */
+ * relkvanu_count, relkvanu_save, relkvanu_term and relkvanu_garbage only. */
 int relkvanu_store_read(relkvanu_store *store, relkvanu **handle);
 void relkvanu_store_read_end(relkvanu_store *store);
 
@@ -181,13 +217,24 @@ int relkvanu_store_next_tick(relkvanu_store *store, uint64_t *wait);
 
 /* A timer, as a loop in a thread of the engine: sleeps until a tick is due, at most longest ms, and makes it. Each commit wakes it.
  * RELKVANU_STORE_TIMED_OUT: no tick was due. RELKVANU_STORE_STOPPED.
- * While the job is not running, no tick is due: then RELKVANU_STORE_TIMED_OUT comes with the answer RELKVANU_REFUSED, RELKVANU_NOT_RUNNING. It comes at once when the
- * job has failed or was cancelled, to one caller, and then after longest. Read the mode: a failed job is restored, a cancelled one swept. */
+ * While the job is not running, no tick is due: then RELKVANU_STORE_TIMED_OUT comes with the answer RELKVANU_REFUSED, RELKVANU_NOT_RUNNING. It comes
+ * at once when the job has failed or was cancelled, to one caller, and then after longest. Read the mode: a failed job is restored, a cancelled one swept. */
 int relkvanu_store_await_tick(relkvanu_store *store, uint64_t longest, relkvanu_store_call *tick);
 
-/* The sweep of a recovery: moves those of the files that the coordinator does not know (neither in use, pinned, waiting nor taken) to the
- * front, and writes how many they are. The engine deletes exactly these.
+/* The term that runs, and the next name: RELKVANU_TERM, of what is committed. RELKVANU_FENCED with RELKVANU_NO_NAMES. Whoever starts tasks takes the term
+ * from the answer to its own restore: another restore may have ended that one. A task never asks. */
+int relkvanu_store_term(relkvanu_store *store, relkvanu_answer *answer);
+
+/* Those of the files that are garbage, and those whose names were not given out, of what is committed, as relkvanu_garbage. Both buffers have
+ * files_len places. RELKVANU_GARBAGE: the engine deletes the first at any time, and the second never. RELKVANU_FENCED with RELKVANU_NO_NAMES. Takes no
+ * memory. */
+int relkvanu_store_garbage(relkvanu_store *store, const uint64_t *files, size_t files_len, uint64_t *garbage, uint64_t *unissued, relkvanu_answer *answer);
+
+/* For a sweep: moves those of the files that may be deleted to the front, and writes how many they are. The engine deletes exactly these.
  *
+ * In a job with names these are garbage, at any time: a file whose name was not given out is not among them (relkvanu_store_garbage tells it).
+ *
+ * In a job without names these are the files that the coordinator does not know (neither in use, pinned, waiting nor taken), at one time only.
  * RELKVANU_STORE_NOT_NOW unless the job was restored and no checkpoint was triggered or acknowledged since, or it is cancelled: a task may have
  * written a file whose acknowledgement is on its way. The engine has ended all tasks before: this can't be seen here. */
 int relkvanu_store_unknown(relkvanu_store *store, uint64_t *files, size_t *files_len);
@@ -211,7 +258,8 @@ int relkvanu_store_discard(relkvanu_store *store, size_t batch, relkvanu_store_d
  * RELKVANU_STORE_BAD_ARGUMENT, and no file counts as gone. */
 
 /* Makes a file: writes it beside its name, syncs it, gives it the name, and syncs the folder. After RELKVANU_STORE_OK a loss of power does not
- * take it, and a task may acknowledge it. After any other status the task declines. The number is not given again: a sweep deletes what is left.
+ * take it, and a task may acknowledge it. After any other status the task forfeits the name and declines. The number is not given again: a sweep
+ * deletes what is left. In a job with names the number is one that the task has reserved.
  *
  * RELKVANU_STORE_PRESENT: there is a file of this number, or a part of one; RELKVANU_STORE_STORAGE: the folder lacks its marker, or another opening has it;
  * RELKVANU_STORE_NOT_PUT. */
@@ -221,8 +269,10 @@ int relkvanu_store_put(relkvanu_store *store, uint64_t file, const void *content
  * relkvanu_store_delete_files, store). That syncs the folder, and looks for the marker. */
 void relkvanu_store_delete_files(void *store, const uint64_t *files, size_t files_len, uint8_t *is_gone);
 
-/* The sweep of a recovery, of each restore and of a cancelled job: deletes the files of the folder that relkvanu_store_unknown returns, also what is there in part, and syncs the
- * folder. Writes how many it could not delete: the next recovery tries them again.
+/* A sweep: deletes the files of the folder that relkvanu_store_unknown returns, also what is there in part, and syncs the folder. Writes how many it could
+ * not delete: the next sweep tries them again. A job with names is swept at each restore and whenever the engine likes, also beside tasks that
+ * run: relkvanu_store_count then tells how many files it left because their names were not given out. One without is swept at each recovery, each restore and
+ * after a cancel, when all tasks have ended.
  *
  * RELKVANU_STORE_NOT_NOW as relkvanu_store_unknown; RELKVANU_STORE_STORAGE: the folder lacks its marker, another opening has it, or it can't be
  * read or synced. */
@@ -236,7 +286,9 @@ typedef struct {
     uint64_t commits, calls, largest; /* of a commit: its calls */
     uint64_t images, failed_images;   /* an image that can't be written is tried again after as many calls */
     uint64_t checkpoints, failed_checkpoints, retries;
-    uint64_t reserved[4];
+    uint64_t swept;    /* files that sweeps have deleted */
+    uint64_t unissued; /* files that the last whole sweep left, since their names were not given out: they are another job's, or its log was lost */
+    uint64_t reserved[2];
 } relkvanu_store_counts;
 
 /* Writes the counts since the opening. */

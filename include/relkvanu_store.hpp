@@ -140,12 +140,84 @@ public:
         return one<decline_answer>(call(RELKVANU_CALL_DECLINE, now, id, vertex, index), decline_of);
     }
 
-    /* From a savepoint, or from the latest record if it is 0. */
+    /* In a job with names, of a task of this term. An acknowledgement that is accepted spends the names of its fresh files. Once more it is refused as
+     * error::fenced_spent, if it has fresh files: a task deletes no file. */
+    [[nodiscard]] ack_answer ack_in(
+        std::uint64_t term, std::uint64_t id, std::uint16_t vertex, std::uint16_t index, files fresh, files reused = {}, std::uint64_t now = RELKVANU_STORE_NOW) noexcept {
+        relkvanu_store_call it = call(RELKVANU_CALL_ACK, now, id, vertex, index, term);
+        it.first = fresh.data();
+        it.first_len = fresh.size();
+        it.second = reused.data();
+        it.second_len = reused.size();
+        return one<ack_answer>(it, ack_of);
+    }
+
+    decline_answer decline_in(std::uint64_t term, std::uint64_t id, std::uint16_t vertex, std::uint16_t index, std::uint64_t now = RELKVANU_STORE_NOW) noexcept {
+        return one<decline_answer>(call(RELKVANU_CALL_DECLINE, now, id, vertex, index, term), decline_of);
+    }
+
+    /* Names for files that the task of this term will write, 1 to 65536. */
+    [[nodiscard]] reserve_answer reserve(std::uint64_t term, std::uint64_t count) noexcept {
+        return one<reserve_answer>(call(RELKVANU_CALL_RESERVE, 0, count, 0, 0, term), [](relkvanu_answer told) noexcept {
+            return is_reply(told, RELKVANU_RESERVED) ? reserve_answer(reserved{told.a, told.b}) : refusal(told);
+        });
+    }
+
+    /* The task of this term gives up names that it will not acknowledge, at most 65536. */
+    forfeit_answer forfeit(std::uint64_t term, files names) noexcept {
+        relkvanu_answer told;
+        int status = relkvanu_store_forfeit(store_, term, names.data(), names.size(), &told);
+        if (status != RELKVANU_STORE_OK) {
+            return refused{store_code(status)};
+        }
+        return is_reply(told, RELKVANU_FORFEITED) ? forfeit_answer(forfeited{}) : refusal(told);
+    }
+
+    /* Gives names to a job without, from first_name on, in term 1: after a restore and before tasks start. */
+    [[nodiscard]] fence_answer fence(std::uint64_t first_name) noexcept {
+        return one<fence_answer>(call(RELKVANU_CALL_FENCE, 0, first_name), [](relkvanu_answer told) noexcept {
+            return is_reply(told, RELKVANU_NAMED) ? fence_answer(fenced{}) : refusal(told);
+        });
+    }
+
+    /* The term that runs, and the next name. Whoever starts tasks takes the term from the answer to its restore; a task never asks. */
+    [[nodiscard]] term_answer term() noexcept {
+        relkvanu_answer told;
+        int status = relkvanu_store_term(store_, &told);
+        if (status != RELKVANU_STORE_OK) {
+            return refused{store_code(status)};
+        }
+        return is_reply(told, RELKVANU_TERM) ? term_answer(running_term{told.a, told.b}) : refusal(told);
+    }
+
+    /* Of these files those that are garbage, which may be deleted at any time, and those whose names were not given out, which nobody deletes. */
+    [[nodiscard]] garbage_answer garbage(files of) {
+        std::vector<std::uint64_t> places(of.size());
+        sorted_files it = {places, std::move(places)};
+        relkvanu_answer told;
+        int status = relkvanu_store_garbage(store_, of.data(), of.size(), it.garbage.data(), it.unissued.data(), &told);
+        if (status != RELKVANU_STORE_OK) {
+            return refused{store_code(status)};
+        }
+        if (!is_reply(told, RELKVANU_GARBAGE)) {
+            return refusal(told);
+        }
+        it.garbage.resize(static_cast<std::size_t>(told.a));
+        it.unissued.resize(static_cast<std::size_t>(told.b));
+        return it;
+    }
+
+    /* From a savepoint, or from the latest record if it is 0. restored.term is what the tasks are started with. */
     restore_answer restore(std::uint64_t savepoint = 0, shape of = {}, std::uint64_t now = RELKVANU_STORE_NOW) noexcept {
         relkvanu_store_call it = call(RELKVANU_CALL_RESTORE, now, savepoint);
         it.first = of.data();
         it.first_len = of.size();
-        return one<restore_answer>(it, restore_of);
+        std::uint64_t term = 0;
+        restore_answer told = one<restore_answer>(it, restore_of, &term);
+        if (restored *begins = std::get_if<restored>(&told)) {
+            begins->term = term;
+        }
+        return told;
     }
 
     cancel_answer cancel(std::uint64_t now = RELKVANU_STORE_NOW) noexcept {
@@ -193,7 +265,7 @@ public:
         return status == RELKVANU_STORE_OK ? tick_of(tick.answer) : tick_answer(refused{store_code(status)});
     }
 
-    /* For the sweep of a recovery: leaves those of the files that the coordinator does not know. */
+    /* For a sweep: leaves those of the files that may be deleted. Of a job without names it is for a recovery's sweep. */
     [[nodiscard]] std::error_code unknown(std::vector<std::uint64_t> &list) {
         std::size_t len = list.size();
         int status = relkvanu_store_unknown(store_, list.data(), &len);
@@ -248,14 +320,18 @@ private:
 
     Store(relkvanu_store *made, const relkvanu_store_report &found) noexcept : store_(made), report_(found) {}
 
-    static relkvanu_store_call call(std::uint32_t kind, std::uint64_t now, std::uint64_t number = 0, std::uint16_t vertex = 0, std::uint16_t index = 0) noexcept {
+    static relkvanu_store_call call(std::uint32_t kind, std::uint64_t now, std::uint64_t number = 0, std::uint16_t vertex = 0, std::uint16_t index = 0,
+        std::uint64_t term = 0) noexcept {
         relkvanu_store_call it = {};
-        it.call = relkvanu_call{kind, vertex, index, now, number};
+        it.call = relkvanu_call{kind, vertex, index, now, number, term};
         return it;
     }
 
-    template <class Answer, class Of> Answer one(relkvanu_store_call it, Of of) noexcept {
+    template <class Answer, class Of> Answer one(relkvanu_store_call it, Of of, std::uint64_t *term = nullptr) noexcept {
         int status = relkvanu_store_calls(store_, &it, 1);
+        if (term != nullptr) {
+            *term = it.term;
+        }
         return status == RELKVANU_STORE_OK ? of(it.answer) : Answer(refused{store_code(status)});
     }
 };

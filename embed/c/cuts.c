@@ -1,5 +1,5 @@
 /* cuts: gives the library lines that are cut at each byte, lines with faults, and lines that are too long. Each is at the end of
- * a page after which nothing may be read. Compares the answers with docs/SCRIPT.md. A line that can't be read has to change
+ * a page after which nothing may be read. Compares the answers with docs/SCRIPT.md and docs/LOGS.md. A line that can't be read has to change
  * nothing. */
 #define _GNU_SOURCE
 #include "script.h"
@@ -93,7 +93,7 @@ static relkvanu_answer tried(const char *line, size_t len) {
 static const char *const LINES[] = {
     "config 1000 0 1 600000 0 1 keep", "job 1 2 3", "start 70", "tick 3000", "savepoint 3000", "ack 3000 2 0.0 +12 +11 =1", "decline 3000 2 1.1",
     "dispose 2", "restore 3000 latest 1 3", "restore 3000 7", "cancel 3000", "take 64", "deleted 1", "undeleted 1", "show 1", "count 1",
-    "all 3000 2 4 100", "# a comment", "",
+    "all 3000 2 4 100", "# a comment", "", "fence 70", "reserve 1 30", "forfeit 1 7 80", "in 1 ack 3000 2 0.0 +12 =1", "in 12 take 64", "in 0 tick 3000",
 };
 
 static void cut_and_changed(void) {
@@ -209,7 +209,7 @@ static void written(void) {
     }
     relkvanu_answer answer = relkvanu_call_line(&call, many, FILES, NULL, 0, (uint8_t *)end - ROOM, ROOM);
     CHECK(answer.code == RELKVANU_BAD_LINE && answer.what == RELKVANU_FAULT_TOO_LONG);
-    call.kind = RELKVANU_CALL_COUNT + 1;
+    call.kind = RELKVANU_CALL_FORFEIT + 1;
     answer = relkvanu_call_line(&call, NULL, 0, NULL, 0, NULL, 0);
     CHECK(answer.code == RELKVANU_BAD_ARGUMENT && answer.what == RELKVANU_BAD_KIND);
 }

@@ -183,13 +183,13 @@ static void try_writing(void) {
         relkvanu_call call;
         const char *text;
     } calls[] = {
-        {{RELKVANU_CALL_TICK, 1, 2, 3, 4}, "tick 3"},           {{RELKVANU_CALL_SAVEPOINT, 1, 2, 3, 4}, "savepoint 3"},
-        {{RELKVANU_CALL_ACK, 1, 2, 3, 4}, "ack 3 4 1.2 +11 +12 =7"}, {{RELKVANU_CALL_DECLINE, 1, 2, 3, 4}, "decline 3 4 1.2"},
-        {{RELKVANU_CALL_DISPOSE, 1, 2, 3, 4}, "dispose 4"},     {{RELKVANU_CALL_RESTORE, 1, 2, 3, 4}, "restore 3 4 12 11"},
-        {{RELKVANU_CALL_RESTORE, 1, 2, 3, 0}, "restore 3 latest 12 11"}, {{RELKVANU_CALL_CANCEL, 1, 2, 3, 4}, "cancel 3"},
-        {{RELKVANU_CALL_TAKE, 1, 2, 3, 4}, "take 4"},           {{RELKVANU_CALL_DELETED, 1, 2, 3, 4}, "deleted 4"},
-        {{RELKVANU_CALL_UNDELETED, 1, 2, 3, 4}, "undeleted 4"}, {{RELKVANU_CALL_SHOW, 1, 2, 3, 4}, "show 4"},
-        {{RELKVANU_CALL_COUNT, 1, 2, 3, 4}, "count 4"},
+        {{RELKVANU_CALL_TICK, 1, 2, 3, 4, 0}, "tick 3"},           {{RELKVANU_CALL_SAVEPOINT, 1, 2, 3, 4, 0}, "savepoint 3"},
+        {{RELKVANU_CALL_ACK, 1, 2, 3, 4, 0}, "ack 3 4 1.2 +11 +12 =7"}, {{RELKVANU_CALL_DECLINE, 1, 2, 3, 4, 0}, "decline 3 4 1.2"},
+        {{RELKVANU_CALL_DISPOSE, 1, 2, 3, 4, 0}, "dispose 4"},     {{RELKVANU_CALL_RESTORE, 1, 2, 3, 4, 0}, "restore 3 4 12 11"},
+        {{RELKVANU_CALL_RESTORE, 1, 2, 3, 0, 0}, "restore 3 latest 12 11"}, {{RELKVANU_CALL_CANCEL, 1, 2, 3, 4, 0}, "cancel 3"},
+        {{RELKVANU_CALL_TAKE, 1, 2, 3, 4, 0}, "take 4"},           {{RELKVANU_CALL_DELETED, 1, 2, 3, 4, 0}, "deleted 4"},
+        {{RELKVANU_CALL_UNDELETED, 1, 2, 3, 4, 0}, "undeleted 4"}, {{RELKVANU_CALL_SHOW, 1, 2, 3, 4, 0}, "show 4"},
+        {{RELKVANU_CALL_COUNT, 1, 2, 3, 4, 0}, "count 4"},
     };
     for (size_t at = 0; at < sizeof calls / sizeof *calls; at++) {
         size_t len = strlen(calls[at].text);
@@ -208,10 +208,10 @@ static void try_writing(void) {
         wanted(calls[at].text, relkvanu_line_says(text, len, NULL, 0), RELKVANU_DONE, RELKVANU_LINE_CALL, 0, 0);
         free(text);
     }
-    relkvanu_call unknown = {0, 0, 0, 0, 0}, last = {13, 0, 0, 0, 0}, restore = {RELKVANU_CALL_RESTORE, 0, 0, 1, 0};
+    relkvanu_call unknown = {0}, last = {.kind = RELKVANU_CALL_FORFEIT + 1}, restore = {RELKVANU_CALL_RESTORE, 0, 0, 1, 0, 0};
     static const uint64_t none[] = {0};
     wanted("no kind", relkvanu_call_line(&unknown, NULL, 0, NULL, 0, NULL, 0), RELKVANU_BAD_ARGUMENT, RELKVANU_BAD_KIND, 0, 0);
-    wanted("kind 13", relkvanu_call_line(&last, NULL, 0, NULL, 0, NULL, 0), RELKVANU_BAD_ARGUMENT, RELKVANU_BAD_KIND, 0, 0);
+    wanted("kind 16", relkvanu_call_line(&last, NULL, 0, NULL, 0, NULL, 0), RELKVANU_BAD_ARGUMENT, RELKVANU_BAD_KIND, 0, 0);
     wanted("a bad shape", relkvanu_call_line(&restore, none, 1, NULL, 0, NULL, 0), RELKVANU_BAD_ARGUMENT, RELKVANU_BAD_SHAPE, 0, 0);
     wanted("no shape", relkvanu_call_line(&restore, NULL, 0, NULL, 0, NULL, 0), RELKVANU_TOO_SHORT, 0, 16, 0);
 }
@@ -230,7 +230,7 @@ static void try_lengths(void) {
     wanted("too long a line", says(spaces, LONGEST + 1, 0, &first), RELKVANU_BAD_LINE, RELKVANU_FAULT_TOO_LONG, 0, 0);
     free(spaces);
     /* 20 bytes for each file, after "ack 1 1 0.0" (11) or "ack 1 1 0.10" (12) */
-    relkvanu_call call = {RELKVANU_CALL_ACK, 0, 0, 1, 1};
+    relkvanu_call call = {RELKVANU_CALL_ACK, 0, 0, 1, 1, 0};
     static uint64_t files[FILES + 1];
     for (size_t at = 0; at <= FILES; at++) {
         files[at] = (uint64_t)100000000000000000 + at;

@@ -70,7 +70,7 @@ int sqlite3_bind_text(void *statement, int place, const char *text, int len, voi
     if (real == NULL) {
         abort();
     }
-    if (len > 4 && strncmp(text, "ack ", 4) == 0) {
+    if (len > 4 && (strncmp(text, "ack ", 4) == 0 || (strncmp(text, "in ", 3) == 0 && memmem(text, (size_t)len, " ack ", 5) != NULL))) {
         tell("", text, (size_t)len);
     }
     return real(statement, place, text, len, destroy);

@@ -1,5 +1,5 @@
 /* said SCRIPT..: tries relkvanu_line_call, which returns the call that a line says. Expected values come from docs/SCRIPT.md. For each
- * line of the scripts that says a call, relkvanu_call_line writes a line that says the same call. Each line is also read with each
+ * line of the scripts and logs that says a call, relkvanu_call_line writes a line that says the same call. Each line is also read with each
  * request for memory refused. The buffers are blocks of their own with the length that the call gets, for AddressSanitizer. */
 #define _GNU_SOURCE
 #include "../../include/relkvanu.h"
@@ -29,7 +29,7 @@ struct said {
     size_t first_len, second_len;
 };
 
-static const relkvanu_call OLD = {77, 78, 79, 80, 81}; /* of no call */
+static const relkvanu_call OLD = {77, 78, 79, 80, 81, 82}; /* of no call */
 
 static uint64_t *places(size_t len) {
     uint64_t *at = malloc(len * sizeof *at + (len == 0));
@@ -63,7 +63,8 @@ static bool is_answer(relkvanu_answer answer, uint32_t code, uint32_t what, uint
 }
 
 static bool same_call(const relkvanu_call *a, const relkvanu_call *b) {
-    return a->kind == b->kind && a->vertex == b->vertex && a->index == b->index && a->now == b->now && a->number == b->number;
+    return a->kind == b->kind && a->vertex == b->vertex && a->index == b->index && a->now == b->now && a->number == b->number &&
+           a->term == b->term;
 }
 
 /* Whether the call and the buffers are as they were. */
@@ -90,24 +91,24 @@ static void try_kinds(void) {
         uint64_t first[3], second[2];
         size_t first_len, second_len;
     } lines[] = {
-        {"tick 3", {RELKVANU_CALL_TICK, 0, 0, 3, 0}, {0}, {0}, 0, 0},
-        {"  savepoint  003 \r", {RELKVANU_CALL_SAVEPOINT, 0, 0, 3, 0}, {0}, {0}, 0, 0},
-        {"ack 3 4 1.2 +12 =7 +11 =5 +9", {RELKVANU_CALL_ACK, 1, 2, 3, 4}, {9, 11, 12}, {5, 7}, 3, 2},
-        {"ack 3 4 65535.0 +8 +8", {RELKVANU_CALL_ACK, 65535, 0, 3, 4}, {8, 8}, {0}, 2, 0},
-        {"ack 3 4 0.65535 =18446744073709551615", {RELKVANU_CALL_ACK, 0, 65535, 3, 4}, {0}, {UINT64_MAX}, 0, 1},
-        {"ack 3 4 1.2", {RELKVANU_CALL_ACK, 1, 2, 3, 4}, {0}, {0}, 0, 0},
-        {"decline 3 4 1.2", {RELKVANU_CALL_DECLINE, 1, 2, 3, 4}, {0}, {0}, 0, 0},
-        {"dispose 4", {RELKVANU_CALL_DISPOSE, 0, 0, 0, 4}, {0}, {0}, 0, 0},
-        {"restore 3 latest", {RELKVANU_CALL_RESTORE, 0, 0, 3, 0}, {0}, {0}, 0, 0},
-        {"restore 3 latest 2 1 4", {RELKVANU_CALL_RESTORE, 0, 0, 3, 0}, {2, 1, 4}, {0}, 3, 0},
-        {"restore 3 4", {RELKVANU_CALL_RESTORE, 0, 0, 3, 4}, {0}, {0}, 0, 0},
-        {"restore 3 4 2", {RELKVANU_CALL_RESTORE, 0, 0, 3, 4}, {2}, {0}, 1, 0},
-        {"cancel 3", {RELKVANU_CALL_CANCEL, 0, 0, 3, 0}, {0}, {0}, 0, 0},
-        {"take 4", {RELKVANU_CALL_TAKE, 0, 0, 0, 4}, {0}, {0}, 0, 0},
-        {"deleted 4", {RELKVANU_CALL_DELETED, 0, 0, 0, 4}, {0}, {0}, 0, 0},
-        {"undeleted 4", {RELKVANU_CALL_UNDELETED, 0, 0, 0, 4}, {0}, {0}, 0, 0},
-        {"show 18446744073709551615", {RELKVANU_CALL_SHOW, 0, 0, 0, UINT64_MAX}, {0}, {0}, 0, 0},
-        {"count 4", {RELKVANU_CALL_COUNT, 0, 0, 0, 4}, {0}, {0}, 0, 0},
+        {"tick 3", {RELKVANU_CALL_TICK, 0, 0, 3, 0, 0}, {0}, {0}, 0, 0},
+        {"  savepoint  003 \r", {RELKVANU_CALL_SAVEPOINT, 0, 0, 3, 0, 0}, {0}, {0}, 0, 0},
+        {"ack 3 4 1.2 +12 =7 +11 =5 +9", {RELKVANU_CALL_ACK, 1, 2, 3, 4, 0}, {9, 11, 12}, {5, 7}, 3, 2},
+        {"ack 3 4 65535.0 +8 +8", {RELKVANU_CALL_ACK, 65535, 0, 3, 4, 0}, {8, 8}, {0}, 2, 0},
+        {"ack 3 4 0.65535 =18446744073709551615", {RELKVANU_CALL_ACK, 0, 65535, 3, 4, 0}, {0}, {UINT64_MAX}, 0, 1},
+        {"ack 3 4 1.2", {RELKVANU_CALL_ACK, 1, 2, 3, 4, 0}, {0}, {0}, 0, 0},
+        {"decline 3 4 1.2", {RELKVANU_CALL_DECLINE, 1, 2, 3, 4, 0}, {0}, {0}, 0, 0},
+        {"dispose 4", {RELKVANU_CALL_DISPOSE, 0, 0, 0, 4, 0}, {0}, {0}, 0, 0},
+        {"restore 3 latest", {RELKVANU_CALL_RESTORE, 0, 0, 3, 0, 0}, {0}, {0}, 0, 0},
+        {"restore 3 latest 2 1 4", {RELKVANU_CALL_RESTORE, 0, 0, 3, 0, 0}, {2, 1, 4}, {0}, 3, 0},
+        {"restore 3 4", {RELKVANU_CALL_RESTORE, 0, 0, 3, 4, 0}, {0}, {0}, 0, 0},
+        {"restore 3 4 2", {RELKVANU_CALL_RESTORE, 0, 0, 3, 4, 0}, {2}, {0}, 1, 0},
+        {"cancel 3", {RELKVANU_CALL_CANCEL, 0, 0, 3, 0, 0}, {0}, {0}, 0, 0},
+        {"take 4", {RELKVANU_CALL_TAKE, 0, 0, 0, 4, 0}, {0}, {0}, 0, 0},
+        {"deleted 4", {RELKVANU_CALL_DELETED, 0, 0, 0, 4, 0}, {0}, {0}, 0, 0},
+        {"undeleted 4", {RELKVANU_CALL_UNDELETED, 0, 0, 0, 4, 0}, {0}, {0}, 0, 0},
+        {"show 18446744073709551615", {RELKVANU_CALL_SHOW, 0, 0, 0, UINT64_MAX, 0}, {0}, {0}, 0, 0},
+        {"count 4", {RELKVANU_CALL_COUNT, 0, 0, 0, 4, 0}, {0}, {0}, 0, 0},
     };
     for (size_t at = 0; at < sizeof lines / sizeof *lines; at++) {
         const char *text = lines[at].text;
@@ -165,16 +166,28 @@ static void try_others(void) {
     CHECK("a show into nothing", relkvanu_line_call((const uint8_t *)"show 1", 6, &call, NULL, 0, NULL, 0).what == RELKVANU_LINE_CALL && call.number == 1);
 }
 
-/* Whether the line has lists, whose reading takes memory. */
-static bool has_lists(const char *text, size_t len) {
-    size_t word = 0;
-    while (word < len && text[word] == ' ') {
-        word++;
+/* The place after the spaces and these characters from here on. */
+static size_t past(const char *text, size_t len, size_t from, const char *these) {
+    while (from < len && (text[from] == ' ' || strchr(these, text[from]) != NULL)) {
+        from++;
     }
-    const char *const kinds[] = {"ack", "job", "restore"};
+    return from;
+}
+
+static bool begins(const char *text, size_t len, size_t from, const char *word) {
+    return len - from >= strlen(word) && memcmp(text + from, word, strlen(word)) == 0;
+}
+
+/* Whether the line has lists, whose reading takes memory. They may come after `in` and a term. */
+static bool has_lists(const char *text, size_t len) {
+    size_t word = past(text, len, 0, "");
+    if (begins(text, len, word, "in ")) {
+        word = past(text, len, word + 3, "0123456789");
+    }
+    const char *const kinds[] = {"ack", "job", "restore", "forfeit"};
     bool found = false;
-    for (size_t at = 0; at < 3; at++) {
-        found = found || (len - word >= strlen(kinds[at]) && memcmp(text + word, kinds[at], strlen(kinds[at])) == 0);
+    for (size_t at = 0; at < 4; at++) {
+        found = found || begins(text, len, word, kinds[at]);
     }
     return found;
 }
@@ -207,7 +220,7 @@ static bool is_written_again(const char *text, const struct said *it) {
     return same;
 }
 
-/* A line of a script. What it says is what relkvanu_line_says tells, and the call is written again as a line that says it. */
+/* A line of a script or a log. What it says is what relkvanu_line_says tells, and the call is written again as a line that says it. */
 static bool try_line(const char *text, size_t len) {
     uint64_t numbers[4096];
     relkvanu_answer told = relkvanu_line_says((const uint8_t *)text, len, numbers, 4096);
@@ -221,7 +234,9 @@ static bool try_line(const char *text, size_t len) {
     if (told.code == RELKVANU_BAD_LINE) {
         CHECK(text, is_answer(it.answer, RELKVANU_BAD_LINE, told.what, 0, 0));
     } else if (told.what == RELKVANU_LINE_CALL) {
-        CHECK(text, is_call || is_answer(it.answer, RELKVANU_BAD_ARGUMENT, RELKVANU_BAD_SHAPE, 0, 0) || is_answer(it.answer, RELKVANU_REFUSED, RELKVANU_NO_SUCH_SAVEPOINT, 0, 0));
+        bool is_no_call = begins(text, len, past(text, len, 0, ""), "in ") && is_answer(it.answer, RELKVANU_BAD_LINE, RELKVANU_FAULT_NO_CALL, 0, 0);
+        CHECK(text, is_call || is_no_call || is_answer(it.answer, RELKVANU_BAD_ARGUMENT, RELKVANU_BAD_SHAPE, 0, 0) ||
+                        is_answer(it.answer, RELKVANU_REFUSED, RELKVANU_NO_SUCH_SAVEPOINT, 0, 0));
     } else if (told.what == RELKVANU_LINE_SKIP) {
         CHECK(text, is_answer(it.answer, RELKVANU_DONE, RELKVANU_SKIPPED, 0, 0));
     } else {

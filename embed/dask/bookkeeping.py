@@ -14,6 +14,7 @@ from relkvanu import (
     AckCompleted, AckLate, AckPending, Cancelled, Chosen, DeclineAborted, DeclineFailed, DeclineLate, Deleted, Failed, FileCounts, HeldAtOnce,
     HeldInterval, HeldPause, Kind, Live, Mode, Reply, RestoredCheckpoint, RestoredFresh, Standing, Taken, Triggered, Undeleted, header,
 )
+from relkvanu.replies import Forfeited, Reserved
 
 # What a row of the log says that its call was answered.
 REPLIES: Dict[int, Any] = {
@@ -21,7 +22,7 @@ REPLIES: Dict[int, Any] = {
     header.TICK_HELD_PAUSE: HeldPause, header.TICK_FAILED: Failed, header.ACK_PENDING: AckPending, header.ACK_COMPLETED: AckCompleted,
     header.ACK_LATE: AckLate, header.DECLINE_ABORTED: DeclineAborted, header.DECLINE_FAILED: DeclineFailed, header.DECLINE_LATE: DeclineLate,
     header.RESTORED_CHECKPOINT: RestoredCheckpoint, header.RESTORED_FRESH: RestoredFresh, header.CANCELLED: Cancelled,
-    header.DELETED: Deleted, header.UNDELETED: Undeleted,
+    header.DELETED: Deleted, header.UNDELETED: Undeleted, header.RESERVED: Reserved, header.FORFEITED: Forfeited,
 }
 
 
@@ -60,6 +61,8 @@ class Bookkeeping:
         self.waiting: List[int] = outbox["waiting"]
         self.taken: Set[int] = set(outbox["taken"])
         self.records = {of["id"]: record_of(of) for of in it["records"]}  # the live ones, in the order of their numbers
+        self.term, self.next_name = it["names"]["term"], it["names"]["next"]
+        self.unspent = {name for first, end in it["names"]["unspent"] for name in range(first, end)}
         self.answers: Dict[int, Reply] = {}  # of the calls that it has followed, by their places
 
     def follow(self, line: str) -> Reply:
@@ -117,12 +120,34 @@ class Bookkeeping:
         self.next += 1
         return self.next - 1
 
+    def on_in(self, term: str, *words: str) -> Reply:
+        """A call of a task of the term that runs: those of others are refused, and have no line."""
+        same(int(term), self.term, "the term of a task")
+        return self.follow(" ".join(words))
+
+    def on_reserve(self, term: str, count: str) -> Reply:
+        same(int(term), self.term, "the term of a task")
+        first, self.next_name = self.next_name, self.next_name + int(count)
+        self.unspent.update(range(first, self.next_name))
+        return Reserved(first, int(count))
+
+    def on_forfeit(self, term: str, *names: str) -> Reply:
+        same(int(term), self.term, "the term of a task")
+        self.unspent.difference_update(map(int, names))
+        return Forfeited()
+
+    def end_term(self) -> None:
+        self.term += 1
+        self.unspent = set()
+
     def on_ack(self, now: str, id: str, subtask: str, *files: str) -> Reply:
         moment, number = self.seen(now), int(id)
+        fresh = sorted(int(file[1:]) for file in files if file[0] == "+")
+        assert self.unspent.issuperset(fresh), f"names that the term does not hold: {fresh}"
+        self.unspent.difference_update(fresh)
         if number not in self.pending():
-            unknown = sorted({int(file[1:]) for file in files if file[0] == "+"} - self.known())
-            self.waiting += unknown
-            return AckLate(len(unknown))
+            self.waiting += fresh
+            return AckLate(len(fresh))
         record = self.records[number]
         record.acks[subtask] = sorted(int(file[1:]) for file in files)
         if not record.is_done():
@@ -151,6 +176,7 @@ class Bookkeeping:
     def on_restore(self, now: str, target: str, *shape: str) -> Reply:
         assert target == "latest", target
         self.due = self.seen(now) + self.wait
+        self.end_term()
         released = self.released(lambda: self.drop(self.pending()))
         self.mode, self.failures, self.completed = Mode.RUNNING, 0, None
         self.shape = tuple(map(int, shape)) or self.shape
@@ -158,6 +184,7 @@ class Bookkeeping:
 
     def on_cancel(self, now: str) -> Reply:
         self.seen(now)
+        self.end_term()
         self.mode = Mode.CANCELLED
         dropped = self.pending() if self.keep else list(self.records)
         return Cancelled(len(dropped), self.released(lambda: self.drop(dropped)))
@@ -225,6 +252,8 @@ def check(books: Bookkeeping, core: Any) -> None:
     """Each read of the coordinator says what the books say."""
     uses = books.uses()
     same(core.mode(), books.mode, "the mode")
+    same(core.term(), (books.term, books.next_name), "the term and the next name")
+    same(set(core.garbage(range(books.next_name + 2)).garbage), set(range(books.next_name)) - books.known() - books.unspent, "the garbage")
     same(core.due(), books.due if books.completed is None else max(books.due, books.completed + books.pause), "due")
     expiries = [books.records[id].started + books.timeout for id in books.pending()]
     same(core.oldest_expiry(), min(expiries, default=None), "the oldest expiry")

@@ -2,6 +2,7 @@
 import itertools
 import os
 import pathlib
+import signal
 import subprocess
 import sys
 import tempfile
@@ -55,6 +56,13 @@ class Worker:
             return False
         return True
 
+    def stop(self) -> None:
+        """It stands still in the middle of what it does."""
+        self.process.send_signal(signal.SIGSTOP)
+
+    def go_on(self) -> None:
+        self.process.send_signal(signal.SIGCONT)
+
     def kill(self) -> None:
         """SIGKILL; the process writes nothing after it."""
         self.process.kill()
@@ -69,6 +77,7 @@ class Cluster:
         )
         self.client = Client(self.scheduler)
         self.workers: List[Worker] = []
+        self.stopped: List[Worker] = []
         self.start_workers(workers)
 
     def start_workers(self, count: int) -> None:
@@ -83,11 +92,23 @@ class Cluster:
         self.workers.remove(worker)
         wait_for(lambda: worker.name not in addresses(self.client))
 
+    def stop_worker(self, worker: Worker) -> None:
+        """It stands still, and gets no further tasks."""
+        worker.stop()
+        self.workers.remove(worker)
+        self.stopped.append(worker)
+
+    def kill_stopped(self) -> None:
+        stopped, self.stopped = self.stopped, []
+        for worker in stopped:
+            worker.kill()
+            wait_for(lambda: worker.name not in addresses(self.client))
+
     def __enter__(self) -> "Cluster":
         return self
 
     def kill(self) -> None:
-        for worker in self.workers:
+        for worker in self.workers + self.stopped:
             worker.kill()
 
     def __exit__(self, *_: object) -> None:

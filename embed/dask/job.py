@@ -3,9 +3,10 @@
 started again meanwhile.
 
 The job has three vertices of different parallelism. Each reads the whole stream and counts its part of the keys. A
-worker process is killed in the middle of a checkpoint, again and again. In turn the driver declines for the lost task, or the
-record expires. The job is restored with fewer tasks of one vertex on the remaining workers, and with all tasks once there is a new
-worker. At the end the totals and the storage folder have to be exact.
+worker process is killed in the middle of a checkpoint, or stands still there (SIGSTOP), again and again. In turn the driver declines for the
+lost task, or the record expires. The job is restored with fewer tasks of one vertex on the remaining workers, and with all tasks once there is a
+new worker. One that stood still goes on then, and its tasks write and acknowledge in a term that has ended. Tasks reserve the names of their
+files, no task deletes a file, and a sweeper runs all the time. At the end the totals and the storage folder have to be exact.
 """
 import argparse
 import itertools
@@ -19,9 +20,9 @@ import time
 from collections import Counter
 from typing import Any, Callable, Dict, Iterable, List, Sequence, Tuple
 
-from channel import Channel
-from cluster import Cluster, wait_for
-from relkvanu import AckCompleted, DeclineFailed, Failed, Refused, Reply, RestoredCheckpoint
+from channel import STANDS_STILL, Channel
+from cluster import WAIT, Cluster, wait_for
+from relkvanu import AckCompleted, DeclineFailed, Failed, Fenced, Refused, Reply, RestoredCheckpoint
 from storage import Storage
 from stream import PARTITIONS, VERTICES, State, counted, read
 
@@ -39,26 +40,17 @@ class Job:
         self.chance = random.Random(seed)
         self.lock = threading.RLock()  # of the channels and what is counted; the coordinator has its own
         self.channels: List[Channel] = []
-        self.next_file = coordinator.first_file
+        self.zombies: List[Channel] = []  # of tasks on workers that stood still while the job was restored
         self.stream = threading.Lock()  # of what is put: a barrier comes behind the same records in each queue
         self.ends = dict.fromkeys(range(PARTITIONS), 0)  # the source's offsets
         self.cuts: Dict[int, Dict[int, int]] = {}  # those at the barriers of a record
         self.replies: "Counter[str]" = Counter()
-        self.kills = self.deleted = self.undeleted = 0
+        self.kills = self.stops = self.fenced = self.sweeps = self.deleted = self.undeleted = 0
         self.has_failed, self.is_over = threading.Event(), threading.Event()
         self.completed = 0  # checkpoints since the tasks were started
-        self.threads = [threading.Thread(target=loop, args=(self,), daemon=True) for loop in (coordinator.run, source)]
+        self.threads = [threading.Thread(target=loop, args=(self,), daemon=True) for loop in (coordinator.run, source, sweeper)]
         coordinator.recover(storage)
         coordinator.start_discarder(self.discard)
-
-    def new_files(self, most: int) -> Sequence[int]:
-        with self.lock:
-            self.next_file += most
-            return range(self.next_file - most, self.next_file)
-
-    def delete(self, files: Sequence[int]) -> None:
-        for file in files:
-            self.storage.delete(file)
 
     def discard(self, file: int) -> None:
         """Deletes a file. A part of the deletions fails."""
@@ -74,7 +66,7 @@ class Job:
         """Makes a call of the coordinator, and notes its answer."""
         try:
             reply = call(*arguments)
-        except Refused as refusal:
+        except (Refused, Fenced) as refusal:
             with self.lock:
                 self.replies[refusal.name] += 1
             raise
@@ -88,11 +80,20 @@ class Job:
         if isinstance(reply, (DeclineFailed, Failed)):
             self.has_failed.set()
 
-    def ack(self, id: int, subtask: Tuple[int, int], fresh: Sequence[int], reused: Sequence[int]) -> Reply:
-        return self.called(self.coordinator.ack, id, subtask, fresh, reused)
+    def ack(self, term: int, id: int, subtask: Tuple[int, int], fresh: Sequence[int], reused: Sequence[int]) -> Reply:
+        reply = self.called(self.coordinator.ack, term, id, subtask, fresh, reused)
+        self.coordinator.look(self.storage)
+        return reply
 
-    def decline(self, id: int, subtask: Tuple[int, int]) -> Reply:
-        return self.called(self.coordinator.decline, id, subtask)
+    def decline(self, term: int, id: int, subtask: Tuple[int, int]) -> Reply:
+        return self.called(self.coordinator.decline, term, id, subtask)
+
+    def reserve(self, term: int, most: int) -> Sequence[int]:
+        names: Sequence[int] = self.coordinator.reserve(term, most)
+        return names
+
+    def forfeit(self, term: int, names: Sequence[int]) -> None:
+        self.coordinator.forfeit(term, names)
 
     def send_barriers(self, id: int, channels: Sequence[Channel]) -> None:
         """Sends the barrier of a record through the queue of each task."""
@@ -101,24 +102,26 @@ class Job:
             for channel in channels:
                 channel.put(id)
 
-    def channels_of(self, shape: Sequence[int], files: Dict[Tuple[int, int], Tuple[int, ...]]) -> List[Channel]:
+    def channels_of(self, shape: Sequence[int], term: int, files: Dict[Tuple[int, int], Tuple[int, ...]]) -> List[Channel]:
         """A channel for each subtask, over the files that a record has of its vertex, on the workers in turn."""
         of_vertex = [[file for (vertex, _), held in files.items() if vertex == of for file in held] for of in range(VERTICES)]
         subtasks = [(vertex, index) for vertex, tasks in enumerate(shape) for index in range(tasks)]
         workers = itertools.cycle(self.cluster.workers)
         return [
-            Channel(self, (vertex, index), next(workers), self.cluster.client, range(index, PARTITIONS, shape[vertex]), of_vertex[vertex])
+            Channel(self, term, (vertex, index), next(workers), self.cluster.client, range(index, PARTITIONS, shape[vertex]), of_vertex[vertex])
             for vertex, index in subtasks
         ]
 
     def start_tasks(self, shape: Sequence[int]) -> None:
-        """Restores the job in this shape, from the record that the coordinator returns, on the workers that run."""
+        """Restores the job in this shape, from the record that the coordinator returns, on the workers that run. Tasks are started with the term
+        that the restore begins."""
         with self.lock:
             reply = self.called(self.coordinator.restore, shape)
+            term = self.coordinator.term
             files = self.coordinator.files(reply.id) if isinstance(reply, RestoredCheckpoint) else {}
             self.has_failed.clear()
             self.completed = 0
-            channels = self.channels_of(shape, files)
+            channels = self.channels_of(shape, term, files)
             ends = self.ends_of(reply, channels)
             for channel in channels:
                 assert channel.ends == {p: ends[p] for p in channel.partitions}, "not the states at the barriers"
@@ -136,11 +139,25 @@ class Job:
         return self.cuts.get(reply.id, of_a_vertex)
 
     def stop_tasks(self) -> None:
-        """After this no task and no thread of a task does anything."""
+        """After this no task and no thread of a task does anything, but for those on workers that stand still: they go on later."""
         with self.lock:
             channels, self.channels = self.channels, []
         for channel in channels:
-            channel.stop()
+            if channel.worker in self.cluster.stopped:
+                channel.is_ending.set()
+                self.zombies.append(channel)
+            else:
+                channel.stop()
+
+    def end_zombies(self) -> None:
+        """Lets the workers that stood still go on, and waits until their tasks have written and sent what they had to, in their ended term."""
+        for worker in self.cluster.stopped:
+            worker.go_on()
+        for zombie in self.zombies:
+            zombie.join()
+        self.fenced += sum(zombie.was_fenced for zombie in self.zombies)
+        self.zombies = []
+        self.cluster.kill_stopped()
 
     def restart_tasks(self, shape: Sequence[int]) -> None:
         self.stop_tasks()
@@ -153,25 +170,32 @@ class Job:
             if self.has_failed.is_set():
                 self.restart_tasks(shape)
 
-    def kill_in_checkpoint(self, tells_loss: bool) -> None:
-        """Kills a worker when a task of it has written the first file of a checkpoint, and not all. Its tasks are lost:
+    def lose_in_checkpoint(self, tells_loss: bool, stands_still: bool) -> None:
+        """Kills a worker when a task of it has written the first file of a checkpoint, and not all, or has it stand still. Its tasks are lost:
         the driver declines for them, or the record expires."""
         with self.lock:
             victim = self.chance.choice(self.channels)
             for channel in self.channels:
                 channel.tells_loss = tells_loss
+            victim.pause = STANDS_STILL if stands_still else WAIT
             victim.is_stopping = True
 
         def has_written() -> bool:
             return victim.stops_in is not None and self.storage.has(victim.stops_in)
 
         wait_for(lambda: self.has_failed.is_set() or has_written())
-        self.kills += has_written()
-        self.cluster.kill_worker(victim.worker)
+        if stands_still:
+            self.stops += has_written()
+            self.cluster.stop_worker(victim.worker)
+            if tells_loss and not self.has_failed.is_set():
+                self.decline(victim.term, victim.record, victim.subtask)
+        else:
+            self.kills += has_written()
+            self.cluster.kill_worker(victim.worker)
         wait_for(self.has_failed.is_set)
 
     def run(self, seconds: float) -> None:
-        """Runs until the time is over, and a lost task was declined once and expired once."""
+        """Runs until the time is over, and lost tasks were declined once and expired once, and killed once and standing still once."""
         end, rounds = time.monotonic() + seconds, 0
         self.coordinator.settle(self.storage)
         for thread in self.threads:
@@ -179,13 +203,15 @@ class Job:
         self.start_tasks(LARGE)
         while rounds < 2 or time.monotonic() < end:
             self.complete(LARGE)
-            self.kill_in_checkpoint(tells_loss=rounds % 2 == 0)
+            self.lose_in_checkpoint(tells_loss=rounds % 2 == 0, stands_still=(self.seed + rounds + rounds // 2) % 2 == 0)
             self.restart_tasks(SMALL)
             self.complete(SMALL)
+            self.end_zombies()
             self.cluster.start_workers(1)
             self.restart_tasks(LARGE)
             rounds += 1
         self.complete(LARGE)
+        assert self.fenced > 0, "no task went on after a restore"
 
     def finish(self) -> None:
         """Stops the source, and checks what has to hold at the end."""
@@ -197,6 +223,7 @@ class Job:
         self.stop_tasks()
         records = self.check_counts(channels)
         reply = self.called(self.coordinator.restore, LARGE)
+        self.coordinator.sweep(self.storage)
         assert isinstance(reply, RestoredCheckpoint), reply
         files = [file for part in self.coordinator.files(reply.id).values() for file in part]
         held = sorted(self.check_state(*read(self.storage.read(file))) for file in files)
@@ -238,13 +265,16 @@ class Job:
         """Ends the job for good: no file is left."""
         self.coordinator.cancel()
         self.delete_taken(self.coordinator.take(1 << 16).files)
+        self.coordinator.sweep(self.storage)
         assert not self.storage.numbers()
 
     def report(self, records: int, used: int, waiting: int) -> None:
         told = self.replies
         restores = told["RestoredCheckpoint"] + told["RestoredFresh"]
         print(f"dask: {records} records of {PARTITIONS} partitions counted exactly by {VERTICES} vertices; {told['AckCompleted']} checkpoints completed")
-        print(f"dask: {self.kills} worker processes killed in the middle of a checkpoint; the job failed {told['DeclineFailed']} times by")
+        print(f"dask: {self.kills} worker processes killed and {self.stops} standing still in the middle of a checkpoint; {self.fenced} tasks went on after a")
+        print(f"dask: restore; {told['OldTerm']} calls of ended terms and {told['Spent']} messages that came twice were refused; {self.sweeps} sweeps beside them;")
+        print(f"dask: {self.coordinator.looks} times each file of a done record was there; the job failed {told['DeclineFailed']} times by")
         print(f"dask: a decline, {told['Failed']} times as a record expired; {restores} restores, in the shapes {LARGE} and {SMALL}")
         print(f"dask: {told['AckLate']} late acknowledgements; {self.deleted} files deleted, {self.undeleted} deletions failed")
         print(f"dask: the folder had {used + waiting} files: {used} in use, {waiting} for deletion")
@@ -260,6 +290,15 @@ def source(job: Job) -> None:
             for channel in job.channels:
                 channel.advance(ends)
         time.sleep(0.02)
+
+
+def sweeper(job: Job) -> None:
+    """Deletes garbage all the time."""
+    while not job.is_over.is_set():
+        job.coordinator.sweep(job.storage)
+        job.coordinator.look(job.storage)
+        job.sweeps += 1
+        time.sleep(0.05)
 
 
 def options() -> argparse.Namespace:

@@ -1,6 +1,8 @@
 """kills.py FOLDER SECONDS KILLS [SEED]: the job of job.py, in an empty folder. SIGKILL ends its driver this many times, in turn in a write of its durable
 coordinator, before and after it (embed/store/tests/shim.c, which has to be loaded), after a call is committed, and at any moment. The next one may
-run to its end. Each driver opens the job of the one before, and checks what has to hold (stored.py)."""
+run to its end. Each driver opens the job of the one before, and checks what has to hold (stored.py). The workers of the one before go on meanwhile,
+at once or after they have stood still (SIGSTOP): they write files in a term that has ended."""
+import contextlib
 import ctypes
 import os
 import pathlib
@@ -8,7 +10,7 @@ import random
 import signal
 import subprocess
 import sys
-import time
+import threading
 from typing import IO, Dict, List, Optional, Tuple
 
 import bookkeeping
@@ -17,6 +19,7 @@ from storage import Storage
 HERE = pathlib.Path(__file__).resolve().parent
 PLACES = ["before a write", "after a write", "after a call", None]  # None: from outside
 MOST_WRITES, MOST_CALLS, MOST_SECONDS = 400, 120, 8.0
+STANDS_STILL = 1.5  # seconds
 LONGEST = 300  # seconds, on a busy machine
 LIBC = ctypes.CDLL(None)
 PR_SET_PDEATHSIG, PR_SET_CHILD_SUBREAPER = 1, 36
@@ -48,6 +51,10 @@ class Driver:
         self.process.kill()
         self.process.wait()
 
+    def signal_workers(self, number: int) -> None:
+        with contextlib.suppress(ProcessLookupError):
+            os.killpg(self.process.pid, number)
+
     def end_workers(self) -> None:
         """Kills them, and waits until none is left: after that nobody writes for this driver. This process is the parent of those whose
         parent has ended."""
@@ -67,24 +74,38 @@ def death_at(place: Optional[str], chance: random.Random) -> Tuple[List[str], Di
     return [], {**nth, "STORE_DIE_AFTER": "1"} if place == "after a write" else nth
 
 
-def run_and_kill(folder: pathlib.Path, seed: int, nth: int, chance: random.Random) -> None:
+def wake(before: Optional[Driver]) -> None:
+    """The workers of the driver before go on when the next one has begun."""
+    if before is not None:
+        threading.Timer(STANDS_STILL, before.signal_workers, (signal.SIGCONT,)).start()
+
+
+def run_and_kill(folder: pathlib.Path, seed: int, nth: int, chance: random.Random, before: Optional[Driver]) -> Driver:
     place = PLACES[nth % len(PLACES)]
     words, shim = death_at(place, chance)
     with open(folder / "told", "w+", encoding="utf-8") as told:
         driver = Driver(folder, 3600, seed, told, words, shim)
+        wake(before)
         status = driver.end(LONGEST if place else chance.uniform(0.5, MOST_SECONDS))
         if status is None:
             driver.kill()
-        time.sleep(chance.uniform(0, 0.3))  # tasks go on
-        driver.end_workers()
+        if nth % 2 == 0:
+            driver.signal_workers(signal.SIGSTOP)
         told.seek(0)
         wanted = -signal.SIGKILL if place else None
         assert status == wanted, f"driver {nth} was not killed {place}, but ended with {status}: {told.read()}"
+    if before is not None:
+        before.end_workers()
+    return driver
 
 
-def run_to_the_end(folder: pathlib.Path, seconds: float, seed: int) -> None:
+def run_to_the_end(folder: pathlib.Path, seconds: float, seed: int, before: Optional[Driver]) -> None:
     driver = Driver(folder, seconds, seed, sys.stdout, [], {})
-    status = driver.end(seconds + LONGEST)
+    wake(before)
+    status = driver.end(2 * STANDS_STILL)
+    if before is not None:
+        before.end_workers()
+    status = driver.end(seconds + LONGEST) if status is None else status
     driver.end_workers()
     assert status == 0, f"the last driver ended with {status}"
 
@@ -104,9 +125,10 @@ def main(name: str, seconds: str, kills: str, seed: str = "1") -> None:
     folder = pathlib.Path(name)
     for part in ("storage", "temporary"):
         (folder / part).mkdir()
+    before = None
     for nth in range(int(kills)):
-        run_and_kill(folder, int(seed), nth, chance)
-    run_to_the_end(folder, float(seconds), int(seed))
+        before = run_and_kill(folder, int(seed), nth, chance, before)
+    run_to_the_end(folder, float(seconds), int(seed), before)
     lines = check_folder(folder)
     print(f"dask: the driver was killed {kills} times; {lines} lines are left behind the earlier image of its job")
 

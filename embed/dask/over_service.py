@@ -5,7 +5,7 @@ from typing import Any, Callable, Dict, List, Sequence, Set, Tuple
 
 import relkvanu_service as service
 from relkvanu import (
-    AckCompleted, AckLate, AckPending, DeclineAborted, DeclineFailed, DeclineLate, Discarder, Failed, Patience, Refused, Reply,
+    AckCompleted, AckLate, AckPending, DeclineAborted, DeclineFailed, DeclineLate, Discarder, Failed, Fenced, Patience, Refused, Reply,
     RestoredCheckpoint, RestoredFresh, Taken,
 )
 
@@ -25,11 +25,12 @@ class OverService:
     after the last one any more, the job begins again. If a backup of the service was restored, `OtherLog` ends the process."""
 
     def __init__(self, url: str, name: str, settings: Dict[str, int], shape: Sequence[int]) -> None:
-        self.remote = service.Service(url).open(name, settings, list(shape))
+        self.remote = service.Service(url).open(name, settings, list(shape), names=True)
         if self.remote.state()["choice"]["kind"] != "fresh":
             raise SystemExit(f"the service has checkpoints of the job {name}: --job names another one")
         self.begun = 0  # the place of the last restore in the log
-        self.first_file = 1  # the job is new: no file has a number
+        self.term = 0  # that it has begun
+        self.looks = 0
         self.lock = threading.Lock()  # of the list
         self.answered: List[Tuple[Dict[str, Any], Dict[str, Any]]] = []  # calls, each with its answer
 
@@ -38,6 +39,8 @@ class OverService:
             answer: Dict[str, Any] = self.remote.call(call, key=uuid.uuid4().hex)
         except service.Refused as refusal:
             raise Refused(refusal.name, refusal.file) from None
+        except service.Fenced as fenced:
+            raise Fenced(fenced.name, fenced.file) from None
         with self.lock:
             self.answered.append((call, answer))
         return answer
@@ -46,7 +49,7 @@ class OverService:
         answer, name = dict(self.call(call)), call["call"]
         seq = answer.pop("seq")
         if name == "restore":
-            self.begun = seq
+            self.begun, self.term = seq, answer.pop("term")
         reply: Reply = REPLIES[f"{name} {answer.pop(name)}"](**answer)
         return reply
 
@@ -56,6 +59,16 @@ class OverService:
 
     def settle(self, storage: Storage) -> None:
         """No file is there yet."""
+
+    def sweep(self, storage: Storage) -> None:
+        """Deletes the garbage of the folder, at any time."""
+        garbage, unissued = self.remote.garbage(sorted(storage.numbers()))
+        assert not unissued, unissued
+        for file in garbage:
+            storage.delete(file)
+
+    def look(self, storage: Storage) -> None:
+        """A service shows no records between two calls of others."""
 
     def start_discarder(self, delete: Callable[[int], None]) -> None:
         patience = Patience(batch=16, attempts=100, first_wait=0.01, longest_wait=0.05, idle=0.02)
@@ -68,11 +81,19 @@ class OverService:
     def close(self) -> None:
         """The service has the log. service/tests compares it."""
 
-    def ack(self, id: int, subtask: Subtask, fresh: Sequence[int], reused: Sequence[int]) -> Reply:
-        return self.reply(service.ack(id, "%d.%d" % subtask, fresh, reused))
+    def ack(self, term: int, id: int, subtask: Subtask, fresh: Sequence[int], reused: Sequence[int]) -> Reply:
+        return self.reply(service.ack(id, "%d.%d" % subtask, fresh, reused, term=term))
 
-    def decline(self, id: int, subtask: Subtask) -> Reply:
-        return self.reply(service.decline(id, "%d.%d" % subtask))
+    def decline(self, term: int, id: int, subtask: Subtask) -> Reply:
+        return self.reply(service.decline(id, "%d.%d" % subtask, term=term))
+
+    def reserve(self, term: int, most: int) -> Sequence[int]:
+        answer = self.call(service.reserve(term, most))
+        first = int(answer["first"])
+        return range(first, first + answer["count"])
+
+    def forfeit(self, term: int, names: Sequence[int]) -> None:
+        self.call(service.forfeit(term, names))
 
     def restore(self, shape: Sequence[int]) -> Reply:
         return self.reply(service.restore(shape=list(shape)))

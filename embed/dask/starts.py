@@ -29,7 +29,6 @@ class Driver:
         self.storage = Storage(folder / "storage")
         self.core = Stored(folder, self.storage, SETTINGS, (1,))
         self.core.recover(self.storage)
-        self.file = self.core.first_file
 
     def checkpoint(self) -> None:
         self.core.restore((1,))
@@ -37,12 +36,12 @@ class Driver:
         while ticked is None:
             ticked = or_end(self.core.job.await_tick, 1000)
         assert isinstance(ticked.reply, Triggered)
-        files = range(self.file, self.file + FILES)
-        self.file += FILES
+        term = self.core.term
+        files = self.core.reserve(term, FILES)
         for file in files:
             self.storage.write(file, "state")
         self.storage.sync()
-        assert isinstance(self.core.ack(ticked.reply.id, (0, 0), files, []), AckCompleted)
+        assert isinstance(self.core.ack(term, ticked.reply.id, (0, 0), files, []), AckCompleted)
 
 
 def ended(work: Callable[[], None], folder: pathlib.Path) -> "tuple[Optional[int], str]":

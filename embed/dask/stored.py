@@ -1,8 +1,8 @@
 """The coordinator as a library in the driver's process, whose calls are durable (relkvanu.store). A driver that opens the job of one that was killed has
 exactly the calls that the other one was answered, and maybe those of the commit that it was in.
 
-The store keeps the log, the lock, the images, the clock and the identity of the job. A file has the number of the driver's opening in its
-upper half, so no two drivers give the same one.
+The store keeps the log, the lock, the images, the clock and the identity of the job, and gives out the names of files, each once. Tasks are
+started with the term that the last restore has begun.
 """
 import itertools
 import os
@@ -16,7 +16,8 @@ from typing import Any, Callable, Dict, Optional, Sequence, Set, Tuple
 
 import bookkeeping
 from cluster import wait_for
-from relkvanu import Error, OutOfMemory, Refused, Reply, Settings, Taken, Triggered
+from relkvanu import Error, Live, OutOfMemory, Refused, Reply, Settings, Taken, Triggered
+from relkvanu.replies import Reserved
 from relkvanu.store import Call, Made, Step, Store, StoreError
 from storage import Storage
 
@@ -39,6 +40,17 @@ def or_end(call: Callable[..., Any], *arguments: Any) -> Any:
             os._exit(1)
 
 
+def used_by(reads: Any, wanted: Callable[[Live], bool]) -> Set[int]:
+    """The files of these records."""
+    used: Set[int] = set()
+    next = 0
+    while (live := reads.live_from(next)) is not None:
+        if wanted(live):
+            used.update(reads.pins_of(live.id), *reads.show(live.id).files.values())
+        next = live.id + 1
+    return used
+
+
 class Stored:
     def __init__(self, folder: pathlib.Path, storage: Storage, settings: Dict[str, int], shape: Sequence[int], dies_after: int = 0) -> None:
         """Opens FOLDER/job.db, or makes it if the storage has no file. Compares the coordinator with what the lines of its calls say. The process is
@@ -51,7 +63,9 @@ class Stored:
             except StoreError as fault:
                 raise SystemExit(f"the job is not opened: {fault}") from None
             books = bookkeeping.of_job(pathlib.Path(copy))
-        self.first_file = self.job.report.epoch << 32
+        self.term = self.job.report.term
+        assert self.term != 0, "the job has no names"
+        self.looks = 0
         self.calls = itertools.count(1)
         self.made: Dict[int, Reply] = {}  # replies of this process, by the places of their calls
         self.discarder: Optional[threading.Thread] = None
@@ -64,21 +78,35 @@ class Stored:
         missing = [file for file in books.uses() if not storage.has(file)]
         assert not missing, f"files in use are missing: {missing}"
 
-    def call(self, call: Call) -> Reply:
+    def made_call(self, call: Call) -> Made:
         made: Made = or_end(self.job.call, call)
         if next(self.calls) == self.dies_after:
             os.kill(os.getpid(), signal.SIGKILL)
         self.made[made.place] = made.reply
-        return made.reply
+        return made
 
-    def ack(self, id: int, subtask: Subtask, fresh: Sequence[int], reused: Sequence[int]) -> Reply:
-        return self.call(Call.ack(id, *subtask, fresh, reused))
+    def call(self, call: Call) -> Reply:
+        return self.made_call(call).reply
 
-    def decline(self, id: int, subtask: Subtask) -> Reply:
-        return self.call(Call.decline(id, *subtask))
+    def ack(self, term: int, id: int, subtask: Subtask, fresh: Sequence[int], reused: Sequence[int]) -> Reply:
+        return self.call(Call.ack(id, *subtask, fresh, reused, term=term))
+
+    def decline(self, term: int, id: int, subtask: Subtask) -> Reply:
+        return self.call(Call.decline(id, *subtask, term=term))
+
+    def reserve(self, term: int, most: int) -> Sequence[int]:
+        reply = self.call(Call.reserve(term, most))
+        assert isinstance(reply, Reserved)
+        return reply.names
+
+    def forfeit(self, term: int, names: Sequence[int]) -> None:
+        self.call(Call.forfeit(term, names))
 
     def restore(self, shape: Optional[Sequence[int]] = None) -> Reply:
-        return self.call(Call.restore(shape=shape))
+        """`term` is the one that it begins."""
+        made = self.made_call(Call.restore(shape=shape))
+        self.term = made.term
+        return made.reply
 
     def cancel(self) -> None:
         self.call(Call.cancel())
@@ -100,13 +128,8 @@ class Stored:
 
     def used(self) -> Set[int]:
         """The files in use."""
-        used: Set[int] = set()
         with self.job.read() as reads:
-            next = 0
-            while (live := reads.live_from(next)) is not None:
-                used.update(reads.pins_of(live.id), *reads.show(live.id).files.values())
-                next = live.id + 1
-        return used
+            return used_by(reads, lambda live: True)
 
     def recover(self, storage: Storage) -> None:
         """Takes the steps that the store has told, up to the start of the tasks."""
@@ -114,17 +137,30 @@ class Stored:
             if step is Step.RESTORE:
                 self.restore()
             elif step is Step.SWEEP:
-                for file in self.job.unknown(sorted(storage.numbers())):
-                    storage.delete(file)
-            else:  # END_TASKS: kills.py has waited for the workers of the driver before
+                self.sweep(storage)
+            else:  # END_TASKS: those of the driver before may go on, in an ended term
                 assert step in (Step.END_TASKS, Step.START_TASKS), step
 
+    def sweep(self, storage: Storage) -> None:
+        """Deletes the garbage of the folder, at any time."""
+        left = or_end(self.job.sweep)
+        assert left == 0, left
+
+    def look(self, storage: Storage) -> None:
+        """Each file of a done record is in the folder. All calls wait meanwhile."""
+        with self.job.read() as reads:
+            needed = used_by(reads, lambda live: live.done)
+            missing = needed - storage.numbers() if needed else needed
+        assert not missing, f"files of done records are missing: {missing}"
+        self.looks += 1
+
     def settle(self, storage: Storage) -> None:
-        """Waits until the discarder has deleted all that it may, before any task writes. Then the folder has the files in use and no
-        other."""
+        """Waits until the discarder has deleted all that it may, before any task writes. Then the folder has the files in use, and no other but
+        those that tasks of the driver before still write: garbage."""
         wait_for(self.has_discarded)
         names, used = storage.numbers(), self.used()
-        assert names == used, (names - used, used - names)
+        others = sorted(names - used)
+        assert used <= names and sorted(self.job.garbage(others).garbage) == others, (others, used - names)
 
     def has_discarded(self) -> bool:
         with self.job.read() as reads:

@@ -37,8 +37,8 @@ class Task:
             self.held.pop(partition, None)
 
     def snapshot(self, numbers: Sequence[int], pause: float) -> Tuple[List[int], List[int]]:
-        """Writes the states that no acknowledged checkpoint has under new numbers, with a pause after each, and
-        answers the numbers written and those that are named again. A loss of power after that takes none of them: each file is
+        """Writes the states that no acknowledged checkpoint has under names that were reserved for it, with a pause after each, and
+        answers the names written and those that are named again. A loss of power after that takes none of them: each file is
         synced, and then the folder."""
         fresh, reused = [], sorted(self.held.values())
         for partition, state in self.states.items():
@@ -48,7 +48,7 @@ class Task:
                 fresh.append(number)
                 time.sleep(pause)
         self.storage.sync()
-        self.written = dict(zip((p for p in self.states if p not in self.held), fresh))
+        self.written: Dict[int, int] = dict(zip((p for p in self.states if p not in self.held), fresh))
         return fresh, reused
 
     def acknowledged(self) -> None:
@@ -56,8 +56,5 @@ class Task:
         self.held.update(self.written)
 
     def refused(self) -> None:
-        """The last snapshot was refused, and its files were named for the first time in it: so they are deleted, and nothing
-        is named again."""
-        for number in self.written.values():
-            self.storage.delete(number)
+        """The last snapshot was refused: nothing is named again. Its files stay. The driver gives their names up, and a sweeper deletes them."""
         self.held.clear()

@@ -21,6 +21,9 @@ const (
 	CallUndeleted CallKind = C.RELKVANU_CALL_UNDELETED
 	CallShow      CallKind = C.RELKVANU_CALL_SHOW
 	CallCount     CallKind = C.RELKVANU_CALL_COUNT
+	CallFence     CallKind = C.RELKVANU_CALL_FENCE   // Relkvanu_fence.
+	CallReserve   CallKind = C.RELKVANU_CALL_RESERVE // Relkvanu_reserve.
+	CallForfeit   CallKind = C.RELKVANU_CALL_FORFEIT // Relkvanu_forfeit.
 	// embed/bindings: end
 )
 
@@ -28,9 +31,10 @@ const (
 type Call struct {
 	Kind          CallKind
 	Now           uint64
-	Number        uint64 // of the record or the file; for a restore the savepoint, or 0 for the latest; for a take the most files
+	Number        uint64 // of the record or the file; for a restore the savepoint, or 0 for the latest; the first name; the most files or names
 	Subtask       Subtask
-	First, Second []uint64 // of an ack the fresh and the reused files, ascending; of a restore First is the new shape, or empty
+	First, Second []uint64 // of an ack the fresh and the reused files, ascending; First is the new shape of a restore, or empty; the names given up
+	Term          uint64   // of the caller; 0: none
 }
 
 // CallOf is the call that a line says. The second value is false if the line has no words or is a comment. The error is a LineFault if
@@ -58,13 +62,28 @@ func CallOf(line []byte) (Call, bool, error) {
 		}
 		return Call{
 			Kind: CallKind(call.kind), Now: uint64(call.now), Number: uint64(call.number), First: first[:says.a], Second: second[:says.b],
-			Subtask: Subtask{Vertex: uint16(call.vertex), Index: uint16(call.index)},
+			Subtask: Subtask{Vertex: uint16(call.vertex), Index: uint16(call.index)}, Term: uint64(call.term),
 		}, true, nil
+	}
+}
+
+// inC is the call without its lists.
+func (c *Call) inC() C.relkvanu_call {
+	return C.relkvanu_call{
+		kind: C.uint32_t(c.Kind), now: C.uint64_t(c.Now), number: C.uint64_t(c.Number), vertex: C.uint16_t(c.Subtask.Vertex),
+		index: C.uint16_t(c.Subtask.Index), term: C.uint64_t(c.Term),
 	}
 }
 
 // Line is the line of the call, without a newline.
 func (c Call) Line() ([]byte, error) {
-	call := ofSubtask(C.uint32_t(c.Kind), c.Now, c.Number, c.Subtask)
-	return lineTo(call, c.First, c.Second)
+	if wrongLibrary != nil {
+		return nil, wrongLibrary
+	}
+	call := c.inC()
+	return written(256, func(to *C.uint8_t, room C.size_t) C.relkvanu_answer {
+		firstAt, firstLength := list(c.First)
+		secondAt, secondLength := list(c.Second)
+		return C.relkvanu_call_line(&call, firstAt, firstLength, secondAt, secondLength, to, room)
+	})
 }

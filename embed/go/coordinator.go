@@ -48,18 +48,16 @@ func Open(settings Settings, shape []uint64, now, first uint64) (*Coordinator, e
 	})
 }
 
-// OpenSaved opens the coordinator that an image describes, which Save returned (docs/IMAGE.md). It answers every list of calls as the
-// saved one would. The error is BadImage if the bytes are not an image, or the state is not sound, or no coordinator could be opened
-// so, or the image has names: this package has none.
+// OpenSaved opens the coordinator that an image describes, which Save returned (docs/IMAGE.md): with names if the image has some. It answers
+// every list of calls as the saved one would. The error is BadImage if the bytes are not an image, or the state is not sound, or no
+// coordinator could be opened so.
+//
+// All calls that were made after the save are made again, before any task makes a call. Otherwise names that were given out since then are
+// given out again, and a term that has ended runs again.
 func OpenSaved(image []byte) (*Coordinator, error) {
 	return opened(0, func(o *owner, one, two C.uint64_t) C.relkvanu_answer {
 		at, length := text(image)
-		told := C.relkvanu_open_saved(o.handle, at, length, one, two)
-		if told.code == C.RELKVANU_DONE && C.relkvanu_term(o.handle).code == C.RELKVANU_DONE {
-			C.relkvanu_close(o.handle)
-			return C.relkvanu_answer{code: C.RELKVANU_BAD_ARGUMENT, what: C.RELKVANU_BAD_IMAGE}
-		}
-		return told
+		return C.relkvanu_open_saved(o.handle, at, length, one, two)
 	})
 }
 
@@ -198,18 +196,23 @@ func (o *owner) timed(now uint64, call func(handle *C.relkvanu) C.relkvanu_answe
 	return answer, err
 }
 
-// Tick says that time has passed: records past their timeout expire, and a checkpoint is triggered if one is due.
-func (c *Coordinator) Tick(now uint64) (Ticked, error) {
+// replied makes a call at a moment, and returns its reply.
+func replied[Of any](c *Coordinator, now uint64, reply func(answer C.relkvanu_answer) (Of, error), call func(handle *C.relkvanu) C.relkvanu_answer) (made Of, err error) {
 	o, err := c.enter()
 	if err != nil {
-		return Ticked{}, err
+		return made, err
 	}
 	defer c.leave()
-	answer, err := o.timed(now, func(handle *C.relkvanu) C.relkvanu_answer { return C.relkvanu_tick(handle, C.uint64_t(now)) })
+	answer, err := o.timed(now, call)
 	if err != nil {
-		return Ticked{}, err
+		return made, err
 	}
-	return ticked(answer)
+	return reply(answer)
+}
+
+// Tick says that time has passed: records past their timeout expire, and a checkpoint is triggered if one is due.
+func (c *Coordinator) Tick(now uint64) (Ticked, error) {
+	return replied(c, now, ticked, func(handle *C.relkvanu) C.relkvanu_answer { return C.relkvanu_tick(handle, C.uint64_t(now)) })
 }
 
 // Savepoint triggers a savepoint for a user.
@@ -230,37 +233,19 @@ func (c *Coordinator) Savepoint(now uint64) (SavepointTriggered, error) {
 // ever named it. So it deletes none after AlreadyAcknowledged, the answer to a repeat. After NameTaken it deletes no file that it named
 // before.
 func (c *Coordinator) Ack(now, id uint64, subtask Subtask, fresh, reused []uint64) (Acked, error) {
-	o, err := c.enter()
-	if err != nil {
-		return Acked{}, err
-	}
-	defer c.leave()
-	answer, err := o.timed(now, func(handle *C.relkvanu) C.relkvanu_answer {
+	return replied(c, now, acked, func(handle *C.relkvanu) C.relkvanu_answer {
 		freshAt, freshLength := list(fresh)
 		reusedAt, reusedLength := list(reused)
 		return C.relkvanu_ack(handle, C.uint64_t(now), C.uint64_t(id), C.uint16_t(subtask.Vertex), C.uint16_t(subtask.Index),
 			freshAt, freshLength, reusedAt, reusedLength)
 	})
-	if err != nil {
-		return Acked{}, err
-	}
-	return acked(answer)
 }
 
 // Decline says that a subtask can't take its part of a record. The job may then fail over.
 func (c *Coordinator) Decline(now, id uint64, subtask Subtask) (Declined, error) {
-	o, err := c.enter()
-	if err != nil {
-		return Declined{}, err
-	}
-	defer c.leave()
-	answer, err := o.timed(now, func(handle *C.relkvanu) C.relkvanu_answer {
+	return replied(c, now, declined, func(handle *C.relkvanu) C.relkvanu_answer {
 		return C.relkvanu_decline(handle, C.uint64_t(now), C.uint64_t(id), C.uint16_t(subtask.Vertex), C.uint16_t(subtask.Index))
 	})
-	if err != nil {
-		return Declined{}, err
-	}
-	return declined(answer)
 }
 
 // Restore begins the job again from the latest record. A shape gives it another parallelism; nil keeps it. A bad shape, such as one that

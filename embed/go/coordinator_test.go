@@ -125,6 +125,8 @@ func everyCall(job *relkvanu.Coordinator) []error {
 		errorOf(job.RestoreSavepoint(1000, 1, nil)), errorOf(job.Cancel(1000)), errorOf(job.Take(make([]uint64, 1))), job.Deleted(1), job.Undeleted(1),
 		errorOf(job.Show(1)), errorOf(job.Count(1)), errorOf(job.Save()), errorOf(job.Line([]byte("tick 1000"))), errorOf(job.Line([]byte("show 1"))),
 		errorOf(job.Mode()), errorOf(job.Moment()), errorOf(job.Due()), errorOf(job.Choice()), errorOf(job.Standing(1)), errorOf(job.PinsOf(1)),
+		errorOf(job.Term()), job.Fence(1), errorOf(job.Reserve(1, 1)), job.Forfeit(1, nil), errorOf(job.AckIn(1, 1000, 1, it, []uint64{1}, nil)),
+		errorOf(job.DeclineIn(1, 1000, 1, it)), errorOf(job.Garbage([]uint64{1})),
 		errorOf(job.TakenFiles()), errorOf(job.FileCounts()), live, from, of, waiting, missing, expiry, next,
 	}
 }

@@ -59,18 +59,51 @@ type Refused struct {
 	File uint64 // the file that is to blame, after NameTaken and FileGone
 }
 
-// String is as a script prints it, such as "NameTaken 7".
-func (e *Refused) String() string {
-	if e.Why == NameTaken || e.Why == FileGone {
-		return fmt.Sprintf("%s %d", e.Why.String(), e.File)
-	}
-	return e.Why.String()
+var refusalsOfFiles = map[Refusal]bool{
+	// embed/bindings makes which refusals name a file
+	NameTaken: true,
+	FileGone:  true,
+	// embed/bindings: end
 }
+
+// String is as a script prints it, such as "NameTaken 7".
+func (e *Refused) String() string { return withFile(e.Why, refusalsOfFiles[e.Why], e.File) }
 
 func (e *Refused) Error() string { return "relkvanu: the call is refused: " + e.String() }
 
 // Unwrap is the Refusal.
 func (e *Refused) Unwrap() error { return e.Why }
+
+// FencedError says that the term of a task or the names refuse a call, or that the coordinator has no names. It wraps its Fenced:
+// errors.Is(err, FencedOldTerm). After FencedSpent a task deletes no file: an accepted acknowledgement may have named it, such as this one if
+// it was sent before.
+type FencedError struct {
+	Why  Fenced
+	File uint64 // the file that is to blame, after FencedSpent and FencedNeverReserved
+}
+
+var fencedOfFiles = map[Fenced]bool{
+	// embed/bindings makes which reasons name a file
+	FencedSpent:         true,
+	FencedNeverReserved: true,
+	// embed/bindings: end
+}
+
+// String is as a log prints it, such as "Spent 7".
+func (e *FencedError) String() string { return withFile(e.Why, fencedOfFiles[e.Why], e.File) }
+
+func (e *FencedError) Error() string { return "relkvanu: fenced: " + e.String() }
+
+// Unwrap is the Fenced.
+func (e *FencedError) Unwrap() error { return e.Why }
+
+// withFile is a name, and the file if it has one.
+func withFile(why fmt.Stringer, has bool, file uint64) string {
+	if has {
+		return fmt.Sprintf("%s %d", why.String(), file)
+	}
+	return why.String()
+}
 
 // BadArgument is an argument that is outside its limits.
 type BadArgument uint32
@@ -123,7 +156,7 @@ const (
 	LineMissing LineFault = C.RELKVANU_FAULT_MISSING  // The line ends before a word that it needs.
 	LineNumber  LineFault = C.RELKVANU_FAULT_NUMBER   // Not a number, or not a subtask.
 	LineExtra   LineFault = C.RELKVANU_FAULT_EXTRA    // A word follows the last one.
-	LineNoCall  LineFault = C.RELKVANU_FAULT_NO_CALL  // A config, job, start or all line: it was read, and makes no call.
+	LineNoCall  LineFault = C.RELKVANU_FAULT_NO_CALL  // A config, job, start or all line, or in and a term before what is no call: it was read, and makes no call.
 	// embed/bindings: end
 )
 
@@ -216,6 +249,8 @@ func fault(answer C.relkvanu_answer) error {
 		return nil
 	case C.RELKVANU_REFUSED:
 		return &Refused{Why: Refusal(answer.what), File: uint64(answer.a)}
+	case C.RELKVANU_FENCED:
+		return &FencedError{Why: Fenced(answer.what), File: uint64(answer.a)}
 	case C.RELKVANU_NO_MEMORY:
 		return ErrNoMemory
 	case C.RELKVANU_CLOSED:
@@ -225,8 +260,6 @@ func fault(answer C.relkvanu_answer) error {
 		return BadArgument(answer.what)
 	case C.RELKVANU_BAD_LINE:
 		return LineFault(answer.what)
-	case C.RELKVANU_FENCED:
-		return Fenced(answer.what)
 		// embed/bindings: end
 	}
 	return unknown(answer)

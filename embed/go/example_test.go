@@ -62,6 +62,34 @@ func ExampleRefused() {
 	// 7 relkvanu: the call is refused: FileGone 7
 }
 
+// A task reserves names for its files, and acknowledges them in its term. Once a restore has ended the term, the task changes nothing, and the file
+// that it never acknowledged is garbage.
+func ExampleOpenFenced() {
+	job, err := relkvanu.OpenFenced(relkvanu.Every(1000), []uint64{1}, 0, 1, 1)
+	if err != nil {
+		log.Fatal(err)
+	}
+	defer job.Close()
+	task := relkvanu.Subtask{Vertex: 0, Index: 0}
+
+	fmt.Println(job.Reserve(1, 2))
+	fmt.Println(job.Tick(1000))
+	fmt.Println(job.AckIn(1, 1100, 1, task, []uint64{1}, nil))
+	fmt.Println(job.Restore(1200, nil))
+	fmt.Println(job.Term())
+	_, err = job.AckIn(1, 1300, 1, task, []uint64{2}, nil)
+	fmt.Println(errors.Is(err, relkvanu.FencedOldTerm), err)
+	fmt.Println(job.Garbage([]uint64{1, 2, 3}))
+	// Output:
+	// reserved 1 <nil>
+	// tick expired 0 triggered 1 <nil>
+	// ack completed 0 0 <nil>
+	// restored checkpoint 1 0 <nil>
+	// {2 3} <nil>
+	// true relkvanu: fenced: OldTerm
+	// {[2] [3]} <nil>
+}
+
 // A log has the line of each call. A new process makes the calls of the lines again, and has the same state.
 func ExampleCoordinator_Line() {
 	settings, shape := relkvanu.Every(1000), []uint64{1}

@@ -3,7 +3,7 @@ package relkvanu
 // #include <relkvanu.h>
 import "C"
 
-// Lines of a script (docs/SCRIPT.md): a log of calls, which the library writes and reads.
+// Lines of a script (docs/SCRIPT.md) and of a log with names (docs/LOGS.md): a log of calls, which the library writes and reads.
 
 // Line is what the bytes before a newline say: a LineSkip, LineConfig, LineJob, LineStart, LineAll or LineCall.
 type Line interface{ isLine() }
@@ -83,52 +83,32 @@ func OpeningLines(settings Settings, shape []uint64, now uint64) ([]byte, error)
 	})
 }
 
-// lineTo writes the line of a call, without a newline.
-func lineTo(call C.relkvanu_call, first, second []uint64) ([]byte, error) {
-	if wrongLibrary != nil {
-		return nil, wrongLibrary
-	}
-	return written(256, func(to *C.uint8_t, room C.size_t) C.relkvanu_answer {
-		firstAt, firstLength := list(first)
-		secondAt, secondLength := list(second)
-		return C.relkvanu_call_line(&call, firstAt, firstLength, secondAt, secondLength, to, room)
-	})
-}
+func atMoment(kind CallKind, now uint64) ([]byte, error) { return Call{Kind: kind, Now: now}.Line() }
 
-func atMoment(kind C.uint32_t, now uint64) ([]byte, error) {
-	return lineTo(C.relkvanu_call{kind: kind, now: C.uint64_t(now)}, nil, nil)
-}
-
-func ofNumber(kind C.uint32_t, number uint64) ([]byte, error) {
-	return lineTo(C.relkvanu_call{kind: kind, number: C.uint64_t(number)}, nil, nil)
-}
-
-func ofSubtask(kind C.uint32_t, now, id uint64, subtask Subtask) C.relkvanu_call {
-	return C.relkvanu_call{
-		kind: kind, now: C.uint64_t(now), number: C.uint64_t(id), vertex: C.uint16_t(subtask.Vertex), index: C.uint16_t(subtask.Index),
-	}
+func ofNumber(kind CallKind, number uint64) ([]byte, error) {
+	return Call{Kind: kind, Number: number}.Line()
 }
 
 // The line of each call, without a newline. It reads back as that call. The error is LineTooLong if it would be too long: none is cut.
 
 // TickLine is the line of a Tick.
-func TickLine(now uint64) ([]byte, error) { return atMoment(C.RELKVANU_CALL_TICK, now) }
+func TickLine(now uint64) ([]byte, error) { return atMoment(CallTick, now) }
 
 // SavepointLine is the line of a Savepoint.
-func SavepointLine(now uint64) ([]byte, error) { return atMoment(C.RELKVANU_CALL_SAVEPOINT, now) }
+func SavepointLine(now uint64) ([]byte, error) { return atMoment(CallSavepoint, now) }
 
 // AckLine is the line of an Ack.
 func AckLine(now, id uint64, subtask Subtask, fresh, reused []uint64) ([]byte, error) {
-	return lineTo(ofSubtask(C.RELKVANU_CALL_ACK, now, id, subtask), fresh, reused)
+	return AckInLine(0, now, id, subtask, fresh, reused)
 }
 
 // DeclineLine is the line of a Decline.
 func DeclineLine(now, id uint64, subtask Subtask) ([]byte, error) {
-	return lineTo(ofSubtask(C.RELKVANU_CALL_DECLINE, now, id, subtask), nil, nil)
+	return DeclineInLine(0, now, id, subtask)
 }
 
 // DisposeLine is the line of a Dispose.
-func DisposeLine(id uint64) ([]byte, error) { return ofNumber(C.RELKVANU_CALL_DISPOSE, id) }
+func DisposeLine(id uint64) ([]byte, error) { return ofNumber(CallDispose, id) }
 
 // RestoreLine is the line of a Restore.
 func RestoreLine(now uint64, shape []uint64) ([]byte, error) { return restoreLine(now, 0, shape) }
@@ -145,27 +125,49 @@ func restoreLine(now, savepoint uint64, shape []uint64) ([]byte, error) {
 	if shape != nil && len(shape) == 0 {
 		return nil, BadShape
 	}
-	call := C.relkvanu_call{kind: C.RELKVANU_CALL_RESTORE, now: C.uint64_t(now), number: C.uint64_t(savepoint)}
-	return lineTo(call, shape, nil)
+	return Call{Kind: CallRestore, Now: now, Number: savepoint, First: shape}.Line()
 }
 
 // CancelLine is the line of a Cancel.
-func CancelLine(now uint64) ([]byte, error) { return atMoment(C.RELKVANU_CALL_CANCEL, now) }
+func CancelLine(now uint64) ([]byte, error) { return atMoment(CallCancel, now) }
 
 // TakeLine is the line of a Take that fetches at most so many files.
-func TakeLine(most uint64) ([]byte, error) { return ofNumber(C.RELKVANU_CALL_TAKE, most) }
+func TakeLine(most uint64) ([]byte, error) { return ofNumber(CallTake, most) }
 
 // DeletedLine is the line of a Deleted.
-func DeletedLine(file uint64) ([]byte, error) { return ofNumber(C.RELKVANU_CALL_DELETED, file) }
+func DeletedLine(file uint64) ([]byte, error) { return ofNumber(CallDeleted, file) }
 
 // UndeletedLine is the line of an Undeleted.
-func UndeletedLine(file uint64) ([]byte, error) { return ofNumber(C.RELKVANU_CALL_UNDELETED, file) }
+func UndeletedLine(file uint64) ([]byte, error) { return ofNumber(CallUndeleted, file) }
 
 // ShowLine is the line of a Show.
-func ShowLine(id uint64) ([]byte, error) { return ofNumber(C.RELKVANU_CALL_SHOW, id) }
+func ShowLine(id uint64) ([]byte, error) { return ofNumber(CallShow, id) }
 
 // CountLine is the line of a Count.
-func CountLine(file uint64) ([]byte, error) { return ofNumber(C.RELKVANU_CALL_COUNT, file) }
+func CountLine(file uint64) ([]byte, error) { return ofNumber(CallCount, file) }
+
+// FenceLine is the line of a Fence.
+func FenceLine(firstName uint64) ([]byte, error) { return ofNumber(CallFence, firstName) }
+
+// ReserveLine is the line of a Reserve.
+func ReserveLine(term, count uint64) ([]byte, error) {
+	return Call{Kind: CallReserve, Term: term, Number: count}.Line()
+}
+
+// ForfeitLine is the line of a Forfeit.
+func ForfeitLine(term uint64, names []uint64) ([]byte, error) {
+	return Call{Kind: CallForfeit, Term: term, First: names}.Line()
+}
+
+// AckInLine is the line of an AckIn. Term 0 is none.
+func AckInLine(term, now, id uint64, subtask Subtask, fresh, reused []uint64) ([]byte, error) {
+	return Call{Kind: CallAck, Term: term, Now: now, Number: id, Subtask: subtask, First: fresh, Second: reused}.Line()
+}
+
+// DeclineInLine is the line of a DeclineIn. Term 0 is none.
+func DeclineInLine(term, now, id uint64, subtask Subtask) ([]byte, error) {
+	return Call{Kind: CallDecline, Term: term, Now: now, Number: id, Subtask: subtask}.Line()
+}
 
 // Line makes the call of a script's line: the bytes before its newline. The reply is nil if the line has no words or is a comment. The
 // error is a LineFault if it can't be read or makes no call, or what the call returns. A take line fetches all files that it may.
@@ -229,6 +231,12 @@ func replyOf(answer C.relkvanu_answer, taken []uint64) (Reply, error) {
 		return FileUndeleted{a}, nil
 	case C.RELKVANU_COUNTED:
 		return Counted{a, b}, nil
+	case C.RELKVANU_RESERVED:
+		return Reserved{a, b}, nil
+	case C.RELKVANU_FORFEITED:
+		return Forfeited{}, nil
+	case C.RELKVANU_NAMED:
+		return Named{}, nil
 	case C.RELKVANU_ACK_PENDING, C.RELKVANU_ACK_COMPLETED, C.RELKVANU_ACK_LATE:
 		return acked(answer)
 	case C.RELKVANU_DECLINE_ABORTED, C.RELKVANU_DECLINE_FAILED, C.RELKVANU_DECLINE_LATE:

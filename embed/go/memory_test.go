@@ -83,6 +83,67 @@ func TestCallsWithoutMemory(t *testing.T) {
 	told(t, job, false, "<nil>", func(job it) (string, error) { err := job.Deleted(2); return fmt.Sprint(err), err })
 }
 
+// toldAnew makes the call of a coordinator that is made anew each time, so that it has no room to spare, with all requests from another one on
+// refused: a call that has room for less asks for less.
+func toldAnew(t *testing.T, opened func() *relkvanu.Coordinator, wanted string, make call) {
+	t.Helper()
+	job := opened()
+	heap.Refuse(0)
+	must(make(job))
+	requests, refused := heap.Requests(), 0
+	job.Close()
+	for nth := uint64(1); nth <= requests; nth++ {
+		job := opened()
+		before := string(must(job.Save()))
+		heap.RefuseFrom(nth)
+		answer, err := make(job)
+		heap.Refuse(0)
+		if errors.Is(err, relkvanu.ErrNoMemory) {
+			refused++
+			equal(t, string(must(job.Save())), before)
+			answer, err = make(job)
+		}
+		equal(t, fmt.Sprint(answer, err), wanted+"<nil>")
+		job.Close()
+	}
+	equal(t, refused > 0, true)
+}
+
+// withNames is a job in which a task has reserved so many names from 5 on, and checkpoint 1 is pending.
+func withNames(held uint64) func() *relkvanu.Coordinator {
+	return func() *relkvanu.Coordinator {
+		job := must(relkvanu.OpenFenced(settings, []uint64{1}, 0, 1, 5))
+		if held > 0 {
+			must(job.Reserve(1, held))
+		}
+		must(job.Tick(1000))
+		return job
+	}
+}
+
+func TestNamesWithoutMemory(t *testing.T) {
+	type it = *relkvanu.Coordinator
+	none := func(err error) (string, error) { return "none", err }
+	toldAnew(t, withNames(0), "reserved 5", said(func(job it) (relkvanu.Reserved, error) { return job.Reserve(1, 3) }))
+	toldAnew(t, withNames(3), "none", func(job it) (string, error) { return none(job.Forfeit(1, []uint64{6})) })
+	toldAnew(t, withNames(3), "ack completed 0 0", said(func(job it) (relkvanu.Acked, error) {
+		return job.AckIn(1, 1000, 1, relkvanu.Subtask{}, []uint64{7, 5}, nil)
+	}))
+	plain := func() *relkvanu.Coordinator {
+		job := must(relkvanu.Open(settings, []uint64{1}, 0, 1))
+		must(job.Tick(1000))
+		must(job.Ack(1000, 1, relkvanu.Subtask{}, []uint64{4}, nil))
+		return job
+	}
+	toldAnew(t, plain, "none", func(job it) (string, error) { return none(job.Fence(5)) })
+	job := withNames(3)()
+	defer job.Close()
+	told(t, job, false, "decline failed 0", said(func(job it) (relkvanu.Declined, error) { return job.DeclineIn(1, 1100, 1, relkvanu.Subtask{}) }))
+	told(t, job, false, "{1 8}", said(func(job it) (relkvanu.RunningTerm, error) { return job.Term() }))
+	told(t, job, false, "{[4] [8]}", said(func(job it) (relkvanu.Garbage, error) { return job.Garbage([]uint64{4, 5, 6, 7, 8}) }))
+	told(t, job, false, "restored fresh 0", said(func(job it) (relkvanu.Restored, error) { return job.Restore(2100, nil) }))
+}
+
 func TestTextsAndReadsWithoutMemory(t *testing.T) {
 	job := withCheckpoint3()
 	defer job.Close()
@@ -132,8 +193,10 @@ func opens(t *testing.T, open func() (*relkvanu.Coordinator, error)) {
 
 func TestOpeningsWithoutMemory(t *testing.T) {
 	opens(t, func() (*relkvanu.Coordinator, error) { return relkvanu.Open(settings, []uint64{2}, 0, 1) })
-	job := withCheckpoint3()
-	image := must(job.Save())
-	job.Close()
-	opens(t, func() (*relkvanu.Coordinator, error) { return relkvanu.OpenSaved(image) })
+	opens(t, func() (*relkvanu.Coordinator, error) { return relkvanu.OpenFenced(settings, []uint64{2}, 0, 1, 5) })
+	for _, job := range []*relkvanu.Coordinator{withCheckpoint3(), busy()} {
+		image := must(job.Save())
+		job.Close()
+		opens(t, func() (*relkvanu.Coordinator, error) { return relkvanu.OpenSaved(image) })
+	}
 }

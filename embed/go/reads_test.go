@@ -84,7 +84,7 @@ func TestATextThatIsNoImageOpensNothing(t *testing.T) {
 		// a record that no coordinator has given out yet, and files that are in use and wait
 		bytes.Replace(image, []byte(`"next":4`), []byte(`"next":3`), 1), bytes.Replace(image, []byte(`"waiting":[2,3]`), []byte(`"waiting":[1,3]`), 1),
 	}
-	named := []byte(`"names":{"next":100,"term":1,"unspent":[]},"version":2`)
+	named := []byte(`"names":{"next":100,"term":0,"unspent":[]},"version":2`)
 	damaged = append(damaged, bytes.Replace(image, []byte(`"version":1`), named, 1))
 	for end := range image {
 		damaged = append(damaged, image[:end])

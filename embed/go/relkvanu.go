@@ -7,6 +7,7 @@
 // A call that is not made returns an error, and nothing has changed:
 //
 //   - a [Refused], which wraps its [Refusal]: errors.Is(err, relkvanu.NotRunning);
+//   - a [FencedError], which wraps its [Fenced]: errors.Is(err, relkvanu.FencedOldTerm);
 //   - a [BadArgument]: errors.Is(err, relkvanu.BadShape);
 //   - a [LineFault]: errors.Is(err, relkvanu.LineMissing);
 //   - [ErrNoMemory]: make the same call again;
@@ -16,8 +17,11 @@
 // An [Unknown] alone is different: the library gave an answer that this package does not know.
 //
 // Who may delete a file: the files of an accepted acknowledgement belong to the coordinator, even if it came late. After an error a
-// task deletes a file only if no accepted acknowledgement ever named it. After [AlreadyAcknowledged] and [NameTaken] a file may be
-// in use.
+// task deletes a file only if no accepted acknowledgement ever named it. After [AlreadyAcknowledged], [NameTaken] and [FencedSpent] a file may
+// be in use.
+//
+// A coordinator with names ([OpenFenced]) gives out the numbers of files, each once, and refuses tasks of a term that a restore or a cancel has
+// ended. [Coordinator.Garbage] says at any time which files of a storage may be deleted.
 //
 // With the build tag relkvanu_store there is a Store too, a coordinator whose calls are durable: one SQLite file for each job.
 //

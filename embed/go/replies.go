@@ -10,7 +10,7 @@ import (
 )
 
 // Reply is what a line's call returned: a Ticked, SavepointTriggered, Acked, Declined, Disposed, Restored, Cancelled, Taken,
-// FileDeleted, FileUndeleted, Shown or Counted. Each prints as a script does (docs/SCRIPT.md).
+// FileDeleted, FileUndeleted, Shown, Counted, Reserved, Forfeited or Named. Each prints as a script or a log does (docs/SCRIPT.md, docs/LOGS.md).
 type Reply interface {
 	fmt.Stringer
 	isReply()
@@ -86,6 +86,7 @@ type Disposed struct{ Released uint64 }
 type Restored struct {
 	From     Choice
 	Released uint64
+	Term     uint64 // of a Store whose job has names: the term that begins, with which the tasks are started. Otherwise 0
 }
 
 // Cancelled is the reply to a cancel: so many records were dropped, and so many files released.
@@ -102,6 +103,24 @@ type FileUndeleted struct{ File uint64 }
 
 // Counted is the number of uses of a file.
 type Counted struct{ File, Uses uint64 }
+
+// Reserved has names that are reserved for files: Count of them, from First on.
+type Reserved struct{ First, Count uint64 }
+
+// Names has them, ascending.
+func (r Reserved) Names() []uint64 {
+	names := make([]uint64, r.Count)
+	for place := range names {
+		names[place] = r.First + uint64(place)
+	}
+	return names
+}
+
+// Forfeited is the reply to a line that gives names up.
+type Forfeited struct{}
+
+// Named is the reply to the line of a fence: the coordinator has names now, and is in term 1.
+type Named struct{}
 
 // Shown is the metadata of a record.
 type Shown struct{ JSON []byte }
@@ -153,6 +172,9 @@ func (FileDeleted) isReply()        {}
 func (FileUndeleted) isReply()      {}
 func (Shown) isReply()              {}
 func (Counted) isReply()            {}
+func (Reserved) isReply()           {}
+func (Forfeited) isReply()          {}
+func (Named) isReply()              {}
 
 var ticks = map[TickEnd]string{
 	// embed/bindings makes the names of ends
@@ -214,5 +236,11 @@ func (r FileDeleted) String() string { return fmt.Sprintf("deleted %d", r.File) 
 func (r FileUndeleted) String() string { return fmt.Sprintf("undeleted %d", r.File) }
 
 func (r Shown) String() string { return string(r.JSON) }
+
+func (r Reserved) String() string { return fmt.Sprintf("reserved %d", r.First) }
+
+func (r Forfeited) String() string { return "forfeited" }
+
+func (r Named) String() string { return "term 1" }
 
 func (r Counted) String() string { return fmt.Sprintf("count %d %d", r.File, r.Uses) }

@@ -20,6 +20,7 @@ const rows = "../../examples/rows"
 func printed(number int, reply fmt.Stringer, err error) string {
 	var (
 		refused *relkvanu.Refused
+		fenced  *relkvanu.FencedError
 		fault   relkvanu.LineFault
 		bad     relkvanu.BadArgument
 	)
@@ -30,6 +31,8 @@ func printed(number int, reply fmt.Stringer, err error) string {
 		return fmt.Sprintf("line %d fault %v\n", number, fault.String())
 	case errors.As(err, &refused):
 		return "refused " + refused.String() + "\n"
+	case errors.As(err, &fenced):
+		return "fenced " + fenced.String() + "\n"
 	case errors.As(err, &bad):
 		return "refused " + bad.String() + "\n"
 	case err != nil:
@@ -153,8 +156,29 @@ func called(job *relkvanu.Coordinator, words []string) (fmt.Stringer, error) {
 		return restored(job, number(given[0]), given[1], numbers(given[2:]))
 	case "cancel":
 		return job.Cancel(number(given[0]))
+	case "fence":
+		return relkvanu.Named{}, job.Fence(number(given[0]))
+	case "reserve":
+		return job.Reserve(number(given[0]), number(given[1]))
+	case "forfeit":
+		return relkvanu.Forfeited{}, job.Forfeit(number(given[0]), numbers(given[1:]))
+	case "in":
+		return calledIn(job, number(given[0]), given[1:])
 	}
 	return ofFiles(job, words[0], number(given[0]))
+}
+
+// calledIn makes the call of a task of a term; another one is the plain call.
+func calledIn(job *relkvanu.Coordinator, term uint64, words []string) (fmt.Stringer, error) {
+	given := words[1:]
+	switch words[0] {
+	case "ack":
+		fresh, reused := lists(given[3:])
+		return job.AckIn(term, number(given[0]), number(given[1]), subtask(given[2]), fresh, reused)
+	case "decline":
+		return job.DeclineIn(term, number(given[0]), number(given[1]), subtask(given[2]))
+	}
+	return called(job, words)
 }
 
 func ofFiles(job *relkvanu.Coordinator, word string, number uint64) (fmt.Stringer, error) {
@@ -309,7 +333,7 @@ func TestALogIsMadeAgain(t *testing.T) {
 
 func TestWhatALineSays(t *testing.T) {
 	call, is, err := relkvanu.CallOf([]byte("ack 5 1 1.2 =7 +12 +11"))
-	equal(t, fmt.Sprint(call, is, err), "{3 5 1 1.2 [11 12] [7]} true <nil>")
+	equal(t, fmt.Sprint(call, is, err), "{3 5 1 1.2 [11 12] [7] 0} true <nil>")
 	many := make([]uint64, 100)
 	for place := range many {
 		many[place] = uint64(place + 1)

@@ -25,6 +25,7 @@ type StoreOptions struct {
 	CreateOnly   bool // makes a job, and there may be none
 	Adopt        bool // makes a job also if the storage has files. The next sweep deletes them all, if their names are numbers
 	EarlierImage bool // begins with the image before the last one, which is damaged. The log after it is whole
+	Plain        bool // a job that is made has no names: the engine gives out the numbers of files, and sweeps only when no task runs
 
 	Patience   time.Duration // for which a commit tries again if the disk is full, SQLite has no memory or a lock is held
 	ImageCalls uint64        // an image after so many calls. 0: 10000; NoImages: none, and the log is never cut
@@ -43,8 +44,8 @@ type Step uint32
 // The steps, in the order in which a report has them.
 const (
 	EndTasks     Step = C.RELKVANU_STORE_END_TASKS   // make sure that no earlier task runs, and that no message of one arrives
-	RestoreJob   Step = C.RELKVANU_STORE_RESTORE     // call Restore: its reply says where the job begins again
-	Sweep        Step = C.RELKVANU_STORE_SWEEP       // delete the files of the storage that Unknown returns
+	RestoreJob   Step = C.RELKVANU_STORE_RESTORE     // call Restore: its reply says where the job begins again, and in which term
+	Sweep        Step = C.RELKVANU_STORE_SWEEP       // call Sweep, or delete the files of the storage that Unknown returns
 	StartTasks   Step = C.RELKVANU_STORE_START_TASKS // start tasks, a timer (AwaitTick) and a discarder (Discard)
 	StartDiscard Step = C.RELKVANU_STORE_DISCARD     // start a discarder alone: the job is cancelled
 )
@@ -58,7 +59,7 @@ type Report struct {
 	IsRecovered    bool   // false: it is a new job
 	SettingsDiffer bool   // the job was made with other settings or another shape, and keeps them
 	Steps          []Step // what the engine has to do, in this order
-	Epoch          uint64 // 1 for a new job, and 1 more at each opening. Put it into messages and into the numbers of files
+	Epoch          uint64 // 1 for a new job, and 1 more at each opening. Put it into messages, and into the numbers of files of a job without names
 	Job            string // the identity of the job. The marker of the storage has it
 	ImagePlace     uint64 // how many calls the image covers
 	Replayed       uint64 // how many calls were made again
@@ -66,13 +67,20 @@ type Report struct {
 	Moment         uint64 // the greatest moment so far
 	Mode           Mode
 	Choice         Choice
+	Term           uint64 // the term that runs: the tasks of a new job are started with it. 0: the job has no names
+	NextName       uint64 // that will be given out. 0: the job has no names
 }
 
 // Store is a coordinator whose calls are durable: one SQLite file for each job, so that an engine writes no log, lock, sync or recovery.
 // It is there with the build tag relkvanu_store, over the library relkvanu-store. include/relkvanu_store.h has the conditions.
 //
 // A call returns once it is committed and synced. Goroutines may share a store: while one of them commits, the calls of the others gather,
-// and are committed together. An error that is no [Refused], BadArgument or ErrNoMemory is a [StoreError], or ErrClosed after Close.
+// and are committed together. An error that is no [Refused], [FencedError], BadArgument or ErrNoMemory is a [StoreError], or ErrClosed after Close.
+//
+// A job has names, unless it was made with StoreOptions.Plain. A task is started with the term of the restore before it (Restored.Term), or with
+// Report.Term if the job is new; it never asks for a term. It reserves names, puts a file by each, and acknowledges them; what it does not
+// acknowledge it forfeits. It deletes nothing. What a task of an ended term sends returns FencedOldTerm. The discarder and Sweep may run at any
+// time, twice, late, or from a process that should be dead: no live file is deleted.
 type Store struct {
 	store  *C.relkvanu_store
 	report Report
@@ -117,7 +125,7 @@ func (o *StoreOptions) inC() C.relkvanu_store_options {
 	flags := C.uint32_t(0)
 	for flag, is := range map[C.uint32_t]bool{
 		C.RELKVANU_STORE_CREATE: o.Create, C.RELKVANU_STORE_CREATE_ONLY: o.CreateOnly, C.RELKVANU_STORE_ADOPT: o.Adopt,
-		C.RELKVANU_STORE_EARLIER_IMAGE: o.EarlierImage,
+		C.RELKVANU_STORE_EARLIER_IMAGE: o.EarlierImage, C.RELKVANU_STORE_PLAIN: o.Plain,
 	} {
 		if is {
 			flags |= flag
@@ -151,7 +159,7 @@ func reportOf(found *C.relkvanu_store_report) Report {
 		IsRecovered: bool(found.is_recovered), SettingsDiffer: bool(found.settings_differ), Epoch: uint64(found.epoch),
 		Job: fmt.Sprintf("%016x%016x", uint64(found.job[0]), uint64(found.job[1])), ImagePlace: uint64(found.image_place),
 		Replayed: uint64(found.replayed), Taken: uint64(found.taken), Moment: uint64(found.moment), Mode: Mode(found.mode.what),
-		Choice: choiceOf(found.choice),
+		Choice: choiceOf(found.choice), Term: uint64(found.term), NextName: uint64(found.next_name),
 	}
 	for _, step := range found.steps[:found.steps_len] {
 		report.Steps = append(report.Steps, Step(step))

@@ -18,7 +18,8 @@ type Outcome struct {
 	Reply  Reply
 	Place  uint64 // of the call in the log, from 1; 0 if it changed nothing
 	Choice Choice // after a trigger: the record that its barrier names beside it
-	Err    error  // a Refused, BadArgument or ErrNoMemory
+	Term   uint64 // after a restore, cancel or fence of a job with names: the term that begins, for who starts the tasks; otherwise 0
+	Err    error  // a Refused, FencedError, BadArgument or ErrNoMemory
 }
 
 // callList has calls in memory of C, which may have no pointer to memory of Go: the calls, and behind them their lists and buffers.
@@ -64,7 +65,7 @@ func (l callList) free() { C.free(unsafe.Pointer(l.at)) }
 func (l callList) fill(place int, call *Call, rest []uint64) []uint64 {
 	first, second, files := wordsOf(call)
 	it := &l.calls()[place]
-	it.call = ofSubtask(C.uint32_t(call.Kind), call.Now, call.Number, call.Subtask)
+	it.call = call.inC()
 	if call.Kind == CallTake {
 		it.call.number = C.uint64_t(files)
 	}
@@ -92,7 +93,11 @@ func outcomeOf(it *C.relkvanu_store_call) Outcome {
 		taken = append(taken, numbersAt(it.files, int(it.answer.a))...)
 	}
 	reply, err := replyOf(it.answer, taken)
-	return Outcome{Reply: reply, Place: uint64(it.place), Choice: choiceOf(it.choice), Err: err}
+	if restored, is := reply.(Restored); is {
+		restored.Term = uint64(it.term)
+		reply = restored
+	}
+	return Outcome{Reply: reply, Place: uint64(it.place), Choice: choiceOf(it.choice), Term: uint64(it.term), Err: err}
 }
 
 // Calls makes 1 to 4096 calls, in this order and with no other in between, and returns once they are committed. A refused one changes
@@ -145,6 +150,76 @@ func (s *Store) Ack(id uint64, subtask Subtask, fresh, reused []uint64) (Acked, 
 // Decline says that a subtask can't take its part of a record.
 func (s *Store) Decline(id uint64, subtask Subtask) (Declined, error) {
 	return one[Declined](s, Call{Kind: CallDecline, Now: StoreNow, Number: id, Subtask: subtask})
+}
+
+// AckIn is the acknowledgement of a subtask of a term, as that of Coordinator.
+func (s *Store) AckIn(term, id uint64, subtask Subtask, fresh, reused []uint64) (Acked, error) {
+	return one[Acked](s, Call{Kind: CallAck, Term: term, Now: StoreNow, Number: id, Subtask: subtask, First: fresh, Second: reused})
+}
+
+// DeclineIn says that a subtask of a term can't take its part of a record.
+func (s *Store) DeclineIn(term, id uint64, subtask Subtask) (Declined, error) {
+	return one[Declined](s, Call{Kind: CallDecline, Term: term, Now: StoreNow, Number: id, Subtask: subtask})
+}
+
+// Reserve reserves names for files that a task of this term will write, 1 to 65536. They are not given out again, whatever happens.
+func (s *Store) Reserve(term, count uint64) (Reserved, error) {
+	return one[Reserved](s, Call{Kind: CallReserve, Term: term, Number: count})
+}
+
+// Forfeit gives up names, at most 65536, that a task of this term will not acknowledge, such as that of a file which could not be put: their
+// files are garbage then. Names that the term does not hold are passed over. A list of more than 4096 is several calls, with no other in between.
+func (s *Store) Forfeit(term uint64, names []uint64) error {
+	_, err := s.told(C.RELKVANU_FORFEITED, func(answer *C.relkvanu_answer) C.int {
+		at, length := list(names)
+		if length == 0 {
+			at = &noNumber
+		}
+		return C.relkvanu_store_forfeit(s.store, C.uint64_t(term), at, length, answer)
+	})
+	return err
+}
+
+// noNumber is the place of a list without numbers, which nobody reads.
+var noNumber C.uint64_t
+
+// Fence gives names to a job without, in term 1, for good. Call it after a restore and before tasks start, and start them with that term. Each
+// number that a task was told of is below firstName. The error is FencedNameInUse if the storage or the coordinator has a file from it on.
+func (s *Store) Fence(firstName uint64) error {
+	_, err := one[Named](s, Call{Kind: CallFence, Number: firstName})
+	return err
+}
+
+// told makes a function that writes one answer, which has to be this one.
+func (s *Store) told(what C.uint32_t, call func(answer *C.relkvanu_answer) C.int) (answer C.relkvanu_answer, err error) {
+	if err := s.enter(); err != nil {
+		return answer, err
+	}
+	defer s.leave()
+	if err := s.check(call(&answer)); err != nil {
+		return answer, err
+	}
+	if err := fault(answer); err != nil {
+		return answer, err
+	}
+	if answer.what != what {
+		return answer, unknown(answer)
+	}
+	return answer, nil
+}
+
+// Term is the term that runs, and the next name. Whoever starts tasks takes the term from its own restore: another restore may have ended that
+// one. A task never asks.
+func (s *Store) Term() (RunningTerm, error) {
+	return runningTerm(s.told(C.RELKVANU_TERM, func(answer *C.relkvanu_answer) C.int { return C.relkvanu_store_term(s.store, answer) }))
+}
+
+// Garbage sorts files of a storage, at any time, also while tasks run: those that may be deleted, and those that nobody deletes.
+func (s *Store) Garbage(files []uint64) (Garbage, error) {
+	rooms := newSorting(files)
+	return rooms.sorted(s.told(C.RELKVANU_GARBAGE, func(answer *C.relkvanu_answer) C.int {
+		return C.relkvanu_store_garbage(s.store, rooms.at(rooms.files), rooms.length, rooms.at(rooms.garbage), rooms.at(rooms.unissued), answer)
+	}))
 }
 
 // Dispose disposes of a completed savepoint for a user.

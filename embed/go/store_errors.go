@@ -5,6 +5,8 @@ package relkvanu
 // #include <relkvanu_store.h>
 import "C"
 
+import "errors"
+
 // StoreFault is why a store was not opened, or why calls were not committed.
 type StoreFault uint32
 
@@ -17,10 +19,10 @@ const (
 	StoreNotAStore   StoreFault = C.RELKVANU_STORE_NOT_A_STORE   // another kind of file, or one of a later version
 	StoreDiffers     StoreFault = C.RELKVANU_STORE_DIFFERS       // a call of the log gets another answer, or is refused. The message says which
 	StoreDamaged     StoreFault = C.RELKVANU_STORE_DAMAGED       // an image, a call or the file is damaged. The message says which
-	StoreStorage     StoreFault = C.RELKVANU_STORE_STORAGE       // the storage folder is not that of this job, or the job's file is an older copy
+	StoreStorage     StoreFault = C.RELKVANU_STORE_STORAGE       // the storage folder is not that of this job or lacks its marker, or the job's file is an older copy
 	StoreClosed      StoreFault = C.RELKVANU_STORE_CLOSED        // an earlier commit failed
 	StoreForked      StoreFault = C.RELKVANU_STORE_FORKED        // this process is a child of the one that opened the store
-	StoreNotNow      StoreFault = C.RELKVANU_STORE_NOT_NOW       // Unknown: no sweep is safe now; Discard: another goroutine discards
+	StoreNotNow      StoreFault = C.RELKVANU_STORE_NOT_NOW       // Unknown, Sweep: no sweep of a job without names is safe now; Discard: another goroutine discards
 	StoreStopped     StoreFault = C.RELKVANU_STORE_STOPPED       // Stop was called, or Close
 	StoreNotPut      StoreFault = C.RELKVANU_STORE_NOT_PUT       // a state file was not made
 	StoreFailed      StoreFault = C.RELKVANU_STORE_FAILED        // a read, write or sync failed
@@ -49,6 +51,7 @@ func (f StoreFault) Error() string { return "relkvanu: the store: " + f.String()
 type StoreError struct {
 	Fault   StoreFault
 	Message string // what went wrong, and where
+	Cause   error  // after StoreNotPut: why, such as syscall.ENOSPC
 }
 
 func (e *StoreError) Error() string {
@@ -61,8 +64,10 @@ func (e *StoreError) Error() string {
 // Unwrap is the StoreFault.
 func (e *StoreError) Unwrap() error { return e.Fault }
 
-// Is says that a store which a failed commit has closed is closed: errors.Is(err, ErrClosed).
-func (e *StoreError) Is(target error) bool { return target == ErrClosed && e.Fault == StoreClosed }
+// Is says that a store which a failed commit has closed is closed, as errors.Is(err, ErrClosed), and finds the cause.
+func (e *StoreError) Is(target error) bool {
+	return target == ErrClosed && e.Fault == StoreClosed || e.Cause != nil && errors.Is(e.Cause, target)
+}
 
 // Closes is whether the store is closed now.
 func (e *StoreError) Closes() bool { return e.Fault >= StoreFailed }

@@ -31,6 +31,8 @@ type Reads interface {
 	FileCounts() (FileCounts, error)
 	Show(id uint64) (Shown, error)
 	Count(file uint64) (Counted, error)
+	Term() (RunningTerm, error)
+	Garbage(files []uint64) (Garbage, error)
 	Save() ([]byte, error)
 }
 
@@ -100,9 +102,10 @@ func (s *Store) AwaitTick(longest time.Duration) (StoreTick, bool, error) {
 	return StoreTick{Ticked: made.Reply.(Ticked), Choice: made.Choice}, true, nil
 }
 
-// Unknown is for the sweep of a recovery: those of the files that the coordinator does not know. The engine deletes exactly these. It returns
-// StoreNotNow unless the job was restored, or is cancelled, and no checkpoint was triggered or acknowledged since: a task may have written a
-// file whose acknowledgement is on its way.
+// Unknown is for a sweep: those of the files that may be deleted. The engine deletes exactly these. In a job with names they are garbage, at any
+// time. In a job without names they are the files that the coordinator does not know, at one time only. It returns StoreNotNow unless the job was
+// restored, or is cancelled, and no checkpoint was triggered or acknowledged since: a task may have written a file whose acknowledgement is on its
+// way.
 func (s *Store) Unknown(files []uint64) ([]uint64, error) {
 	if err := s.enter(); err != nil {
 		return nil, err
@@ -161,10 +164,61 @@ func (s *Store) Discard(batch int, remove func(file uint64) error) error {
 	if with.panicked != nil {
 		panic(with.panicked)
 	}
+	return s.stopped(status)
+}
+
+// stopped is the error of a loop that ended with this status: none, if it was stopped.
+func (s *Store) stopped(status C.int) error {
 	if status == C.RELKVANU_STORE_STOPPED {
 		return nil
 	}
 	return s.check(status)
+}
+
+// DiscardFiles is a discarder of the files that Put has made, in batches of 256, as Discard is one of the engine's own.
+func (s *Store) DiscardFiles() error {
+	if err := s.enter(); err != nil {
+		return err
+	}
+	defer s.leave()
+	return s.stopped(discardFiles(s.store))
+}
+
+// Put makes a state file in the storage folder, by its number: it writes it beside its name, syncs it, gives it the name, and syncs the folder. A
+// loss of power does not take it then, and a task may acknowledge it. The file 7 has the name 7, and 7.part while it is not whole.
+//
+// The error is StorePresent if there is a file of this number, or a part of one; StoreStorage if the folder lacks its marker, or another opening
+// has it; StoreNotPut if it can't be written, which wraps why: errors.Is(err, syscall.ENOSPC); StoreBadArgument if there is no storage folder.
+// Then the task forfeits the name and declines. The number is not given again: a sweep deletes what is left. In a job with names the number is one
+// that the task has reserved.
+func (s *Store) Put(file uint64, contents []byte) error {
+	if err := s.enter(); err != nil {
+		return err
+	}
+	defer s.leave()
+	at, length := text(contents)
+	status, why := C.relkvanu_store_put(s.store, C.uint64_t(file), unsafe.Pointer(at), length)
+	if status == C.RELKVANU_STORE_NOT_PUT {
+		return &StoreError{Fault: StoreNotPut, Message: why.Error(), Cause: why}
+	}
+	return s.check(status)
+}
+
+// Sweep deletes the files of the storage folder that Unknown returns, also what is there in part, and syncs the folder. It returns how many it
+// could not delete: the next sweep tries them again. A job with names is swept at each restore and whenever the engine likes, also while tasks run:
+// Counts then tells how many files it left because their names were not given out. One without is swept at each recovery, each restore and after a
+// cancel, when all tasks have ended.
+//
+// The error is StoreNotNow as that of Unknown; StoreStorage if the folder lacks its marker, another opening has it, or it can't be read or synced;
+// StoreBadArgument if there is no storage folder.
+func (s *Store) Sweep() (left uint64, err error) {
+	if err := s.enter(); err != nil {
+		return 0, err
+	}
+	defer s.leave()
+	var found C.size_t
+	err = s.check(C.relkvanu_store_sweep(s.store, &found))
+	return uint64(found), err
 }
 
 // storeRemover is what the library hands back.
@@ -186,6 +240,8 @@ type StoreCounts struct {
 	Commits, Calls, Largest                 uint64 // Largest: the most calls of a commit
 	Images, FailedImages                    uint64
 	Checkpoints, FailedCheckpoints, Retries uint64 // of SQLite's log into the file; of commits
+	Swept                                   uint64 // files that sweeps have deleted
+	Unissued                                uint64 // files that the last whole sweep left, since their names were not given out: another job's, or its log was lost
 }
 
 // Counts counts since the opening. They are 0 if the store is closed.
@@ -199,6 +255,6 @@ func (s *Store) Counts() StoreCounts {
 	return StoreCounts{
 		Commits: uint64(found.commits), Calls: uint64(found.calls), Largest: uint64(found.largest), Images: uint64(found.images),
 		FailedImages: uint64(found.failed_images), Checkpoints: uint64(found.checkpoints), FailedCheckpoints: uint64(found.failed_checkpoints),
-		Retries: uint64(found.retries),
+		Retries: uint64(found.retries), Swept: uint64(found.swept), Unissued: uint64(found.unissued),
 	}
 }

@@ -6,11 +6,13 @@ import (
 	"errors"
 	"fmt"
 	"io/fs"
+	"math"
 	"os"
 	"os/exec"
 	"path/filepath"
 	"strings"
 	"sync"
+	"syscall"
 	"testing"
 	"time"
 
@@ -28,10 +30,11 @@ func newStoreFolder(t *testing.T) storeFolder {
 	return folder
 }
 
+// storeOptions are those of a job without names.
 func storeOptions() relkvanu.StoreOptions {
 	settings := relkvanu.Every(10)
 	settings.Timeout = 1 << 30
-	return relkvanu.StoreOptions{Settings: settings, Shape: []uint64{2}, Create: true}
+	return relkvanu.StoreOptions{Settings: settings, Shape: []uint64{2}, Create: true, Plain: true}
 }
 
 // fails checks that a call fails so, and returns the message.
@@ -78,7 +81,7 @@ func TestStoreMakesAndRecovers(t *testing.T) {
 	store := must(relkvanu.OpenStore(folder.job, options))
 	report := store.Report()
 	equal(t, fmt.Sprint(report.Steps, report.Epoch, report.IsRecovered), "[start tasks] 1 false")
-	equal(t, fmt.Sprint(made(t, store, relkvanu.Call{Kind: relkvanu.CallTick, Now: 10})), "{tick expired 0 triggered 1 1 fresh <nil>}")
+	equal(t, fmt.Sprint(made(t, store, relkvanu.Call{Kind: relkvanu.CallTick, Now: 10})), "{tick expired 0 triggered 1 1 fresh 0 <nil>}")
 	equal(t, must(store.Ack(1, relkvanu.Subtask{}, []uint64{1}, nil)).String(), "ack pending 1")
 	fails(t, errorOf(store.Ack(1, relkvanu.Subtask{}, []uint64{3}, nil)), relkvanu.AlreadyAcknowledged)
 	equal(t, must(store.Ack(1, relkvanu.Subtask{Index: 1}, []uint64{2}, nil)).String(), "ack completed 0 0")
@@ -153,12 +156,15 @@ func TestStoreClosed(t *testing.T) {
 		fails(t, store.Read(func(relkvanu.Reads) error { return nil }), relkvanu.ErrClosed)
 		fails(t, errorOf(store.Unknown(nil)), relkvanu.ErrClosed)
 		fails(t, store.Discard(0, func(uint64) error { return nil }), relkvanu.ErrClosed)
+		fails(t, store.DiscardFiles(), relkvanu.ErrClosed)
+		fails(t, store.Put(1, nil), relkvanu.ErrClosed)
+		fails(t, errorOf(store.Sweep()), relkvanu.ErrClosed)
 		_, _, err := store.AwaitTick(time.Second)
 		fails(t, err, relkvanu.ErrClosed)
 		_, _, err = store.NextTick()
 		fails(t, err, relkvanu.ErrClosed)
 		_, is := store.Folder()
-		equal(t, fmt.Sprint(store.Now(), store.Counts(), is), "0 {0 0 0 0 0 0 0 0} false")
+		equal(t, fmt.Sprint(store.Now(), store.Counts(), is), "0 {0 0 0 0 0 0 0 0 0 0} false")
 		store.Stop()
 	}
 }
@@ -260,6 +266,58 @@ func TestStoreDiscarder(t *testing.T) {
 	fails(t, store.Discard(4096, nil), relkvanu.StoreBadArgument)
 }
 
+// listed are the names in the storage, but that of the marker.
+func listed(t *testing.T, folder storeFolder) string {
+	t.Helper()
+	var names []string
+	for _, entry := range must(os.ReadDir(folder.storage)) {
+		if !strings.HasPrefix(entry.Name(), ".") {
+			names = append(names, entry.Name())
+		}
+	}
+	return fmt.Sprint(names)
+}
+
+// A task's file is made, kept while a record uses it, and then deleted; what no record knows is swept.
+func TestStoreFilesOfTheStorage(t *testing.T) {
+	folder, options := newStoreFolder(t), storeOptions()
+	options.Storage = folder.storage
+	store := must(relkvanu.OpenStore(folder.job, options))
+	equal(t, store.Put(1, []byte{0, 1, 255}), nil)
+	equal(t, store.Put(2, nil), nil)
+	equal(t, store.Put(math.MaxUint64, make([]byte, 1<<20)), nil)
+	equal(t, fmt.Sprint(must(os.ReadFile(filepath.Join(folder.storage, "1")))), "[0 1 255]")
+	equal(t, must(os.Stat(filepath.Join(folder.storage, "2"))).Size(), 0)
+	equal(t, listed(t, folder), "[1 18446744073709551615 2]")
+	fails(t, store.Put(1, nil), relkvanu.StorePresent)
+	must(0, os.WriteFile(filepath.Join(folder.storage, "9.part"), nil, 0o600))
+	fails(t, store.Put(9, nil), relkvanu.StorePresent)
+	must(0, os.Mkdir(filepath.Join(folder.storage, "10"), 0o700))
+	completes(t, store, 1)
+	fails(t, errorOf(store.Sweep()), relkvanu.StoreNotNow)
+	store.Close()
+	store = must(relkvanu.OpenStore(folder.job, options))
+	defer store.Close()
+	must(store.Restore(nil))
+	equal(t, must(store.Sweep()), 1) // the folder 10
+	equal(t, listed(t, folder), "[1 10 2]")
+	ended := make(chan error)
+	go func() { ended <- store.DiscardFiles() }()
+	equal(t, store.Put(11, []byte("state")), nil)
+	equal(t, store.Put(12, []byte("state")), nil)
+	completes(t, store, 11)
+	within(t, func() bool { return storeCounts(store) == relkvanu.FileCounts{InUse: 2} })
+	equal(t, listed(t, folder), "[10 11 12]")
+	store.Stop()
+	equal(t, <-ended, nil)
+	must(0, os.Remove(filepath.Join(folder.storage, ".relkvanu-job")))
+	fails(t, store.Put(13, nil), relkvanu.StoreStorage)
+	plain := must(relkvanu.OpenStore(folder.job+"2", storeOptions()))
+	defer plain.Close()
+	fails(t, plain.Put(1, nil), relkvanu.StoreBadArgument)
+	fails(t, errorOf(plain.Sweep()), relkvanu.StoreBadArgument)
+}
+
 // What remove panics with ends the discarder, and no file counts as deleted after it.
 func TestStoreDiscarderPanics(t *testing.T) {
 	folder, options := newStoreFolder(t), storeOptions()
@@ -283,6 +341,9 @@ func TestStoreErrors(t *testing.T) {
 	equal(t, full.Error(), "relkvanu: the store: Full: job.db: no space")
 	found := (*relkvanu.StoreError)(nil)
 	equal(t, errors.As(full, &found) && found.Closes() && errors.Is(full, relkvanu.StoreFull) && !errors.Is(full, relkvanu.ErrClosed), true)
+	notPut := error(&relkvanu.StoreError{Fault: relkvanu.StoreNotPut, Message: syscall.ENOSPC.Error(), Cause: syscall.ENOSPC})
+	equal(t, errors.Is(notPut, relkvanu.StoreNotPut) && errors.Is(notPut, syscall.ENOSPC) && !errors.Is(notPut, syscall.EIO), true)
+	equal(t, notPut.Error(), "relkvanu: the store: NotPut: no space left on device")
 	closed := &relkvanu.StoreError{Fault: relkvanu.StoreClosed}
 	equal(t, errors.Is(closed, relkvanu.ErrClosed) && !closed.Closes(), true)
 	equal(t, closed.Error(), "relkvanu: the store: Closed")
@@ -295,14 +356,35 @@ func TestStoreFailingSync(t *testing.T) {
 		failsInACommit(t, job)
 		return
 	}
+	withShim(t, newStoreFolder(t).job, "STORE_FAULT=sync", "STORE_AT=40")
+}
+
+// withShim runs this test in a process of its own, in which the files of a folder, or those whose names begin so, have a fault.
+func withShim(t *testing.T, in string, fault ...string) {
+	t.Helper()
 	if os.Getenv("STORE_SHIM") == "" {
 		t.Skip("STORE_SHIM names no shim")
 	}
-	command := exec.Command(os.Args[0], "-test.run", "^TestStoreFailingSync$")
-	command.Env = append(os.Environ(), "LD_PRELOAD="+os.Getenv("STORE_SHIM"), "STORE_IN="+newStoreFolder(t).job, "STORE_FAULT=sync", "STORE_AT=40")
+	command := exec.Command(os.Args[0], "-test.run", "^"+t.Name()+"$")
+	command.Env = append(os.Environ(), append(fault, "LD_PRELOAD="+os.Getenv("STORE_SHIM"), "STORE_IN="+in)...)
 	if told, err := command.CombinedOutput(); err != nil {
 		t.Errorf("%v: %s", err, told)
 	}
+}
+
+// The disk is full for file 7, by the same shim: nothing of it is left, and others are made.
+func TestStoreFullDisk(t *testing.T) {
+	if storage := os.Getenv("STORE_IN"); storage != "" {
+		options := storeOptions()
+		options.Storage = storage
+		store := must(relkvanu.OpenStore(storage+".db", options))
+		defer store.Close()
+		equal(t, fails(t, store.Put(7, []byte{1}), syscall.ENOSPC), "relkvanu: the store: NotPut: no space left on device")
+		equal(t, store.Put(8, []byte{1}), nil)
+		equal(t, listed(t, storeFolder{storage: storage}), "[8]")
+		return
+	}
+	withShim(t, newStoreFolder(t).storage, "STORE_FAULT=full", "STORE_ON=/7.part", "STORE_FOR=0")
 }
 
 func failsInACommit(t *testing.T, job string) {

@@ -16,7 +16,7 @@ func TestALibraryOfAnotherVersion(t *testing.T) {
 		t.Skip("the library has this version")
 	}
 	for _, err := range []error{
-		errorOf(relkvanu.Open(settings, []uint64{1}, 0, 1)), errorOf(relkvanu.OpenSaved([]byte("{}"))), errorOf(relkvanu.LineSays([]byte("tick 1"))),
+		errorOf(relkvanu.Open(settings, []uint64{1}, 0, 1)), errorOf(relkvanu.OpenFenced(settings, []uint64{1}, 0, 1, 1)), errorOf(relkvanu.OpenSaved([]byte("{}"))), errorOf(relkvanu.LineSays([]byte("tick 1"))),
 		errorOf(relkvanu.OpeningLines(settings, []uint64{1}, 0)), errorOf(relkvanu.TickLine(1)), errorOf(relkvanu.AckLine(1, 1, relkvanu.Subtask{}, nil, nil)),
 	} {
 		var other *relkvanu.OtherLibrary
@@ -37,7 +37,7 @@ func TestAnswersThatNobodyKnows(t *testing.T) {
 	_, _, live := job.Live(0)
 	for place, err := range []error{
 		errorOf(job.Tick(0)), errorOf(job.Decline(0, 1, first)), errorOf(job.Mode()), errorOf(job.Choice()), errorOf(job.Standing(1)), live,
-		errorOf(job.Line(nil)), errorOf(relkvanu.LineSays(nil)),
+		errorOf(job.Line(nil)), errorOf(relkvanu.LineSays(nil)), errorOf(job.Reserve(1, 1)),
 	} {
 		var unknown *relkvanu.Unknown
 		if !errors.As(err, &unknown) || unknown.What != 999 && unknown.Code != 999 {
@@ -46,5 +46,6 @@ func TestAnswersThatNobodyKnows(t *testing.T) {
 	}
 	equal(t, errorOf(job.Ack(0, 1, first, nil, nil)).Error(), "relkvanu: the call is refused: refusal 999")
 	equal(t, errorOf(job.Restore(0, nil)).Error(), "relkvanu: an argument is outside its limits: number 999")
+	equal(t, errorOf(job.Term()).Error(), "relkvanu: fenced: number 999")
 	equal(t, errorOf(job.Line([]byte("x"))).Error(), "relkvanu: the line can't be read: number 999")
 }

@@ -58,9 +58,13 @@ def new_enum(code: Number, enum: str) -> str:
     return text + f'func (it {kind}) Error() string {{ return "relkvanu: {header.words(code.name)}: " + it.String() }}\n'
 
 
+def with_file(members: Names) -> List[str]:
+    return [name for name, number in members if "file" in [field for field, _, _ in number.fields()]]
+
+
 def cases() -> str:
-    """The faults of codes whose answers have a number, but refusals, which name a file too."""
-    found = [(code.name, PLACED.get(code.name, camel(enum.name))) for code, enum in header.codes() if enum and code.name != "REFUSED"]
+    """The faults of codes whose answers have a number alone, and name no file."""
+    found = [(code.name, PLACED.get(code.name, camel(enum.name))) for code, enum in header.codes() if enum and not with_file(enum.members)]
     return "".join(f"\tcase C.RELKVANU_{code}:\n\t\treturn {kind}(answer.what)\n" for code, kind in found)
 
 
@@ -74,6 +78,8 @@ def made() -> Dict[str, Dict[str, str]]:
             "the arguments": constants("BadArgument", arguments), "the names of arguments": named(arguments, camels("argument")),
             "the faults of lines": constants("LineFault", faults), "the names of faults": named(faults, camels("line_fault")),
             "the other enums": "\n".join(new_enum(*it) for it in new_codes()), "the codes": cases(),
+            "which refusals name a file": "".join(f"\t{it}: true,\n" for it in with_file(of("refusal"))),
+            "which reasons name a file": "".join(f"\t{it}: true,\n" for it in with_file(of("fenced", "Fenced"))),
         },
         "calls.go": {"the kinds": constants("CallKind", of("call_kind", "Call"))},
         "replies.go": {

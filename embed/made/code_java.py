@@ -52,16 +52,10 @@ class JavaFunction:
             self.arguments.append(f"({of}){name}")
 
     def take_struct(self, name: str, of: str, is_const: bool) -> None:
-        fields = self.structs[of]
         self.given.append(("long[]", "jlongArray", name))
-        values = ", ".join(f"({pointed(it.type)[0]})of_{name}[{place}]" for place, it in enumerate(fields))
-        self.declared.append(f"jlong of_{name}[{len(fields)}];")
-        self.declared.append(f"(*env)->GetLongArrayRegion(env, {name}, 0, {len(fields)}, of_{name});")
-        self.declared.append(f"{of} in_{name} = {{{values}}};")
+        self.declared.append(f"{of} in_{name} = {short(of)}_in(env, {name});")
         self.arguments.append(f"&in_{name}")
-        if not is_const:
-            values = ", ".join(f"(jlong)in_{name}.{it.name}" for it in fields)
-            self.filled += [f"const jlong to_{name}[] = {{{values}}};", f"(*env)->SetLongArrayRegion(env, {name}, 0, {len(fields)}, to_{name});"]
+        self.filled += [] if is_const else [f"{short(of)}_out(env, {name}, in_{name});"]
 
     def take_array(self, name: str, of: str, is_const: bool) -> None:
         java, jni = IN_JAVA[of]
@@ -81,7 +75,7 @@ class JavaFunction:
     def body(self) -> List[str]:
         call = f"{self.name}({', '.join(self.arguments)})"
         tell = {"void": "{};", "char": "return (*env)->NewStringUTF(env, {});", "size_t": "return (jlong){};"}
-        tell = tell.get(self.result, f"tell_{self.result}(env, out, {{}});")
+        tell = tell.get(self.result, f"{short(self.result)}_out(env, out, {{}});")
         if not self.rooms:
             return [*self.declared, tell.format(call)]
         none = "0" if self.result == "size_t" else "{RELKVANU_NO_MEMORY, 0, 0, 0}"
@@ -105,25 +99,68 @@ class JavaFunction:
         return f"    static native {RESULTS.get(self.result, ('void', ''))[0]} {java_name(self.name)}({given});\n"
 
 
-def java_told(name: str, fields: Any) -> str:
-    values = ", ".join(f"(jlong)told.{it.name}" for it in fields)
-    text = f"static void tell_{name}(JNIEnv *env, jlongArray out, {name} told) {{\n    const jlong of_told[] = {{{values}}};\n"
-    return text + f"    (*env)->SetLongArrayRegion(env, out, 0, {len(fields)}, of_told);\n}}\n\n"
+def short(struct: str) -> str:
+    return struct.removeprefix("relkvanu_")
 
 
-def java_c(structs: Dict[str, Any], functions: List[JavaFunction]) -> str:
+def struct_in(name: str, fields: Any) -> str:
+    values = ", ".join(f"({pointed(it.type)[0]})numbers[{place}]" for place, it in enumerate(fields))
+    return f"""
+static inline {name} {short(name)}_of(const jlong *numbers) {{
+    return ({name}){{{values}}};
+}}
+
+static inline {name} {short(name)}_in(JNIEnv *env, jlongArray array) {{
+    jlong numbers[{short(name).upper()}_NUMBERS] = {{0}};
+    (*env)->GetLongArrayRegion(env, array, 0, {short(name).upper()}_NUMBERS, numbers);
+    return {short(name)}_of(numbers);
+}}
+"""
+
+
+def struct_out(name: str, fields: Any) -> str:
+    lines = "".join(f"    numbers[{place}] = (jlong)it.{field.name};\n" for place, field in enumerate(fields))
+    return f"""
+static inline void {short(name)}_to(jlong *numbers, {name} it) {{
+{lines}}}
+
+static inline void {short(name)}_out(JNIEnv *env, jlongArray array, {name} it) {{
+    jlong numbers[{short(name).upper()}_NUMBERS];
+    {short(name)}_to(numbers, it);
+    (*env)->SetLongArrayRegion(env, array, 0, {short(name).upper()}_NUMBERS, numbers);
+}}
+"""
+
+
+def java_structs(structs: Dict[str, Any], functions: List[JavaFunction]) -> str:
+    """The structs of the header as numbers of Java, from arrays or to them as the functions need it."""
+    text, used = f"/* {MADE} */\n#ifndef RELKVANU_STRUCTS_H\n#define RELKVANU_STRUCTS_H\n\n", "".join(it.c() for it in functions)
+    text += '#include "../../../include/relkvanu.h"\n\n#include <jni.h>\n'
+    for name, fields in numbered(structs):
+        text += f"\n/* {name} */\nenum {{ {short(name).upper()}_NUMBERS = {len(fields)} }};\n"
+        text += struct_in(name, fields) if f" {short(name)}_in(" in used else ""
+        text += struct_out(name, fields) if f" {short(name)}_out(" in used else ""
+    return text + "\n#endif\n"
+
+
+def numbered(structs: Dict[str, Any]) -> List[Tuple[str, Any]]:
+    """All structs but the handle, of which Java has the address."""
+    return [(name, fields) for name, fields in structs.items() if name != "relkvanu"]
+
+
+def java_c(functions: List[JavaFunction]) -> str:
     """The functions over JNI. An answer that writes to a buffer says so in the comment of its number."""
     writers = [it.name for it in macros() if "at the start of the buffer" in it.comment]
-    text = f"/* {MADE} */\n" + '#include "room.h"\n\n'
+    text = f"/* {MADE} */\n" + '#include "room.h"\n#include "structs.h"\n\n'
     text += "/* How many elements an answer has written to the start of the buffer. */\n"
     text += "static uint64_t written(relkvanu_answer told) {\n    if (told.code != RELKVANU_DONE) {\n        return 0;\n    }\n    switch (told.what) {\n"
     text += "".join(f"    case {it}:\n" for it in writers) + "        return told.a;\n    default:\n        return 0;\n    }\n}\n\n"
-    text += "".join(java_told(name, it) for name, it in structs.items() if name in {of.result for of in functions})
     return text + "\n".join(it.c() for it in functions)
 
 
-def java_native(functions: List[JavaFunction]) -> str:
+def java_native(structs: Dict[str, Any], functions: List[JavaFunction]) -> str:
     text = f"package relkvanu;\n\n/** {MADE} A class that calls it has the lock of the handle. */\nfinal class Native {{\n    private Native() {{}}\n\n"
+    text += "".join(f"    /** How many numbers {name} has. */\n    static final int {short(name).upper()} = {len(fields)};\n\n" for name, fields in numbered(structs))
     text += "    /** Returns the address of a closed handle, or 0 without memory. */\n    static native long create();\n\n"
     text += "    /** Frees the memory of a closed handle. */\n    static native void destroy(long handle);\n\n"
     return text + "\n".join(it.java() for it in functions) + "}\n"
@@ -148,6 +185,15 @@ def sentence(number: Number) -> str:
 
 def constants(members: List[Tuple[str, Number]]) -> str:
     return ",\n".join(f"    /** {sentence(it)} */\n    {member.upper()}(Header.{it.name})" for member, it in members)
+
+
+def names_file(members: List[Tuple[str, Number]]) -> str:
+    """Which answers name a file, if any does."""
+    found = [member for member, number in members if "file" in [field for field, _, _ in number.fields()]]
+    if not found:
+        return ""
+    told = " || ".join(f"this == {it.upper()}" for it in found)
+    return f"\n    /** Whether an answer names the file that is to blame. */\n    boolean namesFile() {{\n        return {told};\n    }}\n"
 
 
 def enum_class(name: str, comment: str, kind: str, members: List[Tuple[str, Number]]) -> str:
@@ -180,7 +226,7 @@ public enum {name} {{
     public String text() {{
         return Names.inScripts(this);
     }}
-}}
+{names_file(members)}}}
 """
 
 

@@ -17,7 +17,13 @@ FAULTS = {
     "BAD_LINE": ("BadLine(LineFault)", "A line of a script can't be read, or the line of a call would be too long."),
 }
 # Replies with one number that has no name.
-TUPLES = ("SAVEPOINT_TRIGGERED", "DELETED", "UNDELETED")
+TUPLES = ("SAVEPOINT_TRIGGERED", "DELETED", "UNDELETED", "RESERVED")
+# Replies to calls with names, as a log has them (docs/LOGS.md): how many names a task wanted is in the line of its call.
+LOGGED = {
+    "FORFEITED": 'the names are given up. "forfeited"',
+    "NAMED": 'the job has names, and its first term runs. "term 1"',
+    "RESERVED": 'a: name. From this name on as many are reserved as the call wanted. "reserved {a}"',
+}
 RESTORED = "RESTORED_"
 
 
@@ -133,7 +139,8 @@ class Reply:
 
 
 def answers() -> str:
-    found = [Reply(it) for it in header.replies()]
+    logged = [header.number_of(name, header.numbers()[name].value, comment) for name, comment in LOGGED.items()]
+    found = [Reply(it) for it in header.replies() + logged]
     plain = [it for it in found if not it.number.name.startswith(RESTORED)]
     text = f"/// The answer to a call that was made.\n{DERIVED}#[non_exhaustive]\npub enum Answer {{\n"
     text += "".join(document(it.number.sentence()) + f"    {it.declared()},\n" for it in plain)
@@ -145,7 +152,7 @@ def answers() -> str:
     text += "/// The numbers of an answer: what it is, and a and b.\npub(crate) fn numbers_of(answer: &Answer) -> (u32, u64, u64) {\n    match *answer {\n"
     text += "".join(f"        Answer::{it.of('{name}: {letter}')} => {it.numbers()},\n" for it in found)
     text += "        Answer::Restored { from: Choice::Unknown(what), released } => (what, released, 0),\n    }\n}\n\n"
-    text += "/// The text of each answer in scripts (`docs/SCRIPT.md`), in which {a} and {b} stand for its numbers.\n"
+    text += "/// The text of each answer in scripts (`docs/SCRIPT.md`) and logs (`docs/LOGS.md`), in which {a} and {b} stand for its numbers.\n"
     text += f"pub(crate) const TEXTS: [(u32, &str); {len(found)}] = [\n"
     return text + "".join(f'    ({it.what}, "{header.form_of(it.number, None, it.number.name, it.number)}"),\n' for it in found) + "];\n"
 

@@ -1,6 +1,7 @@
 /* The checks at the end of a run: see check.h. */
 #define _GNU_SOURCE
 #include "check.h"
+#include "trace.h"
 
 #include <string.h>
 
@@ -50,19 +51,17 @@ static void check_known(void *with, uint64_t file) {
     folder->len++;
 }
 
-/* Checks that the storage folder has exactly the files that are in use or taken, and returns how many. One that a repeated
- * message has handed out once more may be taken and gone. */
+/* Checks that the storage folder has exactly the files that are in use or taken, and returns how many. */
 static size_t check_folder(struct job *job) {
     struct coordinator *c = &job->coordinator;
     struct folder folder = {.coordinator = c};
-    uint64_t gone = 0, *taken = coordinator_taken(c, &folder.taken_len);
+    uint64_t *taken = coordinator_taken(c, &folder.taken_len);
     folder.taken = taken;
     storage_each(&job->storage, check_known, &folder);
     CHECK(folder.used == coordinator_counts(c).in_use, "%" PRIu64 " files are in use, and %zu of them are there", coordinator_counts(c).in_use, folder.used);
     for (size_t place = 0; place < folder.taken_len; place++) {
-        gone += !storage_has(&job->storage, taken[place]);
+        CHECK(storage_has(&job->storage, taken[place]), "file %" PRIu64 " is taken and gone", taken[place]);
     }
-    CHECK(gone <= c->handed_again, "%" PRIu64 " files are taken and gone", gone);
     free(taken);
     return folder.len;
 }
@@ -78,14 +77,11 @@ static void take_all(struct coordinator *c) {
 /* Opens the job once more, with the image before the last one and the calls after it, which the store compares. */
 static void check_recovery(struct job *job, const char *folder) {
     struct coordinator *c = &job->coordinator;
-    uint64_t next_file = c->next_file, handed_again = c->handed_again;
     char *before = coordinator_image(c);
     coordinator_close(c);
-    coordinator_open(c, folder, RELKVANU_STORE_EARLIER_IMAGE, (struct death){PLACES, 0});
+    coordinator_open(c, folder, trace_is_on() ? 0 : RELKVANU_STORE_EARLIER_IMAGE, (struct death){PLACES, 0});
     char *after = coordinator_image(c);
     CHECK(c->report.replayed != 0 && strcmp(before, after) == 0, "a recovery of %" PRIu64 " calls gives another state", c->report.replayed);
-    CHECK(c->next_file > next_file, "a file number is given twice");
-    c->handed_again = handed_again;
     job->storage.folder = relkvanu_store_folder(c->store);
     free(before);
     free(after);
@@ -110,14 +106,15 @@ void check_end(struct job *job, const char *folder) {
     relkvanu_answer answer = coordinator_restore(c, 0, 0);
     CHECK(answer.code == RELKVANU_DONE && answer.what == RELKVANU_RESTORED_CHECKPOINT, "no checkpoint is retained");
     check_record(job, answer.b);
-    uint64_t savepoint = coordinator_progress(c).savepoint, swept = job->swept;
+    uint64_t savepoint = coordinator_progress(c).savepoint;
     check_record(job, savepoint);
+    sweeper_sweep(c);
     take_all(c);
     size_t all = check_folder(job), used = coordinator_counts(c).in_use;
     check_recovery(job, folder);
     coordinator_restore(c, 0, 0);
-    job_sweep(job);
-    CHECK(job->swept == swept && check_folder(job) == all, "a sweep has deleted files of a job that had ended well");
+    sweeper_sweep(c);
+    CHECK(check_folder(job) == all, "a sweep has deleted files of a job that had ended well");
     check_deletions(job, savepoint);
     printf("rocksdb: the folder had %zu files: %zu in use, %zu for deletion; all deleted after a cancel\n", all, used, all - used);
 }

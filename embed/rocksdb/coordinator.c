@@ -2,6 +2,9 @@
 #define _GNU_SOURCE
 #include "coordinator.h"
 
+#include "trace.h"
+
+#include <fcntl.h>
 #include <signal.h>
 #include <string.h>
 
@@ -26,6 +29,37 @@ void coordinator_check(struct coordinator *c, const char *what, int status) {
     }
 }
 
+/* The coordinator, for reads of what is committed until relkvanu_store_read_end. */
+static relkvanu *read_begin(struct coordinator *c) {
+    relkvanu *handle = NULL;
+    coordinator_check(c, "a read", relkvanu_store_read(c->store, &handle));
+    return handle;
+}
+
+static void look_for(int folder, uint64_t id, const uint64_t *files, size_t len) {
+    char name[24];
+    for (size_t place = 0; place < len; place++) {
+        snprintf(name, sizeof name, "%" PRIu64, files[place]);
+        if (faccessat(folder, name, F_OK, 0) != 0) {
+            CHECK(faccessat(folder, ".relkvanu-job", F_OK, 0) == 0, "the storage has no marker: it is not the job's, or not mounted");
+            CHECK(false, "file %s of record %" PRIu64 " is missing", name, id);
+        }
+    }
+}
+
+void coordinator_look(struct coordinator *c) {
+    static _Thread_local uint64_t files[MOST_FILES];
+    relkvanu *handle = read_begin(c);
+    for (relkvanu_answer live = relkvanu_live_from(handle, 0); live.what != RELKVANU_LIVE_NONE; live = relkvanu_live_from(handle, live.a + 1)) {
+        for (unsigned index = 0; index < TASKS && live.b == 1; index++) {
+            relkvanu_answer found = relkvanu_files_of(handle, live.a, 0, (uint16_t)index, files, MOST_FILES);
+            look_for(relkvanu_store_folder(c->store), live.a, files, found.what == RELKVANU_FILES ? found.a : 0);
+        }
+    }
+    c->looks++;
+    relkvanu_store_read_end(c->store);
+}
+
 void coordinator_open(struct coordinator *c, const char *folder, uint32_t flags, struct death death) {
     char path[PATH], storage[PATH];
     uint64_t shape = TASKS;
@@ -34,15 +68,20 @@ void coordinator_open(struct coordinator *c, const char *folder, uint32_t flags,
     memset(c, 0, sizeof *c);
     pthread_mutex_init(&c->lock, NULL);
     c->death = death;
-    relkvanu_store_options options = {.flags = RELKVANU_STORE_CREATE | flags, .image_calls = IMAGE_CALLS, .storage = storage,
+    relkvanu_store_options options = {.flags = RELKVANU_STORE_CREATE | flags, .image_calls = trace_is_on() ? RELKVANU_STORE_NO_IMAGES : IMAGE_CALLS, .storage = storage,
         .settings = {.interval = 100, .at_once = 2, .timeout = 20000, .tolerable = 2, .retained = 2}, .shape = &shape, .shape_len = 1};
     int status = relkvanu_store_open(&c->store, path, &options, &c->report);
     CHECK(status == RELKVANU_STORE_OK, "the job is not opened: status %d, %s", status, c->report.message);
-    c->next_file = c->report.epoch << 32;
+    CHECK(c->report.term != 0, "the job has no names");
+    trace_answered(c->report.image_place + c->report.replayed);
+    trace("process %" PRIu64 " starts", c->report.epoch);
+    c->term = c->report.term;
+    coordinator_look(c);
 }
 
 void coordinator_close(struct coordinator *c) {
     relkvanu_store_close(c->store);
+    trace("process %" PRIu64 " ends", c->report.epoch);
 }
 
 static void note_done(struct coordinator *c, relkvanu_answer answer) {
@@ -58,29 +97,62 @@ static void note_done(struct coordinator *c, relkvanu_answer answer) {
 
 /* What the engine has to know of a call that is committed. */
 static relkvanu_answer noted(struct coordinator *c, relkvanu_answer answer) {
-    CHECK(answer.code == RELKVANU_DONE || answer.code == RELKVANU_REFUSED, "a call answers code %" PRIu32 ", what %" PRIu32, answer.code, answer.what);
-    may_die_at(c, AFTER_A_CALL);
+    CHECK(answer.code == RELKVANU_DONE || answer.code == RELKVANU_REFUSED || answer.code == RELKVANU_FENCED, "a call answers code %" PRIu32 ", what %" PRIu32, answer.code,
+          answer.what);
+    may_die_at(c, answer.what == RELKVANU_RESERVED ? AFTER_A_RESERVATION : AFTER_A_CALL);
     pthread_mutex_lock(&c->lock);
     c->calls++;
-    if (answer.code == RELKVANU_REFUSED) {
+    if (answer.code == RELKVANU_FENCED) {
+        c->old_terms += answer.what == RELKVANU_OLD_TERM;
+        c->spent += answer.what == RELKVANU_SPENT;
+    } else if (answer.code == RELKVANU_REFUSED) {
         c->refused++;
         c->gone += answer.what == RELKVANU_FILE_GONE;
     } else {
         note_done(c, answer);
     }
     pthread_mutex_unlock(&c->lock);
+    coordinator_look(c);
     return answer;
 }
 
 /* Makes a call, again while there is no memory for it. */
-static relkvanu_answer made(struct coordinator *c, relkvanu_store_call call) {
+static void make(struct coordinator *c, relkvanu_store_call *call) {
     int status;
-    call.call.now = RELKVANU_STORE_NOW;
-    while ((status = relkvanu_store_calls(c->store, &call, 1)) == RELKVANU_STORE_NO_MEMORY || call.answer.code == RELKVANU_NO_MEMORY) {
+    call->call.now = RELKVANU_STORE_NOW;
+    while ((status = relkvanu_store_calls(c->store, call, 1)) == RELKVANU_STORE_NO_MEMORY || call->answer.code == RELKVANU_NO_MEMORY) {
         sleep_ms(100);
     }
     coordinator_check(c, "a call is not committed", status);
+    trace_answered(call->place);
+}
+
+static relkvanu_answer made(struct coordinator *c, relkvanu_store_call call) {
+    make(c, &call);
     return noted(c, call.answer);
+}
+
+/* A call of a task that is refused has no line in the log: so the trace has it, with a moment that counts as the greatest. */
+static void trace_refusal(struct caller task, relkvanu_store_call call) {
+    static _Thread_local uint8_t line[8 * 1024];
+    call.call.now = 0;
+    relkvanu_answer written = relkvanu_call_line(&call.call, call.first, call.first_len, call.second, call.second_len, line, sizeof line);
+    CHECK(written.code == RELKVANU_DONE, "a line can't be written: %" PRIu32, written.what);
+    bool is_message = call.call.kind == RELKVANU_CALL_ACK || call.call.kind == RELKVANU_CALL_DECLINE;
+    if (is_message) {
+        trace("from 0.%u %" PRIu64, task.index, task.term);
+    }
+    trace("refused %.*s", (int)written.a, (const char *)line);
+}
+
+static relkvanu_answer made_by(struct coordinator *c, struct caller task, relkvanu_store_call call) {
+    call.call.index = (uint16_t)task.index;
+    call.call.term = task.term;
+    relkvanu_answer answer = made(c, call);
+    if (answer.code != RELKVANU_DONE && trace_is_on()) {
+        trace_refusal(task, call);
+    }
+    return answer;
 }
 
 bool coordinator_tick(struct coordinator *c, uint64_t ms, relkvanu_answer *answer) {
@@ -90,6 +162,7 @@ bool coordinator_tick(struct coordinator *c, uint64_t ms, relkvanu_answer *answe
         return false;
     }
     coordinator_check(c, "a tick is not committed", status);
+    trace_answered(tick.place);
     *answer = noted(c, tick.answer);
     return true;
 }
@@ -98,13 +171,25 @@ relkvanu_answer coordinator_savepoint(struct coordinator *c) {
     return made(c, (relkvanu_store_call){.call = {.kind = RELKVANU_CALL_SAVEPOINT}});
 }
 
-relkvanu_answer coordinator_ack(struct coordinator *c, uint64_t id, unsigned index, const uint64_t *fresh, size_t fresh_len, const uint64_t *reused, size_t reused_len) {
-    return made(c, (relkvanu_store_call){.call = {.kind = RELKVANU_CALL_ACK, .index = (uint16_t)index, .number = id}, .first = fresh, .first_len = fresh_len,
-                       .second = reused, .second_len = reused_len});
+relkvanu_answer coordinator_ack(struct coordinator *c, struct caller task, uint64_t id, const uint64_t *fresh, size_t fresh_len, const uint64_t *reused, size_t reused_len) {
+    relkvanu_store_call call = {.call = {.kind = RELKVANU_CALL_ACK, .number = id}, .first = fresh, .first_len = fresh_len, .second = reused, .second_len = reused_len};
+    trace_ack(task.index, task.term, id, fresh, fresh_len, reused, reused_len);
+    relkvanu_answer answer = made_by(c, task, call);
+    trace("answer to 0.%u %" PRIu64 " %s", task.index, task.term, answer.code != RELKVANU_DONE ? "refused" : answer.what == RELKVANU_ACK_LATE ? "late" : "accepted");
+    return answer;
 }
 
-relkvanu_answer coordinator_decline(struct coordinator *c, uint64_t id, unsigned index) {
-    return made(c, (relkvanu_store_call){.call = {.kind = RELKVANU_CALL_DECLINE, .index = (uint16_t)index, .number = id}});
+relkvanu_answer coordinator_decline(struct coordinator *c, struct caller task, uint64_t id) {
+    trace("task 0.%u %" PRIu64 " sends decline %" PRIu64, task.index, task.term, id);
+    return made_by(c, task, (relkvanu_store_call){.call = {.kind = RELKVANU_CALL_DECLINE, .number = id}});
+}
+
+relkvanu_answer coordinator_reserve(struct coordinator *c, struct caller task, uint64_t count) {
+    return made_by(c, task, (relkvanu_store_call){.call = {.kind = RELKVANU_CALL_RESERVE, .number = count}});
+}
+
+relkvanu_answer coordinator_forfeit(struct coordinator *c, struct caller task, const uint64_t *names, size_t len) {
+    return made_by(c, task, (relkvanu_store_call){.call = {.kind = RELKVANU_CALL_FORFEIT}, .first = names, .first_len = len});
 }
 
 relkvanu_answer coordinator_dispose(struct coordinator *c, uint64_t savepoint) {
@@ -113,7 +198,10 @@ relkvanu_answer coordinator_dispose(struct coordinator *c, uint64_t savepoint) {
 
 relkvanu_answer coordinator_restore(struct coordinator *c, uint64_t savepoint, unsigned tasks) {
     uint64_t shape = tasks;
-    return made(c, (relkvanu_store_call){.call = {.kind = RELKVANU_CALL_RESTORE, .number = savepoint}, .first = &shape, .first_len = tasks != 0});
+    relkvanu_store_call call = {.call = {.kind = RELKVANU_CALL_RESTORE, .number = savepoint}, .first = &shape, .first_len = tasks != 0};
+    make(c, &call);
+    c->term = call.answer.code == RELKVANU_DONE ? call.term : c->term;
+    return noted(c, call.answer);
 }
 
 relkvanu_answer coordinator_cancel(struct coordinator *c) {
@@ -122,13 +210,6 @@ relkvanu_answer coordinator_cancel(struct coordinator *c) {
 
 size_t coordinator_take(struct coordinator *c, uint64_t *files, size_t most) {
     return made(c, (relkvanu_store_call){.call = {.kind = RELKVANU_CALL_TAKE, .number = most}, .files = files, .files_len = most}).a;
-}
-
-/* The coordinator, for reads of what is committed until relkvanu_store_read_end. */
-static relkvanu *read_begin(struct coordinator *c) {
-    relkvanu *handle = NULL;
-    coordinator_check(c, "a read", relkvanu_store_read(c->store, &handle));
-    return handle;
 }
 
 /* Each subtask of a done record has acknowledged it. */
@@ -175,13 +256,6 @@ char *coordinator_image(struct coordinator *c) {
     CHECK(image != NULL && relkvanu_save(handle, (uint8_t *)image, len).code == RELKVANU_DONE, "no memory");
     relkvanu_store_read_end(c->store);
     return image;
-}
-
-uint64_t coordinator_new_file(struct coordinator *c) {
-    pthread_mutex_lock(&c->lock);
-    uint64_t file = c->next_file++;
-    pthread_mutex_unlock(&c->lock);
-    return file;
 }
 
 struct progress coordinator_progress(struct coordinator *c) {

@@ -1,8 +1,8 @@
 /* The coordinator, whose calls are durable (include/relkvanu_store.h): a process that opens it again has exactly the calls that the process before
  * was answered, and maybe those of the commit that it was in. A call that can't be committed ends the process, because nobody may act on it.
  *
- * The store keeps the log, the lock, the images and the identity of the job. A file has the number of the process's opening in its upper
- * half, so no two processes name the same one. */
+ * The store keeps the log, the lock, the images and the identity of the job, and gives out the names of files, each once. A task is started with
+ * the term of the last restore, and never gets another one. */
 #ifndef ENGINE_COORDINATOR_H
 #define ENGINE_COORDINATOR_H
 
@@ -11,12 +11,12 @@
 
 #include <pthread.h>
 
-enum { REPLIES = 23, IMAGE_CALLS = 100 };
+enum { REPLIES = 64, IMAGE_CALLS = 100 };
 
 /* The places at which the process may kill itself: in the nth write or sync of the store, before and after it (embed/store/tests/shim.c does that,
- * if it is loaded); after a call that is committed, and before anybody acts on its answer; between two steps of a task or of the
- * discarder. */
-enum place { BEFORE_A_WRITE, AFTER_A_WRITE, AFTER_A_CALL, BETWEEN_STEPS, PLACES };
+ * if it is loaded); after a call that is committed, and before anybody acts on its answer; the same after a reservation, before a name of it is
+ * used; between two steps of a task or of the discarder. */
+enum place { BEFORE_A_WRITE, AFTER_A_WRITE, AFTER_A_CALL, AFTER_A_RESERVATION, BETWEEN_STEPS, PLACES };
 
 /* The process is killed when it comes to the place for the nth time; 0: it is not. */
 struct death {
@@ -29,11 +29,12 @@ struct coordinator {
     relkvanu_store_report report;
     pthread_mutex_t lock; /* of what follows */
     struct death death;
-    uint64_t next_file;
+    uint64_t term;                         /* of the tasks that are started next */
     uint64_t completed;                    /* checkpoints since the last restore */
     uint64_t answers[REPLIES];             /* how often each was given to this process, but those to the store's discarder, */
     uint64_t calls, refused, gone;         /* and how many calls, refusals, and refusals for a file that is gone */
-    uint64_t handed_again;                 /* files that a message which came twice has handed out once more */
+    uint64_t old_terms, spent;             /* and how many of tasks of ended terms, and of names that were named before */
+    uint64_t looks;                        /* how often all files of done records were there */
 };
 
 /* What the timer needs to know. */
@@ -55,13 +56,26 @@ bool coordinator_tick(struct coordinator *c, uint64_t ms, relkvanu_answer *answe
 
 relkvanu_answer coordinator_savepoint(struct coordinator *c);
 
-relkvanu_answer coordinator_ack(struct coordinator *c, uint64_t id, unsigned index, const uint64_t *fresh, size_t fresh_len, const uint64_t *reused, size_t reused_len);
+/* A task, as the coordinator sees it: its subtask, and the term that it was started with. */
+struct caller {
+    unsigned index;
+    uint64_t term;
+};
 
-relkvanu_answer coordinator_decline(struct coordinator *c, uint64_t id, unsigned index);
+relkvanu_answer coordinator_ack(struct coordinator *c, struct caller task, uint64_t id, const uint64_t *fresh, size_t fresh_len, const uint64_t *reused, size_t reused_len);
+
+relkvanu_answer coordinator_decline(struct coordinator *c, struct caller task, uint64_t id);
+
+/* So many names for files of the task. */
+relkvanu_answer coordinator_reserve(struct coordinator *c, struct caller task, uint64_t count);
+
+/* The task won't acknowledge these. */
+relkvanu_answer coordinator_forfeit(struct coordinator *c, struct caller task, const uint64_t *names, size_t len);
 
 relkvanu_answer coordinator_dispose(struct coordinator *c, uint64_t savepoint);
 
-/* From a savepoint, or from the latest if it is 0; with this many tasks from now on, or as many as before if that is 0. */
+/* From a savepoint, or from the latest if it is 0; with this many tasks from now on, or as many as before if that is 0. Those that run are of an ended
+ * term then. */
 relkvanu_answer coordinator_restore(struct coordinator *c, uint64_t savepoint, unsigned tasks);
 
 relkvanu_answer coordinator_cancel(struct coordinator *c);
@@ -93,7 +107,8 @@ uint64_t *coordinator_taken(struct coordinator *c, size_t *len);
 /* All of its state as a text, to be freed. */
 char *coordinator_image(struct coordinator *c);
 
-uint64_t coordinator_new_file(struct coordinator *c);
+/* Checks that each file of a done record is in the storage folder. All calls wait meanwhile. */
+void coordinator_look(struct coordinator *c);
 
 struct progress coordinator_progress(struct coordinator *c);
 

@@ -1,6 +1,7 @@
 /* The thread that deletes files: see discarder.h. */
 #define _GNU_SOURCE
 #include "discarder.h"
+#include "trace.h"
 
 enum { AT_ONCE = 16 };
 
@@ -20,6 +21,7 @@ static void delete_files(void *with, const uint64_t *files, size_t len, uint8_t 
 
 static void *discards(void *with) {
     struct discarder *discarder = with;
+    trace_deletes_as("discarder");
     int status = relkvanu_store_discard(discarder->coordinator->store, AT_ONCE, delete_files, discarder);
     coordinator_check(discarder->coordinator, "the discarder ends", status == RELKVANU_STORE_STOPPED ? RELKVANU_STORE_OK : status);
     return NULL;

@@ -2,6 +2,7 @@
 #define _GNU_SOURCE
 #include "job.h"
 #include "stream.h"
+#include "trace.h"
 
 #include <string.h>
 #include <sys/stat.h>
@@ -19,34 +20,9 @@ void job_open(struct job *job, const char *folder, struct death death) {
     coordinator_open(&job->coordinator, folder, 0, death);
     job->storage.folder = relkvanu_store_folder(job->coordinator.store);
     job->discarder = (struct discarder){.coordinator = &job->coordinator, .storage = &job->storage, .chance = {mixed(job->seed + 1)}};
+    job->sweeper = (struct sweeper){.coordinator = &job->coordinator, .chance = {mixed(job->seed + 2)}};
     job->started = now();
     job->next_failure = job->started + FAILURES_MS;
-}
-
-struct list {
-    uint64_t *files;
-    size_t len, room;
-};
-
-static void add_file(void *with, uint64_t file) {
-    struct list *list = with;
-    if (list->len == list->room) {
-        list->room = 2 * list->room + 64;
-        list->files = realloc(list->files, list->room * sizeof *list->files);
-        CHECK(list->files != NULL, "no memory");
-    }
-    list->files[list->len++] = file;
-}
-
-void job_sweep(struct job *job) {
-    struct list list = {0};
-    storage_each(&job->storage, add_file, &list);
-    coordinator_check(&job->coordinator, "a sweep", relkvanu_store_unknown(job->coordinator.store, list.files, &list.len));
-    for (size_t place = 0; place < list.len; place++) {
-        storage_delete(&job->storage, list.files[place]);
-    }
-    job->swept += list.len;
-    free(list.files);
 }
 
 /* The source: puts each partition's records into the queue of its task. */
@@ -86,7 +62,8 @@ static void prepare(struct job *job, unsigned index) {
     struct task *task = &job->tasks[index];
     task->coordinator = &job->coordinator;
     task->storage = &job->storage;
-    task->index = index;
+    task->caller = (struct caller){index, job->coordinator.term};
+    task->names = (struct names){0, 0};
     task->is_failed = &job->is_failed;
     task->cuts = job->cuts;
     task->parallelism = job->parallelism;
@@ -141,15 +118,10 @@ static void load(struct job *job, uint64_t id) {
     }
 }
 
-/* What a task was uploading when it was stopped: it deletes the files, or its message comes late. */
-static void settle(struct job *job, struct task *task) {
-    if (task->left.id == 0) {
-        return;
-    } else if (chance_below(&job->chance, 2) == 0) {
-        task_delete_fresh(task, &task->left);
-    } else {
-        relkvanu_answer answer = task_ack(task, &task->left);
-        CHECK(answer.code == RELKVANU_DONE && answer.what == RELKVANU_ACK_LATE, "a late message is answered %" PRIu32, answer.what);
+/* A task that was stopped in the middle of an upload goes on after the restore. */
+static void go_on(struct job *job, struct task *task) {
+    if (task->left.id != 0) {
+        zombie_start(&job->zombies[job->zombies_begun++ % ZOMBIES], task);
     }
     task->left.id = 0;
 }
@@ -165,7 +137,7 @@ static uint64_t restore(struct job *job, enum end end) {
     relkvanu_answer answer = coordinator_restore(c, savepoint, tasks);
     CHECK(answer.code == RELKVANU_DONE, "a restore is refused: %" PRIu32, answer.what);
     for (unsigned index = 0; index < TASKS; index++) {
-        settle(job, &job->tasks[index]);
+        go_on(job, &job->tasks[index]);
     }
     job->parallelism = tasks != 0 ? tasks : job->parallelism;
     return answer.b;
@@ -194,10 +166,11 @@ static void take_steps(struct job *job, const uint32_t *steps, size_t len, enum 
         switch (steps[place]) {
         case RELKVANU_STORE_END_TASKS: break; /* they were threads of a process that has ended: it had the lock of the job */
         case RELKVANU_STORE_RESTORE: id = restore(job, end); break;
-        case RELKVANU_STORE_SWEEP: job_sweep(job); break;
+        case RELKVANU_STORE_SWEEP: sweeper_sweep(&job->coordinator); break;
         case RELKVANU_STORE_START_TASKS:
             if (end == BEGINS) {
                 discarder_start(&job->discarder);
+                sweeper_start(&job->sweeper);
             }
             start(job, id);
             break;
@@ -224,6 +197,7 @@ static void send_barriers(struct job *job, uint64_t id) {
     struct message message = {.barrier = id};
     job->cut_of[id % CUTS] = id;
     for (unsigned index = 0; index < job->parallelism; index++) {
+        trace("barrier %" PRIu64 " to 0.%u %" PRIu64, id, index, job->tasks[index].caller.term);
         queue_put(&job->tasks[index].queue, &message);
     }
 }
@@ -293,7 +267,7 @@ static enum end drive_on(struct job *job) {
             return ROLLS_BACK;
         } else if (has_passed(job, 75) && progress.is_rolled_back && !is_rescaled) {
             return RESCALES;
-        } else if (is_over(job) && is_rescaled && progress.completed != 0 && progress.images >= LEAST_IMAGES && job->victim == TASKS) {
+        } else if (is_over(job) && is_rescaled && progress.completed != 0 && (progress.images >= LEAST_IMAGES || trace_is_on()) && job->victim == TASKS) {
             return OVER;
         }
         CHECK(now() - job->started < job->seconds * 1000 + GUARD_MS, "the job comes to no end");
@@ -314,4 +288,7 @@ void job_run(struct job *job) {
         take_steps(job, again, 2, end);
     }
     stop(job, false);
+    for (unsigned place = 0; place < ZOMBIES; place++) {
+        zombie_join(&job->zombies[place]);
+    }
 }

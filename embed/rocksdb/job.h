@@ -4,11 +4,15 @@
 
 #include "coordinator.h"
 #include "discarder.h"
-#include "task.h"
+#include "sweeper.h"
+#include "zombie.h"
+
+enum { ZOMBIES = 16 };
 
 struct job {
     struct coordinator coordinator;
     struct discarder discarder;
+    struct sweeper sweeper;
     struct storage storage;
     char local[PATH];
     uint64_t seed;
@@ -17,13 +21,14 @@ struct job {
     struct chance chance;
     unsigned parallelism;
     struct task tasks[TASKS];
+    struct zombie zombies[ZOMBIES]; /* in turn */
+    uint64_t zombies_begun;
     atomic_bool is_failed;
     pthread_t source;
     atomic_bool source_stops;
     uint64_t offsets[PARTITIONS]; /* the source's */
     uint64_t cuts[CUTS][PARTITIONS];
     uint64_t cut_of[CUTS];        /* the record that a cut is of; 0: none of this process */
-    uint64_t swept;               /* files that the recovery found and the coordinator did not know */
     uint64_t next_failure;
     unsigned victim;              /* the task that is to be stopped; TASKS: none */
     uint64_t failures;
@@ -32,12 +37,8 @@ struct job {
 /* Opens the folder's job, or makes one. */
 void job_open(struct job *job, const char *folder, struct death death);
 
-/* Deletes the files of the storage that the coordinator does not know: tasks that died before they named them wrote them. Only after a restore, or
- * if the job is cancelled. */
-void job_sweep(struct job *job);
-
 /* Does what a recovery requires, and runs until the time is over and a savepoint, a roll back and a restore in another parallelism are done.
- * Then the source has stopped, and all its records are counted. */
+ * Then the source has stopped, all its records are counted, and no zombie runs. The discarder and the sweeper go on. */
 void job_run(struct job *job);
 
 /* Opens the databases of the record that a restore returned, one for each subtask of the record, in local/of. */

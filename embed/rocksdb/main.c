@@ -9,7 +9,7 @@
 #include <sys/wait.h>
 #include <unistd.h>
 
-enum { MOST_NTH = 150, MOST_WRITES = 400, MOST_MS = 1200, GUARD_MS = 300000 };
+enum { MOST_NTH = 150, MOST_RESERVATIONS = 40, MOST_WRITES = 400, MOST_MS = 1200, GUARD_MS = 300000 };
 
 static void print_end(const struct job *job) {
     const struct coordinator *c = &job->coordinator;
@@ -24,8 +24,12 @@ static void print_end(const struct job *job) {
            c->calls, c->refused, c->gone, c->answers[RELKVANU_ACK_COMPLETED],
            c->answers[RELKVANU_RESTORED_CHECKPOINT] + c->answers[RELKVANU_RESTORED_SAVEPOINT] + c->answers[RELKVANU_RESTORED_FRESH],
            c->answers[RELKVANU_RESTORED_FRESH]);
-    printf("rocksdb: %" PRIu64 " commits, the largest of %" PRIu64 " calls; %" PRIu64 " images; %" PRIu64 " calls made again and %" PRIu64 " files swept as it began\n", counts.commits,
-           counts.largest, counts.images, c->report.replayed, job->swept);
+    printf("rocksdb: %" PRIu64 " commits, the largest of %" PRIu64 " calls; %" PRIu64 " images; %" PRIu64 " calls made again as it began\n", counts.commits,
+           counts.largest, counts.images, c->report.replayed);
+    printf("rocksdb: %" PRIu64 " sweeps beside them deleted %" PRIu64 " files; %" PRIu64 " tasks went on after a restore; %" PRIu64 " calls of ended terms and %" PRIu64
+           " messages that came twice were refused; after %" PRIu64 " of these steps each file of a done record was there\n",
+           job->sweeper.sweeps, counts.swept, job->zombies_begun, c->old_terms, c->spent, c->looks);
+    CHECK(counts.unissued == 0, "%" PRIu64 " files have names that were not given out", counts.unissued);
     printf("rocksdb: %" PRIu64 " late acknowledgements, %" PRIu64 " declines, %" PRIu64 " files deleted, %" PRIu64 " deletions failed\n",
            c->answers[RELKVANU_ACK_LATE], c->answers[RELKVANU_DECLINE_ABORTED] + c->answers[RELKVANU_DECLINE_FAILED] + c->answers[RELKVANU_DECLINE_LATE],
            job->discarder.deleted, job->discarder.failed);
@@ -39,6 +43,7 @@ static void run(const char *folder, uint64_t seed, uint64_t choices, uint64_t se
     job.chance.state = mixed(choices);
     job_open(&job, folder, death);
     job_run(&job);
+    sweeper_stop(&job.sweeper);
     discarder_stop(&job.discarder);
     print_end(&job);
     check_end(&job, folder);
@@ -61,7 +66,7 @@ static void run_and_kill(const char *folder, uint64_t seed, uint64_t nth) {
     struct chance chance = {mixed(seed ^ mixed(nth))};
     bool from_outside = nth % (PLACES + 1) == PLACES;
     enum place place = (enum place)(nth % (PLACES + 1));
-    uint64_t most = place <= AFTER_A_WRITE ? MOST_WRITES : MOST_NTH;
+    uint64_t most = place <= AFTER_A_WRITE ? MOST_WRITES : place == AFTER_A_RESERVATION ? MOST_RESERVATIONS : MOST_NTH;
     struct death death = {place, from_outside ? 0 : 1 + chance_below(&chance, most)};
     uint64_t ms = from_outside ? 1 + chance_below(&chance, MOST_MS) : GUARD_MS;
     pid_t child = fork();

@@ -18,7 +18,6 @@ import damages
 ENDLESS = "600"  # seconds
 WAIT = 60  # seconds, on a busy machine
 FILES = 150  # that a process writes before it is looked at: some checkpoints, and more calls than an image comes after
-IN_EPOCH = 1 << 32  # the numbers of files that a process may give
 
 
 class Engine:
@@ -26,7 +25,7 @@ class Engine:
 
     def __init__(self, program, folder, **environment):
         self.storage = folder / "storage"
-        self.first = self.last_file() // IN_EPOCH
+        self.first = self.last_file()
         self.process = subprocess.Popen(
             [program, folder, "1", ENDLESS], stdout=subprocess.DEVNULL, stderr=subprocess.PIPE, env={**os.environ, **environment}, text=True)
 
@@ -43,8 +42,7 @@ class Engine:
 
     def has_gone_on(self):
         """Whether this process has written some checkpoints."""
-        epoch, file = divmod(self.last_file(), IN_EPOCH)
-        return epoch > self.first and file > FILES
+        return self.last_file() > self.first + FILES
 
     def wait(self):
         end = time.monotonic() + WAIT
@@ -150,7 +148,7 @@ def killed_engine(program, folder):
         with damages.opened(work) as database:
             found = [line for (line,) in database.execute("SELECT line FROM log WHERE place > (SELECT max(place) FROM image)")]
         shutil.rmtree(work)
-        if len(found) > 4 and any(it.startswith("ack") and "+" in it for it in found) and any(it.startswith("tick") for it in found):
+        if len(found) > 4 and any("ack" in it and "+" in it for it in found) and any(it.startswith("tick") for it in found):
             return folder
 
 

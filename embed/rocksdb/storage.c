@@ -58,6 +58,12 @@ void storage_put(const struct storage *storage, uint64_t number, const char *fol
     fclose(to);
 }
 
+void storage_write_again(const struct storage *storage, uint64_t number) {
+    FILE *to = stream_of(openat(storage->folder, name_of(number).text, O_CREAT | O_WRONLY | O_CLOEXEC, 0600), "w", "a file of an old task");
+    fprintf(to, "late\n");
+    CHECK(fflush(to) == 0 && fdatasync(fileno(to)) == 0, "file %" PRIu64 " can't be written: %s", number, strerror(errno));
+    fclose(to);
+}
 
 void storage_get(const struct storage *storage, uint64_t number, const char *folder, char name[NAME]) {
     char path[PATH];

@@ -18,6 +18,9 @@ void storage_make(const char *path);
 /* Copies a database's file into the storage folder under a new number, and syncs it. After that the folder has to be synced. */
 void storage_put(const struct storage *storage, uint64_t number, const char *folder, const char *name);
 
+/* Writes a file whose contents do not matter, whether it is there or not: that of a task which should be dead. */
+void storage_write_again(const struct storage *storage, uint64_t number);
+
 /* Syncs the folder: after that a loss of power takes none of the files that were put. Without the marker of the store the process ends. */
 void storage_sync(const struct storage *storage);
 

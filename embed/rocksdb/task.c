@@ -1,8 +1,11 @@
 /* The thread of a task: see task.h. */
 #define _GNU_SOURCE
 #include "task.h"
+#include "trace.h"
 
 #include <string.h>
+
+enum { NAMES_AT_ONCE = 8 };
 
 static const struct held *found(const struct files *files, const char *name) {
     for (size_t place = 0; place < files->len; place++) {
@@ -32,7 +35,7 @@ void task_hold(struct task *task, const struct files *files) {
     }
 }
 
-static size_t numbers_of(uint64_t *numbers, const struct files *files) {
+size_t upload_numbers(uint64_t *numbers, const struct files *files) {
     for (size_t place = 0; place < files->len; place++) {
         numbers[place] = files->items[place].number;
     }
@@ -41,16 +44,30 @@ static size_t numbers_of(uint64_t *numbers, const struct files *files) {
 
 relkvanu_answer task_ack(struct task *task, const struct upload *upload) {
     static _Thread_local uint64_t fresh[MOST_FILES], reused[MOST_FILES];
-    size_t fresh_len = numbers_of(fresh, &upload->fresh), reused_len = numbers_of(reused, &upload->reused);
+    size_t fresh_len = upload_numbers(fresh, &upload->fresh), reused_len = upload_numbers(reused, &upload->reused);
     storage_sync(task->storage); /* each file is synced: the coordinator must not know one that a loss of power takes */
+    for (size_t place = 0; place < fresh_len; place++) {
+        trace("task 0.%u %" PRIu64 " syncs %" PRIu64, task->caller.index, task->caller.term, fresh[place]);
+    }
     coordinator_step(task->coordinator);
-    return coordinator_ack(task->coordinator, upload->id, task->index, fresh, fresh_len, reused, reused_len);
+    return coordinator_ack(task->coordinator, task->caller, upload->id, fresh, fresh_len, reused, reused_len);
 }
 
-void task_delete_fresh(struct task *task, const struct upload *upload) {
-    for (size_t place = 0; place < upload->fresh.len; place++) {
-        storage_delete(task->storage, upload->fresh.items[place].number);
+/* Gives up the names of files that it won't acknowledge. A sweeper deletes the files. */
+static void give_up(struct task *task, const struct upload *upload) {
+    static _Thread_local uint64_t names[MOST_FILES];
+    relkvanu_answer answer = coordinator_forfeit(task->coordinator, task->caller, names, upload_numbers(names, &upload->fresh));
+    CHECK(answer.code == RELKVANU_DONE, "names are not given up: %" PRIu32, answer.what);
+}
+
+/* A name for a file. */
+static uint64_t new_name(struct task *task) {
+    if (task->names.next == task->names.end) {
+        relkvanu_answer answer = coordinator_reserve(task->coordinator, task->caller, NAMES_AT_ONCE);
+        CHECK(answer.code == RELKVANU_DONE && answer.a >= task->names.end, "a reservation is answered %" PRIu32, answer.what);
+        task->names = (struct names){answer.a, answer.a + answer.b};
     }
+    return task->names.next++;
 }
 
 struct uploading {
@@ -74,7 +91,8 @@ static void upload_file(void *with, const char *name) {
     } else if (held != NULL) {
         add(&upload->reused, name, held->number);
     } else {
-        uint64_t number = coordinator_new_file(task->coordinator);
+        uint64_t number = new_name(task);
+        trace("task 0.%u %" PRIu64 " writes %" PRIu64, task->caller.index, task->caller.term, number);
         storage_put(task->storage, number, uploading->folder, name);
         add(&upload->fresh, name, number);
         coordinator_step(task->coordinator);
@@ -82,21 +100,22 @@ static void upload_file(void *with, const char *name) {
 }
 
 static void decline(struct task *task, uint64_t id) {
-    relkvanu_answer answer = coordinator_decline(task->coordinator, id, task->index);
+    relkvanu_answer answer = coordinator_decline(task->coordinator, task->caller, id);
     CHECK(answer.code == RELKVANU_DONE, "a decline is refused: %" PRIu32, answer.what);
     if (answer.what == RELKVANU_DECLINE_FAILED) {
         atomic_store(task->is_failed, true);
     }
 }
 
-/* The same message once more: its files are the coordinator's already. */
+/* The same message once more: its names are spent. */
 static void repeat(struct task *task, const struct upload *upload) {
     relkvanu_answer answer = task_ack(task, upload);
-    CHECK(answer.code == RELKVANU_REFUSED ? answer.what == RELKVANU_ALREADY_ACKNOWLEDGED : answer.what == RELKVANU_ACK_LATE,
-          "a repeat is answered %" PRIu32, answer.what);
-    pthread_mutex_lock(&task->coordinator->lock);
-    task->coordinator->handed_again += answer.code == RELKVANU_DONE ? answer.a : 0;
-    pthread_mutex_unlock(&task->coordinator->lock);
+    if (upload->fresh.len != 0) {
+        CHECK(answer.code == RELKVANU_FENCED && answer.what == RELKVANU_SPENT, "a repeat is answered %" PRIu32 " %" PRIu32, answer.code, answer.what);
+    } else {
+        CHECK(answer.code == RELKVANU_REFUSED ? answer.what == RELKVANU_ALREADY_ACKNOWLEDGED : answer.what == RELKVANU_ACK_LATE && answer.a == 0,
+              "a repeat without files is answered %" PRIu32, answer.what);
+    }
 }
 
 /* Uploads the checkpoint in the folder and acknowledges. Returns whether that was accepted, or the task was stopped. It is
@@ -114,7 +133,7 @@ static bool uploads(struct task *task, uint64_t id, const char *folder) {
     relkvanu_answer answer = task_ack(task, &upload);
     if (answer.code == RELKVANU_REFUSED) {
         CHECK(answer.what == RELKVANU_FILE_GONE, "an acknowledgement is refused: %" PRIu32, answer.what);
-        task_delete_fresh(task, &upload); /* they were named for the first time just now: no accepted one ever named them */
+        give_up(task, &upload);
         task->held.len = 0;
         return false;
     }
@@ -133,6 +152,7 @@ static bool uploads(struct task *task, uint64_t id, const char *folder) {
  * acknowledged, and may name files again that go with the record. */
 static void take_part(struct task *task, uint64_t id) {
     char folder[PATH];
+    trace("task 0.%u %" PRIu64 " begins %" PRIu64, task->caller.index, task->caller.term, id);
     if (chance_below(&task->chance, 8) == 0) {
         sleep_ms(chance_below(&task->chance, 200));
     }
@@ -141,7 +161,7 @@ static void take_part(struct task *task, uint64_t id) {
         decline(task, id);
         return;
     }
-    for (unsigned partition = task->index; partition < PARTITIONS; partition += task->parallelism) {
+    for (unsigned partition = task->caller.index; partition < PARTITIONS; partition += task->parallelism) {
         task->cuts[id % CUTS][partition] = store_offset(&task->store, partition);
     }
     path_of(folder, "%.400s/checkpoint", task->folder);
@@ -172,5 +192,6 @@ void task_start(struct task *task) {
     task->left.id = 0;
     atomic_store(&task->is_stopped, false);
     atomic_store(&task->stops_after, 0);
+    trace("task 0.%u %" PRIu64 " starts", task->caller.index, task->caller.term);
     CHECK(pthread_create(&task->thread, NULL, work, task) == 0, "no thread");
 }

@@ -29,12 +29,18 @@ struct upload {
     struct files fresh, reused;
 };
 
+/* Names that a task has reserved, and used for no file so far. */
+struct names {
+    uint64_t next, end;
+};
+
 struct task {
     pthread_t thread;
     struct coordinator *coordinator;
     const struct storage *storage;
     char folder[PATH];
-    unsigned index;
+    struct caller caller;       /* with the term that it was started with */
+    struct names names;
     struct store store;
     struct queue queue;
     struct files held;          /* of the database's files, those of its last accepted acknowledgement */
@@ -47,6 +53,9 @@ struct task {
     atomic_bool *is_failed;     /* the job's: it has to be restored */
 };
 
+/* The numbers of files, and how many. */
+size_t upload_numbers(uint64_t *numbers, const struct files *files);
+
 void task_start(struct task *task);
 
 /* Names those of the files again that never change: the tables. */
@@ -54,8 +63,5 @@ void task_hold(struct task *task, const struct files *files);
 
 /* Syncs the storage folder, acknowledges, and returns the answer. */
 relkvanu_answer task_ack(struct task *task, const struct upload *upload);
-
-/* Deletes the files that were written for an acknowledgement which was not accepted. */
-void task_delete_fresh(struct task *task, const struct upload *upload);
 
 #endif

@@ -1,5 +1,6 @@
 /* bench FOLDER [SECONDS [ROUNDS]]: durable acknowledgements a second, of 1, 16 and 256 threads, beside commits of one row by SQLite alone in the
- * same run. A job of 4096 subtasks, 3 files in each acknowledgement, an image every 10,000 calls, and nothing is discarded. */
+ * same run, and of 256 threads in a job with names. A job of 4096 subtasks, 3 files in each acknowledgement, an image every 10,000 calls, and nothing
+ * is discarded. */
 #define _GNU_SOURCE
 #include "../../include/relkvanu_store.h"
 
@@ -13,11 +14,12 @@
 #include <time.h>
 #include <unistd.h>
 
-enum { SUBTASKS = 4096, VERTICES = 4, AHEAD = 4, MOST_THREADS = 256, MOST_TIMES = 1 << 22 };
+enum { SUBTASKS = 4096, FILES = 3, VERTICES = 4, AHEAD = 4, MOST_THREADS = 256, MOST_TIMES = 1 << 22 };
 
 static relkvanu_store *store;
 static atomic_uint_fast64_t next_ack, times_len;
 static atomic_bool is_over;
+static uint64_t term; /* 0: the job has no names */
 static uint32_t times[MOST_TIMES]; /* in units of 0.1 us */
 
 static void check(const char *what, bool is_so, const char *why) {
@@ -40,17 +42,20 @@ static void note(uint64_t began) {
 static void trigger(uint64_t record) {
     relkvanu_store_call call = {.call = {.kind = RELKVANU_CALL_TICK, .now = record * 1000}};
     check("tick", relkvanu_store_calls(store, &call, 1) == RELKVANU_STORE_OK && call.answer.what == RELKVANU_TICK_TRIGGERED, "no trigger");
+    relkvanu_answer names = {.what = RELKVANU_RESERVED};
+    check("reserve", term == 0 || relkvanu_store_reserve(store, term, SUBTASKS * FILES, &names) == RELKVANU_STORE_OK, "not committed");
+    check("reserve", names.code == RELKVANU_DONE && names.what == RELKVANU_RESERVED, "refused");
 }
 
 static void *acknowledges(void *unused) {
     while (!atomic_load(&is_over)) {
-        uint64_t nth = atomic_fetch_add(&next_ack, 1), record = nth / SUBTASKS + 1, subtask = nth % SUBTASKS, fresh[3] = {nth * 3 + 1, nth * 3 + 2, nth * 3 + 3};
+        uint64_t nth = atomic_fetch_add(&next_ack, 1), record = nth / SUBTASKS + 1, subtask = nth % SUBTASKS, fresh[FILES] = {nth * 3 + 1, nth * 3 + 2, nth * 3 + 3};
         relkvanu_answer answer;
         if (subtask == 0) {
             trigger(record + AHEAD);
         }
         uint64_t began = now_ns();
-        int status = relkvanu_store_ack(store, record * 1000, record, (uint16_t)(subtask / 1024), (uint16_t)(subtask % 1024), fresh, 3, NULL, 0, &answer);
+        int status = relkvanu_store_ack_in(store, term, record * 1000, record, (uint16_t)(subtask / 1024), (uint16_t)(subtask % 1024), fresh, FILES, NULL, 0, &answer);
         check("ack", status == RELKVANU_STORE_OK && answer.code == RELKVANU_DONE, "not accepted");
         note(began);
     }
@@ -66,7 +71,7 @@ static void tell(const char *what, uint64_t began) {
     double seconds = (double)(now_ns() - began) / 1e9;
     size_t len = times_len < MOST_TIMES ? times_len : MOST_TIMES;
     qsort(times, len, sizeof *times, by_length);
-    printf("%-24s %8.0f a second, half of them within %.2f ms, 99 %% within %.2f ms\n", what, (double)times_len / seconds, times[len / 2] / 1e4, times[len * 99 / 100] / 1e4);
+    printf("%-30s %8.0f a second, half of them within %.2f ms, 99 %% within %.2f ms\n", what, (double)times_len / seconds, times[len / 2] / 1e4, times[len * 99 / 100] / 1e4);
     fflush(stdout);
 }
 
@@ -79,14 +84,15 @@ static void remove_job(const char *path) {
     }
 }
 
-static void measure(const char *path, unsigned len, unsigned seconds) {
+static void measure(const char *path, unsigned len, unsigned seconds, bool has_names) {
     pthread_t threads[MOST_THREADS];
     char what[32];
     relkvanu_store_report report;
     uint64_t shape[VERTICES] = {1024, 1024, 1024, 1024};
-    relkvanu_store_options options = {.flags = RELKVANU_STORE_CREATE_ONLY,
+    relkvanu_store_options options = {.flags = RELKVANU_STORE_CREATE_ONLY | (has_names ? 0 : RELKVANU_STORE_PLAIN),
         .settings = {.interval = 10, .at_once = 64, .timeout = 1u << 30, .retained = 1}, .shape = shape, .shape_len = VERTICES};
     check("open", relkvanu_store_open(&store, path, &options, &report) == RELKVANU_STORE_OK, report.message);
+    term = report.term;
     next_ack = times_len = 0;
     is_over = false;
     for (uint64_t record = 1; record <= AHEAD; record++) {
@@ -101,7 +107,7 @@ static void measure(const char *path, unsigned len, unsigned seconds) {
     for (unsigned i = 0; i < len; i++) {
         pthread_join(threads[i], NULL);
     }
-    snprintf(what, sizeof what, "store, %u threads:", len);
+    snprintf(what, sizeof what, "store, %u threads%s:", len, has_names ? ", names" : "");
     tell(what, began);
     relkvanu_store_close(store);
     remove_job(path);
@@ -134,9 +140,10 @@ int main(int argc, char **argv) {
     snprintf(path, sizeof path, "%s/bench-%d.db", argv[1], (int)getpid());
     for (unsigned i = 0; i < rounds; i++) {
         measure_sqlite(path, seconds);
-        measure(path, 1, seconds);
-        measure(path, 16, seconds);
-        measure(path, 256, seconds);
+        measure(path, 1, seconds, false);
+        measure(path, 16, seconds, false);
+        measure(path, 256, seconds, false);
+        measure(path, 256, seconds, true);
     }
     return 0;
 }

@@ -21,7 +21,7 @@ import sample
 LINES = 200
 MOST = 44  # calls at which a process ends
 # What a checkpoint calls: an object, and the name of its function.
-CALLS = ((os, "open"), (os, "fsync"), (os, "unlink"), (relkvanu.store.Store, "calls"), (relkvanu.store.Store, "unknown"))
+CALLS = ((os, "open"), (os, "fsync"), (os, "unlink"), (relkvanu.store.Store, "calls"), (relkvanu.store.Store, "sweep"))
 
 
 def text_of(path, chance):

@@ -9,6 +9,7 @@ from unittest import mock
 
 import streamz
 
+from relkvanu import Settings
 from relkvanu.store import Store, StoreError
 from relkvanu.streamz import Checkpoints, GraphError, NotWhole, StateError
 
@@ -70,6 +71,33 @@ class Restores(Base):
             self.assertEqual((total.state, twice.state), (sum(range(place)), 2 * sum(range(place))))
             self.emit(checkpoints, place, 20)
             self.assertEqual((total.state, twice.state), (sum(range(20)), 2 * sum(range(20))))
+
+    def test_a_job_of_an_earlier_version(self):
+        """It has no names, and numbers of files by its opening. Its record stays, and its files are deleted with the next one."""
+        source, total, twice = graph()
+        with Checkpoints(source, self.folder / "other", create=True) as other:
+            self.emit(other, 0, 5)
+            parts = other._parts()
+        states = self.folder / "states"
+        states.mkdir()
+        settings = Settings(interval=10_000, timeout=1 << 40, tolerable=1000, retained=1)
+        with Store(self.folder / "job.db", settings, [2, 1], storage=states, create=True, plain=True) as job:
+            with job.read() as reads:
+                due = reads.due()
+            id = job.tick(due).reply.id
+            for file, (vertex, index, data) in enumerate(parts, 1 << 32):
+                (states / str(file)).write_bytes(data)
+                job.ack(id, vertex, index, [file])
+            (states / str((1 << 32) + 9)).write_bytes(b"of a record that was not acknowledged")
+        source, total, twice = graph()
+        with Checkpoints(source, self.folder, every=10) as checkpoints:
+            self.assertEqual((checkpoints.position, total.state, self.files()), (5, 10, [str(it) for it in range(1 << 32, (1 << 32) + 3)]))
+            self.emit(checkpoints, 5, 8)
+            self.take(checkpoints)
+            self.wait(lambda: checkpoints.counts() == (3, 0, 0))
+            self.assertEqual([int(it) >> 32 for it in self.files()], [3, 3, 3])
+        with Checkpoints(source, self.folder) as checkpoints:
+            self.assertEqual((checkpoints.position, total.state), (8, 28))
 
     def test_a_node_that_has_seen_nothing(self):
         source, total, twice = graph()
@@ -229,7 +257,7 @@ class Writes(Base):
             with mock.patch("os.fsync", synced), mock.patch.object(Store, "calls", called):
                 checkpoints.savepoint()
         files = [os.path.join(*folders, it) for it in self.files()]
-        self.assertEqual(steps, ["call", *files, *folders, "ack"])
+        self.assertEqual(steps, ["call", "call", *files, *folders, "ack"])  # the names are reserved before a file is made
 
     def test_a_full_disk(self):
         source, total, twice = graph()

@@ -41,6 +41,9 @@ static std::string leaked(const State &state, const Facts &facts) {
 }
 
 std::string fault_of(const State &state) {
+    if (state.is_down && !scope.is_on[ONE_LOG]) {
+        return ""; // the other process has not read the log yet
+    }
     const Facts &facts = library.facts(state.current.image);
     const std::string fault = lost(state, facts);
     if (!fault.empty() || !scope.checks_leaks || state.is_down) {

@@ -53,18 +53,15 @@ static relkvanu_answer make(relkvanu *handle, const Facts &facts, const Call &ca
 std::string Library::line(u32 image, const Call &call) {
     static const u32 kinds[] = {0, RELKVANU_CALL_TICK, RELKVANU_CALL_TICK, RELKVANU_CALL_SAVEPOINT, RELKVANU_CALL_ACK, RELKVANU_CALL_DECLINE,
                                 RELKVANU_CALL_DISPOSE, RELKVANU_CALL_RESTORE, RELKVANU_CALL_CANCEL, RELKVANU_CALL_TAKE, RELKVANU_CALL_DELETED,
-                                RELKVANU_CALL_UNDELETED};
-    if (scope.names && has_term(call)) {
-        return named_line(call);
-    }
-    const bool is_report = call.kind == DELETE || call.kind == UNDELETE;
-    const u64 fresh[] = {call.file}, number = call.kind == TAKE ? 1 : is_report ? call.file : call.record;
+                                RELKVANU_CALL_UNDELETED, RELKVANU_CALL_RESERVE, RELKVANU_CALL_FORFEIT};
+    const bool is_report = call.kind == DELETE || call.kind == UNDELETE, is_of_one = call.kind == TAKE || call.kind == RESERVE;
+    const u64 fresh[] = {call.file}, number = is_of_one ? 1 : is_report ? call.file : call.record;
     const std::vector<u64> reused = list_of(call.reused);
-    const relkvanu_call said = {kinds[call.kind], 0, call.subtask, moment_of(facts(image), call.kind), number};
+    const u64 term = scope.names && has_term(call) ? call.term : 0;
+    const relkvanu_call said = {kinds[call.kind], 0, call.subtask, moment_of(facts(image), call.kind), number, term};
+    const size_t fresh_len = call.file && (call.kind == ACK || call.kind == FORFEIT) ? 1 : 0, reused_len = call.kind == ACK ? reused.size() : 0;
     u8 text[512];
-    const bool has_files = call.kind == ACK;
-    const relkvanu_answer written = relkvanu_call_line(&said, fresh, has_files && call.file ? 1 : 0, reused.data(), has_files ? reused.size() : 0,
-                                                       text, sizeof text);
+    const relkvanu_answer written = relkvanu_call_line(&said, fresh, fresh_len, reused.data(), reused_len, text, sizeof text);
     if (written.code != RELKVANU_DONE) {
         die("the library writes no line");
     }
@@ -78,15 +75,24 @@ std::string Library::opening_lines() {
     if (written.code != RELKVANU_DONE) {
         die("the library writes no opening");
     }
-    return std::string(text, text + written.a);
+    return std::string(text, text + written.a) + (scope.names ? std::string(FENCE_LINE) + "\n" : "");
+}
+
+// Makes the call of a line of the log.
+static void make_line(relkvanu *handle, const std::string &line) {
+    u64 files[64];
+    if (relkvanu_line(handle, reinterpret_cast<const u8 *>(line.data()), line.size(), files, 64).code != RELKVANU_DONE) {
+        die("a line of the log is not accepted again: " + line);
+    }
 }
 
 static void open_new(relkvanu *handle, u64 word) {
     const std::vector<u64> vertices = shape();
-    const relkvanu_answer opened = scope.names ? open_named(handle, settings(), vertices) :
-                                                 relkvanu_open(handle, &settings(), vertices.data(), vertices.size(), 0, 1, word, word + 1);
-    if (opened.code != RELKVANU_DONE) {
+    if (relkvanu_open(handle, &settings(), vertices.data(), vertices.size(), 0, 1, word, word + 1).code != RELKVANU_DONE) {
         die("the library opens no coordinator");
+    }
+    if (scope.names) {
+        make_line(handle, FENCE_LINE);
     }
 }
 
@@ -105,61 +111,26 @@ static std::string saved(relkvanu *handle) {
     return std::string(buffer, buffer + answer.a);
 }
 
-// An image of the coordinator without names, and behind it what the names are. Only the first line is an image.
-static std::string without_names(const std::string &text) { return text.substr(0, text.find('\n')); }
-
-// The image of a coordinator without names that makes the call too.
-static std::string text_of_core(const std::string &text, const Facts &facts, const Call &call) {
-    relkvanu core = {};
-    u64 taken[1];
-    open_saved(&core, text);
-    if (make_plain(&core, facts, call, taken).code != RELKVANU_DONE) {
-        die("a call is accepted with names only");
-    }
-    std::string after = saved(&core);
-    relkvanu_close(&core);
-    return after;
-}
-
-std::string Library::text_after(u32 image, const Call &call, const Answer &answer) {
-    if (!scope.names) {
-        return saved(&handle);
-    }
-    const std::string core = without_names(text(image));
-    const bool changes = answer.is_done() && call.kind != RESERVE && call.kind != FORFEIT;
-    return (changes ? text_of_core(core, facts(image), call) : core) + names_text(&handle);
-}
-
-u32 Library::number_of(const std::string &text, u32 from, const Call &call) {
+u32 Library::number_of(const std::string &text) {
     const auto [found, is_new] = numbers.emplace(text, u32(images.size()));
     if (is_new) {
-        images.push_back({text, facts_of(&handle), from, call, {}});
+        images.push_back({text, facts_of(&handle), {}});
     }
     return found->second;
 }
 
 u32 Library::opening() {
-    relkvanu core = {};
-    const std::vector<u64> vertices = shape();
     relkvanu_close(&handle);
     open_new(&handle, 1);
-    if (relkvanu_open(&core, &settings(), vertices.data(), vertices.size(), 0, 1, 1, 2).code != RELKVANU_DONE) {
-        die("the library opens no coordinator");
-    }
-    const u32 number = number_of(saved(&core) + names_text(&handle), 0, {});
-    relkvanu_close(&core);
-    handle_at = number;
-    return number;
+    handle_at = number_of(saved(&handle));
+    return handle_at;
 }
 
 std::string Library::replayed(const std::vector<std::string> &lines, u64 word) {
     relkvanu again = {};
     open_new(&again, word);
     for (const std::string &line : lines) {
-        u64 files[64];
-        if (relkvanu_line(&again, reinterpret_cast<const u8 *>(line.data()), line.size(), files, 64).code != RELKVANU_DONE) {
-            die("a line of the log is not accepted again: " + line);
-        }
+        make_line(&again, line);
     }
     std::string text = saved(&again);
     relkvanu_close(&again);
@@ -174,31 +145,12 @@ void Library::clear() {
     handle_at = ~u32(0);
 }
 
-std::vector<Call> Library::path_to(u32 image) const {
-    std::vector<Call> path;
-    for (; image != 0; image = images[image].from) {
-        path.push_back(images[image].call);
-    }
-    return {path.rbegin(), path.rend()};
-}
-
 // Brings the handle to an image.
 void Library::open_at(u32 image) {
-    if (handle_at == image) {
-        return;
-    }
-    relkvanu_close(&handle);
-    handle_at = image;
-    if (!scope.names) {
+    if (handle_at != image) {
+        relkvanu_close(&handle);
+        handle_at = image;
         open_saved(&handle, text(image));
-        return;
-    }
-    open_new(&handle, 1);
-    u32 at = 0;
-    for (const Call &call : path_to(image)) {
-        u64 taken[1];
-        make(&handle, facts(at), call, taken);
-        at = this->call(at, call).image;
     }
 }
 
@@ -238,7 +190,7 @@ Answer Library::call(u32 image, const Call &call) {
         die("a call is neither made nor refused");
     }
     Answer answer = {0, told.code, told.what, u16(call.kind == TAKE ? taken[0] : told.a), u16(told.b)};
-    answer.image = number_of(text_after(image, call, answer), image, call);
+    answer.image = number_of(saved(&handle));
     handle_at = answer.image;
     if (!answer.is_done() && answer.image != image) {
         die("a refused call changed the coordinator");

@@ -54,7 +54,7 @@ public:
     u32 opening();
     std::string opening_lines();
     Answer call(u32 image, const Call &call);
-    // The line of the call for the log. Calls of a coordinator with names have a line for the reader alone.
+    // The line of the call for the log.
     std::string line(u32 image, const Call &call);
     const Facts &facts(u32 image) const { return images[image].facts; }
     const std::string &text(u32 image) const { return images[image].text; }
@@ -72,8 +72,6 @@ private:
     struct Image {
         std::string text;
         Facts facts;
-        u32 from;  // the image and the call that led here first
-        Call call;
         Drained drained[3];
     };
     struct Edge {
@@ -87,14 +85,11 @@ private:
     size_t edges_len = 0;
     u64 calls = 0;
 
-    // The handle of the last call. A coordinator with names writes no image, so its calls are made again from the opening on.
-    relkvanu handle = {};
+    relkvanu handle = {}; // of the last call
     u32 handle_at = ~u32(0);
 
     void open_at(u32 image);
-    std::vector<Call> path_to(u32 image) const;
-    std::string text_after(u32 image, const Call &call, const Answer &answer);
-    u32 number_of(const std::string &text, u32 from, const Call &call);
+    u32 number_of(const std::string &text);
     Edge *place_of(u32 from, u64 call);
     void grow();
     Drained drain(u32 image, u8 after);

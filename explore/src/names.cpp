@@ -1,24 +1,7 @@
 // The calls of a coordinator with terms and names.
 #include "names.hpp"
 
-#include "reads.hpp"
 #include "scope.hpp"
-
-std::string named_line(const Call &call) {
-    const std::string term = " term " + std::to_string(call.term), subtask = " 0." + std::to_string(call.subtask);
-    switch (call.kind) {
-    case RESERVE: return "reserve" + term;
-    case FORFEIT: return "forfeit" + term + words(only(call.file), "");
-    case DECLINE: return "decline" + term + " " + std::to_string(call.record) + subtask;
-    default: return "ack" + term + " " + std::to_string(call.record) + subtask + words(only(call.file), "+") + words(call.reused, "=");
-    }
-}
-
-#ifdef RELKVANU_RESERVED
-
-relkvanu_answer open_named(relkvanu *handle, const relkvanu_settings &settings, const std::vector<u64> &shape) {
-    return relkvanu_open_fenced(handle, &settings, shape.data(), shape.size(), 0, 1, 1, 1, 2);
-}
 
 relkvanu_answer make_named(relkvanu *handle, const Call &call, const std::vector<u64> &reused) {
     const u64 file[] = {call.file};
@@ -53,24 +36,3 @@ void read_names(relkvanu *handle, Facts *facts) {
     const Files issued = (Files(1) << facts->next_name) - 2;
     facts->held = issued & ~facts->garbage & ~(facts->in_use | facts->waiting | facts->taken);
 }
-
-std::string names_text(relkvanu *handle) {
-    if (!scope.names) {
-        return "";
-    }
-    Facts facts = facts_of(handle);
-    return "\nterm " + std::to_string(facts.term) + " next " + std::to_string(facts.next_name) + " held" + words(facts.held, "");
-}
-
-#else
-
-static const char NONE[] = "the library has no terms and names";
-
-relkvanu_answer open_named(relkvanu *, const relkvanu_settings &, const std::vector<u64> &) { die(NONE); }
-relkvanu_answer make_named(relkvanu *, const Call &, const std::vector<u64> &) { die(NONE); }
-bool is_fenced(const relkvanu_answer &) { return false; }
-bool is_old_term(const Answer &) { return false; }
-void read_names(relkvanu *, Facts *) { die(NONE); }
-std::string names_text(relkvanu *) { return ""; }
-
-#endif

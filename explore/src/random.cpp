@@ -49,9 +49,6 @@ private:
 };
 
 void Run::check_replay() {
-    if (scope.names) {
-        return; // the lines of its calls are for the reader alone
-    }
     if (library.replayed(log.lines, random.word()) != library.text(state.durable.image)) {
         die("the log's replay gives another coordinator");
     }

@@ -43,6 +43,8 @@ impl Pattern {
 #[derive(Clone, Debug, PartialEq, Eq)]
 pub struct Caller {
     pub name: String,
+    /// Whether its token allows calls.
+    pub may_write: bool,
     /// `None`: all.
     jobs: Option<Vec<Pattern>>,
     /// From when on it is refused.
@@ -52,7 +54,7 @@ pub struct Caller {
 impl Caller {
     /// A program of this machine, where there are no tokens.
     pub fn local() -> Caller {
-        Caller { name: "local".to_string(), jobs: None, until: None }
+        Caller { name: "local".to_string(), may_write: true, jobs: None, until: None }
     }
 
     pub fn may_see(&self, job: &str) -> bool {
@@ -148,7 +150,8 @@ fn token(line: usize, text: &str) -> Result<Token, BadTokens> {
         "write" => Access::Write,
         _ => return Err(BadTokens::Access { line }),
     };
-    let mut caller = Caller { name: format!("line-{line}"), jobs: None, until: None };
+    let may_write = access == Access::Write;
+    let mut caller = Caller { name: format!("line-{line}"), may_write, jobs: None, until: None };
     for word in words {
         let bad = || BadTokens::Word { line, word: word.to_string() };
         match word.split_once('=').ok_or_else(bad)? {

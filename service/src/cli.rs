@@ -1,11 +1,12 @@
 //! The command line.
-use crate::ask::Ask;
+use crate::ask::{Ask, Names};
 use crate::config::LogForm;
 use crate::http::{is_name, NO_NAME};
 use clap::{Args, Parser, Subcommand};
 use clap_complete::Shell;
 use std::net::SocketAddr;
 use std::path::PathBuf;
+use std::time::Duration;
 
 /// A checkpoint coordinator for many jobs: durable, over HTTP.
 #[derive(Parser)]
@@ -21,6 +22,8 @@ pub enum Command {
     Serve(Serve),
     /// Delete the files that a job hands out, from a folder in which a file's number is its name
     Discard(Discard),
+    /// Find the garbage of a folder, whose names a job gave out and nobody will ever use, and delete it
+    Sweep(Sweep),
     /// Copy an SQLite database while a service runs over it
     Backup(Backup),
     /// Make the calls of a database's log again, and compare each answer
@@ -60,6 +63,9 @@ pub struct Serve {
     /// How many bytes the logs of all jobs keep together; 0 sets no such limit [default: 0]
     #[arg(long, value_name = "BYTES")]
     pub keep_bytes: Option<u64>,
+    /// Whether a new job gives out names if its creation does not say [default: true]
+    #[arg(long, value_name = "BOOL")]
+    pub names: Option<bool>,
     /// The address that a standby names to clients [default: http://LISTEN]
     #[arg(long, value_name = "URL")]
     pub advertise: Option<String>,
@@ -85,12 +91,8 @@ pub struct Discard {
     /// A file whose first line is a write token
     #[arg(long, value_name = "FILE")]
     pub token_file: Option<PathBuf>,
-    /// The part of a file's name before its number
-    #[arg(long, default_value = "")]
-    pub prefix: String,
-    /// The part of a file's name after its number
-    #[arg(long, default_value = "")]
-    pub suffix: String,
+    #[command(flatten)]
+    pub names: Names,
     /// Stop when no file waits
     #[arg(long)]
     pub once: bool,
@@ -103,6 +105,49 @@ pub struct Discard {
     /// Serve Prometheus' metrics at this address, under /metrics
     #[arg(long, value_name = "ADDRESS")]
     pub metrics: Option<SocketAddr>,
+}
+
+#[derive(Args)]
+pub struct Sweep {
+    /// The job, which gives out names
+    #[arg(value_parser = job_name)]
+    pub job: String,
+    /// The folder of the files, which has a file .relkvanu-NAME of this job
+    #[arg(long, value_name = "DIR")]
+    pub folder: PathBuf,
+    #[command(flatten)]
+    pub names: Names,
+    /// Delete the garbage; otherwise it is printed alone
+    #[arg(long)]
+    pub delete: bool,
+    /// Begin again after this time, as 15m or 1h, until the command is ended
+    #[arg(long, value_name = "TIME", value_parser = time)]
+    pub every: Option<Duration>,
+    /// Print no names, only the sums of each sweep
+    #[arg(long)]
+    pub quiet: bool,
+    /// The service; given again, its next address
+    #[arg(long = "url", value_name = "URL", default_value = "http://127.0.0.1:7780")]
+    pub urls: Vec<String>,
+    /// A file whose first line is a write token
+    #[arg(long, value_name = "FILE")]
+    pub token_file: Option<PathBuf>,
+    /// For how long a request that is not answered is made again
+    #[arg(long, value_name = "SECONDS", default_value_t = 60)]
+    pub within: u64,
+    /// Serve Prometheus' metrics at this address, under /metrics
+    #[arg(long, value_name = "ADDRESS")]
+    pub metrics: Option<SocketAddr>,
+}
+
+/// A time, as 90, 90s, 15m or 1h.
+fn time(text: &str) -> Result<Duration, String> {
+    let seconds = text.parse().ok().map(Duration::from_secs);
+    let time = seconds.map_or_else(|| humantime::parse_duration(text).map_err(|why| why.to_string()), Ok)?;
+    if time < Duration::from_secs(1) {
+        return Err("is less than a second".to_string());
+    }
+    Ok(time)
 }
 
 #[derive(Args)]

@@ -46,6 +46,7 @@ struct FileConfig {
     token_file: Option<PathBuf>,
     advertise: Option<String>,
     lease_seconds: Option<u64>,
+    names: Option<bool>,
     image_calls: Option<u64>,
     keep_calls: Option<u64>,
     keep_bytes: Option<u64>,
@@ -137,12 +138,14 @@ pub struct Config {
     pub token_file: Option<PathBuf>,
     pub advertise: String,
     pub lease: Duration,
+    /// Whether a new job gives out names if its creation does not say.
+    pub names: bool,
     pub keeping: Keeping,
     pub limits: Limits,
     /// Whether the clock may be far ahead of the log.
     pub accept_clock: bool,
-    /// Whether the service's own log is JSON, and whether it has a line for each request.
-    pub log_json: bool,
+    /// How the lines of the service's own log are written, and whether it has one for each request.
+    pub log: LogForm,
     pub log_requests: bool,
     pub tls: Option<TlsFiles>,
 }
@@ -172,6 +175,7 @@ impl Config {
                 .or(file.advertise)
                 .unwrap_or_else(|| format!("{}://{listen}", if tls.is_some() { "https" } else { "http" })),
             lease: Duration::from_secs(file.lease_seconds.unwrap_or(5)),
+            names: given.names.or(file.names).unwrap_or(true),
             keeping: Keeping {
                 image_calls: given.image_calls.or(file.image_calls).unwrap_or(IMAGE_CALLS),
                 keep_calls: given.keep_calls.or(file.keep_calls).unwrap_or(KEEP_CALLS),
@@ -179,7 +183,7 @@ impl Config {
             },
             limits: file.limits,
             accept_clock: given.accept_clock,
-            log_json: given.log.or(file.log) == Some(LogForm::Json),
+            log: given.log.or(file.log).unwrap_or(LogForm::Text),
             log_requests: file.log_requests,
             tls,
             listen,

@@ -9,6 +9,7 @@ mod config;
 mod database;
 mod discard;
 mod exit;
+mod exposed;
 mod history;
 mod http;
 mod leader;
@@ -21,6 +22,7 @@ mod serve;
 mod starting;
 mod stop;
 mod store;
+mod sweep;
 mod writer;
 
 use clap::{CommandFactory, Parser};
@@ -33,6 +35,7 @@ fn main() -> ExitCode {
     match Cli::parse().command {
         Command::Serve(given) => serve::run(&given),
         Command::Discard(given) => discard::run(&given),
+        Command::Sweep(given) => sweep::run(&given),
         Command::Backup(given) => backup::run(&given),
         Command::Check(given) => check::run(&given),
         Command::Ask(given) => ask::run(&given),

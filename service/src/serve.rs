@@ -1,6 +1,6 @@
 //! `relkvanu serve`: opens the database, replays the jobs from the log, and serves them until it is stopped.
 use crate::cli;
-use crate::config::Config;
+use crate::config::{Config, LogForm};
 use crate::database::Database;
 use crate::exit;
 use crate::history::{Door, Historian, Place};
@@ -35,7 +35,7 @@ pub fn run(given: &cli::Serve) -> ! {
     process::make_files_private();
     count_no_memory();
     let config = Config::of(given).map_err(Stop::from);
-    if config.as_ref().is_ok_and(|config| config.log_json) {
+    if config.as_ref().is_ok_and(|config| config.log == LogForm::Json) {
         log::use_json();
     }
     let ended = config.and_then(serve);
@@ -105,6 +105,7 @@ impl Shared {
             bodies: http::room(config.limits.all_bodies_bytes),
             answers: http::room(config.limits.all_answers_bytes),
             limits: config.limits.clone(),
+            names: config.names,
         })
     }
 

@@ -27,6 +27,8 @@ sys.path.insert(0, f"{SERVICE}/client/python")
 os.environ.setdefault("RELKVANU_LIB", f"{SERVICE}/target/library")
 PROGRAM = os.environ.get("RELKVANU_PROGRAM", f"{SERVICE}/target/debug/relkvanu")
 ORACLE = os.environ.get("RELKVANU_ORACLE", f"{TOP}/crates/ckpt_job/out/ckpt_job")
+# The same of a job that gives out names.
+LOG_ORACLE = os.environ.get("RELKVANU_LOG_ORACLE", f"{TOP}/crates/ckpt_log/out/ckpt_log")
 
 
 # The ports that tests listen on are below those that the system gives to connections, and each is one process's of the tests, of
@@ -54,10 +56,12 @@ def free_port():
 
 
 class Server:
-    """A service in a folder of its own, or over the database of another one."""
+    """A service in a folder of its own, or over the database of another one. Most tests are of engines that number their files themselves;
+    with `names` a new job gives them out, as by default."""
 
-    def __init__(self, folder, database=None, args=(), prefix=()):
+    def __init__(self, folder, database=None, args=(), prefix=(), names=False):
         self.folder, self.args, self.prefix = folder, list(args), list(prefix)
+        self.args += ["--names", "true" if names else "false"]
         self.port = free_port()
         self.url = f"http://127.0.0.1:{self.port}"
         self.database = database or f"{folder}/relkvanu.db"
@@ -229,8 +233,12 @@ def over_copy(server, job="orders"):
 
 def answer_text(answer):
     """The script's text of an answer of the API, or None if the call was not made."""
-    if "refused" in answer or "no_memory" in answer or "not_made" in answer:
+    if any(word in answer for word in ("refused", "fenced", "no_memory", "not_made")):
         return None
+    if "reserve" in answer:
+        return f"reserved {answer['first']}"
+    if "forfeit" in answer:
+        return "forfeited"
     if "tick" in answer:
         end = {"triggered": f"triggered {answer.get('id')}", "held": f"held {answer.get('why')}", "failed": "failed"}
         return f"tick expired {answer['expired']} {end[answer['tick']]}"
@@ -265,15 +273,22 @@ def script(state, shape, log):
 def check_log(state, shape, log):
     """The log is without gaps, and the proved program answers its lines as the service did."""
     assert [entry["seq"] for entry in log] == list(range(1, len(log) + 1)), "the log has gaps"
-    if not os.path.exists(ORACLE):
-        raise Skipped(f"{ORACLE} is not built")
-    told = subprocess.run([ORACLE], input=script(state, shape, log), stdout=subprocess.PIPE, text=True, check=False)
+    has_names = any(entry["line"].startswith("fence ") for entry in log)
+    oracle = LOG_ORACLE if has_names else ORACLE
+    if not os.path.exists(oracle):
+        raise Skipped(f"{oracle} is not built")
+    told = subprocess.run([oracle], input=script(state, shape, log), stdout=subprocess.PIPE, text=True, check=False)
     assert told.returncode == 0, f"the oracle ended with {told.returncode}"
-    lines = told.stdout.splitlines()
+    lines = [line for line in told.stdout.splitlines() if not begins_term(line)]
     assert len(lines) == len(log), f"{len(lines)} answers of {len(log)} calls"
     for entry, line in zip(log, lines):
         assert entry["answer"] == line, f"call {entry['seq']} {entry['line']!r}: {entry['answer']!r}, oracle {line!r}"
     return len(lines)
+
+
+def begins_term(line):
+    """Whether it is the second line of an answer, of which the log has the first."""
+    return line.startswith("term ") and line != "term 1"
 
 
 CALL = "job, seq, at, record, line, answer, ended, waiting"

@@ -6,7 +6,7 @@ from contextlib import contextmanager
 
 from harness import Archive, PgArchive, Server, configured, folder, until
 from relkvanu_service import Service
-from writers import SETTINGS, Writer, check
+from writers import SETTINGS, NamedWriter, Writer, check
 
 JOBS = ["orders", "users"]
 SETTINGS = {**SETTINGS, "interval": 15}
@@ -16,12 +16,12 @@ KEEPING = "image_calls = 40\nkeep_calls = 100\n"
 
 
 @contextmanager
-def writers_at(urls, told, archive=None):
-    """Writers at work, until the end. Then `told` has what `check` says of them."""
+def writers_at(urls, told, archive=None, names=False):
+    """Writers at work, until the end. Then `told` has what `check` says of them. The jobs give out names or not."""
     service = Service(*urls)
     for job in JOBS:
-        service.open(job, SETTINGS, SHAPE)
-    writers = [Writer(urls, JOBS[number % len(JOBS)], number) for number in range(8)]
+        service.open(job, SETTINGS, SHAPE, names=names)
+    writers = [(NamedWriter if names else Writer)(urls, JOBS[number % len(JOBS)], number) for number in range(8)]
     for writer in writers:
         writer.start()
     yield writers
@@ -34,7 +34,8 @@ def writers_at(urls, told, archive=None):
     found = [check(writers, service, job, SHAPE, archive) for job in JOBS]
     acknowledged, logged = sum(one[0] for one in found), sum(one[1] for one in found)
     oracle = sum(one[2] or 0 for one in found)
-    told.append(f"{acknowledged} acknowledged calls, {logged} in the log, {oracle} answered alike by ckpt_job")
+    fenced = f", {sum(writer.fenced for writer in writers)} of ended terms refused" if names else ""
+    told.append(f"{acknowledged} acknowledged calls, {logged} in the log, {oracle} answered alike by the proved program{fenced}")
     told.append(acknowledged)
 
 
@@ -50,13 +51,13 @@ def check_images(server, archive):
     return f"the last start made {again} of {sum(calls.values())} calls again, and {cut} were cut"
 
 
-def run(kills, database=None, config=KEEPING, seed=1):
+def run(kills, database=None, config=KEEPING, seed=1, names=False):
     chance = random.Random(seed)
     told = []
     with folder() as at:
         server = Server(at, database and database.url, configured(at, config)).start()
         archive = PgArchive(database) if database else Archive(server.database)
-        with writers_at([server.url], told, archive):
+        with writers_at([server.url], told, archive, names):
             for _ in range(kills):
                 time.sleep(chance.uniform(0.1, 0.7))
                 server.kill()

@@ -12,7 +12,7 @@ from harness import Kept, PgArchive, Server, configured, folder, free_port, unti
 from postgres import postgres
 from preloaded import Clocks
 from relkvanu_service import Service
-from writers import SETTINGS, Writer, check
+from writers import SETTINGS, NamedWriter, Writer, check
 
 JOBS = ["orders", "users"]
 SETTINGS = {**SETTINGS, "interval": 25, "timeout": 3000}
@@ -98,6 +98,10 @@ class Client(Writer):
         super().send(calls)
         for _, answer in self.made[before:]:
             self.floor.raised(self.name_of_job, answer["seq"])
+
+
+class NamedClient(Client, NamedWriter):
+    """The same of a job that gives out names."""
 
 
 def family(database):
@@ -188,9 +192,9 @@ def run(seconds, seed=1):
         servers[1].stand_by()
         kept = [Kept(server) for server in servers]
         service, addresses, floor = Service(*(server.url for server in servers)), [server.url for server in servers], Floor()
-        for job in JOBS:
-            service.open(job, SETTINGS, SHAPE)
-        clients = [Client(addresses, JOBS[number % 2], number, floor) for number in range(10)]
+        for job, names in zip(JOBS, (False, True)):
+            service.open(job, SETTINGS, SHAPE, names=names)
+        clients = [(Client, NamedClient)[number % 2](addresses, JOBS[number % 2], number, floor) for number in range(10)]
         for it in (*kept, *clients):
             it.start()
         faults = Faults(chance, database, servers, lines, clocks)
@@ -216,7 +220,7 @@ def run(seconds, seed=1):
         assert not wrong, (wrong, [server.log()[-600:] for server in servers])
         assert made > 10 * seconds and int(epochs) > seconds // 30, (made, epochs, faults.made)
         said = ", ".join(f"{count} {fault}" for fault, count in faults.made.items())
-        return f"{seconds} s with faults ({said}), {epochs} leaders: {made} calls answered, {logged} in the log, {oracle} as ckpt_job answers them; {reads} reads, none old"
+        return f"{seconds} s with faults ({said}), {epochs} leaders: {made} calls answered, {logged} in the log, {oracle} as the proved programs answer them; {reads} reads, none old"
 
 
 if __name__ == "__main__":

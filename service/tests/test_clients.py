@@ -45,7 +45,8 @@ def test_answers_fit_the_description():
 
     with served() as server:
         job = "/v1/jobs/{job}"
-        fits("POST", "/v1/jobs", "/v1/jobs", {"name": "a", "settings": {"interval": 10_000}, "shape": [2]})
+        fits("POST", "/v1/jobs", "/v1/jobs", {"name": "a", "settings": {"interval": 10_000}, "shape": [2], "names": False})
+        fits("POST", "/v1/jobs", "/v1/jobs", {"name": "n", "settings": {"interval": 10_000}, "shape": [1], "names": True})
         calls = [
             {"call": "savepoint"}, {"call": "ack", "id": 1, "subtask": "0.0", "fresh": ["1", "2"], "bytes": [10, 20]}, {"call": "ack", "id": 1, "subtask": "0.1"},
             {"call": "tick"}, {"call": "savepoint"}, {"call": "decline", "id": 2, "subtask": "0.0"}, {"call": "decline", "id": 2, "subtask": "0.0"},
@@ -57,6 +58,19 @@ def test_answers_fit_the_description():
         assert [answer for answer in answers if "refused" in answer] == [
             {"refused": "NotTaken"}, {"refused": "InUse"}, {"refused": "UnknownCheckpoint"},
         ], answers
+        named = [
+            {"call": "reserve", "term": 1, "count": 3}, {"call": "savepoint"}, {"call": "ack", "term": 1, "id": 1, "subtask": "0.0", "fresh": ["1"]},
+            {"call": "decline", "term": 1, "id": 1, "subtask": "0.0"}, {"call": "forfeit", "term": 1, "names": ["2"]}, {"call": "restore", "from": "latest"},
+            {"call": "reserve", "count": 1}, {"call": "ack", "id": 1, "subtask": "0.0", "fresh": ["1"]}, {"call": "reserve", "term": 1, "count": 3}, {"call": "cancel"},
+        ]
+        answers = fits("POST", "/v1/jobs/n/calls", f"{job}/calls", {"term": 2, "calls": named}, "k")[2]["answers"]
+        assert [answer for answer in answers if "fenced" in answer] == [{"fenced": "Spent", "file": "1"}, {"fenced": "OldTerm"}], answers
+        assert [answer.get("term") for answer in answers if "restore" in answer or "cancel" in answer] == [2, 3], answers
+        for name, word, body, status in [
+            ("n", "garbage", {"files": ["1", "2", "9"]}, 200), ("a", "garbage", {"files": []}, 409), ("x", "garbage", {"files": []}, 404), ("n", "garbage", {"file": 1}, 400),
+            ("n", "fence", {"first_name": "20"}, 409), ("a", "fence", {"first_name": 100}, 200), ("a", "fence", {"first_name": 0}, 400),
+        ]:
+            assert fits("POST", f"/v1/jobs/{name}/{word}", f"{job}/{word}", body)[0] == status, (name, word, body)
         until(lambda: server.get("/v1/jobs/a/files")[2]["upto"] == server.get("/v1/jobs/a")[2]["seq"])
         until(lambda: server.get("/v1/jobs/a/samples")[2]["samples"])
         for path, route in [
@@ -68,7 +82,8 @@ def test_answers_fit_the_description():
             ("/v1/jobs/a/samples", f"{job}/samples"), ("/v1/jobs/b", job), ("/v1/jobs/a/records/1/acks", f"{job}/records/{{id}}/acks"),
             ("/v1/jobs/a/records/77/acks", f"{job}/records/{{id}}/acks"), ("/v1/jobs/a/records?how=expired", f"{job}/records"),
             ("/v1/jobs/a/stream?after=99", f"{job}/stream"), ("/v1/jobs/b/stream", f"{job}/stream"), ("/healthz", "/healthz"), ("/readyz", "/readyz"), ("/metrics", "/metrics"),
-            ("/openapi.json", "/openapi.json"),
+            ("/openapi.json", "/openapi.json"), ("/v1/jobs/n", job), ("/v1/jobs/n/events", f"{job}/events"), ("/v1/jobs/n/log?terms=1", f"{job}/log"), ("/v1/jobs/n/term", f"{job}/term"),
+            ("/v1/jobs/x/term", f"{job}/term"),
         ]:
             told = fits("GET", path, route)
             # an error is one of RFC 9457 for a client that asks for it, with the same members beside
@@ -129,7 +144,7 @@ def test_the_client_in_python():
 def test_the_client_in_rust():
     if not os.path.exists(ENGINE):
         raise Skipped(f"{ENGINE} is not built")
-    with served() as server:
+    with served(names=True) as server:
         run = subprocess.Popen([ENGINE, server.url, "rust", "20"], stdout=subprocess.PIPE, stderr=subprocess.STDOUT, text=True)
         until(lambda: (server.get("/v1/jobs/rust")[2] or {}).get("seq", 0) > 40)
         server.kill()
@@ -138,7 +153,7 @@ def test_the_client_in_rust():
         told = run.communicate(timeout=60)[0]
         assert run.returncode == 0 and " checkpoints completed, " in told, told
         log = []
-        while page := server.get(f"/v1/jobs/rust/log?limit=1000&after={len(log)}")[2]["calls"]:
+        while page := server.get(f"/v1/jobs/rust/log?terms=1&limit=1000&after={len(log)}")[2]["calls"]:
             log += page
         check_log(server.get("/v1/jobs/rust")[2], [2, 3], log)
         return f"{told.strip()}, over a kill of the service"

@@ -53,7 +53,7 @@ def test_an_engine_whose_coordinator_is_killed():
         told = engine.communicate()[0]
         assert engine.returncode == 0 and kills >= 5, (kills, told)
         job = Service(server.url).job("dask")
-        log = list(job.log())
+        log = list(job.log(terms=True))
         with open(answered, encoding="utf-8") as it:
             made = [(call, answer) for call, answer in json.load(it) if "seq" in answer]
         check_made(made, log, set())

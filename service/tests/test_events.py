@@ -178,7 +178,7 @@ def test_after_a_restored_dump_of_postgres():
 def test_an_engine_in_rust_over_a_restored_backup():
     if not os.path.exists(ENGINE):
         raise Skipped(f"{ENGINE} is not built")
-    with served() as server:
+    with served(names=True) as server:
         run = subprocess.Popen([ENGINE, server.url, "rust", "60"], stdout=subprocess.PIPE, stderr=subprocess.STDOUT, text=True)
         job, copy = Service(server.url).job("rust"), Copy(server, None)
         until(lambda: (server.get("/v1/jobs/rust")[2] or {}).get("seq", 0) > 40)
@@ -202,7 +202,7 @@ def test_an_engine_in_rust_hears_of_others():
     """Somebody restores its job, and later cancels it."""
     if not os.path.exists(ENGINE):
         raise Skipped(f"{ENGINE} is not built")
-    with served() as server:
+    with served(names=True) as server:
         run = subprocess.Popen([ENGINE, server.url, "rust", "100000"], stdout=subprocess.PIPE, stderr=subprocess.STDOUT, text=True)
         job = Service(server.url).job("rust")
         until(lambda: (server.get("/v1/jobs/rust")[2] or {}).get("seq", 0) > 40)

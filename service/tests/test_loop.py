@@ -1,75 +1,98 @@
-"""The loop of an engine that docs/SERVICE.md has: extracted from the page and run, with a small engine around it. At the end its folder has
-the files that the job knows, and no other."""
+"""The loop of an engine and of a task that docs/SERVICE.md has: extracted from the page and run, with a small engine around them, and a sweeper
+all the time. At the end its folder has the files that the job knows, and no other."""
 import os
+import subprocess
 import threading
 from contextlib import contextmanager
 
-from harness import TOP, Server, folder, served, until
-from relkvanu_service import Failed, OtherLog, Service, ack, cancel, dispose, file_numbers, restore, savepoint
+from harness import PROGRAM, TOP, Server, folder, served, until
+from relkvanu_service import Failed, OldTerm, OtherLog, Service, cancel, dispose, file_numbers, restore, savepoint
 from test_events import Copy
 
 SHAPE = [1, 2]
 SUBTASKS = ["0.0", "1.0", "1.1"]
 
 
-def page_loop(url, folder, settings):
-    """The first program in Python of the page, over this service and folder."""
+def page_code(place, *replaced):
+    """A program in Python of the page: the first is the loop, the second a task."""
     with open(f"{TOP}/docs/SERVICE.md", encoding="utf-8") as it:
-        text = it.read().partition("```python\n")[2].partition("```")[0]
-    for old, new in [("http://127.0.0.1:7780", url), ("/srv/orders", folder), ('{"interval": 60_000}', repr(settings))]:
+        text = it.read().split("```python\n")[place].partition("```")[0]
+    for old, new in replaced:
         assert text.count(old) == 1, (old, text)
         text = text.replace(old, new)
-    return compile(text, "the loop of docs/SERVICE.md", "exec")
+    return compile(text, "a program of docs/SERVICE.md", "exec")
 
 
 class Engine(threading.Thread):
-    """What the loop calls. Its tasks acknowledge in its own thread: each with a new file, and that of its last acknowledgement."""
+    """What the loop calls. Its tasks are those of the page, in its own thread: each acknowledges with a new file."""
 
     def __init__(self, server, folder, settings):
         super().__init__(daemon=True)
         self.server, self.folder, self.job = server, folder, Service(server.url).job("orders")
-        self.code, self.ended = page_loop(server.url, folder, settings), None
-        self.starts, self.running, self.last, self.numbers = [], False, {}, file_numbers()
+        replaced = ("http://127.0.0.1:7780", server.url), ('{"interval": 60_000}', repr(settings))
+        self.code, self.ended = page_code(1, *replaced, ("/srv/orders", folder)), None
+        self.task = page_code(2, ("/srv/orders", folder))
+        self.starts, self.terms, self.sessions, self.take_part = [], [], [], None
         self.acknowledges, self.told = threading.Event(), []
         self.acknowledges.set()
 
     def run(self):
-        names = {name: getattr(self, name) for name in ("end_tasks", "numbers_of_files", "delete", "start_tasks", "tell_sources", "tell_tasks")}
+        names = {name: getattr(self, name) for name in ("end_tasks", "numbers_of_files", "start_tasks", "tell_sources", "tell_tasks")}
         try:
             exec(self.code, names)
         except (SystemExit, Failed) as ended:
             self.ended = ended
 
     def end_tasks(self):
-        self.running, self.last = False, {}
+        self.take_part = None
 
     def numbers_of_files(self):
-        assert not self.running
         return {int(name[6:]) for name in os.listdir(self.folder) if name.startswith("state-")}
 
-    def delete(self, files):
-        for file in files:
-            os.remove(f"{self.folder}/state-{file}")
-
-    def start_tasks(self, record, files):
-        assert not self.running and all(os.path.exists(f"{self.folder}/state-{file}") for held in files.values() for file in held)
+    def start_tasks(self, record, files, term):
+        assert not self.take_part and all(os.path.exists(f"{self.folder}/state-{file}") for held in files.values() for file in held)
         self.starts.append((record, files))
-        self.running = True
-
-    def write(self, file=None):
-        file = next(self.numbers) if file is None else file
-        with open(f"{self.folder}/state-{file}", "xb") as it:
-            it.write(b"state")
-        return file
+        self.terms.append(term)
+        names = {"job": self.job, "term": term, "write": write}
+        exec(self.task, names)
+        self.take_part = names["take_part"]
+        self.sessions.append(names["task"])
 
     def tell_sources(self, record):
-        assert self.running
         for subtask in SUBTASKS if self.acknowledges.is_set() else ():
-            file = self.write()
-            self.job.calls([ack(record, subtask, [file])])
+            try:
+                self.take_part(record, subtask, b"state", [])
+            except OldTerm:
+                return  # the task has ended; the loop hears why
 
     def tell_tasks(self, record):
         self.told.append(record)
+
+
+def write(path, state):
+    with open(path, "xb") as it:
+        it.write(state)
+
+
+def sweep(server, at):
+    words = [PROGRAM, "sweep", "orders", "--folder", at, "--prefix", "state-", "--delete", "--url", server.url]
+    return subprocess.run(words, stdout=subprocess.PIPE, stderr=subprocess.STDOUT, text=True, check=False)
+
+
+@contextmanager
+def sweeping(server, at):
+    """Sweeps all the time."""
+    over, told = threading.Event(), []
+
+    def run():
+        while not over.wait(0.05):
+            told.append(sweep(server, at))
+
+    thread = threading.Thread(target=run)
+    thread.start()
+    yield told
+    over.set()
+    thread.join(60)
 
 
 @contextmanager
@@ -91,7 +114,7 @@ def known(job):
 
 
 def test_the_loop_of_the_page():
-    with folder() as at, served() as server:
+    with folder() as at, served(names=True) as server:
         settings = {"interval": 40, "timeout": 2500, "tolerable": 0, "keep_on_cancel": True}
         files = f"{at}/files"
         os.mkdir(files)
@@ -99,51 +122,61 @@ def test_the_loop_of_the_page():
         # a record of a process that has ended is pending, and one of its tasks has left a file that it never acknowledged
         until(lambda: [it for it in job.state()["live"] if not it["done"]])
         job.claim(files)
-        with open(f"{files}/state-5", "wb") as it:
-            it.write(b"half")
-        with engine_of(server, files, settings) as engine:
+        half = job.session(job.term()["term"], block=5).name()
+        write(f"{files}/state-{half}", b"half")
+        with sweeping(server, files) as sweeps, engine_of(server, files, settings) as engine:
             until(lambda: len(engine.told) > 2)
-            assert not os.path.exists(f"{files}/state-5") and engine.starts == [(None, {})], engine.starts
+            assert engine.starts == [(None, {})], engine.starts
+            until(lambda: not os.path.exists(f"{files}/state-{half}"))
             # somebody wants a savepoint, and later restores the job to it: the tasks begin again from its files
             wanted = job.call(savepoint())["id"]
             until(lambda: wanted in engine.told and engine.told[-1] > wanted + 2)
+            zombie = engine.sessions[0]
             job.call(restore(wanted))
             until(lambda: len(engine.starts) == 2)
             record, held = engine.starts[1]
             assert record == wanted and sorted(held) == SUBTASKS, engine.starts
+            # a task of before goes on: what it writes is swept, and what it sends is refused
+            name = zombie._next
+            write(f"{files}/state-{name}", b"late")
+            for late in (lambda: zombie.ack(wanted + 5, "0.0", [name]), lambda: zombie.decline(wanted + 5, "0.0"), zombie.name):
+                try:
+                    raise AssertionError(late())
+                except OldTerm:
+                    pass
+            until(lambda: not os.path.exists(f"{files}/state-{name}"))
             # no task acknowledges, so the job fails; the service is killed meanwhile
             engine.acknowledges.clear()
             until(lambda: len(engine.starts) == 3)
             server.kill()
             server.start()
-            engine.write(6)
             until(lambda: len(engine.starts) > 3)
             engine.acknowledges.set()
             count = len(engine.told)
             until(lambda: len(engine.told) > count + 2)
-            assert not os.path.exists(f"{files}/state-6")
             job.call(cancel())
-        assert engine.ended is None and not engine.running, engine.ended
-        starts = len(engine.starts)
+        assert engine.ended is None and not engine.take_part, engine.ended
+        assert engine.terms == sorted(set(engine.terms)) and len(sweeps) > 5, engine.terms
+        last = sweep(server, files)
+        assert last.returncode == 0, last.stdout
         there, wanted = engine.numbers_of_files(), known(job)
         assert there == wanted and job.state()["mode"] == "cancelled", (there - wanted, wanted - there)
-        # an engine of a job that was cancelled deletes what its last process left, and starts no task
-        engine.write(7)
-        with engine_of(server, files, settings) as engine:
+        # an engine of a job that was cancelled starts no task
+        with engine_of(server, files, settings) as again:
             pass
-        assert engine.ended is None and not engine.starts and engine.numbers_of_files() == there, engine.ended
+        assert again.ended is None and not again.starts and again.numbers_of_files() == there, again.ended
         # a mount point without its disk is not the job's folder
         os.mkdir(f"{at}/empty")
         try:
             raise AssertionError(job.claim(f"{at}/empty"))
         except Failed as failed:
             assert "is its disk not mounted" in str(failed) and not os.listdir(f"{at}/empty"), failed
-        return f"{starts} starts, {len(there)} files at the end"
+        return f"{len(engine.starts)} starts, {len(sweeps)} sweeps beside them, {len(there)} files at the end"
 
 
 def test_the_loop_ends_if_a_backup_was_restored():
     settings = {"interval": 40, "retained": 1}
-    with folder() as at, served() as server:
+    with folder() as at, served(names=True) as server:
         files = f"{at}/files"
         os.mkdir(files)
         job, copy = Service(server.url).open("orders", settings, SHAPE), Copy(server, None)
@@ -155,7 +188,8 @@ def test_the_loop_ends_if_a_backup_was_restored():
             until(lambda: engine.told[-1] > first + 8)
             # the discarder deletes what the latest record of the copy uses
             taken = job.take(1 << 16)
-            engine.delete(taken)
+            for file in taken:
+                os.remove(f"{files}/state-{file}")
             job.calls([{"call": "deleted", "file": str(file)} for file in taken])
             copy.restore()
         assert isinstance(engine.ended, OtherLog) and "relkvanu savepoints" in str(engine.ended), engine.ended
@@ -166,12 +200,20 @@ def test_the_loop_ends_if_a_backup_was_restored():
             pass
         latest = job.state()["choice"]["id"]
         assert isinstance(engine.ended, SystemExit) and f"checkpoint {latest} lacks the files" in str(engine.ended), engine.ended
-        # the savepoint has all of its files
+        # the savepoint has all of its files. Tasks get no names of files that are there
         job.call(restore(first))
+        listed = subprocess.run([PROGRAM, "sweep", "orders", "--folder", files, "--prefix", "state-", "--url", server.url], stdout=subprocess.PIPE, text=True, check=False)
+        greatest = max(engine.numbers_of_files())
+        assert greatest < job.term()["next_name"] or f"unissued state-{greatest} " in listed.stdout, listed
+        passed = subprocess.run([PROGRAM, "fence", "orders", str(greatest + 1), "--url", server.url], stdout=subprocess.PIPE, text=True, check=False)
+        assert passed.returncode == 0 and job.term()["next_name"] > greatest, passed
         with engine_of(server, files, settings) as engine:
             until(lambda: len(engine.told) > 2)
             assert engine.starts[0][0] == first, engine.starts
             job.calls([cancel(), dispose(first)])
+        assert engine.ended is None, engine.ended
+        last = sweep(server, files)
+        assert last.returncode == 0, last.stdout
         there, wanted = engine.numbers_of_files(), known(job)
         assert there <= wanted, there - wanted
         return f"two ends, then savepoint {first}; {len(wanted - there)} files wait that are absent"
@@ -183,12 +225,12 @@ def test_the_loop_deletes_nothing_if_the_service_has_lost_the_job():
     with folder() as at:
         files = f"{at}/files"
         os.mkdir(files)
-        first = Server(at).start()
+        first = Server(at, names=True).start()
         with engine_of(first, files, settings) as engine:
             until(lambda: len(engine.told) > 1)
             first.stop()
             os.mkdir(f"{at}/lost")
-            second = Server(f"{at}/lost")
+            second = Server(f"{at}/lost", names=True)
             second.port, second.url = first.port, first.url
             second.start()
         # the engine that ran finds no such job, and one that is started finds another job's marker

@@ -8,10 +8,18 @@ import time
 from harness import HERE, PROGRAM, Server, folder, until
 from relkvanu_service import Service
 from run import Skipped
-from writers import SETTINGS, SHAPE, Writer, check
+from writers import SETTINGS, SHAPE, NamedWriter, Writer, check
 
 
 def test_no_memory_in_calls():
+    return hungry(False)
+
+
+def test_no_memory_in_calls_of_a_job_with_names():
+    return hungry(True)
+
+
+def hungry(has_names):
     if not (shutil.which("cc") and shutil.which("nm")):
         raise Skipped("no C compiler is here")
     with folder() as at:
@@ -21,13 +29,15 @@ def test_no_memory_in_calls():
         offsets = f"{symbols['rattle_alloc']} {symbols['rattle_realloc']} 2"
         server = Server(at, args=["--image-calls", "30"], prefix=["env", f"LD_PRELOAD={at}/hungry.so", f"HUNGRY={offsets}"]).start()
         service = Service(server.url)
-        job = service.open("orders", SETTINGS, SHAPE)
-        writers = [Writer([server.url], "orders", number) for number in range(4)]
+        job = service.open("orders", SETTINGS, SHAPE, names=has_names)
+        writers = [(NamedWriter if has_names else Writer)([server.url], "orders", number) for number in range(4)]
         for writer in writers:
             writer.start()
-        for _ in range(20):
+        opened = {}
+        for number in range(20):
             time.sleep(0.2)
             os.kill(server.process.pid, signal.SIGUSR2)
+            opened[f"new-{number}"] = server.request("POST", "/v1/jobs", {"name": f"new-{number}", "settings": {"interval": 1 << 40}, "shape": [1], "names": has_names})[0]
         for writer in writers:
             writer.over.set()
         for writer in writers:
@@ -37,6 +47,10 @@ def test_no_memory_in_calls():
         assert no_memory >= 4, f"memory ran out {no_memory} times"
         until(lambda: job.state()["mode"] == "failed", 30)
         told = check(writers, service, "orders", SHAPE)
+        # a job whose names can't be given out for want of memory is not there
+        assert set(opened.values()) <= {201, 507}, opened
+        there = {it["name"]: it["seq"] for it in service.jobs() if it["name"] != "orders"}
+        assert there == {name: int(has_names) for name, status in opened.items() if status == 201}, (there, opened)
         before = job.state()
         server.kill()
         server.prefix = []
@@ -45,4 +59,5 @@ def test_no_memory_in_calls():
         for name in ("seq", "files", "live", "mode", "choice"):
             assert before[name] == after[name], (name, before, after)
         server.stop()
-        return f"memory ran out in {no_memory} calls, {not_made} after them were not made; {told[0]} acknowledged, {told[2]} answered alike by ckpt_job"
+        opened = f"{len(there)} of {len(opened)} jobs were opened"
+        return f"memory ran out in {no_memory} calls, {not_made} after them were not made; {told[0]} acknowledged, {told[2]} answered alike by the proved program; {opened}"

@@ -55,7 +55,7 @@ def test_metrics_say_what_was_done():
         told = subprocess.run(["promtool", "check", "metrics"], input=text, text=True, stdout=subprocess.PIPE, stderr=subprocess.STDOUT, check=False)
         assert told.returncode == 0 and not told.stdout.strip(), told.stdout
         with open(f"{DEPLOY}/alerts.yml", encoding="utf-8") as it:
-            named = set(re.findall(r"relkvanu_(?!discard_)[a-z_]+", it.read()))  # test_discard_folder looks at the others
+            named = set(re.findall(r"relkvanu_(?!discard_|sweep_)[a-z_]+", it.read()))  # test_discard_folder and test_sweep look at the others
         missing = [name for name in named if not re.search(rf"^{name}\b", text, re.M)]
         assert not missing, f"alerts use what there is not: {missing}"
         return f"{len(values)} values, and {len(named)} that alerts use"

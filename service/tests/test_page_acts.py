@@ -243,3 +243,47 @@ def looked_at(page, job):
     least = test_page.contrast(page)
     assert least >= 4.5 and nameless(page) == [], (least, nameless(page))
     return f"62 records in 3 pages, {times}"
+
+
+def test_the_term_is_shown_when_it_is_asked_for():
+    from selenium.webdriver.common.keys import Keys
+
+    page = test_page.started(1200, 1000)
+    with folder() as at:
+        with open(f"{at}/token", "w", encoding="utf-8") as it:
+            it.write(f"read {READ}\nwrite {WRITE}\n")
+        server = Server(at, args=["--token-file", f"{at}/token"], names=True).start()
+        try:
+            job = Service(server.url, token=WRITE).open("orders", SETTINGS, [1])
+            Service(server.url, token=WRITE).open("other", SETTINGS, [1], names=False)
+            page.get(f"{server.url}/#/jobs/orders")
+            until(lambda: not page.execute_script("return document.getElementById('token').hidden"), 10)
+            page.execute_script("document.getElementById('token-text').focus()")
+            keys(page, READ, Keys.ENTER)
+            until(lambda: test_page.texts(page, "#job-name") == ["orders"], 10)
+            assert test_page.texts(page, "#term") == [""] and test_page.texts(page, "[data-fact='Next name']") == ["1"] and nameless(page) == []
+
+            def asked():
+                page.execute_script("document.getElementById('do-term').focus()")
+                keys(page, Keys.ENTER)
+                until(lambda: test_page.texts(page, "#term") != [""], 10)
+                return test_page.texts(page, "#term")[0]
+
+            assert asked() == "The term needs a write token."
+            page.execute_script(f"sessionStorage.setItem('relkvanu-token', '{WRITE}'); document.getElementById('term').textContent = ''")
+            assert asked().startswith("The term is 1:")
+            # a restore by somebody else ends it, so the page does not say it any more; one of the page says the next
+            assert job.begin().term == 2
+            until(lambda: test_page.texts(page, "#term") == [""], 20)
+            opened(page, "#do-restore")
+            page.execute_script("document.getElementById('ask-yes').focus()")
+            keys(page, Keys.ENTER)
+            until(lambda: not is_asking(page), 10)
+            assert test_page.texts(page, "#done")[0].endswith("The term is 3."), test_page.texts(page, "#done")
+            page.get(f"{server.url}/#/jobs/other")
+            until(lambda: test_page.texts(page, "#job-name") == ["other"], 10)
+            assert page.execute_script("return document.getElementById('do-term').hidden") and not test_page.texts(page, "[data-fact='Next name']")
+            return "a read token, a write token, two restores, and a job without names"
+        finally:
+            page.quit()
+            server.stop()

@@ -11,7 +11,7 @@ import threading
 import time
 
 WRITE = "w" * 20
-JOB = {"name": "orders", "settings": {"interval": 60000}, "shape": [1]}
+JOB = {"name": "orders", "settings": {"interval": 60000}, "shape": [1], "names": False}
 
 
 def run(*words, check=True):

@@ -4,7 +4,7 @@ import threading
 import time
 
 import harness  # noqa: F401 (it finds the client)
-from relkvanu_service import Failed, Service, ack, decline, deleted, dispose, restore, savepoint, take, undeleted
+from relkvanu_service import Failed, OldTerm, Service, ack, decline, deleted, dispose, restore, savepoint, take, undeleted
 
 SETTINGS = {"interval": 40, "at_once": 2, "timeout": 1500, "tolerable": 2, "retained": 2}
 SHAPE = [2, 3]
@@ -20,7 +20,7 @@ class Writer(threading.Thread):
         self.name_of_job = job
         self.random = random.Random(number)
         self.next_file = (number + 1) << 40
-        self.made, self.refused, self.errors = [], 0, []
+        self.made, self.refused, self.fenced, self.errors = [], 0, 0, []
         self.no_memory, self.not_made = 0, 0
         self.over = threading.Event()
 
@@ -81,6 +81,7 @@ class Writer(threading.Thread):
             if "seq" in answer:
                 self.made.append((call, answer))
             self.refused += "refused" in answer
+            self.fenced += "fenced" in answer
             self.no_memory += "no_memory" in answer
             self.not_made += "not_made" in answer
         files = [file for answer in answers for file in answer.get("files", [])]
@@ -88,9 +89,40 @@ class Writer(threading.Thread):
             self.send([deleted(file) if self.random.random() < 0.8 else undeleted(file) for file in files])
 
 
+class NamedWriter(Writer):
+    """The same of a job that gives out names. It is also who starts tasks: where its term has ended, by a restore of another writer, it
+    begins the next one."""
+
+    def __init__(self, urls, job, number):
+        super().__init__(urls, job, number)
+        self.session = None
+
+    def turn(self):
+        return self.send([restore()]) if self.random.random() < 0.03 else super().turn()
+
+    def files(self, count):
+        while True:
+            try:
+                if self.session is None:
+                    self.session = self.job.session(self.job.term()["term"], block=7)
+                return [self.session.name() for _ in range(count)]
+            except OldTerm:
+                self.session = None
+
+    def send(self, calls):
+        if self.session is None:
+            self.files(1)
+        term = self.session.term
+        super().send([{**call, "term": term} if call["call"] in ("ack", "decline") else call for call in calls])
+
+
 def same_call(call, line):
     """Whether a line of the log is this call."""
     words = line.split(" ")
+    if words[0] == "in":
+        if int(words[1]) != call.get("term"):
+            return False
+        words = words[2:]
     if call["call"] != words[0]:
         return False
     if words[0] == "ack":
@@ -123,11 +155,30 @@ def check_kept(whole, log, first):
     return whole[:last]
 
 
+def check_names(log):
+    """No name is given out twice, and each new file has a name that the term of its task reserved."""
+    next_name, term, held = 1, 1, {}
+    for entry in log:
+        words, answer = entry["line"].split(" "), entry["answer"].split(" ")
+        if words[0] == "reserve":
+            first, count = int(answer[1]), int(words[2])
+            assert int(words[1]) == term and first == next_name, (entry, term, next_name)
+            next_name = first + count
+            held.update({name: term for name in range(first, next_name)})
+        elif words[0] in ("restore", "cancel"):
+            term, held = term + 1, {}
+        elif words[0] == "in" and words[2] == "ack":
+            for name in (int(word[1:]) for word in words[6:] if word[0] == "+"):
+                assert held.pop(name, None) == int(words[1]) == term, (entry, name)
+    return next_name - 1, term
+
+
 def check(writers, service, job, shape, archive=None):
     """The writers' acknowledged calls are in the log, with what was cut from it, and the oracle answers it alike. Returns how many were
     acknowledged, how many the log has, and how many answers the oracle gave."""
-    before = service.job(job).state()["first"]
-    log = list(service.job(job).log())
+    state = service.job(job).state()
+    before = state["first"]
+    log = list(service.job(job).log(terms=True))
     if archive:
         # meanwhile an image may have been made, and the log cut behind it
         assert before <= log[0]["seq"] <= service.job(job).state()["first"], (before, log[0])
@@ -136,4 +187,7 @@ def check(writers, service, job, shape, archive=None):
     for writer in (writer for writer in writers if writer.name_of_job == job):
         assert not writer.errors, writer.errors[:3]
         check_made(writer.made, log, seen)
+    if state["names"]:
+        names, term = check_names(log)
+        assert names > 0 and term > 1, "the writers did next to nothing"
     return len(seen), len(log), harness.check_log(service.job(job).state(), shape, log)

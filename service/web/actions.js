@@ -80,14 +80,16 @@ export function restore(job, savepoints) {
 // What became of a call, in words, and whether it was made.
 export function outcome(told) {
   const answer = told.answers[0];
-  if (answer.refused) return [`The coordinator refuses it: ${answer.refused}. Nothing has changed.`, false];
+  const refused = answer.refused ?? answer.fenced;
+  if (refused) return [`The coordinator refuses it: ${refused}. Nothing has changed.`, false];
   if (answer.no_memory || answer.not_made) return ["The service has no memory for it now. Nothing has changed.", false];
   const seq = `, as call ${answer.seq}`;
   if (answer.savepoint) return [`Savepoint ${answer.id} is triggered${seq}.`, true];
   if (answer.dispose) return [`The savepoint is disposed of${seq}; ${answer.released} files wait for deletion now.`, true];
   if (answer.cancel) return [`The job is cancelled${seq}; ${answer.released} files wait for deletion now.`, true];
   const from = answer.restore === "fresh" ? "nothing" : `${answer.restore} ${answer.id}`;
-  return [`The job begins again from ${from}${seq}.`, true];
+  const term = answer.term === undefined ? "" : ` The term is ${answer.term}.`;
+  return [`The job begins again from ${from}${seq}.${term}`, true];
 }
 
 const asking = { action: null, key: null, text: "", then: null, opener: null };

@@ -15,7 +15,7 @@ const FILES = 40;
 
 const at = (id) => document.getElementById(id);
 // `told` is what is shown, of the moment `last`.
-const shown = { job: null, first: 1, charts: null, wake: null, last: null, told: null };
+const shown = { job: null, first: 1, charts: null, wake: null, last: null, told: null, termAt: null };
 // The stream of a job: its name, how to end it, and whether it told something since the last look.
 const heard = { job: null, ended: null, news: false };
 
@@ -64,6 +64,9 @@ async function showJob(told) {
   at("do-savepoint").disabled = job.mode !== "running";
   at("do-restore").disabled = at("do-cancel").disabled = job.mode === "cancelled";
   at("do-delete").disabled = job.mode === "running";
+  at("do-term").hidden = !job.names;
+  // an event since may have ended the term
+  if (job.last_event !== shown.termAt) at("term").textContent = "";
   list("savepoints", told.savepoints.map((one) => views.savepoint(one, job.choice, (id) => act(actions.dispose(job, id)))), "no-savepoints");
   const rows = await records.rows(job, told.records);
   views.fill(at("records"), rows.map((record) => views.recordRow(record, told.pending, job.now, (id) => records.showRecord(job.name, id))));
@@ -87,7 +90,7 @@ async function show() {
   at("no-jobs").hidden = told.jobs.length > 0;
   views.fill(at("jobs"), told.jobs.map((one) => views.jobLink(one, job !== null && one.name === job.name)));
   if (job) {
-    if (shown.job !== job.name) for (const id of ["file", "record"]) at(id).replaceChildren();
+    if (shown.job !== job.name) for (const id of ["file", "record", "term"]) at(id).replaceChildren();
     shown.job = job.name;
     shown.first = job.first;
     await showJob(told);
@@ -104,6 +107,17 @@ async function lookUp(file) {
     at("file").replaceChildren(...views.fileHistory(await get(`/jobs/${shown.job}/files/${file}`), shown.first));
   } catch (error) {
     at("file").replaceChildren(views.element("p", { class: "bad" }, error.message));
+  }
+}
+
+// The term is for whoever starts tasks, so it is asked for, with a write token, and is in nothing else that the page reads.
+async function showTerm() {
+  shown.termAt = shown.told.job.last_event;
+  try {
+    const told = await get(`/jobs/${shown.job}/term`);
+    at("term").textContent = `The term is ${told.term}: each restore ends it. Tasks learn it where they are started.`;
+  } catch (error) {
+    at("term").textContent = error.status === 401 || error.status === 403 ? "The term needs a write token." : error.message;
   }
 }
 
@@ -181,6 +195,7 @@ at("do-savepoint").addEventListener("click", () => act(actions.savepoint(shown.t
 at("do-restore").addEventListener("click", () => act(actions.restore(shown.told.job, shown.told.savepoints)));
 at("do-cancel").addEventListener("click", () => act(actions.cancel(shown.told.job)));
 at("do-delete").addEventListener("click", () => act(actions.remove(shown.told.job)));
+at("do-term").addEventListener("click", showTerm);
 addEventListener("hashchange", look);
 matchMedia("(prefers-color-scheme: dark)").addEventListener("change", () => location.reload());
 setInterval(() => {

@@ -1,8 +1,5 @@
 -- A coordinator may cross threads.
-use denote.Struct.Declared.{Declared, fields, shape, row}
-use denote.Struct.Struct.{Struct}
-use denote.Param.Send.{IsSend, AllSend, sendable, view_send, recorded_send, struct_send}
-use Rattle.std.proofs.Crossing.{crosses}
+use Rattle.ckpt_core.proofs.Names.{Declared, fields, shape, row, Struct, IsSend, AllSend, sendable, view_send, recorded_send, struct_send, crosses}
 use Rattle.std.proofs.MapsCrossing as maps
 use Rattle.ckpt_ids.specs.contracts.shape.Shape as Shape
 use Rattle.ckpt_pending.specs.contracts.pending.Pending as Pending

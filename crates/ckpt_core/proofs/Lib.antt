@@ -5,6 +5,7 @@ pub mod Completing
 pub mod Crossings
 pub mod Ending
 pub mod Loaded
+mod Names
 pub mod Reading
 pub mod Records
 pub mod Triggering

@@ -11,6 +11,7 @@ use Rattle.ckpt_model.specs.Memory.{may_want_memory}
 use Rattle.ckpt_model.specs.State.{State}
 use Rattle.ckpt_model.specs.Steps.{step}
 use Rattle.ckpt_embed.specs.declared.answer.Answer.{Answer}
+use Rattle.ckpt_embed.specs.declared.handle.Handle.{Handle}
 use Rattle.ckpt_embed.specs.Told.{told, is_closed, bad_argument, no_memory, out_of_memory}
 
 -- a closed handle stays closed, and says so
@@ -25,6 +26,13 @@ IsMade old new call answer = (m : State) → old ≡ Some m → (new ≡ Some (s
 abbrev pub IsAnswered : Option State → Option State → Call → Answer → Type 0
 IsAnswered old new call answer =
     (m : State) → old ≡ Some m → answer.code ≢ no_memory → (new ≡ Some (step m call).0) × (answer ≡ told (step m call).1)
+
+-- the same, if the handle has no names
+abbrev pub IsMadePlainly : Handle → Handle → Call → Answer → Type 0
+IsMadePlainly old new call answer = old.names ≡ None → IsMade old.value new.value call answer
+
+abbrev pub IsAnsweredPlainly : Handle → Handle → Call → Answer → Type 0
+IsAnsweredPlainly old new call answer = old.names ≡ None → IsAnswered old.value new.value call answer
 
 -- a step that a core has made, and its answer
 abbrev pub IsStepTold : State → State → Call → Answer → Type 0
@@ -60,6 +68,9 @@ StaysAsItWas old new answer = answer.code ≡ no_memory → new ≡ old
 -- an open handle says which argument is bad, and nothing has changed
 abbrev pub IsRefusedAs : Option State → Option State → ℕ → Answer → Type 0
 IsRefusedAs old new what answer = (m : State) → old ≡ Some m → (answer ≡ bad_argument what) × (new ≡ old)
+
+abbrev pub subtask_at : ℕ → ℕ → SubtaskId
+subtask_at vertex index = record { vertex = vertex; index = index }
 
 -- 0 means the latest
 abbrev pub target_of : ℕ → Target

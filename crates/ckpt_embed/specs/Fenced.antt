@@ -1,8 +1,7 @@
 -- The answers about terms and names, and what a call does through a handle, whether its tasks reserve names or not.
-use Rattle.std.specs.Prelude.{◌≡◌, ◌≢◌, ℕ, Bool, true, false, ◌||◌, nat_lt, nat_le, filter, if◌then◌else◌, List, length, Option, Some, None, Result, Ok}
+use Rattle.std.specs.Prelude.{◌≡◌, ◌≢◌, ℕ, Bool, true, false, ◌||◌, nat_lt, nat_le, filter, if◌then◌else◌, List, length, Option, Some, None}
 use Rattle.ckpt_ids.specs.declared.call.Call.{Call}
-use Rattle.ckpt_lines.specs.declared.meaning.Meaning.{Meaning}
-use Rattle.ckpt_lines.specs.declared.meaning.Meaning.TheVariants as meant
+use Rattle.ckpt_ids.specs.declared.subtask.SubtaskId.{SubtaskId}
 use Rattle.ckpt_model.specs.State.{State}
 use Rattle.ckpt_terms.specs.declared.call.FencedCall.{FencedCall}
 use Rattle.ckpt_terms.specs.declared.call.FencedCall.TheVariants as fencing
@@ -15,10 +14,12 @@ use Rattle.ckpt_terms.specs.declared.machine.Machine.TheVariants as machine
 use Rattle.ckpt_terms.specs.declared.machine.FenceFault.{FenceFault}
 use Rattle.ckpt_terms.specs.declared.machine.FenceFault.TheVariants as fault
 use Rattle.ckpt_terms.specs.Fencing.{FencedStepped, fenced_step, is_garbage}
-use Rattle.ckpt_terms.specs.Machines.{Issued, core_in, fence_fault, fenced_of, first_names, is_free, machine_of, machine_step, names_in}
+use Rattle.ckpt_terms.specs.Machines.{Issued, core_in, fence_fault, fenced_of, first_names, machine_of, machine_step, names_in}
 use Rattle.ckpt_terms.specs.Wants.{wants_memory}
 use Rattle.ckpt_embed.specs.declared.answer.Answer.{Answer}
+use Rattle.ckpt_embed.specs.declared.handle.Handle.{Handle}
 use Rattle.ckpt_embed.specs.Buffers.{StandsInFront}
+use Rattle.ckpt_embed.specs.Calls.{ack_of}
 use Rattle.ckpt_embed.specs.Told.{answer, bad_argument, done, no_memory, out_of_memory, told, too_short_for}
 
 -- the code of a call that a term or the names refuse
@@ -67,15 +68,24 @@ abbrev pub term_step : Machine → FencedCall → Machine × Answer
 term_step (machine.Plain m) call = (machine.Plain m, no_names)
 term_step (machine.Fenced m) call = let s : FencedStepped = fenced_step m call in (machine.Fenced s.0, fenced_told (count_of call) s.1)
 
+-- an acknowledgement with a term
+abbrev pub ack_step : Machine → ℕ → ℕ → ℕ → SubtaskId → List ℕ → List ℕ → Machine × Answer
+ack_step k term now id subtask fresh reused = term_step k (fencing.Make term (ack_of now id subtask fresh reused))
+
 -- the step is made and its answer returned, unless memory ran out
 abbrev pub IsTaken : (Machine → Machine × Answer) → Machine → Machine → Answer → Type 0
 IsTaken step old new answer = answer.code ≢ no_memory → (new ≡ (step old).0) × (answer ≡ (step old).1)
 
+-- the coordinator of a handle with this state
+abbrev pub machine_in : Handle → State → Machine
+machine_in h m = machine_of m h.names
+
 -- the same through an open handle
-abbrev pub IsHandled : (Machine → Machine × Answer) → Option State → Option Issued → Option State → Option Issued → Answer → Type 0
-IsHandled step old names new names' answer =
-    (m : State) → old ≡ Some m → answer.code ≢ no_memory
-    → (new ≡ Some (core_in (step (machine_of m names)).0)) × (names' ≡ names_in (step (machine_of m names)).0) × (answer ≡ (step (machine_of m names)).1)
+abbrev pub IsHandled : (Machine → Machine × Answer) → Handle → Handle → Answer → Type 0
+IsHandled step old new answer =
+    (m : State) → old.value ≡ Some m → answer.code ≢ no_memory
+    → let after : Machine × Answer = step (machine_in old m) in
+    (new.value ≡ Some (core_in after.0)) × (new.names ≡ names_in after.0) × (answer ≡ after.1)
 
 -- the calls with a term that may run out of memory
 abbrev pub term_wants : Machine → FencedCall → Bool
@@ -83,8 +93,8 @@ term_wants (machine.Plain m) call = false
 term_wants (machine.Fenced m) call = wants_memory m call
 
 -- only these do, through an open handle
-abbrev pub WantsNames : Option State → Option Issued → FencedCall → Answer → Type 0
-WantsNames old names call answer = (m : State) → old ≡ Some m → answer.code ≡ no_memory → term_wants (machine_of m names) call ≡ true
+abbrev pub WantsNames : Handle → FencedCall → Answer → Type 0
+WantsNames old call answer = (m : State) → old.value ≡ Some m → answer.code ≡ no_memory → term_wants (machine_in old m) call ≡ true
 
 -- the answer of a coordinator that gets names, or why it gets none
 abbrev pub fence_told : Option FenceFault → Answer
@@ -125,8 +135,3 @@ garbage_told m (Some names) files places others =
 -- the list that a handle with names gives is at the start of the buffer
 abbrev pub BringsOf : (Issued → List ℕ) → Option Issued → List ℕ → List ℕ → Answer → Type 0
 BringsOf list names old new answer = (n : Issued) → names ≡ Some n → answer.code ≡ 0 → StandsInFront (list n) old new
-
--- a line makes no call that needs a term or ends one
-abbrev pub is_free_line : Result Meaning Answer → Bool
-is_free_line (Ok (meant.Call call)) = is_free call
-is_free_line meant = true

@@ -41,7 +41,8 @@ IsImageOf m i = (fenced_from i ≡ fenced_settled m) × spans.AreRanges i.unspen
 abbrev pub IsNamedSave : State → Issued → List ℕ → List ℕ → Answer → Type 0
 IsNamedSave m names old new answer =
     answer.code ≢ no_memory
-    → (i : Named) × (answer ≡ saved_told (named_bytes i) (length old)) × (answer.code ≡ 0 → StandsInFront (named_bytes i) old new) × IsImageOf (fenced_of m names) i
+    → (i : Named) × (answer ≡ saved_told (named_bytes i) (length old)) × (answer.code ≡ 0 → StandsInFront (named_bytes i) old new)
+    × IsImageOf (fenced_of m names) i
 
 -- a coordinator can be made from the image: its state is one that an image may have, and its names are ranges in ascending order,
 -- none of them empty

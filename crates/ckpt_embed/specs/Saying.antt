@@ -8,63 +8,90 @@ use Rattle.ckpt_ids.specs.declared.call.Target.{Target}
 use Rattle.ckpt_ids.specs.declared.call.Target.TheVariants as target
 use Rattle.ckpt_ids.specs.declared.reply.Refusal.TheVariants.{NoSuchSavepoint}
 use Rattle.ckpt_ids.specs.declared.subtask.SubtaskId.{SubtaskId}
-use Rattle.ckpt_lines.specs.declared.meaning.Meaning.{Meaning}
-use Rattle.ckpt_lines.specs.declared.meaning.Meaning.TheVariants as meant
 use Rattle.ckpt_call_lines.specs.CallTexts.{parallelisms}
+use Rattle.ckpt_terms.specs.declared.call.FencedCall.TheVariants.{Reserve, Forfeit, Make}
 use Rattle.ckpt_embed.specs.declared.answer.Answer.{Answer}
+use Rattle.ckpt_embed.specs.declared.asked.Asked.{Asked}
+use Rattle.ckpt_embed.specs.declared.asked.Asked.TheVariants as ask
 use Rattle.ckpt_embed.specs.declared.writing.CallFields.{CallFields}
+use Rattle.ckpt_embed.specs.Asking.{said}
 use Rattle.ckpt_embed.specs.Buffers.{StandsInFront}
-use Rattle.ckpt_embed.specs.Lines.{bad_line, no_call, said}
 use Rattle.ckpt_embed.specs.Told.{done, refusal_told, too_short_for}
 use Rattle.ckpt_embed.specs.Writing.{given}
 
 abbrev pub no_subtask : SubtaskId
 no_subtask = record { vertex = 0; index = 0 }
 
-abbrev pub fields_with : ℕ → SubtaskId → ℕ → ℕ → CallFields
-fields_with kind s now number = record { kind = kind; vertex = s.vertex; index = s.index; now = now; number = number }
+abbrev pub fields_with : ℕ → SubtaskId → ℕ → ℕ → ℕ → CallFields
+fields_with kind s now number term = record { kind = kind; vertex = s.vertex; index = s.index; now = now; number = number; term = term }
 
 -- 0 means the latest
 abbrev pub target_number : Target → ℕ
 target_number target.Latest = 0
 target_number (target.Savepoint id) = id
 
--- the fields of a call; those that its kind does not use are 0
-abbrev pub fields_of : Call → CallFields
-fields_of (call.Tick now) = fields_with 1 no_subtask now 0
-fields_of (call.Savepoint now) = fields_with 2 no_subtask now 0
-fields_of (call.Ack now id s fresh reused) = fields_with 3 s now id
-fields_of (call.Decline now id s) = fields_with 4 s now id
-fields_of (call.Dispose id) = fields_with 5 no_subtask 0 id
-fields_of (call.Restore now t shape) = fields_with 6 no_subtask now (target_number t)
-fields_of (call.Cancel now) = fields_with 7 no_subtask now 0
-fields_of (call.Take most) = fields_with 8 no_subtask 0 most
-fields_of (call.Deleted file) = fields_with 9 no_subtask 0 file
-fields_of (call.Undeleted file) = fields_with 10 no_subtask 0 file
-fields_of (call.Show id) = fields_with 11 no_subtask 0 id
-fields_of (call.Count file) = fields_with 12 no_subtask 0 file
+-- the fields of a call by a caller of this term; those that its kind does not use are 0
+abbrev pub call_fields : ℕ → Call → CallFields
+call_fields term (call.Tick now) = fields_with 1 no_subtask now 0 term
+call_fields term (call.Savepoint now) = fields_with 2 no_subtask now 0 term
+call_fields term (call.Ack now id s fresh reused) = fields_with 3 s now id term
+call_fields term (call.Decline now id s) = fields_with 4 s now id term
+call_fields term (call.Dispose id) = fields_with 5 no_subtask 0 id term
+call_fields term (call.Restore now t shape) = fields_with 6 no_subtask now (target_number t) term
+call_fields term (call.Cancel now) = fields_with 7 no_subtask now 0 term
+call_fields term (call.Take most) = fields_with 8 no_subtask 0 most term
+call_fields term (call.Deleted file) = fields_with 9 no_subtask 0 file term
+call_fields term (call.Undeleted file) = fields_with 10 no_subtask 0 file term
+call_fields term (call.Show id) = fields_with 11 no_subtask 0 id term
+call_fields term (call.Count file) = fields_with 12 no_subtask 0 file term
+
+-- the fields of what is asked for
+abbrev pub fields_of : Asked → CallFields
+fields_of (ask.Fence first) = fields_with 13 no_subtask 0 first 0
+fields_of (ask.Call (Reserve term count)) = fields_with 14 no_subtask 0 count term
+fields_of (ask.Call (Forfeit term names)) = fields_with 15 no_subtask 0 0 term
+fields_of (ask.Call (Make term call)) = call_fields term call
 
 -- the fresh files of an acknowledgement, or the new shape of a restore
-abbrev pub first_of : Call → List ℕ
-first_of (call.Ack now id s fresh reused) = fresh
-first_of (call.Restore now t shape) = parallelisms shape
-first_of call = []
+abbrev pub call_first : Call → List ℕ
+call_first (call.Ack now id s fresh reused) = fresh
+call_first (call.Restore now t shape) = parallelisms shape
+call_first call = []
+
+-- or the names that are given up
+abbrev pub first_of : Asked → List ℕ
+first_of (ask.Call (Forfeit term names)) = names
+first_of (ask.Call (Make term call)) = call_first call
+first_of asked = []
 
 -- the reused files of an acknowledgement
-abbrev pub second_of : Call → List ℕ
-second_of (call.Ack now id s fresh reused) = reused
-second_of call = []
+abbrev pub call_second : Call → List ℕ
+call_second (call.Ack now id s fresh reused) = reused
+call_second call = []
+
+abbrev pub second_of : Asked → List ℕ
+second_of (ask.Call (Make term call)) = call_second call
+second_of asked = []
 
 -- what the types of the lists keep: the files ascend, and a shape is within its limits
-abbrev pub HasLists : Call → Type 0
-HasLists (call.Ack now id s fresh reused) = IsAscending fresh × IsAscending reused
-HasLists (call.Restore now t (Some shape)) = IsShape shape
-HasLists call = ⊤
+abbrev pub CallHasLists : Call → Type 0
+CallHasLists (call.Ack now id s fresh reused) = IsAscending fresh × IsAscending reused
+CallHasLists (call.Restore now t (Some shape)) = IsShape shape
+CallHasLists call = ⊤
+
+abbrev pub HasLists : Asked → Type 0
+HasLists (ask.Call (Forfeit term names)) = IsAscending names
+HasLists (ask.Call (Make term call)) = CallHasLists call
+HasLists asked = ⊤
 
 -- A restore to savepoint 0 has no fields, since 0 means the latest. No savepoint has this number.
-abbrev pub has_no_fields : Call → Bool
-has_no_fields (call.Restore now (target.Savepoint id) shape) = id == 0
-has_no_fields call = false
+abbrev pub call_has_no_fields : Call → Bool
+call_has_no_fields (call.Restore now (target.Savepoint id) shape) = id == 0
+call_has_no_fields call = false
+
+abbrev pub has_no_fields : Asked → Bool
+has_no_fields (ask.Call (Make term call)) = call_has_no_fields call
+has_no_fields asked = false
 
 -- what the answer is if the line says a call
 abbrev pub says_call : ℕ
@@ -76,30 +103,28 @@ lists_told first second places others =
     if nat_lt places (length first) || nat_lt others (length second) then too_short_for (length first) (length second)
     else done says_call (length first) (length second)
 
-abbrev pub call_told : Call → ℕ → ℕ → Answer
-call_told call places others =
-    if has_no_fields call then refusal_told NoSuchSavepoint else lists_told (first_of call) (second_of call) places others
+abbrev pub asked_told : Asked → ℕ → ℕ → Answer
+asked_told asked places others =
+    if has_no_fields asked then refusal_told NoSuchSavepoint else lists_told (first_of asked) (second_of asked) places others
 
 -- the answer for what a line says
-unfoldable pub meant_told : Result Meaning Answer → ℕ → ℕ → Answer
-meant_told (Ok (meant.Call call)) places others = call_told call places others
-meant_told (Ok meant.Skip) places others = done 37 0 0
-meant_told (Ok meant) places others = bad_line no_call
+unfoldable pub meant_told : Result Asked Answer → ℕ → ℕ → Answer
+meant_told (Ok asked) places others = asked_told asked places others
 meant_told (Err answer) places others = answer
 
--- the line says this call, and the answer tells it
-abbrev pub IsSaid : List ℕ → Answer → Call → Type 0
-IsSaid line answer call = (said line ≡ Ok (meant.Call call)) × (answer.what ≡ says_call)
+-- the line asks for this, and the answer tells it
+abbrev pub IsSaid : List ℕ → Answer → Asked → Type 0
+IsSaid line answer asked = (said line ≡ Ok asked) × (answer.what ≡ says_call)
 
--- the fields are those of the call
+-- the fields are those of what the line asks for
 abbrev pub BringsFields : List ℕ → Answer → CallFields → Type 0
-BringsFields line answer fields = (call : Call) → IsSaid line answer call → fields ≡ fields_of call
+BringsFields line answer fields = (asked : Asked) → IsSaid line answer asked → fields ≡ fields_of asked
 
--- a list of the call is at the start of its buffer
-abbrev pub BringsCallList : (Call → List ℕ) → List ℕ → Answer → List ℕ → List ℕ → Type 0
-BringsCallList list_of line answer old new = (call : Call) → IsSaid line answer call → StandsInFront (list_of call) old new
+-- a list of what the line asks for is at the start of its buffer
+abbrev pub BringsCallList : (Asked → List ℕ) → List ℕ → Answer → List ℕ → List ℕ → Type 0
+BringsCallList list_of line answer old new = (asked : Asked) → IsSaid line answer asked → StandsInFront (list_of asked) old new
 
--- the fields and the lists give the call that the line says
+-- the fields and the lists give what the line asks for
 abbrev pub GivesBack : List ℕ → Answer → CallFields → List ℕ → List ℕ → Type 0
 GivesBack line answer fields first second =
-    (call : Call) → IsSaid line answer call → given fields (take answer.a first) (take answer.b second) ≡ Ok call
+    (asked : Asked) → IsSaid line answer asked → given fields (take answer.a first) (take answer.b second) ≡ Ok asked

@@ -1,21 +1,28 @@
 -- The lines that are written for a C program: the line of a call, and the lines of an opening.
-use Rattle.std.specs.Prelude.{◌≡◌, ℕ, nat_lt, if◌then◌else◌, List, [], ◌∷◌, ◌++◌, get_or, length, take, Option, Some, None, Result, Ok, Err}
+use Rattle.std.specs.Prelude.{◌≡◌, ◌≢◌, ℕ, ◌==◌, nat_lt, if◌then◌else◌, List, [], ◌∷◌, ◌++◌, get_or, length, take, Option, Some, None, Result, Ok, Err}
+use Rattle.ckpt_ids.specs.Ascending.{ascending}
 use Rattle.ckpt_ids.specs.declared.call.Call.{Call}
 use Rattle.ckpt_ids.specs.declared.call.Call.TheVariants as call
 use Rattle.ckpt_ids.specs.declared.subtask.SubtaskId.{SubtaskId}
 use Rattle.ckpt_model.specs.State.{Opening}
 use Rattle.ckpt_lines.specs.declared.limits.TheConstants.{LONGEST_LINE}
-use Rattle.ckpt_lines.specs.declared.line.Line.TheVariants as line
-use Rattle.ckpt_lines.specs.declared.meaning.Meaning.TheVariants as meant
+use Rattle.ckpt_lines.specs.declared.line.Line.TheVariants as script
 use Rattle.ckpt_lines.specs.Meanings.{is_new_shape}
 use Rattle.ckpt_lines.specs.Reading.{reading}
-use Rattle.ckpt_call_lines.specs.CallTexts.{call_text, config_text, job_text, line_of_call, line_of_config, start_text}
+use Rattle.ckpt_call_lines.specs.CallTexts.{config_text, job_text, line_of_config, start_text}
+use Rattle.ckpt_terms.specs.declared.call.FencedCall.TheVariants.{Reserve, Forfeit, Make}
+use Rattle.ckpt_term_lines.specs.declared.line.TermLine.{TermLine}
+use Rattle.ckpt_term_lines.specs.declared.line.TermLine.TheVariants as line
+use Rattle.ckpt_term_lines.specs.TermReading.{term_reading}
+use Rattle.ckpt_term_lines.specs.TermTexts.{fence_text, line_of_term_call, term_text}
 use Rattle.ckpt_embed.specs.declared.answer.Answer.{Answer}
+use Rattle.ckpt_embed.specs.declared.asked.Asked.{Asked}
+use Rattle.ckpt_embed.specs.declared.asked.Asked.TheVariants as ask
 use Rattle.ckpt_embed.specs.declared.writing.CallFields.{CallFields}
+use Rattle.ckpt_embed.specs.Asking.{bad_line, said}
 use Rattle.ckpt_embed.specs.Calls.{ack_of, restore_of}
-use Rattle.ckpt_embed.specs.Lines.{bad_line, said}
 use Rattle.ckpt_embed.specs.Opening.{bad_opening}
-use Rattle.ckpt_embed.specs.Told.{bad_argument, bad_shape, done, too_short}
+use Rattle.ckpt_embed.specs.Told.{bad_argument, bad_shape, done, no_memory, too_short}
 
 -- a kind that no call has
 abbrev pub bad_kind : ℕ
@@ -27,7 +34,7 @@ subtask_in c = record { vertex = c.vertex; index = c.index }
 abbrev pub restore_in : CallFields → List ℕ → Result Call ℕ
 restore_in c shape = if is_new_shape shape then Ok (restore_of c.now c.number shape) else Err bad_shape
 
--- the call of each kind, from 1 on
+-- the call of each kind that scripts have, from 1 on
 abbrev pub kinds : CallFields → List ℕ → List ℕ → List (Result Call ℕ)
 kinds c first second =
     Err bad_kind ∷ Ok (call.Tick c.now) ∷ Ok (call.Savepoint c.now) ∷ Ok (ack_of c.now c.number (subtask_in c) first second)
@@ -35,8 +42,34 @@ kinds c first second =
     ∷ Ok (call.Take c.number) ∷ Ok (call.Deleted c.number) ∷ Ok (call.Undeleted c.number) ∷ Ok (call.Show c.number) ∷ Ok (call.Count c.number) ∷ []
 
 -- the call of the fields and the two lists, or which argument is bad
-unfoldable pub given : CallFields → List ℕ → List ℕ → Result Call ℕ
-given c first second = get_or (kinds c first second) c.kind (Err bad_kind)
+unfoldable pub call_given : CallFields → List ℕ → List ℕ → Result Call ℕ
+call_given c first second = get_or (kinds c first second) c.kind (Err bad_kind)
+
+-- by a caller with this term
+abbrev pub with_term : ℕ → Result Call ℕ → Result Asked ℕ
+with_term term (Ok call) = Ok (ask.Call (Make term call))
+with_term term (Err what) = Err what
+
+-- what the fields and the two lists ask for, or which argument is bad
+unfoldable pub given : CallFields → List ℕ → List ℕ → Result Asked ℕ
+given c first second =
+    if c.kind == 13 then Ok (ask.Fence c.number)
+    else if c.kind == 14 then Ok (ask.Call (Reserve c.term c.number))
+    else if c.kind == 15 then Ok (ask.Call (Forfeit c.term (ascending first)))
+    else with_term c.term (call_given c first second)
+
+-- the bad argument because of which nothing is asked for, unless memory ran out
+abbrev pub IsWhyNotGiven : Result Asked ℕ → Answer → Type 0
+IsWhyNotGiven given answer = answer.code ≢ no_memory → (given ≡ Err answer.what) × (answer ≡ bad_argument answer.what)
+
+abbrev pub asked_text : Asked → List ℕ
+asked_text (ask.Fence first) = fence_text first
+asked_text (ask.Call call) = term_text call
+
+-- the line that asks for it
+abbrev pub line_of_asked : Asked → TermLine
+line_of_asked (ask.Fence first) = line.Fence first
+line_of_asked (ask.Call call) = line_of_term_call call
 
 -- the answer for a text if the buffer has this many places: how many bytes it has, unless it is too long for a line
 abbrev pub text_told : List ℕ → ℕ → Answer
@@ -44,23 +77,23 @@ text_told text places =
     if nat_lt LONGEST_LINE (length text) then bad_line 1
     else if nat_lt places (length text) then too_short (length text) else done 44 (length text) 0
 
-abbrev pub call_line_told : Result Call ℕ → ℕ → Answer
-call_line_told (Ok call) places = text_told (call_text call) places
+abbrev pub call_line_told : Result Asked ℕ → ℕ → Answer
+call_line_told (Ok asked) places = text_told (asked_text asked) places
 call_line_told (Err what) places = bad_argument what
 
-abbrev pub call_line_text : Result Call ℕ → List ℕ
-call_line_text (Ok call) = call_text call
+abbrev pub call_line_text : Result Asked ℕ → List ℕ
+call_line_text (Ok asked) = asked_text asked
 call_line_text (Err what) = []
 
--- the bytes that were written say the call
-abbrev pub SaysBack : Result Call ℕ → List ℕ → Answer → Type 0
+-- the bytes that were written ask for the same
+abbrev pub SaysBack : Result Asked ℕ → List ℕ → Answer → Type 0
 SaysBack given written answer =
-    (call : Call) → given ≡ Ok call → answer.code ≡ 0 → said (take answer.a written) ≡ Ok (meant.Call call)
+    (asked : Asked) → given ≡ Ok asked → answer.code ≡ 0 → said (take answer.a written) ≡ Ok asked
 
--- the bytes that were written are read as the line of the call
-abbrev pub ReadsBack : Result Call ℕ → List ℕ → Answer → Type 0
+-- the bytes that were written are read as the line that asks for it
+abbrev pub ReadsBack : Result Asked ℕ → List ℕ → Answer → Type 0
 ReadsBack given written answer =
-    (call : Call) → given ≡ Ok call → answer.code ≡ 0 → reading (take answer.a written) ≡ Ok (line_of_call call)
+    (asked : Asked) → given ≡ Ok asked → answer.code ≡ 0 → term_reading (take answer.a written) ≡ Ok (line_of_asked asked)
 
 abbrev pub newline : List ℕ
 newline = 10 ∷ []
@@ -81,5 +114,5 @@ opening_told o places = text_told_unless (bad_opening o) (opening_text o) places
 abbrev pub OpeningReadsBack : Opening → Answer → Type 0
 OpeningReadsBack o answer =
     answer.code ≡ 0 → (reading (config_text o.config) ≡ Ok (line_of_config o.config))
-    × (reading (job_text o.shape) ≡ Ok (line.Job o.shape))
-    × (reading (start_text o.start) ≡ Ok (line.Start o.start))
+    × (reading (job_text o.shape) ≡ Ok (script.Job o.shape))
+    × (reading (start_text o.start) ≡ Ok (script.Start o.start))

@@ -1,8 +1,9 @@
 //! The answer that a C program gets by value: a reply, a refusal or a fault.
 
 ghost use Rattle.std.specs.Prelude.{◌≡◌};
-ghost use Rattle.ckpt_embed.specs.Lines.{bad_line};
-ghost use Rattle.ckpt_embed.specs.Told.{refusal_told, reply_told, restore_told, tick_told, done, refused, out_of_memory, is_closed, bad_argument, too_short, too_short_for};
+ghost use Rattle.ckpt_embed.specs.Asking.{bad_line};
+ghost use Rattle.ckpt_embed.specs.Told.{refusal_told, reply_told, restore_told, tick_told, done, refused, out_of_memory, is_closed, bad_argument};
+ghost use Rattle.ckpt_embed.specs.Told.{too_short, too_short_for};
 
 use ckpt_ids::{Choice, FileId, Refusal, Reply, TickEnd};
 

@@ -4,7 +4,8 @@ ghost use Rattle.std.specs.Prelude.{◌≡◌, ◌≢◌, ◌↔◌, true, [], N
 ghost use Rattle.ckpt_ids.specs.Ascending.{ascending};
 ghost use Rattle.ckpt_model.specs.Memory.{may_want_memory};
 ghost use Rattle.ckpt_terms.specs.Machines.{core_in, is_free, names_in, passes};
-ghost use Rattle.ckpt_embed.specs.Calls.{HasNoNumbers, IsAnswered, IsBadShape, IsRefusedAs, IsStepTold, StaysAsItWas, StaysClosed, WantsMemory, ack_of, restore_of, takes_no_memory, target_of};
+ghost use Rattle.ckpt_embed.specs.Calls.{HasNoNumbers, IsAnswered, IsAnsweredPlainly, IsBadShape, IsRefusedAs, IsStepTold, StaysAsItWas, StaysClosed};
+ghost use Rattle.ckpt_embed.specs.Calls.{WantsMemory, ack_of, restore_of, takes_no_memory, target_of};
 ghost use Rattle.ckpt_embed.specs.Fenced.{IsHandled, IsTaken, call_step};
 ghost use Rattle.ckpt_embed.specs.Told.{bad_shape, no_memory};
 
@@ -27,7 +28,7 @@ pub(crate) const BAD_SHAPE: u32 = 3;
 pub fn call(alloc: Global, handle: &mut Handle, call: &Call) -> Answer
     ensures closed { StaysClosed handle.old.value handle.new.value result }
     ensures answered { passes handle.old.names call.now ≡ true → IsAnswered handle.old.value handle.new.value call.now result }
-    ensures handled { IsHandled (λ k. call_step k call.now) handle.old.value handle.old.names handle.new.value handle.new.names result }
+    ensures handled { IsHandled (λ k. call_step k call.now) handle.old handle.new result }
     ensures memory { WantsMemory handle.old.value call.now result }
     ensures never { takes_no_memory call.now ≡ true → result.code ≢ no_memory }
     ensures numbers { HasNoNumbers result }
@@ -58,8 +59,8 @@ pub fn ack(
     reused: &[u64],
 ) -> Answer
     ensures closed { StaysClosed handle.old.value handle.new.value result }
-    ensures answered { handle.old.names ≡ None → IsAnswered handle.old.value handle.new.value (ack_of now id subtask fresh.now reused.now) result }
-    ensures handled { IsHandled (λ k. call_step k (ack_of now id subtask fresh.now reused.now)) handle.old.value handle.old.names handle.new.value handle.new.names result }
+    ensures answered { IsAnsweredPlainly handle.old handle.new (ack_of now id subtask fresh.now reused.now) result }
+    ensures handled { IsHandled (λ k. call_step k (ack_of now id subtask fresh.now reused.now)) handle.old handle.new result }
     ensures numbers { HasNoNumbers result }
     ensures unchanged { StaysAsItWas handle.old.value handle.new.value result }
     ensures names_unchanged { result.code ≡ no_memory → handle.new.names ≡ handle.old.names }
@@ -90,8 +91,8 @@ pub fn restore(
 ) -> Answer
     ensures closed { StaysClosed handle.old.value handle.new.value result }
     ensures bad_shape { IsBadShape shape.now → IsRefusedAs handle.old.value handle.new.value bad_shape result }
-    ensures answered { (IsBadShape shape.now → ⊥) → handle.old.names ≡ None → IsAnswered handle.old.value handle.new.value (restore_of now savepoint shape.now) result }
-    ensures handled { (IsBadShape shape.now → ⊥) → IsHandled (λ k. call_step k (restore_of now savepoint shape.now)) handle.old.value handle.old.names handle.new.value handle.new.names result }
+    ensures answered { (IsBadShape shape.now → ⊥) → IsAnsweredPlainly handle.old handle.new (restore_of now savepoint shape.now) result }
+    ensures handled { (IsBadShape shape.now → ⊥) → IsHandled (λ k. call_step k (restore_of now savepoint shape.now)) handle.old handle.new result }
     ensures memory { shape.now ≡ [] → result.code ≢ no_memory }
     ensures numbers { HasNoNumbers result }
     ensures unchanged { StaysAsItWas handle.old.value handle.new.value result }

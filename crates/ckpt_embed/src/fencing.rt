@@ -9,8 +9,8 @@ ghost use Rattle.ckpt_terms.specs.declared.call.FencedCall.TheVariants as fencin
 ghost use Rattle.ckpt_terms.specs.declared.machine.Machine.TheVariants as machine;
 ghost use Rattle.ckpt_terms.specs.Machines.{names_in};
 ghost use Rattle.ckpt_terms.specs.Wants.{wants_memory};
-ghost use Rattle.ckpt_embed.specs.Calls.{HasNoNumbers, StaysAsItWas, StaysClosed, ack_of};
-ghost use Rattle.ckpt_embed.specs.Fenced.{IsHandled, IsTaken, WantsNames, count_of, fence_step, term_step, term_told, term_wants};
+ghost use Rattle.ckpt_embed.specs.Calls.{HasNoNumbers, StaysAsItWas, StaysClosed};
+ghost use Rattle.ckpt_embed.specs.Fenced.{IsHandled, IsTaken, WantsNames, ack_step, count_of, fence_step, term_step, term_told, term_wants};
 ghost use Rattle.ckpt_embed.specs.Naming.{IsNamedOpening, IsNotOpenedNamed, IsOpenedNamed, IsWhyNotNamed};
 ghost use Rattle.ckpt_embed.specs.Opening.{OpeningWantsMemory, StaysOpen, opening_of};
 ghost use Rattle.ckpt_embed.specs.Told.{no_memory};
@@ -102,7 +102,7 @@ fn named_of(
 /// for an image of the state, and visits all of it.
 pub fn fence(alloc: Global, handle: &mut Handle, first_name: u64) -> Answer
     ensures closed { StaysClosed handle.old.value handle.new.value result }
-    ensures handled { IsHandled (λ k. fence_step k first_name) handle.old.value handle.old.names handle.new.value handle.new.names result }
+    ensures handled { IsHandled (λ k. fence_step k first_name) handle.old handle.new result }
     ensures memory { result.code ≡ no_memory → handle.old.names ≡ None }
     ensures numbers { HasNoNumbers result }
     ensures unchanged { StaysAsItWas handle.old.value handle.new.value result }
@@ -138,8 +138,8 @@ pub fn term(alloc: Global, handle: &mut Handle) -> Answer
 /// A caller whose calls are kept in a log keeps this one before it uses a name.
 pub fn reserve(alloc: Global, handle: &mut Handle, term: u64, count: u64) -> Answer
     ensures closed { StaysClosed handle.old.value handle.new.value result }
-    ensures handled { IsHandled (λ k. term_step k (fencing.Reserve term count)) handle.old.value handle.old.names handle.new.value handle.new.names result }
-    ensures memory { WantsNames handle.old.value handle.old.names (fencing.Reserve term count) result }
+    ensures handled { IsHandled (λ k. term_step k (fencing.Reserve term count)) handle.old handle.new result }
+    ensures memory { WantsNames handle.old (fencing.Reserve term count) result }
     ensures numbers { HasNoNumbers result }
     ensures unchanged { StaysAsItWas handle.old.value handle.new.value result }
     ensures names_unchanged { result.code ≡ no_memory → handle.new.names ≡ handle.old.names }
@@ -156,7 +156,7 @@ pub fn reserve(alloc: Global, handle: &mut Handle, term: u64, count: u64) -> Ans
 /// hold are passed over, so the call can be repeated. Takes memory for a copy of the list.
 pub fn forfeit(alloc: Global, handle: &mut Handle, term: u64, names: &[u64]) -> Answer
     ensures closed { StaysClosed handle.old.value handle.new.value result }
-    ensures handled { IsHandled (λ k. term_step k (fencing.Forfeit term (ascending names.now))) handle.old.value handle.old.names handle.new.value handle.new.names result }
+    ensures handled { IsHandled (λ k. term_step k (fencing.Forfeit term (ascending names.now))) handle.old handle.new result }
     ensures numbers { HasNoNumbers result }
     ensures unchanged { StaysAsItWas handle.old.value handle.new.value result }
     ensures names_unchanged { result.code ≡ no_memory → handle.new.names ≡ handle.old.names }
@@ -184,7 +184,7 @@ pub fn ack_in(
     reused: &[u64],
 ) -> Answer
     ensures closed { StaysClosed handle.old.value handle.new.value result }
-    ensures handled { IsHandled (λ k. term_step k (fencing.Make term (ack_of now id subtask fresh.now reused.now))) handle.old.value handle.old.names handle.new.value handle.new.names result }
+    ensures handled { IsHandled (λ k. ack_step k term now id subtask fresh.now reused.now) handle.old handle.new result }
     ensures numbers { HasNoNumbers result }
     ensures unchanged { StaysAsItWas handle.old.value handle.new.value result }
     ensures names_unchanged { result.code ≡ no_memory → handle.new.names ≡ handle.old.names }
@@ -210,7 +210,7 @@ pub fn decline_in(
     subtask: SubtaskId,
 ) -> Answer
     ensures closed { StaysClosed handle.old.value handle.new.value result }
-    ensures handled { IsHandled (λ k. term_step k (fencing.Make term (call.Decline now id subtask))) handle.old.value handle.old.names handle.new.value handle.new.names result }
+    ensures handled { IsHandled (λ k. term_step k (fencing.Make term (call.Decline now id subtask))) handle.old handle.new result }
     ensures memory { result.code ≢ no_memory }
 {
     let Some(mut machine) = handle.take(alloc) else {
@@ -224,7 +224,7 @@ pub fn decline_in(
 }
 
 /// Makes a call with a term, and returns its answer.
-fn in_term(machine: &mut Machine, call: &FencedCall) -> Answer
+pub(crate) fn in_term(machine: &mut Machine, call: &FencedCall) -> Answer
     ensures handled { IsTaken (λ k. term_step k call.now) machine.old machine.new result }
     ensures memory { result.code ≡ no_memory → term_wants machine.old call.now ≡ true }
     ensures numbers { HasNoNumbers result }
@@ -237,7 +237,7 @@ fn in_term(machine: &mut Machine, call: &FencedCall) -> Answer
 }
 
 fn make(terms: &mut Terms, call: &FencedCall) -> Answer
-    ensures handled { result.code ≢ no_memory → (machine.Fenced terms.new ≡ (term_step (machine.Fenced terms.old) call.now).0) × (result ≡ (term_step (machine.Fenced terms.old) call.now).1) }
+    ensures handled { IsTaken (λ k. term_step k call.now) (machine.Fenced terms.old) (machine.Fenced terms.new) result }
     ensures memory { result.code ≡ no_memory → wants_memory terms.old call.now ≡ true }
     ensures numbers { HasNoNumbers result }
     ensures unchanged { result.code ≡ no_memory → terms.new ≡ terms.old }
@@ -267,7 +267,7 @@ fn term_of(machine: &Machine) -> Answer
     }
 }
 
-fn fence_machine(alloc: Global, machine: &mut Machine, first_name: u64) -> Answer
+pub(crate) fn fence_machine(alloc: Global, machine: &mut Machine, first_name: u64) -> Answer
     ensures handled { IsTaken (λ k. fence_step k first_name) machine.old machine.new result }
     ensures memory { result.code ≡ no_memory → names_in machine.old ≡ None }
     ensures numbers { HasNoNumbers result }

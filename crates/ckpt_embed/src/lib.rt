@@ -7,6 +7,7 @@
 #![tactic(auto)]
 
 pub mod answer;
+mod asked;
 pub mod buffers;
 pub mod calls;
 pub mod fenced;

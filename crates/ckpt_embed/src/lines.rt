@@ -1,34 +1,36 @@
-//! Makes the call of a script's line through a handle, and says which kind of line it is.
+//! Makes the call of a line of a log through a handle, and says which kind of line it is.
 
-ghost use Rattle.std.specs.Prelude.{◌≡◌, ◌≢◌, ◌||◌, true, false, is_none, length, Ok, Err, Some, IfOk, IfErr};
-ghost use Rattle.ckpt_ids.specs.declared.call.Call.{Call};
+ghost use Rattle.std.specs.Prelude.{◌≡◌, ◌≢◌, ◌||◌, ℕ, true, length, Ok, Some};
 ghost use Rattle.ckpt_ids.specs.declared.call.Call.TheVariants as call;
 ghost use Rattle.ckpt_model.specs.Memory.{may_want_memory};
 ghost use Rattle.ckpt_model.specs.State.{State};
 ghost use Rattle.ckpt_model.specs.Steps.{step};
-ghost use Rattle.ckpt_lines.specs.declared.meaning.Meaning.TheVariants as meant;
-ghost use Rattle.ckpt_lines.specs.Reading as lines;
+ghost use Rattle.ckpt_term_lines.specs.TermReading.{term_may_want_memory, term_reading};
 ghost use Rattle.ckpt_terms.specs.Machines.{core_in, is_free, names_in, passes};
-ghost use Rattle.ckpt_embed.specs.Buffers.{StandsInFront};
+ghost use Rattle.ckpt_embed.specs.declared.asked.Asked.TheVariants as ask;
+ghost use Rattle.ckpt_embed.specs.Asking.{reading_wants, said};
+ghost use Rattle.ckpt_embed.specs.Buffers.{StandsInFront, files_in};
 ghost use Rattle.ckpt_embed.specs.Calls.{HasNoNumbers, StaysAsItWas, StaysClosed};
-ghost use Rattle.ckpt_embed.specs.Fenced.{IsHandled, IsTaken, call_step, is_free_line};
-ghost use Rattle.ckpt_embed.specs.Lines.{BringsLineFiles, IsLineAnswered, IsLineTold, LineWantsMemory, call_files, call_made, fault_told, fetched, line_numbers, line_number, numbers_told, reading_wants, said, said_wants, says_numbers, says_told, bad_line};
-ghost use Rattle.ckpt_embed.specs.Buffers.{files_in};
+ghost use Rattle.ckpt_embed.specs.Fenced.{IsHandled, IsTaken};
+ghost use Rattle.ckpt_embed.specs.Lines.{BringsLineFiles, IsCallTold, IsLineAnswered, IsLineTold, LineWantsMemory, call_files, call_wants, is_free_line};
+ghost use Rattle.ckpt_embed.specs.Lines.{line_call_step, line_number, line_numbers, line_step, named_step, named_wants, numbers_told, plain_step};
+ghost use Rattle.ckpt_embed.specs.Lines.{said_files, said_wants, says_numbers, says_told};
 ghost use Rattle.ckpt_embed.specs.Told.{no_memory};
 
 use crate::answer::Answer;
+use crate::asked::{Asked, of_line_fault, said, usual};
 use crate::buffers::{show_from, take_from};
-use crate::calls::{BAD_SHAPE, answer};
+use crate::calls::answer;
+use crate::fencing::{fence_machine, in_term};
 use crate::handle::Handle;
 use ckpt_core::Core;
-use ckpt_ids::{Call, ShapeFault};
-use ckpt_lines::{Line, LineFault, Meaning, parse_line};
-use ckpt_terms::Machine;
+use ckpt_ids::Call;
+use ckpt_lines::Line;
+use ckpt_term_lines::{TermLine, parse_term_line};
+use ckpt_terms::{FencedCall, Machine};
 use std::alloc::Global;
 
-// what the answer is
-pub(crate) const SKIPPED: u32 = 37;
-
+// the kind of a line
 const LINE_SKIP: u32 = 38;
 
 const LINE_CONFIG: u32 = 39;
@@ -41,20 +43,7 @@ pub(crate) const LINE_CALL: u32 = 42;
 
 const LINE_ALL: u32 = 43;
 
-// why a line makes no call
-pub(crate) const FAULT_TOO_LONG: u32 = 1;
-
-const FAULT_WORD: u32 = 2;
-
-const FAULT_MISSING: u32 = 3;
-
-const FAULT_NUMBER: u32 = 4;
-
-const FAULT_EXTRA: u32 = 5;
-
-pub(crate) const FAULT_NO_CALL: u32 = 6;
-
-/// Makes the call of a script's line, and returns the answer of that call.
+/// Makes the call of a line, and returns the answer of that call.
 ///
 /// The line is the bytes before its newline. A take writes its files to the start of the buffer. If
 /// the buffer has too few places for them, the answer says how many it needs, and no file is
@@ -64,15 +53,17 @@ pub(crate) const FAULT_NO_CALL: u32 = 6;
 ///
 /// Takes memory for the lists of a line, even if the call is then refused, and for the call.
 ///
-/// A line has no term. So of a handle with names an `ack` and a `decline` are refused, and a
-/// `restore` and a `cancel` end the term.
+/// `fence`, `reserve` and `forfeit` are [`fence`](crate::fence), [`reserve`](crate::reserve) and
+/// [`forfeit`](crate::forfeit). `in` has the term of an acknowledgement or a decline. Other calls
+/// have no use for it, but are refused for it on a handle without names. On a handle with names a
+/// line without a term makes its call without one: an `ack` and a `decline` are refused.
 pub fn line(alloc: Global, handle: &mut Handle, line: &[u8], files: &mut [u64]) -> Answer
     ensures closed { StaysClosed handle.old.value handle.new.value result }
-    ensures answered { (is_free_line (said line.now) || is_none handle.old.names) ≡ true → IsLineAnswered handle.old.value handle.new.value line.now (length files.old) result }
-    ensures handled { (call : Call) → said line.now ≡ Ok (meant.Call call) → is_free call ≡ false → IsHandled (λ k. call_step k call) handle.old.value handle.old.names handle.new.value handle.new.names result }
+    ensures answered { IsLineAnswered handle.old handle.new line.now (length files.old) result }
+    ensures handled { IsHandled (λ k. line_step k (length files.old) line.now) handle.old handle.new result }
     ensures front { (m : State) → handle.old.value ≡ Some m → BringsLineFiles m line.now files.old files.new result }
     ensures kept { result.code ≢ 0 → files.new ≡ files.old }
-    ensures memory { LineWantsMemory handle.old.value line.now result }
+    ensures memory { LineWantsMemory handle.old line.now result }
     ensures numbers { HasNoNumbers result }
     ensures unchanged { StaysAsItWas handle.old.value handle.new.value result }
     ensures names { is_free_line (said line.now) ≡ true → handle.new.names ≡ handle.old.names }
@@ -86,30 +77,85 @@ pub fn line(alloc: Global, handle: &mut Handle, line: &[u8], files: &mut [u64]) 
     answer
 }
 
-#[tactic(auto, unfolding(crate::specs::Lines::said_made))]
 fn make_line(alloc: Global, machine: &mut Machine, line: &[u8], files: &mut [u64]) -> Answer
-    ensures answered { (is_free_line (said line.now) || is_none (names_in machine.old)) ≡ true → IsLineTold (core_in machine.old) (core_in machine.new) line.now (length files.old) result }
-    ensures handled { (call : Call) → said line.now ≡ Ok (meant.Call call) → is_free call ≡ false → IsTaken (λ k. call_step k call) machine.old machine.new result }
+    ensures answered { IsLineTold machine.old machine.new (said line.now) (length files.old) result }
+    ensures handled { IsTaken (λ k. line_step k (length files.old) line.now) machine.old machine.new result }
     ensures front { BringsLineFiles (core_in machine.old) line.now files.old files.new result }
     ensures kept { result.code ≢ 0 → files.new ≡ files.old }
-    ensures memory { result.code ≡ no_memory → (reading_wants line.now || said_wants (core_in machine.old) (said line.now)) ≡ true }
+    ensures memory { result.code ≡ no_memory → (reading_wants line.now || said_wants machine.old (said line.now)) ≡ true }
     ensures numbers { HasNoNumbers result }
     ensures names { is_free_line (said line.now) ≡ true → names_in machine.new ≡ names_in machine.old }
     ensures unchanged { result.code ≡ no_memory → machine.new ≡ machine.old }
 {
+    if let Some(call) = usual(line) {
+        return make_plain(alloc, machine, &call, files);
+    }
     match said(alloc, line) {
-        Ok(Meaning::Call(call)) => make_call(alloc, machine, &call, files),
-        Ok(Meaning::Skip) => Answer::done(SKIPPED, 0, 0),
-        Ok(_) => Answer::bad_line(FAULT_NO_CALL),
+        Ok(Asked::Fence { first }) => fence_machine(alloc, machine, first),
+        Ok(Asked::Call(call)) => make_call(alloc, machine, &call, files),
         Err(answer) => answer,
     }
 }
 
+/// Makes the call of a line. Term 0 is none.
+fn make_call(alloc: Global, machine: &mut Machine, call: &FencedCall, files: &mut [u64]) -> Answer
+    ensures answered { IsLineTold machine.old machine.new (Ok (ask.Call call.now)) (length files.old) result }
+    ensures handled { IsTaken (λ k. line_call_step k (length files.old) call.now) machine.old machine.new result }
+    ensures front { result.code ≡ 0 → StandsInFront (said_files (core_in machine.old) (Ok (ask.Call call.now))) files.old files.new }
+    ensures kept { result.code ≢ 0 → files.new ≡ files.old }
+    ensures memory { result.code ≡ no_memory → call_wants machine.old call.now ≡ true }
+    ensures numbers { HasNoNumbers result }
+    ensures names { is_free_line (Ok (ask.Call call.now)) ≡ true → names_in machine.new ≡ names_in machine.old }
+    ensures unchanged { result.code ≡ no_memory → machine.new ≡ machine.old }
+{
+    match call {
+        FencedCall::Make { term, call: made } => {
+            if *term == 0 {
+                make_plain(alloc, machine, made, files)
+            } else if is_free(made) {
+                make_named(alloc, machine, made, files)
+            } else {
+                in_term(machine, call)
+            }
+        }
+        _ => in_term(machine, call),
+    }
+}
+
+/// Makes a call that has a term, and no use for it. Refused if there are no names.
+///
+/// Condition: it needs no term and ends none.
+fn make_named(alloc: Global, machine: &mut Machine, call: &Call, files: &mut [u64]) -> Answer
+    requires { is_free call.now ≡ true }
+    ensures handled { (term : ℕ) → IsTaken (λ k. named_step k (length files.old) term call.now) machine.old machine.new result }
+    ensures front { result.code ≡ 0 → StandsInFront (call_files (core_in machine.old) call.now) files.old files.new }
+    ensures kept { result.code ≢ 0 → files.new ≡ files.old }
+    ensures memory { (term : ℕ) → result.code ≡ no_memory → named_wants machine.old term call.now ≡ true }
+    ensures numbers { HasNoNumbers result }
+    ensures names { names_in machine.new ≡ names_in machine.old }
+    ensures unchanged { result.code ≡ no_memory → machine.new ≡ machine.old }
+{
+    match machine {
+        Machine::Plain(_) => Answer::no_names(),
+        Machine::Fenced(_) => make_plain(alloc, machine, call, files),
+    }
+}
+
+/// Whether the call needs no term and ends none.
+fn is_free(call: &Call) -> bool
+    ensures { result ≡ is_free call.now }
+{
+    !matches!(
+        call,
+        Call::Ack { .. } | Call::Decline { .. } | Call::Restore { .. } | Call::Cancel { .. }
+    )
+}
+
+/// Makes a call without a term.
 #[tactic(auto, unfolding(crate::specs::Lines::call_made))]
-fn make_call(alloc: Global, machine: &mut Machine, call: &Call, files: &mut [u64]) -> Answer
-    ensures new { passes (names_in machine.old) call.now ≡ true → result.code ≢ no_memory → core_in machine.new ≡ (call_made (core_in machine.old) (length files.old) call.now).0 }
-    ensures told { passes (names_in machine.old) call.now ≡ true → result.code ≢ no_memory → result ≡ (call_made (core_in machine.old) (length files.old) call.now).1 }
-    ensures handled { is_free call.now ≡ false → IsTaken (λ k. call_step k call.now) machine.old machine.new result }
+fn make_plain(alloc: Global, machine: &mut Machine, call: &Call, files: &mut [u64]) -> Answer
+    ensures answered { IsCallTold machine.old machine.new call.now (length files.old) result }
+    ensures handled { IsTaken (λ k. plain_step k (length files.old) call.now) machine.old machine.new result }
     ensures front { result.code ≡ 0 → StandsInFront (call_files (core_in machine.old) call.now) files.old files.new }
     ensures kept { result.code ≢ 0 → files.new ≡ files.old }
     ensures memory { result.code ≡ no_memory → may_want_memory (core_in machine.old) call.now ≡ true }
@@ -125,9 +171,9 @@ fn make_call(alloc: Global, machine: &mut Machine, call: &Call, files: &mut [u64
 }
 
 /// Fetches at most `most` files, or none if the buffer has too few places for them.
+#[tactic(auto, unfolding(crate::specs::Lines::call_made))]
 fn take_that_fits(machine: &mut Machine, most: u64, files: &mut [u64]) -> Answer
-    ensures new { result.code ≢ no_memory → core_in machine.new ≡ (fetched (core_in machine.old) (length files.old) (step (core_in machine.old) (call.Take most))).0 }
-    ensures told { result.code ≢ no_memory → result ≡ (fetched (core_in machine.old) (length files.old) (step (core_in machine.old) (call.Take most))).1 }
+    ensures answered { IsCallTold machine.old machine.new (call.Take most) (length files.old) result }
     ensures front { result.code ≡ 0 → StandsInFront (files_in (step (core_in machine.old) (call.Take most)).1) files.old files.new }
     ensures kept { result.code ≢ 0 → files.new ≡ files.old }
     ensures memory { result.code ≡ no_memory → may_want_memory (core_in machine.old) (call.Take most) ≡ true }
@@ -150,54 +196,23 @@ fn fetchable(core: &Core, most: u64) -> u64
     if most < waiting { most } else { waiting }
 }
 
-/// What the line says, or the answer if it has a fault.
-#[tactic(auto, unfolding(crate::specs::Lines::said, crate::specs::Lines::reading_wants))]
-pub(crate) fn said(alloc: Global, line: &[u8]) -> Result<Meaning, Answer>
-    ensures value { IfOk result (λ meant. said line.now ≡ Ok meant) }
-    ensures fault { IfErr result (λ answer. answer.code ≢ no_memory → said line.now ≡ Err answer) }
-    ensures memory { IfErr result (λ answer. answer.code ≡ no_memory → reading_wants line.now ≡ true) }
-    ensures numbers { IfErr result HasNoNumbers }
-{
-    let read = match parse_line(alloc, line) {
-        Ok(read) => read,
-        Err(why) => return Err(of_line_fault(why)),
-    };
-    match read.meaning(alloc) {
-        Ok(meant) => Ok(meant),
-        Err(ShapeFault::BadShape) => Err(Answer::bad_argument(BAD_SHAPE)),
-        Err(ShapeFault::Memory) => Err(Answer::out_of_memory()),
-    }
-}
-
-/// The answer if a line can't be read.
-fn of_line_fault(why: LineFault) -> Answer
-    ensures { result ≡ fault_told why }
-{
-    match why {
-        LineFault::TooLong => Answer::bad_line(FAULT_TOO_LONG),
-        LineFault::Word => Answer::bad_line(FAULT_WORD),
-        LineFault::Missing => Answer::bad_line(FAULT_MISSING),
-        LineFault::Number => Answer::bad_line(FAULT_NUMBER),
-        LineFault::Extra => Answer::bad_line(FAULT_EXTRA),
-        LineFault::Memory => Answer::out_of_memory(),
-    }
-}
-
-/// Returns the kind of a script's line. Writes the numbers of a line that makes no call to the
-/// start of the buffer, in the line's order.
+/// Returns the kind of a line. Writes the numbers of a line that makes no call to the start of the
+/// buffer, in the line's order.
 ///
 /// The last number of a `config` line is 1 for `keep` and 0 for `delete`. If the buffer has too few
-/// places, the answer says how many it needs. Takes memory for the lists of an `ack`, a `job` and a
-/// `restore`.
+/// places, the answer says how many it needs. A line that scripts do not have is a call, even if
+/// [`line`] refuses what follows its term. Takes memory for the lists of an `ack`, a `job`, a
+/// `restore` and a `forfeit`.
 pub fn line_says(alloc: Global, line: &[u8], numbers: &mut [u64]) -> Answer
-    ensures told { result.code ≢ no_memory → result ≡ says_told (lines.reading line.now) (length numbers.old) }
-    ensures front { result.code ≡ 0 → StandsInFront (says_numbers (lines.reading line.now)) numbers.old numbers.new }
+    ensures told { result.code ≢ no_memory → result ≡ says_told (term_reading line.now) (length numbers.old) }
+    ensures front { result.code ≡ 0 → StandsInFront (says_numbers (term_reading line.now)) numbers.old numbers.new }
     ensures kept { result.code ≢ 0 → numbers.new ≡ numbers.old }
-    ensures memory { result.code ≡ no_memory → lines.may_want_memory line.now ≡ true }
+    ensures memory { result.code ≡ no_memory → term_may_want_memory line.now ≡ true }
     ensures numbers { HasNoNumbers result }
 {
-    match parse_line(alloc, line) {
-        Ok(read) => write_line(&read, numbers),
+    match parse_term_line(alloc, line) {
+        Ok(TermLine::Plain(read)) => write_line(&read, numbers),
+        Ok(_) => write_numbers(LINE_CALL, &[], numbers),
         Err(why) => of_line_fault(why),
     }
 }

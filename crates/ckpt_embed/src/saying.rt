@@ -1,28 +1,38 @@
-//! Tells the call that a script's line says. It is the inverse of `writing`.
+//! Tells the call that a line of a log says. It is the inverse of `writing`.
 
 ghost use Rattle.std.specs.Prelude.{◌≡◌, ◌≢◌, ◌≤◌, [], true, false, length, Ok};
 ghost use Rattle.ckpt_embed.specs.Buffers.{StandsInFront};
 ghost use Rattle.ckpt_embed.specs.Calls.{HasNoNumbers};
-ghost use Rattle.ckpt_embed.specs.Lines.{reading_wants, said};
-ghost use Rattle.ckpt_embed.specs.Saying.{BringsCallList, BringsFields, GivesBack, HasLists, call_told, fields_of, fields_with, first_of, has_no_fields, lists_told, meant_told, says_call, second_of, target_number};
+ghost use Rattle.ckpt_embed.specs.Asking.{reading_wants, said};
+ghost use Rattle.ckpt_embed.specs.Saying.{BringsCallList, BringsFields, CallHasLists, GivesBack, HasLists, asked_told, call_fields, call_first};
+ghost use Rattle.ckpt_embed.specs.Saying.{call_has_no_fields, call_second, fields_of, fields_with, first_of, has_no_fields, lists_told, meant_told};
+ghost use Rattle.ckpt_embed.specs.Saying.{says_call, second_of, target_number};
 ghost use Rattle.ckpt_embed.specs.Told.{no_memory};
 ghost use Rattle.ckpt_embed.specs.Writing.{given};
 
 use crate::answer::Answer;
+use crate::asked::{Asked, said};
 use crate::buffers::write_files;
-use crate::lines::{FAULT_NO_CALL, LINE_CALL, SKIPPED, said};
+use crate::lines::LINE_CALL;
 use crate::writing::{
-    CALL_ACK, CALL_CANCEL, CALL_COUNT, CALL_DECLINE, CALL_DELETED, CALL_DISPOSE, CALL_RESTORE,
-    CALL_SAVEPOINT, CALL_SHOW, CALL_TAKE, CALL_TICK, CALL_UNDELETED, CallFields,
+    CALL_ACK, CALL_CANCEL, CALL_COUNT, CALL_DECLINE, CALL_DELETED, CALL_DISPOSE, CALL_FENCE,
+    CALL_FORFEIT, CALL_RESERVE, CALL_RESTORE, CALL_SAVEPOINT, CALL_SHOW, CALL_TAKE, CALL_TICK,
+    CALL_UNDELETED, CallFields,
 };
 use ckpt_ids::{Call, FileId, Refusal, SubtaskId, Target};
-use ckpt_lines::Meaning;
+use ckpt_terms::FencedCall;
 use std::alloc::Global;
+
+const NO_SUBTASK: SubtaskId = SubtaskId {
+    vertex: 0,
+    index: 0,
+};
 
 /// Writes the call that a line says: its fields, and its lists to the start of `first` and `second`.
 ///
-/// `first` gets the fresh files of an ack in ascending order, or the new shape of a restore. `second`
-/// gets the reused files of an ack in ascending order. Fields that the kind does not use are 0. If a
+/// `first` gets the fresh files of an ack in ascending order, the new shape of a restore, or the names
+/// of a forfeit in ascending order. `second` gets the reused files of an ack in ascending order. The
+/// term of a call that has none is 0, and so are fields that the kind does not use. If a
 /// buffer has too few places, the answer says how many places each needs. A restore to savepoint 0
 /// is refused, since no savepoint has this number. A line that says no call, or a restore in a bad
 /// shape, has the answer that [`line`](crate::line) gives for it. Takes memory for the lists of a
@@ -45,38 +55,45 @@ pub fn line_call(
     ensures numbers { HasNoNumbers result }
 {
     match said(alloc, line) {
-        Ok(Meaning::Call(said)) => write_call(&said, call, first, second),
-        Ok(Meaning::Skip) => Answer::done(SKIPPED, 0, 0),
-        Ok(_) => Answer::bad_line(FAULT_NO_CALL),
+        Ok(asked) => write_call(&asked, call, first, second),
         Err(answer) => answer,
     }
 }
 
-/// Writes this call, if it has fields and the buffers are long enough.
-fn write_call(said: &Call, call: &mut CallFields, first: &mut [u64], second: &mut [u64]) -> Answer
-    ensures told { result ≡ call_told said.now (length first.old) (length second.old) }
-    ensures fields { result.what ≡ says_call → call.new ≡ fields_of said.now }
-    ensures first { result.what ≡ says_call → StandsInFront (first_of said.now) first.old first.new }
-    ensures second { result.what ≡ says_call → StandsInFront (second_of said.now) second.old second.new }
-    ensures given { result.what ≡ says_call → given (fields_of said.now) (first_of said.now) (second_of said.now) ≡ Ok said.now }
-    ensures lengths { result.what ≡ says_call → (result.a ≡ length (first_of said.now)) × (result.b ≡ length (second_of said.now)) }
+/// Writes what is asked for, if it has fields and the buffers are long enough.
+fn write_call(asked: &Asked, call: &mut CallFields, first: &mut [u64], second: &mut [u64]) -> Answer
+    ensures told { result ≡ asked_told asked.now (length first.old) (length second.old) }
+    ensures fields { result.what ≡ says_call → call.new ≡ fields_of asked.now }
+    ensures first { result.what ≡ says_call → StandsInFront (first_of asked.now) first.old first.new }
+    ensures second { result.what ≡ says_call → StandsInFront (second_of asked.now) second.old second.new }
+    ensures given { result.what ≡ says_call → given (fields_of asked.now) (first_of asked.now) (second_of asked.now) ≡ Ok asked.now }
+    ensures lengths { result.what ≡ says_call → (result.a ≡ length (first_of asked.now)) × (result.b ≡ length (second_of asked.now)) }
     ensures kept { result.what ≢ says_call → (call.new ≡ call.old) × (first.new ≡ first.old) × (second.new ≡ second.old) }
     ensures code { result.code ≢ no_memory }
 {
-    if has_no_fields(said) {
+    if has_no_fields(asked) {
         return Answer::of_refusal(Refusal::NoSuchSavepoint);
     }
-    let answer = write_lists(said, first, second);
+    let answer = write_lists(asked, first, second);
     if answer.what == LINE_CALL {
-        recall_given(said);
-        *call = fields_of(said);
+        recall_given(asked);
+        *call = fields_of(asked);
     }
     answer
 }
 
-/// Whether the call is a restore to savepoint 0.
-fn has_no_fields(call: &Call) -> bool
-    ensures { result ≡ has_no_fields call.now }
+/// Whether it is a restore to savepoint 0.
+fn has_no_fields(asked: &Asked) -> bool
+    ensures { result ≡ has_no_fields asked.now }
+{
+    match asked {
+        Asked::Call(FencedCall::Make { term: _, call }) => call_has_no_fields(call),
+        _ => false,
+    }
+}
+
+fn call_has_no_fields(call: &Call) -> bool
+    ensures { result ≡ call_has_no_fields call.now }
 {
     match call {
         Call::Restore {
@@ -88,16 +105,26 @@ fn has_no_fields(call: &Call) -> bool
     }
 }
 
-/// Does nothing. Its contract says that the fields and the lists of the call give the call.
-fn recall_given(call: &Call)
-    ensures { has_no_fields call.now ≡ false → given (fields_of call.now) (first_of call.now) (second_of call.now) ≡ Ok call.now }
+/// Does nothing. Its contract says that the fields and the lists give what is asked for.
+fn recall_given(asked: &Asked)
+    ensures { has_no_fields asked.now ≡ false → given (fields_of asked.now) (first_of asked.now) (second_of asked.now) ≡ Ok asked.now }
 {
-    recall_lists(call);
+    recall_lists(asked);
 }
 
 /// Does nothing. Its contract says what the types of the lists keep.
-fn recall_lists(call: &Call)
-    ensures { HasLists call.now }
+fn recall_lists(asked: &Asked)
+    ensures { HasLists asked.now }
+{
+    match asked {
+        Asked::Call(FencedCall::Forfeit { term: _, names }) => names.recall(),
+        Asked::Call(FencedCall::Make { term: _, call }) => recall_call_lists(call),
+        _ => (),
+    }
+}
+
+fn recall_call_lists(call: &Call)
+    ensures { CallHasLists call.now }
 {
     match call {
         Call::Ack {
@@ -119,41 +146,53 @@ fn recall_lists(call: &Call)
     }
 }
 
-fn fields_of(call: &Call) -> CallFields
-    ensures { result ≡ fields_of call.now }
+fn fields_of(asked: &Asked) -> CallFields
+    ensures { result ≡ fields_of asked.now }
 {
-    let none = SubtaskId {
-        vertex: 0,
-        index: 0,
-    };
+    match asked {
+        Asked::Fence { first } => fields_with(CALL_FENCE, NO_SUBTASK, 0, *first, 0),
+        Asked::Call(FencedCall::Reserve { term, count }) => {
+            fields_with(CALL_RESERVE, NO_SUBTASK, 0, *count, *term)
+        }
+        Asked::Call(FencedCall::Forfeit { term, names: _ }) => {
+            fields_with(CALL_FORFEIT, NO_SUBTASK, 0, 0, *term)
+        }
+        Asked::Call(FencedCall::Make { term, call }) => call_fields(*term, call),
+    }
+}
+
+fn call_fields(term: u64, call: &Call) -> CallFields
+    ensures { result ≡ call_fields term call.now }
+{
+    let none = NO_SUBTASK;
     match call {
-        Call::Tick { now } => fields_with(CALL_TICK, none, *now, 0),
-        Call::Savepoint { now } => fields_with(CALL_SAVEPOINT, none, *now, 0),
+        Call::Tick { now } => fields_with(CALL_TICK, none, *now, 0, term),
+        Call::Savepoint { now } => fields_with(CALL_SAVEPOINT, none, *now, 0, term),
         Call::Ack {
             now,
             id,
             subtask,
             fresh: _,
             reused: _,
-        } => fields_with(CALL_ACK, *subtask, *now, id.0),
-        Call::Decline { now, id, subtask } => fields_with(CALL_DECLINE, *subtask, *now, id.0),
-        Call::Dispose { id } => fields_with(CALL_DISPOSE, none, 0, id.0),
+        } => fields_with(CALL_ACK, *subtask, *now, id.0, term),
+        Call::Decline { now, id, subtask } => fields_with(CALL_DECLINE, *subtask, *now, id.0, term),
+        Call::Dispose { id } => fields_with(CALL_DISPOSE, none, 0, id.0, term),
         Call::Restore {
             now,
             target,
             shape: _,
-        } => fields_with(CALL_RESTORE, none, *now, target_number(*target)),
-        Call::Cancel { now } => fields_with(CALL_CANCEL, none, *now, 0),
-        Call::Take { most } => fields_with(CALL_TAKE, none, 0, *most),
-        Call::Deleted { file } => fields_with(CALL_DELETED, none, 0, file.0),
-        Call::Undeleted { file } => fields_with(CALL_UNDELETED, none, 0, file.0),
-        Call::Show { id } => fields_with(CALL_SHOW, none, 0, id.0),
-        Call::Count { file } => fields_with(CALL_COUNT, none, 0, file.0),
+        } => fields_with(CALL_RESTORE, none, *now, target_number(*target), term),
+        Call::Cancel { now } => fields_with(CALL_CANCEL, none, *now, 0, term),
+        Call::Take { most } => fields_with(CALL_TAKE, none, 0, *most, term),
+        Call::Deleted { file } => fields_with(CALL_DELETED, none, 0, file.0, term),
+        Call::Undeleted { file } => fields_with(CALL_UNDELETED, none, 0, file.0, term),
+        Call::Show { id } => fields_with(CALL_SHOW, none, 0, id.0, term),
+        Call::Count { file } => fields_with(CALL_COUNT, none, 0, file.0, term),
     }
 }
 
-fn fields_with(kind: u32, subtask: SubtaskId, now: u64, number: u64) -> CallFields
-    ensures { result ≡ fields_with kind subtask now number }
+fn fields_with(kind: u32, subtask: SubtaskId, now: u64, number: u64, term: u64) -> CallFields
+    ensures { result ≡ fields_with kind subtask now number term }
 {
     CallFields {
         kind,
@@ -161,6 +200,7 @@ fn fields_with(kind: u32, subtask: SubtaskId, now: u64, number: u64) -> CallFiel
         index: subtask.index,
         now,
         number,
+        term,
     }
 }
 
@@ -174,11 +214,26 @@ fn target_number(target: Target) -> u64
     }
 }
 
-/// Writes the lists of the call to the start of the buffers, if both are long enough.
-fn write_lists(call: &Call, first: &mut [u64], second: &mut [u64]) -> Answer
-    ensures told { result ≡ lists_told (first_of call.now) (second_of call.now) (length first.old) (length second.old) }
-    ensures first { result.what ≡ says_call → StandsInFront (first_of call.now) first.old first.new }
-    ensures second { result.what ≡ says_call → StandsInFront (second_of call.now) second.old second.new }
+/// Writes the lists to the start of the buffers, if both are long enough.
+fn write_lists(asked: &Asked, first: &mut [u64], second: &mut [u64]) -> Answer
+    ensures told { result ≡ lists_told (first_of asked.now) (second_of asked.now) (length first.old) (length second.old) }
+    ensures first { result.what ≡ says_call → StandsInFront (first_of asked.now) first.old first.new }
+    ensures second { result.what ≡ says_call → StandsInFront (second_of asked.now) second.old second.new }
+    ensures kept { result.what ≢ says_call → (first.new ≡ first.old) × (second.new ≡ second.old) }
+{
+    match asked {
+        Asked::Call(FencedCall::Forfeit { term: _, names }) => {
+            write_files_of(names.as_slice(), &[], first, second)
+        }
+        Asked::Call(FencedCall::Make { term: _, call }) => write_call_lists(call, first, second),
+        _ => Answer::done(LINE_CALL, 0, 0),
+    }
+}
+
+fn write_call_lists(call: &Call, first: &mut [u64], second: &mut [u64]) -> Answer
+    ensures told { result ≡ lists_told (call_first call.now) (call_second call.now) (length first.old) (length second.old) }
+    ensures first { result.what ≡ says_call → StandsInFront (call_first call.now) first.old first.new }
+    ensures second { result.what ≡ says_call → StandsInFront (call_second call.now) second.old second.new }
     ensures kept { result.what ≢ says_call → (first.new ≡ first.old) × (second.new ≡ second.old) }
 {
     match call {
@@ -188,7 +243,7 @@ fn write_lists(call: &Call, first: &mut [u64], second: &mut [u64]) -> Answer
             subtask: _,
             fresh,
             reused,
-        } => write_ack(fresh.as_slice(), reused.as_slice(), first, second),
+        } => write_files_of(fresh.as_slice(), reused.as_slice(), first, second),
         Call::Restore {
             now: _,
             target: _,
@@ -198,7 +253,13 @@ fn write_lists(call: &Call, first: &mut [u64], second: &mut [u64]) -> Answer
     }
 }
 
-fn write_ack(fresh: &[FileId], reused: &[FileId], first: &mut [u64], second: &mut [u64]) -> Answer
+/// Writes two lists of files.
+fn write_files_of(
+    fresh: &[FileId],
+    reused: &[FileId],
+    first: &mut [u64],
+    second: &mut [u64],
+) -> Answer
     ensures told { result ≡ lists_told fresh.now reused.now (length first.old) (length second.old) }
     ensures first { result.what ≡ says_call → StandsInFront fresh.now first.old first.new }
     ensures second { result.what ≡ says_call → StandsInFront reused.now second.old second.new }

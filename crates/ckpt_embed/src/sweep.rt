@@ -3,10 +3,10 @@
 ghost use Rattle.std.specs.Prelude.{◌≡◌, ◌≢◌, ◌≤◌, filter, length, nat_le, Some};
 ghost use Rattle.ckpt_model.specs.State.{State};
 ghost use Rattle.ckpt_terms.specs.Fencing.{is_garbage};
-ghost use Rattle.ckpt_terms.specs.Machines.{Issued, core_in, issued_by, names_in};
+ghost use Rattle.ckpt_terms.specs.Machines.{core_in, issued_by, names_in};
 ghost use Rattle.ckpt_embed.specs.Buffers.{StandsInFront};
 ghost use Rattle.ckpt_embed.specs.Calls.{StaysClosed};
-ghost use Rattle.ckpt_embed.specs.Fenced.{garbage_of, garbage_told, unissued_of};
+ghost use Rattle.ckpt_embed.specs.Fenced.{BringsOf, garbage_of, garbage_told, unissued_of};
 
 use crate::answer::Answer;
 use crate::fenced::GARBAGE;
@@ -34,8 +34,8 @@ pub fn garbage(
 ) -> Answer
     ensures closed { StaysClosed handle.old.value handle.new.value result }
     ensures answered { (m : State) → handle.old.value ≡ Some m → result ≡ garbage_told m handle.old.names files.now (length garbage.old) (length unissued.old) }
-    ensures garbage { (m : State) (n : Issued) → handle.old.value ≡ Some m → handle.old.names ≡ Some n → result.code ≡ 0 → StandsInFront (garbage_of m n files.now) garbage.old garbage.new }
-    ensures unissued { (n : Issued) → handle.old.names ≡ Some n → result.code ≡ 0 → StandsInFront (unissued_of n files.now) unissued.old unissued.new }
+    ensures garbage { (m : State) → handle.old.value ≡ Some m → BringsOf (λ n. garbage_of m n files.now) handle.old.names garbage.old garbage.new result }
+    ensures unissued { BringsOf (λ n. unissued_of n files.now) handle.old.names unissued.old unissued.new result }
     ensures kept { result.code ≢ 0 → (garbage.new ≡ garbage.old) × (unissued.new ≡ unissued.old) }
     ensures unchanged { handle.new.value ≡ handle.old.value }
     ensures names { handle.new.names ≡ handle.old.names }
@@ -50,8 +50,8 @@ pub fn garbage(
 
 fn garbage_in(machine: &Machine, files: &[u64], garbage: &mut [u64], unissued: &mut [u64]) -> Answer
     ensures told { result ≡ garbage_told (core_in machine.now) (names_in machine.now) files.now (length garbage.old) (length unissued.old) }
-    ensures garbage { (n : Issued) → names_in machine.now ≡ Some n → result.code ≡ 0 → StandsInFront (garbage_of (core_in machine.now) n files.now) garbage.old garbage.new }
-    ensures unissued { (n : Issued) → names_in machine.now ≡ Some n → result.code ≡ 0 → StandsInFront (unissued_of n files.now) unissued.old unissued.new }
+    ensures garbage { BringsOf (λ n. garbage_of (core_in machine.now) n files.now) (names_in machine.now) garbage.old garbage.new result }
+    ensures unissued { BringsOf (λ n. unissued_of n files.now) (names_in machine.now) unissued.old unissued.new result }
     ensures kept { result.code ≢ 0 → (garbage.new ≡ garbage.old) × (unissued.new ≡ unissued.old) }
 {
     match machine {

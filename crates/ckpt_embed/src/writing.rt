@@ -1,23 +1,26 @@
-//! Writes lines of a script into a caller's buffer: the line of a call, and the lines of an
-//! opening.
+//! Writes lines of a log into a caller's buffer: the line of a call, and the lines of an opening.
 
 ghost use Rattle.std.specs.Prelude.{◌≡◌, ◌≢◌, ◌≤◌, None, Ok, Err, IsOk, IfOk, IfErr, length, string_bytes};
 ghost use Rattle.ckpt_lines.specs.declared.limits.TheConstants.{LONGEST_LINE};
 ghost use Rattle.ckpt_lines.specs.declared.line.Line.TheVariants as line;
 ghost use Rattle.ckpt_call_lines.specs.CallTexts.{IsReadAs, config_text, job_text, line_of_config, start_text};
+ghost use Rattle.ckpt_term_lines.specs.TermTexts.{IsTermReadAs};
 ghost use Rattle.ckpt_embed.specs.Buffers.{StandsInFront};
 ghost use Rattle.ckpt_embed.specs.Calls.{HasNoNumbers, IsWhyNoCall};
 ghost use Rattle.ckpt_embed.specs.Opening.{IsWhyNot, OpeningWantsMemory, bad_opening, configuration_of, opening_of};
 ghost use Rattle.ckpt_embed.specs.Told.{no_memory};
-ghost use Rattle.ckpt_embed.specs.Writing.{OpeningReadsBack, ReadsBack, SaysBack, call_line_text, call_line_told, given, opening_text, opening_told, text_told};
+ghost use Rattle.ckpt_embed.specs.Writing.{IsWhyNotGiven, OpeningReadsBack, ReadsBack, SaysBack, asked_text, call_given, call_line_text, call_line_told};
+ghost use Rattle.ckpt_embed.specs.Writing.{given, line_of_asked, opening_text, opening_told, text_told};
 
 use crate::answer::Answer;
-use crate::calls::{BAD_SHAPE, ack_of, restore_of};
-use crate::lines::FAULT_TOO_LONG;
+use crate::asked::{Asked, FAULT_TOO_LONG};
+use crate::calls::{BAD_SHAPE, ack_of, files_of, restore_of};
 use crate::opening::{BAD_MOMENT, Settings, config_of, job_of};
-use ckpt_call_lines::{call_line as text_of, config_line, job_line, start_line};
+use ckpt_call_lines::{config_line, job_line, start_line};
 use ckpt_ids::{Call, CheckpointId, Config, FileId, MOMENTS_END, Shape, ShapeFault, SubtaskId};
 use ckpt_lines::LONGEST_LINE;
+use ckpt_term_lines::{fence_line, term_line};
+use ckpt_terms::FencedCall;
 use std::alloc::{AllocError, Global};
 
 pub(crate) const CALL_TICK: u32 = 1;
@@ -44,6 +47,12 @@ pub(crate) const CALL_SHOW: u32 = 11;
 
 pub(crate) const CALL_COUNT: u32 = 12;
 
+pub(crate) const CALL_FENCE: u32 = 13;
+
+pub(crate) const CALL_RESERVE: u32 = 14;
+
+pub(crate) const CALL_FORFEIT: u32 = 15;
+
 const BAD_KIND: u32 = 6;
 
 const WRITTEN: u32 = 44;
@@ -52,8 +61,8 @@ const WRITTEN: u32 = 44;
 #[repr(C)]
 #[derive(Clone, Copy, Debug, PartialEq, Eq)]
 pub struct CallFields {
-    /// 1 to 12: tick, savepoint, ack, decline, dispose, restore, cancel, take, deleted, undeleted, show,
-    /// count.
+    /// 1 to 15: tick, savepoint, ack, decline, dispose, restore, cancel, take, deleted, undeleted, show,
+    /// count, fence, reserve, forfeit.
     pub kind: u32,
     /// The vertex of the subtask of an ack or a decline.
     pub vertex: u16,
@@ -62,16 +71,19 @@ pub struct CallFields {
     /// The moment in milliseconds, if the kind has one.
     pub now: u64,
     /// The number of the record or file. For a restore the savepoint, or 0 for the latest record.
-    /// For a take the most files.
+    /// For a take the most files, for a fence the first name, for a reserve how many names.
     pub number: u64,
+    /// The term of the caller, or 0 for none. A fence has none.
+    pub term: u64,
 }
 
 /// Writes the line of a call to the start of the buffer, without its newline, if the buffer is long
 /// enough.
 ///
 /// `first` and `second` are the fresh and the reused files of an ack, in any order. For a restore
-/// `first` is the new shape, or empty. The answer is a fault if the line would be too long. Takes
-/// memory.
+/// `first` is the new shape, or empty. For a forfeit it is the names, in any order. A call with a
+/// term other than 0 is written after `in` and the term. The answer is a fault if the line would be
+/// too long. Takes memory.
 pub fn call_line(
     alloc: Global,
     fields: &CallFields,
@@ -87,27 +99,70 @@ pub fn call_line(
     ensures memory { result.code ≡ no_memory → IsOk (given fields.entry.now first.now second.now) }
     ensures numbers { HasNoNumbers result }
 {
-    let call = match call_of(alloc, fields, first, second) {
-        Ok(call) => call,
+    let asked = match asked_of(alloc, fields, first, second) {
+        Ok(asked) => asked,
         Err(answer) => return answer,
     };
-    match text_of(alloc, &call) {
+    match text_of(alloc, &asked) {
         Ok(text) => write_text(&text, line),
         Err(_) => Answer::out_of_memory(),
     }
 }
 
-/// The call of the fields and the lists, or the answer if they give none.
+/// The line that asks for this.
+fn text_of(alloc: Global, asked: &Asked) -> Result<String, AllocError>
+    ensures text { IfOk result (λ text. string_bytes text ≡ asked_text asked.now) }
+    ensures read { IfOk result (λ text. IsTermReadAs (line_of_asked asked.now) (string_bytes text)) }
+{
+    match asked {
+        Asked::Fence { first } => fence_line(alloc, *first),
+        Asked::Call(call) => term_line(alloc, call),
+    }
+}
+
+/// What the fields and the lists ask for, or the answer if they ask for nothing.
 #[tactic(auto, unfolding(crate::specs::Writing::given))]
+fn asked_of(
+    alloc: Global,
+    fields: &CallFields,
+    first: &[u64],
+    second: &[u64],
+) -> Result<Asked, Answer>
+    ensures value { IfOk result (λ asked. given fields.entry.now first.now second.now ≡ Ok asked) }
+    ensures fault { IfErr result (IsWhyNotGiven (given fields.entry.now first.now second.now)) }
+    ensures memory { IfErr result (λ answer. answer.code ≡ no_memory → IsOk (given fields.entry.now first.now second.now)) }
+    ensures numbers { IfErr result HasNoNumbers }
+{
+    let term = fields.term;
+    let number = fields.number;
+    match fields.kind {
+        CALL_FENCE => Ok(Asked::Fence { first: number }),
+        CALL_RESERVE => Ok(Asked::Call(FencedCall::Reserve {
+            term,
+            count: number,
+        })),
+        CALL_FORFEIT => match files_of(alloc, first) {
+            Ok(names) => Ok(Asked::Call(FencedCall::Forfeit { term, names })),
+            Err(_) => Err(Answer::out_of_memory()),
+        },
+        _ => match call_of(alloc, fields, first, second) {
+            Ok(call) => Ok(Asked::Call(FencedCall::Make { term, call })),
+            Err(answer) => Err(answer),
+        },
+    }
+}
+
+/// The call of a kind that scripts have, or the answer if the fields and the lists give none.
+#[tactic(auto, unfolding(crate::specs::Writing::call_given))]
 fn call_of(
     alloc: Global,
     fields: &CallFields,
     first: &[u64],
     second: &[u64],
 ) -> Result<Call, Answer>
-    ensures value { IfOk result (λ call. given fields.entry.now first.now second.now ≡ Ok call) }
-    ensures fault { IfErr result (IsWhyNoCall (given fields.entry.now first.now second.now)) }
-    ensures memory { IfErr result (λ answer. answer.code ≡ no_memory → IsOk (given fields.entry.now first.now second.now)) }
+    ensures value { IfOk result (λ call. call_given fields.entry.now first.now second.now ≡ Ok call) }
+    ensures fault { IfErr result (IsWhyNoCall (call_given fields.entry.now first.now second.now)) }
+    ensures memory { IfErr result (λ answer. answer.code ≡ no_memory → IsOk (call_given fields.entry.now first.now second.now)) }
     ensures numbers { IfErr result HasNoNumbers }
 {
     let now = fields.now;

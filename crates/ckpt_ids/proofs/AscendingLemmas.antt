@@ -1,12 +1,7 @@
 -- Numbers in ascending order: what sorting makes.
-use Rattle.std.proofs.Common.{◌≡◌, ℕ, zero, suc, ◌+◌, ◌<◌, ◌≤◌, Bool, true, false, cond, ltb, leb, eqb, List, [], ◌∷◌, ◌++◌, length, get_or, refl, sym, ap, subst, ◌∙◌, inl, inr, ⊎_elim, arith}
-use Rattle.std.specs.List.Sorted.{IsPermutation, IsNonDecreasingBy, IsSorted}
-use Rattle.std.specs.Ordering.{nat_cmp}
-use Rattle.std.proofs.lemmas.Bool.{cases_Bool, cases_lt, ltb-true, ltb-false, leb-true, lt-ltb, le-ltb, le-leb, eq-eqb}
-use Rattle.std.proofs.lemmas.List.Sorted.{IsNonDecreasingBy-from_sort, sum_by-IsPermutation}
-use Rattle.ckpt_ids.specs.Ordered.{AreDistinct, IsIn, put, IsStrictOrder}
-use Rattle.ckpt_ids.specs.Ascending.{IsAscending, IsAscendingSet, ascending}
-use Rattle.ckpt_ids.specs.Counting.{one_if, times}
+use Rattle.ckpt_ids.proofs.Names.{◌≡◌, ℕ, zero, suc, ◌+◌, ◌<◌, ◌≤◌, Bool, true, false, cond, ltb, leb, eqb, List, [], ◌∷◌, ◌++◌, length, get_or, refl, sym, ap, subst, ◌∙◌, inl, inr, ⊎_elim, arith}
+use Rattle.ckpt_ids.proofs.Names.{IsPermutation, IsNonDecreasingBy, IsSorted, nat_cmp, cases_Bool, cases_lt, ltb-true, ltb-false, leb-true, lt-ltb, le-ltb, le-leb, eq-eqb, IsNonDecreasingBy-from_sort}
+use Rattle.ckpt_ids.proofs.Names.{sum_by-IsPermutation, AreDistinct, IsIn, put, IsStrictOrder, IsAscending, IsAscendingSet, ascending, one_if, times}
 use Rattle.ckpt_ids.proofs.CountLemmas.{count_by-append, count_by-cons, count_by_yes, IsIn-from_times}
 use Rattle.ckpt_ids.proofs.OrderedLemmas.{ComesBefore-at, ComesBefore-from, IsIn-get_or, IsIn-place, IsIn-put_cases}
 

@@ -1,9 +1,5 @@
 -- The comparison of numbers goes by their order, and the test whether they are equal has no order.
-use Rattle.std.proofs.Common.{◌≡◌, ℕ, ◌≤◌, true, eqb, ltb, arith}
-use Rattle.std.specs.Ordering.{nat_cmp, ordering_index}
-use Rattle.std.specs.declared.cmp.Ordering.TheVariants.{Less, Equal, Greater}
-use Rattle.std.proofs.lemmas.Bool.Decides.{nat_tests}
-use Rattle.ckpt_ids.specs.Places.{IsSearchOrder}
+use Rattle.ckpt_ids.proofs.Names.{◌≡◌, ℕ, ◌≤◌, true, eqb, ltb, arith, nat_cmp, ordering_index, Less, Equal, Greater, nat_tests, IsSearchOrder}
 
 pub eqb_turned : (x y : ℕ) → eqb x y ≡ eqb y x
 eqb_turned x y = grind (arith, nat_tests)

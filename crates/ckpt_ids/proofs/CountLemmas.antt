@@ -1,10 +1,6 @@
 -- How many elements of a list pass a test.
-use Rattle.std.proofs.Common.{◌≡◌, ℕ, suc, ◌+◌, ◌<◌, ◌≤◌, Bool, true, false, cond, eqb, List, [], ◌∷◌, ◌++◌, filter, length, map, refl, sym, ap, subst, ◌∙◌, inl, inr, ⊎_elim, arith}
-use Rattle.std.specs.Prelude.{count_by}
-use Rattle.std.proofs.lemmas.Bool.{cases_Bool, cases_lt, cond_both, cond-true, cond-false, eqb-true, eq-eqb}
-use Rattle.std.proofs.lemmas.List.Sums.{sum_by-append, sum_by-cons, sum_by_push}
-use Rattle.ckpt_ids.specs.Counting.{one_if, times}
-use Rattle.ckpt_ids.specs.Ordered.{AreDistinct, IsIn, put, in_order}
+use Rattle.ckpt_ids.proofs.Names.{◌≡◌, ℕ, suc, ◌+◌, ◌<◌, ◌≤◌, Bool, true, false, cond, eqb, List, [], ◌∷◌, ◌++◌, filter, length, map, refl, sym, ap, subst, ◌∙◌, inl, inr, ⊎_elim, arith, count_by}
+use Rattle.ckpt_ids.proofs.Names.{cases_Bool, cases_lt, cond_both, cond-true, cond-false, eqb-true, eq-eqb, sum_by-append, sum_by-cons, sum_by_push, one_if, times, AreDistinct, IsIn, put, in_order}
 
 pub one_if-true : (b : Bool) → b ≡ true → one_if b ≡ 1
 one_if-true b e = ap one_if e

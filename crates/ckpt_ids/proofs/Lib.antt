@@ -2,6 +2,7 @@
 pub mod AscendingLemmas
 pub mod ComparisonLemmas
 pub mod CountLemmas
+mod Names
 pub mod OrderLemmas
 pub mod OrderedLemmas
 pub mod PlaceLemmas

@@ -1,14 +1,7 @@
 -- The orders of holders and uses are strict.
-use Rattle.std.proofs.Common.{◌≡◌, ℕ, Bool, true, false, ◌&&◌, ◌||◌, ltb, eqb, refl, sym, ap, ◌∙◌, ⊎_elim}
-use Rattle.std.specs.Bool.{Decides}
-use Rattle.std.proofs.lemmas.Bool.{both_ways, or_cases, or_parts, or_from, or_left, or_right, and_parts, and_cases, and_from, and_right}
-use Rattle.std.proofs.lemmas.Bool.Decides.{Decides-eqb}
-use Rattle.ckpt_ids.specs.declared.subtask.SubtaskId.{SubtaskId}
-use Rattle.ckpt_ids.specs.Ordered.{IsStrictOrder}
-use Rattle.ckpt_ids.specs.Shapes.{same_subtask}
-use Rattle.ckpt_ids.specs.SubtaskOrder.{same_parts}
+use Rattle.ckpt_ids.proofs.Names.{◌≡◌, ℕ, Bool, true, false, ◌&&◌, ◌||◌, ltb, eqb, refl, sym, ap, ◌∙◌, ⊎_elim, Decides, both_ways, or_cases, or_parts, or_from, or_left, or_right, and_parts, and_cases}
+use Rattle.ckpt_ids.proofs.Names.{and_from, and_right, Decides-eqb, SubtaskId, IsStrictOrder, same_subtask, same_parts, Use, Holder, Subtask, Pin, holder_before, same_holder, use_before}
 pub use Rattle.ckpt_ids.specs.SubtaskOrder.{subtasks_in_order}
-use Rattle.ckpt_ids.specs.Records.{Use, Holder, Subtask, Pin, holder_before, same_holder, use_before}
 use Rattle.ckpt_ids.proofs.AscendingLemmas.{numbers_in_order}
 
 -- first by one part, then by another

@@ -1,8 +1,7 @@
 -- What holds of lists in order. The principle: two lists in a strict order that have the same elements are equal.
-use Rattle.std.proofs.Common.{◌≡◌, ℕ, zero, suc, length, get_or, ◌<◌, Bool, true, false, cond, eqb, List, [], ◌∷◌, ◌++◌, map, refl, sym, ap, subst, ◌∙◌, ◌⊎◌, inl, inr, ⊎_elim, arith, ◌||◌, ◌&&◌}
-use Rattle.std.specs.List.{filter, list_any, flat_map}
-use Rattle.std.proofs.lemmas.Bool.{cases_Bool, both_ways, cond-false, cond-true, eq-eqb, eqb-true, or_cases, or_left, or_right}
-use Rattle.ckpt_ids.specs.Ordered.{IsIn, AreDistinct, ComesBefore, IsInOrder, put, put_once, in_order, in_order_once, IsStrictOrder}
+use Rattle.ckpt_ids.proofs.Names.{◌≡◌, ℕ, zero, suc, length, get_or, ◌<◌, Bool, true, false, cond, eqb, List, [], ◌∷◌, ◌++◌, map, refl, sym, ap, subst, ◌∙◌, ◌⊎◌, inl, inr, ⊎_elim, arith, ◌||◌, ◌&&◌}
+use Rattle.ckpt_ids.proofs.Names.{filter, list_any, flat_map, cases_Bool, both_ways, cond-false, cond-true, eq-eqb, eqb-true, or_cases, or_left, or_right, IsIn, AreDistinct, ComesBefore, IsInOrder}
+use Rattle.ckpt_ids.proofs.Names.{put, put_once, in_order, in_order_once, IsStrictOrder}
 
 -- membership
 

@@ -1,13 +1,8 @@
 -- What a binary search finds in a list that is in order by a key, and what a change at that place leaves.
-use Rattle.std.proofs.Common.{◌≡◌, ℕ, zero, suc, ◌-◌, ◌<◌, ◌≤◌, Bool, true, false, not, List, [], ◌∷◌, length, map, get_or, refl, sym, ap, ◌∙◌, ⊎_elim, arith, Result, Ok, Err, IfOk, IfErr, Ordering}
-use Rattle.std.specs.Prelude.{filter, find, slice_get, Some, None}
-use Rattle.std.specs.List.{list_any, insert, remove}
-use Rattle.std.specs.List.Sorted.{IsBinarySearchResult, IsNonDecreasingBy, IsPartitionPoint, IsPartitionedBy, IsSearchInRange}
-use Rattle.std.specs.Ordering.{ordering_index}
-use Rattle.std.proofs.lemmas.Bool.{both_ways, cases_Bool, cases_lt, cond-true, cond-false, or_parts}
-use Rattle.std.proofs.lemmas.List.{get_or_read_under}
-use Rattle.ckpt_ids.specs.Ordered.{ComesBefore, IsIn, IsInOrder, IsStrictOrder, put}
-use Rattle.ckpt_ids.specs.Places.{BelongsAt, IsSearchOrder, LiesAt}
+use Rattle.ckpt_ids.proofs.Names.{◌≡◌, ℕ, zero, suc, ◌-◌, ◌<◌, ◌≤◌, Bool, true, false, not, List, [], ◌∷◌, length, map, get_or, refl, sym, ap, ◌∙◌, ⊎_elim, arith, Result, Ok, Err, IfOk, IfErr}
+use Rattle.ckpt_ids.proofs.Names.{Ordering, filter, find, slice_get, Some, None, list_any, insert, remove, IsBinarySearchResult, IsNonDecreasingBy, IsPartitionPoint, IsPartitionedBy, IsSearchInRange}
+use Rattle.ckpt_ids.proofs.Names.{ordering_index, both_ways, cases_Bool, cases_lt, cond-true, cond-false, or_parts, get_or_read_under, ComesBefore, IsIn, IsInOrder, IsStrictOrder, put, BelongsAt}
+use Rattle.ckpt_ids.proofs.Names.{IsSearchOrder, LiesAt}
 use Rattle.ckpt_ids.proofs.OrderedLemmas.{ComesBefore-at, ComesBefore-from, IsIn-get_or, IsIn-map, IsIn-place, IsInOrder-at, filter-all, filter-none, list_any-from_IsIn, list_any-none}
 
 pub find-none : {X : Type 0} (p : X → Bool) (xs : List X) → list_any p xs ≡ false → find p xs ≡ None

@@ -1,7 +1,5 @@
 -- What follows for a result or an option from a test of it.
-use Rattle.std.proofs.Common.{Option, Some, None, IsSome, OnSome, Result, Ok, Err, OnOk, OnErr, ◌≡◌, true, false, refl}
-use Rattle.std.proofs.lemmas.Bool.{both_ways}
-use Rattle.std.specs.Result.{is_err}
+use Rattle.ckpt_ids.proofs.Names.{Option, Some, None, IsSome, OnSome, Result, Ok, Err, OnOk, OnErr, ◌≡◌, true, false, refl, both_ways, is_err}
 
 -- a fact that is known if there is no error holds for the `Ok`
 pub on_ok : {T E : Type 0} (r : Result T E) (P : Type 0) → is_err r ≡ false → OnOk r P → P

@@ -1,16 +1,7 @@
 -- Numbers that were sorted, each kept once.
-use Rattle.std.proofs.Common.{◌≡◌, ℕ, suc, ◌<◌, true, leb, ltb, eqb, List, [], ◌∷◌, length, get_or, sym, subst, ◌∙◌, arith}
-use Rattle.std.specs.List.{AllPairs, Contains, dedup}
-use Rattle.std.specs.List.Sorted.{IsPermutation, IsSorted}
-use Rattle.std.specs.List.Retain.{IsFiltered, DiffersFromLast}
-use Rattle.std.specs.Ordering.{nat_cmp}
-use Rattle.std.proofs.lemmas.Bool.{ltb-true, lt-ltb, le-leb}
-use Rattle.std.proofs.lemmas.List.Filters.{dedup_is}
-use Rattle.std.proofs.lemmas.List.Kept.{AllPairs-from_increasing, Contains-dedup_nat, Contains-from_dedup}
-use Rattle.std.proofs.lemmas.List.Sorted.{Contains-permutation, IsPermutation-sym}
-use Rattle.std.proofs.lemmas.Map.Keys.{IsStrictlyIncreasing-dedup}
-use Rattle.ckpt_ids.specs.Ordered.{IsIn}
-use Rattle.ckpt_ids.specs.Ascending.{IsAscending, IsAscendingSet, ascending, ascending_set}
+use Rattle.ckpt_ids.proofs.Names.{◌≡◌, ℕ, suc, ◌<◌, true, leb, ltb, eqb, List, [], ◌∷◌, length, get_or, sym, subst, ◌∙◌, arith, AllPairs, Contains, dedup, IsPermutation, IsSorted, IsFiltered}
+use Rattle.ckpt_ids.proofs.Names.{DiffersFromLast, nat_cmp, ltb-true, lt-ltb, le-leb, dedup_is, AllPairs-from_increasing, Contains-dedup_nat, Contains-from_dedup, Contains-permutation}
+use Rattle.ckpt_ids.proofs.Names.{IsPermutation-sym, IsStrictlyIncreasing-dedup, IsIn, IsAscending, IsAscendingSet, ascending, ascending_set}
 use Rattle.ckpt_ids.proofs.OrderedLemmas.{ComesBefore-at, ComesBefore-from, IsIn-place, IsIn-get_or, same_from_members, IsInOrder-in_order_once, IsIn-in_order_once, IsIn-from_in_order_once}
 use Rattle.ckpt_ids.proofs.AscendingLemmas.{ascending_already, numbers_in_order}
 

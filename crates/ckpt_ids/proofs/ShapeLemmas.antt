@@ -1,16 +1,7 @@
 -- The subtasks of a shape: how many there are, which one is at a place, and whether one is there.
-use Rattle.std.proofs.Common.{◌≡◌, ℕ, zero, suc, ◌+◌, ◌-◌, ◌<◌, ◌≤◌, Bool, true, ltb, leb, eqb, List, [], ◌∷◌, ◌++◌, map, sum, length, get_or, refl, sym, ap, subst, ◌∙◌, ◌⊎◌, ⊎_elim, arith, length-append, ◌&&◌, ◌||◌, drop, Some}
-use Rattle.std.specs.List.{list_any, range_with_len}
-use Rattle.std.specs.Prelude.{slice_get}
-use Rattle.std.proofs.lemmas.List.{drop_more}
-use Rattle.std.proofs.lemmas.List.Sums.{sum_by-cons}
-use Rattle.std.proofs.lemmas.List.Folds.{list_any-append}
-use Rattle.std.proofs.lemmas.List.FromFn.{length-map-range_with_len, get_or-map-range_with_len}
-use Rattle.std.proofs.lemmas.Option.{slice_get-get_or}
-use Rattle.std.proofs.lemmas.Bool.Decides.{nat_tests}
-use Rattle.std.proofs.lemmas.Bool.{cases_order, le-leb}
-use Rattle.ckpt_ids.specs.declared.subtask.SubtaskId.{SubtaskId}
-use Rattle.ckpt_ids.specs.Shapes.{subtasks_from, is_subtask, same_subtask}
+use Rattle.ckpt_ids.proofs.Names.{◌≡◌, ℕ, zero, suc, ◌+◌, ◌-◌, ◌<◌, ◌≤◌, Bool, true, ltb, leb, eqb, List, [], ◌∷◌, ◌++◌, map, sum, length, get_or, refl, sym, ap, subst, ◌∙◌, ◌⊎◌, ⊎_elim, arith}
+use Rattle.ckpt_ids.proofs.Names.{length-append, ◌&&◌, ◌||◌, drop, Some, list_any, range_with_len, slice_get, drop_more, sum_by-cons, list_any-append, length-map-range_with_len}
+use Rattle.ckpt_ids.proofs.Names.{get_or-map-range_with_len, slice_get-get_or, nat_tests, cases_order, le-leb, SubtaskId, subtasks_from, is_subtask, same_subtask}
 
 pub length-subtasks_from : (vertex : ℕ) (shape : List ℕ) → length (subtasks_from vertex shape) ≡ sum shape
 length-subtasks_from vertex [] = refl

@@ -1,21 +1,9 @@
 -- When a tick may trigger, as far as the interval and the pause decide.
-use Rattle.std.proofs.Common.{◌≡◌, ℕ, ◌+◌, ◌<◌, ◌≤◌, max, Bool, false, ◌&&◌, cond, ltb, leb, refl, arith, Option, None}
-use Rattle.std.specs.Prelude.{count_by, ⊤}
-use Rattle.std.proofs.lemmas.Bool.{cond_both, ltb-true, ltb-false}
-use Rattle.ckpt_ids.specs.declared.call.Call.TheVariants.{Tick}
-use Rattle.ckpt_ids.specs.declared.reply.Refusal.{Refusal}
-use Rattle.ckpt_ids.specs.declared.reply.Answer.{Answer}
-use Rattle.ckpt_ids.specs.declared.reply.Answer.TheVariants.{Refused, Done}
-use Rattle.ckpt_ids.specs.declared.reply.Reply.TheVariants.{Ticked}
+use Rattle.ckpt_model.proofs.Names.{◌≡◌, ℕ, ◌+◌, ◌<◌, ◌≤◌, max, Bool, false, ◌&&◌, cond, ltb, leb, refl, arith, Option, None, count_by, ⊤, cond_both, ltb-true, ltb-false, Tick, Refusal, Answer}
+use Rattle.ckpt_model.proofs.Names.{Refused, Done, Ticked, Configuration, Record, Hold, Interval, AtOnce, Pause, Go, hold, limit, pause_ends, NoneIsEarlyFrom, NoneTriggersBefore, next_due}
+use Rattle.ckpt_model.proofs.Names.{triggered_one, was_early, State, drop, is_checkpoint, is_expired, Stepped, after_expiry, dropped_by, effect, failed_over, pending_checkpoints, start_or_hold, step}
+use Rattle.ckpt_model.proofs.Names.{tick, common_steps}
 use Rattle.ckpt_ids.specs.declared.reply.TickEnd.TheVariants as end
-use Rattle.ckpt_ids.specs.Configuration.{Configuration}
-use Rattle.ckpt_ids.specs.Records.{Record}
-use Rattle.ckpt_rules.specs.declared.hold.Hold.{Hold}
-use Rattle.ckpt_rules.specs.declared.hold.Hold.TheVariants.{Interval, AtOnce, Pause, Go}
-use Rattle.ckpt_rules.specs.Trigger.{hold, limit, pause_ends}
-use Rattle.ckpt_model.specs.Reads.{NoneIsEarlyFrom, NoneTriggersBefore, next_due, triggered_one, was_early}
-use Rattle.ckpt_model.specs.State.{State, drop, is_checkpoint, is_expired}
-use Rattle.ckpt_model.specs.Steps.{Stepped, after_expiry, dropped_by, effect, failed_over, pending_checkpoints, start_or_hold, step, tick}
 use Rattle.ckpt_model.proofs.Answering.StepCases.{step_by}
 
 -- what each hold says about the moment
@@ -26,27 +14,15 @@ Tells due ends t Pause = t < ends
 Tells due ends t Go = (due ≤ t) × (ends ≤ t)
 
 hold_tells : (c : Configuration) (due : ℕ) (completed : Option ℕ) (t pending : ℕ) → Tells due (pause_ends c completed) t (hold c due completed t pending)
-hold_tells c due completed t pending =
-    let ends : ℕ = pause_ends c completed in
-    let inner : Hold = cond (ltb t ends) Pause Go in
-    let middle : Hold = cond (leb (limit c) pending) AtOnce inner in
-    cond_both (ltb t due) Interval middle (Tells due ends t) (λ e. ltb-true t due e)
-    (λ e. cond_both (leb (limit c) pending) AtOnce inner (Tells due ends t) (λ _. tt)
-    (λ _. cond_both (ltb t ends) Pause Go (Tells due ends t) (λ g. ltb-true t ends g) (λ g. (ltb-false t due e, ltb-false t ends g))))
+hold_tells c due completed t pending = grind (arith, common_steps)
 
 none_starts : (m : State) (expired due ends t : ℕ) (h : Hold) → Tells due ends t h → t < max due ends → triggered_one (start_or_hold m expired h).1 ≡ false
 unfolding start_or_hold
-none_starts m expired due ends t Interval tells before = refl
-none_starts m expired due ends t AtOnce tells before = refl
-none_starts m expired due ends t Pause tells before = refl
-none_starts m expired due ends t Go tells before = let a : due ≤ t = tells.0 in let b : ends ≤ t = tells.1 in absurd (omega arith)
+none_starts m expired due ends t h h6 h7 = grind (arith, common_steps)
 
 none_is_early : (m : State) (expired due ends t : ℕ) (h : Hold) → Tells due ends t h → max due ends ≤ t → was_early (start_or_hold m expired h).1 ≡ false
 unfolding start_or_hold
-none_is_early m expired due ends t Interval tells from = let a : t < due = tells in absurd (omega arith)
-none_is_early m expired due ends t AtOnce tells from = refl
-none_is_early m expired due ends t Pause tells from = let a : t < ends = tells in absurd (omega arith)
-none_is_early m expired due ends t Go tells from = refl
+none_is_early m expired due ends t h h6 h7 = grind (arith, common_steps)
 
 -- a tick is refused, fails the job over, or starts a checkpoint or holds it back
 tick_is : (m : State) (now : ℕ) (P : Answer → Type 0) → ((why : Refusal) → P (Refused why)) → ((expired : ℕ) → P (Done (Ticked expired end.Failed)))

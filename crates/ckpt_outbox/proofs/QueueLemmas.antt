@@ -1,13 +1,8 @@
 -- What holds of files that are distinct, and of their places.
-use Rattle.std.proofs.Common.{◌≡◌, ℕ, ◌+◌, length, arith, Bool, true, false, not, cond, ◌||◌, ◌==◌, List, [], ◌∷◌, ◌++◌, take, drop, refl, sym, ap, subst, ◌∙◌, ⊎_elim}
-use Rattle.std.proofs.lemmas.Bool.{cases_Bool, both_ways, eqb-true, eq-eqb, ne_eqb, or_parts, or_from, or_left, or_right, or_cases, false_from_ne_true}
-use Rattle.std.proofs.lemmas.List.Folds.{list_any-append}
-use Rattle.std.proofs.lemmas.List.{take-append-drop}
-use Rattle.ckpt_ids.specs.Ordered.{IsIn, AreDistinct}
-use Rattle.ckpt_ids.proofs.ComparisonLemmas.{eqb_turned}
-use Rattle.ckpt_ids.proofs.OrderedLemmas.{AreDistinct-append, AreDistinct-apart, AreDistinct-filter, AreDistinct-left, AreDistinct-right, IsIn-from_test, not_in-from_test, test-from_IsIn}
-use Rattle.std.specs.List.{list_any}
-use Rattle.ckpt_outbox.specs.Queues.{is_in, without}
+use Rattle.ckpt_outbox.proofs.Names.{◌≡◌, ℕ, ◌+◌, length, arith, Bool, true, false, not, cond, ◌||◌, ◌==◌, List, [], ◌∷◌, ◌++◌, take, drop, refl, sym, ap, subst, ◌∙◌, ⊎_elim, cases_Bool, both_ways}
+use Rattle.ckpt_outbox.proofs.Names.{eqb-true, eq-eqb, ne_eqb, or_parts, or_from, or_left, or_right, or_cases, false_from_ne_true, list_any-append, take-append-drop, IsIn, AreDistinct, eqb_turned}
+use Rattle.ckpt_outbox.proofs.Names.{AreDistinct-append, AreDistinct-apart, AreDistinct-filter, AreDistinct-left, AreDistinct-right, IsIn-from_test, not_in-from_test, test-from_IsIn, list_any, is_in}
+use Rattle.ckpt_outbox.proofs.Names.{without}
 
 pub eqb_itself : (a : ℕ) → (a == a) ≡ true
 eqb_itself a = eq-eqb a a refl

@@ -1,17 +1,7 @@
 -- How often a file is in lists that have each file once, and which files are taken by the index.
-use Rattle.std.proofs.Common.{◌≡◌, ◌∙◌, ◌+◌, ℕ, Bool, true, false, ◌||◌, cond, eqb, List, [], ◌∷◌, ◌++◌, filter, refl, sym, ap, subst, ⊎_elim, nat_eq, arith}
-use Rattle.std.specs.Prelude.{Option, is_some}
-use Rattle.std.specs.List.{IsDistinct, AllByRecursion}
-use Rattle.std.proofs.lemmas.Bool.{cases_Bool, eqb-true}
-use Rattle.ckpt_ids.specs.Ascending.{ascending}
-use Rattle.ckpt_ids.specs.Counting.{one_if, times}
-use Rattle.ckpt_ids.specs.Ordered.{AreDistinct}
-use Rattle.ckpt_ids.proofs.AscendingLemmas.{IsAscending-ascending, same_from_times, times-ascending, times-cons}
-use Rattle.ckpt_ids.proofs.CountLemmas.{times-filter}
-use Rattle.ckpt_ids.proofs.OrderedLemmas.{AreDistinct-right}
-use Rattle.ckpt_outbox.specs.Places.{is_apart}
-use Rattle.ckpt_ids.proofs.ComparisonLemmas.{eqb_turned}
-use Rattle.ckpt_outbox.specs.Queues.{is_in}
+use Rattle.ckpt_outbox.proofs.Names.{◌≡◌, ◌∙◌, ◌+◌, ℕ, Bool, true, false, ◌||◌, cond, eqb, List, [], ◌∷◌, ◌++◌, filter, refl, sym, ap, subst, ⊎_elim, nat_eq, arith, Option, is_some, IsDistinct}
+use Rattle.ckpt_outbox.proofs.Names.{AllByRecursion, cases_Bool, eqb-true, ascending, one_if, times, AreDistinct, IsAscending-ascending, same_from_times, times-ascending, times-cons, times-filter}
+use Rattle.ckpt_outbox.proofs.Names.{AreDistinct-right, is_apart, eqb_turned, is_in}
 use Rattle.ckpt_outbox.proofs.QueueLemmas.{not_in}
 use Rattle.ckpt_outbox.proofs.TicketLemmas.{tells_taken}
 

@@ -1,13 +1,8 @@
 -- The place that a ticket of an outbox gives.
-use Rattle.std.proofs.Common.{◌≡◌, ◌∙◌, ◌+◌, ◌-◌, ◌<◌, ◌≤◌, ◌%◌, ◌^◌, ℕ, suc, Option, length, length-append, get_or, arith, Bool, true, false, cond, ◌||◌, ◌==◌, List, [], ◌∷◌, ◌++◌, Some, None, is_some, unwrap_or, refl, sym, ap, subst, ⊎_elim}
-use Rattle.std.proofs.Math.Nat.{add-mod_right, eq-or-lt_of_le, mod-add-mod, mod-eq_of_lt}
-use Rattle.std.proofs.Math.ListN.{get_or-append}
-use Rattle.std.proofs.Math.Seq.{get_or-append_seam}
-use Rattle.std.proofs.lemmas.Bool.{cases_Bool, both_ways, eqb-true, eq-eqb, or_cases, false_from_ne_true}
-use Rattle.std.proofs.lemmas.List.Folds.{list_any_at}
-use Rattle.std.specs.List.{list_any}
-use Rattle.ckpt_outbox.specs.Queues.{AreDistinct, is_in}
-use Rattle.ckpt_outbox.specs.Places.{IsTicketed, is_apart, ticket}
+use Rattle.ckpt_outbox.proofs.Names.{◌≡◌, ◌∙◌, ◌+◌, ◌-◌, ◌<◌, ◌≤◌, ◌%◌, ◌^◌, ℕ, suc, Option, length, length-append, get_or, arith, Bool, true, false, cond, ◌||◌, ◌==◌, List, [], ◌∷◌, ◌++◌, Some, None}
+use Rattle.ckpt_outbox.proofs.Names.{is_some, unwrap_or, refl, sym, ap, subst, ⊎_elim, add-mod_right, eq-or-lt_of_le, mod-add-mod, mod-eq_of_lt, get_or-append, get_or-append_seam, cases_Bool}
+use Rattle.ckpt_outbox.proofs.Names.{both_ways, eqb-true, eq-eqb, or_cases, false_from_ne_true, list_any_at, list_any, is_in, IsTicketed, is_apart, ticket}
+use Rattle.ckpt_outbox.specs.Queues.{AreDistinct}
 use Rattle.ckpt_outbox.proofs.QueueLemmas.{apart, distinct-apart, eqb_itself, is_in-append, list_any_flip}
 
 -- numbers

@@ -1,16 +1,6 @@
 -- What an acknowledgement more or less does to a record.
-use Rattle.std.proofs.Common.{◌≡◌, ℕ, ◌+◌, Bool, true, false, not, cond, List, [], ◌∷◌, refl, sym, ap, subst, ◌∙◌, ⊎_elim, arith, ◌||◌, ◌&&◌}
-use Rattle.std.specs.Prelude.{count_by, filter}
-use Rattle.std.specs.List.{list_any}
-use Rattle.std.proofs.lemmas.Bool.{cases_Bool}
-use Rattle.std.proofs.lemmas.Bool.Decides.{nat_tests}
-use Rattle.ckpt_ids.specs.declared.subtask.SubtaskId.{SubtaskId}
-use Rattle.ckpt_ids.specs.declared.ack.Acked.{Acked}
-use Rattle.ckpt_ids.specs.Ordered.{put}
-use Rattle.ckpt_ids.specs.Acknowledged.{acknowledges_before, put_ack}
-use Rattle.ckpt_ids.specs.Shapes.{subtasks, is_subtask, same_subtask}
-use Rattle.ckpt_ids.proofs.OrderLemmas.{same_subtask-Decides}
-use Rattle.ckpt_ids.proofs.OrderedLemmas.{fails-from_list_any, filter-all, list_any-none}
+use Rattle.ckpt_pending.proofs.Names.{◌≡◌, ℕ, ◌+◌, Bool, true, false, not, cond, List, [], ◌∷◌, refl, sym, ap, subst, ◌∙◌, ⊎_elim, arith, ◌||◌, ◌&&◌, count_by, filter, list_any, cases_Bool, nat_tests}
+use Rattle.ckpt_pending.proofs.Names.{SubtaskId, Acked, put, acknowledges_before, put_ack, subtasks, is_subtask, same_subtask, same_subtask-Decides, fails-from_list_any, filter-all, list_any-none}
 use Rattle.ckpt_pending.proofs.SubtaskLemmas.{same_subtask-itself, same_subtask-other, IsInOrder-subtasks, IsIn-subtasks, count_by_one_more}
 
 -- some acknowledgement is of this subtask

@@ -1,9 +1,5 @@
 -- The files of a record, sorted and each once.
-use Rattle.std.proofs.Common.{◌≡◌, ℕ, List, [], ◌∷◌, ◌++◌, map, refl, ap, ◌∙◌}
-use Rattle.std.specs.List.{flat_map}
-use Rattle.std.proofs.lemmas.List.{append-nil, map-append}
-use Rattle.ckpt_ids.specs.declared.ack.Acked.{Acked}
-use Rattle.ckpt_ids.specs.Records.{Record, Use, Holder, Subtask, Pin, uses}
+use Rattle.ckpt_pending.proofs.Names.{◌≡◌, ℕ, List, [], ◌∷◌, ◌++◌, map, refl, ap, ◌∙◌, flat_map, append-nil, map-append, Acked, Record, Use, Holder, Subtask, Pin, uses}
 
 -- the files of uses are the files
 files_back : (id : ℕ) (a : Holder) (files : List ℕ) → map (λ (u : Use). u.file) (map (λ f. record { id = id; holder = a; file = f }) files) ≡ files

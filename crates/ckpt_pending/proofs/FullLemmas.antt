@@ -1,17 +1,8 @@
 -- A record is full exactly if no subtask is missing.
-use Rattle.std.proofs.Common.{◌≡◌, true, false, not, List, map, sym, ap, subst, ⊎_elim}
-use Rattle.std.proofs.lemmas.Bool.{cases_Bool, both_ways}
-use Rattle.ckpt_ids.specs.declared.subtask.SubtaskId.{SubtaskId}
-use Rattle.ckpt_ids.specs.declared.ack.Acked.{Acked}
-use Rattle.ckpt_ids.specs.Ordered.{IsIn}
-use Rattle.ckpt_ids.specs.Acknowledged.{is_before, acknowledges_before}
-use Rattle.ckpt_ids.specs.Shapes.{subtasks, same_subtask}
-use Rattle.ckpt_ids.specs.Records.{Record, missing, has_acknowledged, IsFull}
-use Rattle.ckpt_ids.proofs.OrderLemmas.{subtasks_in_order, same_subtask-Decides}
-use Rattle.ckpt_ids.proofs.OrderedLemmas.{same_from_members, IsInOrder-map, IsIn-map, IsIn-from_map, IsIn-from_list_any, list_any-from_IsIn}
-use Rattle.ckpt_pending.specs.Acknowledging.{IsPending}
+use Rattle.ckpt_pending.proofs.Names.{◌≡◌, true, false, not, List, map, sym, ap, subst, ⊎_elim, cases_Bool, both_ways, SubtaskId, Acked, IsIn, is_before, acknowledges_before, subtasks, same_subtask}
+use Rattle.ckpt_pending.proofs.Names.{Record, missing, has_acknowledged, IsFull, subtasks_in_order, same_subtask-Decides, same_from_members, IsInOrder-map, IsIn-map, IsIn-from_map, IsIn-from_list_any}
+use Rattle.ckpt_pending.proofs.Names.{list_any-from_IsIn, IsPending, count_by-none}
 use Rattle.ckpt_pending.proofs.SubtaskLemmas.{IsInOrder-subtasks, IsIn-subtasks, none_counted}
-use Rattle.ckpt_ids.proofs.CountLemmas.{count_by-none}
 
 -- a subtask of a full record has acknowledged
 IsIn-acknowledged : (r : Record) (s : SubtaskId) → has_acknowledged r s ≡ true → IsIn s (map (λ a. a.subtask) r.acks)

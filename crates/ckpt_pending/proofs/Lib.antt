@@ -2,6 +2,7 @@
 pub mod AckLemmas
 pub mod FileLemmas
 pub mod FullLemmas
+mod Names
 pub mod PendingLemmas
 pub mod PlaceLemmas
 pub mod SubtaskLemmas

@@ -1,19 +1,8 @@
 -- A pending record stays one, with its count, through each change.
-use Rattle.std.proofs.Common.{◌≡◌, ℕ, ◌+◌, ◌-◌, ◌≤◌, Bool, true, false, not, List, [], sum, length, refl, sym, ap, ◌∙◌, ⊎_elim, arith}
-use Rattle.std.proofs.lemmas.List.Sums.{count_by-le-length}
-use Rattle.std.proofs.lemmas.Bool.{cases_Bool, both_ways}
-use Rattle.ckpt_ids.specs.declared.subtask.SubtaskId.{SubtaskId}
-use Rattle.ckpt_ids.specs.declared.numbers.Kind.{Kind}
-use Rattle.ckpt_ids.specs.declared.ack.Acked.{Acked}
-use Rattle.ckpt_ids.specs.Ordered.{IsIn}
-use Rattle.ckpt_ids.specs.Acknowledged.{acknowledges_before, AreInSubtaskOrder, put_ack}
-use Rattle.ckpt_ids.specs.Shapes.{IsShape, subtasks, is_subtask, same_subtask}
-use Rattle.ckpt_ids.specs.Records.{Record, missing, has_acknowledged}
-use Rattle.ckpt_ids.proofs.CountLemmas.{count_by-all}
-use Rattle.ckpt_ids.proofs.OrderLemmas.{subtasks_in_order, same_subtask-Decides}
-use Rattle.ckpt_ids.proofs.OrderedLemmas.{IsIn-put_cases, IsIn-from_filter, IsInOrder-filter, IsInOrder-put_between, IsIn-from_list_any, list_any-from_IsIn}
-use Rattle.ckpt_ids.proofs.ShapeLemmas.{length-subtasks_from}
-use Rattle.ckpt_pending.specs.Acknowledging.{pending_record, without_ack, IsPending, IsDone, IsCounted}
+use Rattle.ckpt_pending.proofs.Names.{◌≡◌, ℕ, ◌+◌, ◌-◌, ◌≤◌, Bool, true, false, not, List, [], sum, length, refl, sym, ap, ◌∙◌, ⊎_elim, arith, count_by-le-length, cases_Bool, both_ways, SubtaskId}
+use Rattle.ckpt_pending.proofs.Names.{Kind, Acked, IsIn, acknowledges_before, AreInSubtaskOrder, put_ack, IsShape, subtasks, is_subtask, same_subtask, Record, missing, has_acknowledged, count_by-all}
+use Rattle.ckpt_pending.proofs.Names.{subtasks_in_order, same_subtask-Decides, IsIn-put_cases, IsIn-from_filter, IsInOrder-filter, IsInOrder-put_between, IsIn-from_list_any, list_any-from_IsIn}
+use Rattle.ckpt_pending.proofs.Names.{length-subtasks_from, pending_record, without_ack, IsPending, IsDone, IsCounted}
 use Rattle.ckpt_pending.proofs.AckLemmas.{acked, missing-put, missing-without, without_put}
 use Rattle.ckpt_pending.proofs.FullLemmas.{full_from_missing}
 

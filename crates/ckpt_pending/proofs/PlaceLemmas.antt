@@ -1,16 +1,6 @@
 -- What is found among acknowledgements at the place of a subtask, and what a change there leaves.
-use Rattle.std.proofs.Common.{◌≡◌, ℕ, true, false, not, get_or, List, sym, ap, ◌∙◌, Some}
-use Rattle.std.specs.Prelude.{find}
-use Rattle.std.specs.List.{filter, insert, remove}
-use Rattle.std.proofs.lemmas.Option.{slice_get-get_or}
-use Rattle.ckpt_ids.specs.declared.subtask.SubtaskId.{SubtaskId}
-use Rattle.ckpt_ids.specs.declared.ack.Acked.{Acked}
-use Rattle.ckpt_ids.specs.Acknowledged.{AreInSubtaskOrder, is_before, put_ack}
-use Rattle.ckpt_ids.specs.Places.{BelongsAt, LiesAt}
-use Rattle.ckpt_ids.specs.Shapes.{same_subtask}
-use Rattle.ckpt_ids.proofs.OrderLemmas.{subtasks_in_order, same_subtask-Decides}
-use Rattle.ckpt_ids.proofs.PlaceLemmas.{any_lies, find_lies, insert_belongs, none_belongs, remove_lies}
-use Rattle.ckpt_pending.specs.Acknowledging.{subtask_of}
+use Rattle.ckpt_pending.proofs.Names.{◌≡◌, ℕ, true, false, not, get_or, List, sym, ap, ◌∙◌, Some, find, filter, insert, remove, slice_get-get_or, SubtaskId, Acked, AreInSubtaskOrder, is_before}
+use Rattle.ckpt_pending.proofs.Names.{put_ack, BelongsAt, LiesAt, same_subtask, subtasks_in_order, same_subtask-Decides, any_lies, find_lies, insert_belongs, none_belongs, remove_lies, subtask_of}
 use Rattle.ckpt_pending.proofs.AckLemmas.{acked}
 use Rattle.ckpt_pending.proofs.SubtaskLemmas.{same_subtask-other}
 

@@ -1,17 +1,8 @@
 -- The subtasks of a shape are in strict order, so each is there once.
-use Rattle.std.proofs.Common.{◌≡◌, ℕ, zero, suc, ◌+◌, ◌≤◌, Bool, true, false, ltb, leb, eqb, List, [], ◌∷◌, map, refl, sym, ap, subst, ◌∙◌, inl, inr, ⊎_elim, arith, ◌&&◌}
-use Rattle.std.specs.Prelude.{count_by}
-use Rattle.std.specs.List.{list_any, range_with_len}
-use Rattle.std.proofs.lemmas.Bool.{cases_Bool, both_ways, or_left, or_right, and_parts, and_from, lt-ltb, leb-true, eq-eqb}
-use Rattle.ckpt_ids.specs.declared.subtask.SubtaskId.{SubtaskId}
-use Rattle.ckpt_ids.specs.Ordered.{IsIn, IsInOrder}
-use Rattle.ckpt_ids.specs.Acknowledged.{is_before}
-use Rattle.ckpt_ids.specs.Shapes.{subtasks, subtasks_from, is_subtask, same_subtask}
-use Rattle.ckpt_ids.specs.Counting.{one_if}
-use Rattle.ckpt_ids.proofs.CountLemmas.{count_by-cons, count_by_yes, count_by_no, count_by-same, counted-from_IsIn}
-use Rattle.ckpt_ids.proofs.OrderLemmas.{subtasks_in_order, same_subtask-Decides}
-use Rattle.ckpt_ids.proofs.OrderedLemmas.{ComesBefore-from, ComesBefore-at, IsInOrder-append, IsInOrder-map, IsIn-from_map, IsIn-from_list_any, list_any-from_IsIn}
-use Rattle.ckpt_ids.proofs.ShapeLemmas.{is_subtask_from}
+use Rattle.ckpt_pending.proofs.Names.{◌≡◌, ℕ, zero, suc, ◌+◌, ◌≤◌, Bool, true, false, ltb, leb, eqb, List, [], ◌∷◌, map, refl, sym, ap, subst, ◌∙◌, inl, inr, ⊎_elim, arith, ◌&&◌, count_by, list_any}
+use Rattle.ckpt_pending.proofs.Names.{range_with_len, cases_Bool, both_ways, or_left, or_right, and_parts, and_from, lt-ltb, leb-true, eq-eqb, SubtaskId, IsIn, IsInOrder, is_before, subtasks}
+use Rattle.ckpt_pending.proofs.Names.{subtasks_from, is_subtask, same_subtask, one_if, count_by-cons, count_by_yes, count_by_no, count_by-same, counted-from_IsIn, subtasks_in_order}
+use Rattle.ckpt_pending.proofs.Names.{same_subtask-Decides, ComesBefore-from, ComesBefore-at, IsInOrder-append, IsInOrder-map, IsIn-from_map, IsIn-from_list_any, list_any-from_IsIn, is_subtask_from}
 
 range_from : (from n x : ℕ) → IsIn x (range_with_len from n) → from ≤ x
 range_from from zero x h = absurd h

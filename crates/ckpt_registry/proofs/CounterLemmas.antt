@@ -1,17 +1,8 @@
 -- What one change of the counters does to the count of each file.
-use Rattle.std.proofs.Common.{◌≡◌, ℕ, zero, suc, ◌+◌, ◌<◌, ◌≤◌, ◌^◌, cond, eqb, ltb, nat_eq, List, [], ◌∷◌, ◌++◌, length, get_or, take, refl, sym, ap, ◌∙◌, ⊎_elim, arith, Option, Some, None, Result, Ok, Err, unwrap_or, is_some, IfOk, if◌then◌else◌}
-use Rattle.std.proofs.lemmas.Bool.{cases_eq, eq-eqb, eqb-true, ne_eqb, lt-ltb, le-ltb, cases_lt, cond-true, cond-false}
-use Rattle.std.proofs.lemmas.Option.{none-some, same_Some}
-use Rattle.std.proofs.lemmas.List.Sums.{sum_by_more, sum_by-take-le}
-use Rattle.std.specs.Result.{IsOk, OnOk}
-use Rattle.std.proofs.lemmas.Bool.{false≢true}
-use Rattle.std.specs.List.{position, slice_get}
-use Rattle.std.specs.Map.{lookup, keys_of, values_of}
-use Rattle.std.proofs.lemmas.List.Quantifiers.{position-Some}
-use Rattle.indexmap.specs.IndexMap.{get, keys, values}
-use Rattle.ckpt_ids.proofs.CountLemmas.{one_if-true, one_if-false, count_by_push}
-use Rattle.ckpt_registry.specs.Counters.{Counts, Released, counter, counted_once, AreInRange, AreLowered, AreReleased, HasRoom}
-use Rattle.ckpt_ids.specs.Counting.{one_if, times}
+use Rattle.ckpt_registry.proofs.Names.{◌≡◌, ℕ, zero, suc, ◌+◌, ◌<◌, ◌≤◌, ◌^◌, cond, eqb, ltb, nat_eq, List, [], ◌∷◌, ◌++◌, length, get_or, take, refl, sym, ap, ◌∙◌, ⊎_elim, arith, Option, Some, None}
+use Rattle.ckpt_registry.proofs.Names.{Result, Ok, Err, unwrap_or, is_some, IfOk, if◌then◌else◌, cases_eq, eq-eqb, eqb-true, ne_eqb, lt-ltb, le-ltb, cases_lt, cond-true, cond-false, none-some}
+use Rattle.ckpt_registry.proofs.Names.{same_Some, sum_by_more, sum_by-take-le, IsOk, OnOk, false≢true, position, slice_get, lookup, keys_of, values_of, position-Some, get, keys, values, one_if-true}
+use Rattle.ckpt_registry.proofs.Names.{one_if-false, count_by_push, Counts, Released, counter, counted_once, AreInRange, AreLowered, AreReleased, HasRoom, one_if, times, common_steps}
 
 -- n has w at k, and else what m has
 abbrev pub Sets : Counts → Counts → ℕ → Option ℕ → Type 0
@@ -66,28 +57,14 @@ AreInRange-below m r f = by (get nat_eq m f) refl
     by (Some n) e = (r f n e).1
 
 pub AreInRange-set : (m n : Counts) (k v : ℕ) → Sets m n k (Some v) → AreInRange m → 0 < v → v < 2 ^ 32 → AreInRange n
-AreInRange-set m n k v s r above below = λ f x h.
-    let at : k ≡ f → (0 < x) × (x < 2 ^ 32) = λ (e : k ≡ f). let same : v ≡ x = same_Some v x (sym (get-set_at m n k (Some v) s f e) ∙ h) in (omega arith, omega arith) in
-    let off : (k ≡ f → ⊥) → (0 < x) × (x < 2 ^ 32) = λ (ne : k ≡ f → ⊥). r f x (sym (get-set_off m n k (Some v) s f ne) ∙ h) in
-    ⊎_elim at off (cases_eq k f)
+AreInRange-set m n k v s r above below = grind (arith, common_steps)
 
 pub AreInRange-gone : (m n : Counts) (k : ℕ) → Sets m n k None → AreInRange m → AreInRange n
-AreInRange-gone m n k s r = λ f x h.
-    let at : k ≡ f → (0 < x) × (x < 2 ^ 32) = λ (e : k ≡ f). absurd (none-some x (sym (get-set_at m n k None s f e) ∙ h)) in
-    let off : (k ≡ f → ⊥) → (0 < x) × (x < 2 ^ 32) = λ (ne : k ≡ f → ⊥). r f x (sym (get-set_off m n k None s f ne) ∙ h) in
-    ⊎_elim at off (cases_eq k f)
+AreInRange-gone m n k s r = grind (arith, common_steps)
 
 -- one use less
 pub counter-lowered : (m n : Counts) (k v : ℕ) (w : Option ℕ) → Sets m n k w → counter m k ≡ v → unwrap_or w 0 + 1 ≡ v → (f : ℕ) → counter n f + one_if (eqb k f) ≡ counter m f
-counter-lowered m n k v w s had less f =
-    let at : k ≡ f → counter n f + one_if (eqb k f) ≡ counter m f = λ (e : k ≡ f).
-    let one : one_if (eqb k f) ≡ 1 = one_if-true (eqb k f) (eq-eqb k f e) in
-    let now : counter n f ≡ unwrap_or w 0 = counter-set_at m n k w s f e in
-    let was : counter m k ≡ counter m f = ap (counter m) e in omega arith in
-    let off : (k ≡ f → ⊥) → counter n f + one_if (eqb k f) ≡ counter m f = λ (ne : k ≡ f → ⊥).
-    let none : one_if (eqb k f) ≡ 0 = one_if-false (eqb k f) (ne_eqb k f ne) in
-    let same : counter n f ≡ counter m f = counter-set_off m n k w s f ne in omega arith in
-    ⊎_elim at off (cases_eq k f)
+counter-lowered m n k v w s had less f = grind (arith, common_steps)
 
 pub counted_once-above : (m : Counts) (f : ℕ) → 0 < counter m f → counted_once m f ≡ 1
 counted_once-above m f h = one_if-true (ltb 0 (counter m f)) (lt-ltb 0 (counter m f) h)
@@ -103,83 +80,47 @@ times_push f x xs = count_by_push (λ y. eqb y f) xs x
 
 -- a file whose count only falls keeps its place
 pub counted_once-kept : (m n : Counts) (k v w : ℕ) → Sets m n k (Some w) → counter m k ≡ v → 0 < v → 0 < w → (f : ℕ) → counted_once n f ≡ counted_once m f
-counted_once-kept m n k v w s had above still f =
-    let at : k ≡ f → counted_once n f ≡ counted_once m f = λ (e : k ≡ f).
-    let now : counter n f ≡ w = counter-set_at m n k (Some w) s f e in
-    let was : counter m k ≡ counter m f = ap (counter m) e in
-    counted_once-above n f (omega arith) ∙ sym (counted_once-above m f (omega arith)) in
-    let off : (k ≡ f → ⊥) → counted_once n f ≡ counted_once m f = λ (ne : k ≡ f → ⊥). counted_once-same m n f (counter-set_off m n k (Some w) s f ne) in
-    ⊎_elim at off (cases_eq k f)
+counted_once-kept m n k v w s had above still f = grind (arith, common_steps)
 
 -- a file whose last use goes is released
 pub times-released : (m n : Counts) (k : ℕ) (xs : List ℕ) → Sets m n k None → 0 < counter m k → (f : ℕ) → times f (xs ++ k ∷ []) + counted_once n f ≡ times f xs + counted_once m f
-times-released m n k xs s above f =
-    let pushed : times f (xs ++ k ∷ []) ≡ times f xs + one_if (eqb k f) = times_push f k xs in
-    let at : k ≡ f → times f (xs ++ k ∷ []) + counted_once n f ≡ times f xs + counted_once m f = λ (e : k ≡ f).
-    let one : one_if (eqb k f) ≡ 1 = one_if-true (eqb k f) (eq-eqb k f e) in
-    let was : counter m k ≡ counter m f = ap (counter m) e in
-    let before : counted_once m f ≡ 1 = counted_once-above m f (omega arith) in
-    let after : counted_once n f ≡ 0 = counted_once-zero n f (counter-set_at m n k None s f e) in omega arith in
-    let off : (k ≡ f → ⊥) → times f (xs ++ k ∷ []) + counted_once n f ≡ times f xs + counted_once m f = λ (ne : k ≡ f → ⊥).
-    let none : one_if (eqb k f) ≡ 0 = one_if-false (eqb k f) (ne_eqb k f ne) in
-    let same : counted_once n f ≡ counted_once m f = counted_once-same m n f (counter-set_off m n k None s f ne) in omega arith in
-    ⊎_elim at off (cases_eq k f)
+times-released m n k xs s above f = grind (arith, common_steps)
 
 -- one use more
 pub counter-raised : (m n : Counts) (k w : ℕ) → Sets m n k (Some w) → w ≡ counter m k + 1 → (f : ℕ) → counter n f ≡ counter m f + one_if (eqb k f)
-counter-raised m n k w s more f =
-    let at : k ≡ f → counter n f ≡ counter m f + one_if (eqb k f) = λ (e : k ≡ f).
-    let one : one_if (eqb k f) ≡ 1 = one_if-true (eqb k f) (eq-eqb k f e) in
-    let now : counter n f ≡ w = counter-set_at m n k (Some w) s f e in
-    let was : counter m k ≡ counter m f = ap (counter m) e in omega arith in
-    let off : (k ≡ f → ⊥) → counter n f ≡ counter m f + one_if (eqb k f) = λ (ne : k ≡ f → ⊥).
-    let none : one_if (eqb k f) ≡ 0 = one_if-false (eqb k f) (ne_eqb k f ne) in
-    let same : counter n f ≡ counter m f = counter-set_off m n k (Some w) s f ne in omega arith in
-    ⊎_elim at off (cases_eq k f)
+counter-raised m n k w s more f = grind (arith, common_steps)
 
 pub times_more : (f : ℕ) (xs : List ℕ) (i d : ℕ) → i < length xs → times f (take (i + 1) xs) ≡ times f (take i xs) + one_if (eqb (get_or xs i d) f)
 times_more f xs i d h = sum_by_more (λ y. one_if (eqb y f)) xs i d h
 
 -- one more file counted, of a list of which i were
 pub counter_more : (was m n : Counts) (xs : List ℕ) (i k w : ℕ) → Sets m n k (Some w) → w ≡ counter m k + 1 → i < length xs → k ≡ get_or xs i k → ((f : ℕ) → counter m f ≡ counter was f + times f (take i xs)) → (f : ℕ) → counter n f ≡ counter was f + times f (take (i + 1) xs)
-counter_more was m n xs i k w s more within at inv f =
-    let once : ℕ → ℕ = λ y. one_if (eqb y f) in
-    let here : once k ≡ once (get_or xs i k) = ap once at in
-    omega (arith, counter-raised m n k w s more f, inv f, times_more f xs i k within)
+counter_more was m n xs i k w s more within at inv f = grind (arith, common_steps)
 
 -- a call that succeeds does what it promises
 pub OnOk-at : {T E : Type 0} (r : Result T E) (P : Type 0) → IsOk r → OnOk r P → P
-OnOk-at (Ok x) P ok p = p
-OnOk-at (Err e) P ok p = absurd (false≢true ok)
+OnOk-at r P h2 h3 = grind (arith, common_steps, false≢true)
 
 -- a file that is there once is not among those before it
 pub times_before : (xs : List ℕ) (i k : ℕ) → times k xs ≤ 1 → i < length xs → k ≡ get_or xs i k → times k (take i xs) ≡ 0
-times_before xs i k once within at =
-    let one : one_if (eqb (get_or xs i k) k) ≡ 1 = one_if-true (eqb (get_or xs i k) k) (eq-eqb (get_or xs i k) k (sym at)) in
-    omega (arith, times_more k xs i k within, sum_by-take-le (λ y. cond (eqb y k) 1 0) xs (i + 1))
+times_before xs i k once within at = grind (arith, common_steps)
 
 -- one more entry if there was none
 pub length_fresh : {E : Type 0} (r : Result (Option ℕ) E) (o : Option ℕ) (l n : ℕ) → IsOk r → o ≡ None → IfOk r (λ old. old ≡ o) → IfOk r (λ old. n ≡ l + (if is_some old then 0 else 1)) → n ≡ l + 1
-length_fresh (Ok old) o l n ok none was len = len ∙ ap (λ p. l + (if is_some p then 0 else 1)) (was ∙ none)
-length_fresh (Err e) o l n ok none was len = absurd (false≢true ok)
+length_fresh r o l n h4 h5 h6 h7 = grind (arith, common_steps, false≢true)
 
 -- a file and those before it, of a list
 pub times_through : (xs : List ℕ) (i k : ℕ) → i < length xs → k ≡ get_or xs i k → times k (take i xs) + 1 ≤ times k xs
-times_through xs i k within at =
-    let one : one_if (eqb (get_or xs i k) k) ≡ 1 = one_if-true (eqb (get_or xs i k) k) (eq-eqb (get_or xs i k) k (sym at)) in
-    omega (arith, times_more k xs i k within, sum_by-take-le (λ y. cond (eqb y k) 1 0) xs (i + 1))
+times_through xs i k within at = grind (arith, common_steps)
 
 pub counted_once-le : (m : Counts) (f : ℕ) → counted_once m f ≤ 1
-counted_once-le m f =
-    ⊎_elim (λ (h : 0 < counter m f). omega (arith, counted_once-above m f h)) (λ (h : counter m f ≤ 0). omega (arith, counted_once-zero m f (omega arith))) (cases_lt 0 (counter m f))
+counted_once-le m f = grind (arith, common_steps)
 
 pub above_from_counted_once : (m : Counts) (f : ℕ) → 0 < counted_once m f → 0 < counter m f
-above_from_counted_once m f c =
-    ⊎_elim (λ (h : 0 < counter m f). h) (λ (h : counter m f ≤ 0). absurd (omega (arith, counted_once-zero m f (omega arith)))) (cases_lt 0 (counter m f))
+above_from_counted_once m f c = grind (arith, common_steps)
 
 pub zero_from_counted_once : (m : Counts) (f : ℕ) → counted_once m f ≡ 0 → counter m f ≡ 0
-zero_from_counted_once m f c =
-    ⊎_elim (λ (h : 0 < counter m f). absurd (omega (arith, counted_once-above m f h))) (λ (h : counter m f ≤ 0). omega arith) (cases_lt 0 (counter m f))
+zero_from_counted_once m f c = grind (arith, common_steps)
 
 -- a file that is counted has a counter, and no other has
 pub is_some-get : (m : Counts) → AreInRange m → (f : ℕ) → is_some (get nat_eq m f) ≡ ltb 0 (counter m f)
@@ -198,9 +139,7 @@ AreInRange-unchanged m n same r = λ f v h. r f v (ap (λ es. lookup (eqb f) es)
 
 -- and at most one more in any case
 pub length_more : {E : Type 0} (r : Result (Option ℕ) E) (l n : ℕ) → IsOk r → IfOk r (λ old. n ≡ l + (if is_some old then 0 else 1)) → n ≤ l + 1
-length_more (Ok None) l n ok len = omega (arith, len)
-length_more (Ok (Some v)) l n ok len = omega (arith, len)
-length_more (Err e) l n ok len = absurd (false≢true ok)
+length_more r l n h3 h4 = grind (arith, common_steps, false≢true)
 
 -- releases one after the other
 
@@ -208,11 +147,7 @@ pub AreReleased-none : (m : Counts) (out : Released) → AreReleased m out m out
 AreReleased-none m out = record { each = λ f. refl; len = refl; capacity = refl }
 
 pub AreReleased-then : (m n k : Counts) (out more most : Released) → AreReleased m out n more → AreReleased n more k most → AreReleased m out k most
-AreReleased-then m n k out more most a b = record {
-  each = λ f. omega (arith, a.each f, b.each f);
-  len = omega (arith, a.len, b.len);
-  capacity = b.capacity ∙ a.capacity;
-}
+AreReleased-then m n k out more most a b = grind (arith, common_steps)
 
 pub HasRoom-released : (m n : Counts) (out more : Released) → HasRoom m out → AreReleased m out n more → HasRoom n more
 HasRoom-released m n out more room a = omega (arith, room, a.len, a.capacity)
@@ -221,11 +156,7 @@ pub AreLowered-none : (m : Counts) (out : Released) → AreInRange m → AreLowe
 AreLowered-none m out range = record { lowered = λ f. omega arith; released = AreReleased-none m out; range = range }
 
 pub AreLowered-then : (first later all : ℕ → ℕ) (m n k : Counts) (out more most : Released) → ((f : ℕ) → first f + later f ≡ all f) → AreLowered first m out n more → AreLowered later n more k most → AreLowered all m out k most
-AreLowered-then first later all m n k out more most both a b = record {
-  lowered = λ f. omega (arith, both f, a.lowered f, b.lowered f);
-  released = AreReleased-then m n k out more most a.released b.released;
-  range = b.range;
-}
+AreLowered-then first later all m n k out more most both a b = grind (arith, common_steps)
 
 pub AreLowered-same : (less all : ℕ → ℕ) (m n : Counts) (out more : Released) → ((f : ℕ) → less f ≡ all f) → AreLowered less m out n more → AreLowered all m out n more
 AreLowered-same less all m n out more same a = record { lowered = λ f. omega (arith, same f, a.lowered f); released = a.released; range = a.range }

@@ -1,14 +1,7 @@
 -- How a record's list of files stands for its parts.
-use Rattle.std.proofs.Common.{◌≡◌, ℕ, zero, suc, ◌+◌, ◌-◌, ◌<◌, ◌≤◌, List, [], ◌∷◌, ◌++◌, length, get_or, take, drop, refl, sym, ap, subst, ◌∙◌, arith, append_assoc, length-append}
-use Rattle.std.specs.List.{between}
-use Rattle.std.proofs.lemmas.List.{append-nil, drop-drop, drop_at, get_or-take, get_or_default, length-take, take-append-le, take_all, take_at, take_more, take-take}
-use Rattle.std.proofs.lemmas.Slice.{between_from_start, between_is}
-use Rattle.std.proofs.Math.Seq.{take-add}
-use Rattle.ckpt_ids.specs.Ascending.{IsAscending}
-use Rattle.ckpt_ids.specs.Counting.{times}
-use Rattle.ckpt_ids.proofs.CountLemmas.{times-append}
-use Rattle.ckpt_registry.specs.declared.parts.Cut.{Cut}
-use Rattle.ckpt_registry.specs.Parts.{AreCut, IsCutAt, Part, files_in, files_of, parts_from}
+use Rattle.ckpt_registry.proofs.Names.{◌≡◌, ℕ, zero, suc, ◌+◌, ◌-◌, ◌<◌, ◌≤◌, List, [], ◌∷◌, ◌++◌, length, get_or, take, drop, refl, sym, ap, subst, ◌∙◌, arith, append_assoc, length-append, between}
+use Rattle.ckpt_registry.proofs.Names.{append-nil, drop-drop, drop_at, get_or-take, get_or_default, length-take, take-append-le, take_all, take_at, take_more, take-take, between_from_start}
+use Rattle.ckpt_registry.proofs.Names.{between_is, take-add, IsAscending, times, times-append, Cut, AreCut, IsCutAt, Part, files_in, files_of, parts_from, common_steps}
 use Rattle.ckpt_registry.proofs.PartLemmas.{times_of_take}
 
 -- where the last of these parts ends, if the first begins here
@@ -57,20 +50,14 @@ start_within start (cut ∷ cuts) files h = omega (arith, h.0, h.1, start_within
 
 -- the first parts end after they begin, and no later than the files
 pub ends_within : (n start : ℕ) (cuts : List Cut) (files : List ℕ) → AreCut start cuts files → (start ≤ end_of start (take n cuts)) × (end_of start (take n cuts) ≤ length files)
-ends_within zero start cuts files h = (omega arith, start_within start cuts files h)
-ends_within (suc n) start [] files h = (omega arith, omega arith)
-ends_within (suc n) start (cut ∷ cuts) files h =
-    let rest = ends_within n cut.end cuts files h.4 in
-    (omega (arith, h.0, h.1, rest.0), rest.1)
+ends_within zero start cuts files h = grind (arith, common_steps, start_within)
+ends_within (suc n) start [] files h = grind (arith, common_steps)
+ends_within (suc n) start (cut ∷ cuts) files h = grind (arith, common_steps, ends_within n)
 
 files_between : (n start : ℕ) (cuts : List Cut) (files : List ℕ) → AreCut start cuts files → files_in (take n (parts_from start cuts files)) ≡ between start (end_of start (take n cuts)) files
-files_between zero start cuts files h = sym (between-same start files)
-files_between (suc n) start [] files h = sym (between-same start files)
-files_between (suc n) start (cut ∷ cuts) files h =
-    let end : ℕ = end_of cut.end (take n cuts) in
-    let after : cut.end ≤ end = (ends_within n cut.end cuts files h.4).0 in
-    let own : between start cut.middle files ++ between cut.middle cut.end files ≡ between start cut.end files = between-append start cut.middle cut.end files h.0 h.1 in
-    ap (λ xs. xs ++ files_in (take n (parts_from cut.end cuts files))) own ∙ ap (λ xs. between start cut.end files ++ xs) (files_between n cut.end cuts files h.4) ∙ between-append start cut.end end files (omega (arith, h.0, h.1)) after
+files_between zero start cuts files h = grind (arith, common_steps, between-same)
+files_between (suc n) start [] files h = grind (arith, common_steps, between-same)
+files_between (suc n) start (cut ∷ cuts) files h = grind (arith, common_steps, between-append, ends_within, files_between n)
 
 pub files_of_first : (n : ℕ) (cuts : List Cut) (files : List ℕ) → AreCut 0 cuts files → files_in (take n (parts_from 0 cuts files)) ≡ take (end_of 0 (take n cuts)) files
 files_of_first n cuts files h = files_between n 0 cuts files h ∙ between_from_start files (end_of 0 (take n cuts))

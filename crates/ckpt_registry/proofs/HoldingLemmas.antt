@@ -1,21 +1,9 @@
 -- What a change of what one record holds does to the uses that the row stands for.
-use Rattle.std.proofs.Common.{◌≡◌, ℕ, ◌+◌, ◌<◌, ◌≤◌, Bool, true, false, not, cond, eqb, ltb, ◌&&◌, ◌||◌, length, get_or, take, List, [], ◌∷◌, ◌++◌, refl, sym, ap, subst, ◌∙◌, ⊎_elim, arith, count_by, ◌⊎◌, inl, inr}
-use Rattle.std.specs.List.{filter, flat_map}
-use Rattle.std.proofs.lemmas.Bool.{cases_Bool, cond-true, cond-false, cases_eq, eq-eqb, ne_eqb}
-use Rattle.std.proofs.lemmas.Bool.Decides.{nat_tests}
-use Rattle.std.proofs.lemmas.List.{append-nil, take_more}
-use Rattle.std.proofs.lemmas.List.Filters.{sum_by-filter_both}
-use Rattle.std.proofs.lemmas.List.Elements.{filter-append}
-use Rattle.std.proofs.lemmas.Grind.{flat_map-append}
-use Rattle.ckpt_ids.specs.Counting.{times}
-use Rattle.ckpt_ids.specs.Ordered.{IsIn}
-use Rattle.ckpt_ids.specs.Records.{Use, Subtask, count}
-use Rattle.ckpt_ids.proofs.CountLemmas.{count_by-append, count_by-map, times-append}
-use Rattle.ckpt_ids.proofs.OrderedLemmas.{IsIn-from_flat_map, IsIn-from_map, IsInOrder-filter, filter-all, filter-same, filter-none, filter-filter}
-use Rattle.ckpt_registry.specs.declared.holdings.Holding.{Holding}
-use Rattle.ckpt_registry.specs.Holdings.{Acknowledged, AreRising, Extends, parts_of, uses_by, uses_in}
-use Rattle.ckpt_registry.specs.Uses.{triples, is_owned, without, without_record}
-use Rattle.ckpt_registry.specs.Parts.{Part, files_in, files_of}
+use Rattle.ckpt_registry.proofs.Names.{◌≡◌, ℕ, ◌+◌, ◌<◌, ◌≤◌, Bool, true, false, not, cond, eqb, ltb, ◌&&◌, ◌||◌, length, get_or, take, List, [], ◌∷◌, ◌++◌, refl, sym, ap, subst, ◌∙◌, ⊎_elim, arith}
+use Rattle.ckpt_registry.proofs.Names.{count_by, ◌⊎◌, inl, inr, filter, flat_map, cases_Bool, cond-true, cond-false, cases_eq, eq-eqb, ne_eqb, nat_tests, append-nil, take_more, sum_by-filter_both}
+use Rattle.ckpt_registry.proofs.Names.{filter-append, flat_map-append, times, IsIn, Use, Subtask, count, count_by-append, count_by-map, times-append, IsIn-from_flat_map, IsIn-from_map}
+use Rattle.ckpt_registry.proofs.Names.{IsInOrder-filter, filter-all, filter-same, filter-none, filter-filter, Holding, Acknowledged, AreRising, Extends, parts_of, uses_by, uses_in, triples, is_owned}
+use Rattle.ckpt_registry.proofs.Names.{without, without_record, Part, files_in, files_of, common_steps}
 use Rattle.ckpt_registry.proofs.ListLemmas.{count_by-filter, count_by-filter_le}
 
 abbrev pub number : Holding → ℕ
@@ -53,11 +41,8 @@ uses_in-filter t (h ∷ hs) =
 
 -- how often a record's parts have a file
 pub count-uses_by : (id f : ℕ) (parts : List Part) → count (uses_by id parts) f ≡ times f (files_in parts)
-count-uses_by id f [] = refl
-count-uses_by id f (part ∷ parts) =
-    let used : count (uses_by id (part ∷ parts)) f ≡ count (part_uses id part) f + count (uses_by id parts) f = count_by-append (λ (u : Use). eqb u.file f) (part_uses id part) (uses_by id parts) in
-    let here : count (part_uses id part) f ≡ times f (files_of part) = count_by-map (λ (u : Use). eqb u.file f) (λ (g : ℕ). record { id = id; holder = Subtask part.subtask; file = g }) (files_of part) in
-    omega (arith, used, here, count-uses_by id f parts, times-append f (files_of part) (files_in parts))
+count-uses_by id f [] = grind (arith, common_steps)
+count-uses_by id f (part ∷ parts) = grind (arith, common_steps, count-uses_by id f parts,)
 
 -- how often what these records hold has a file
 count-uses_in : (hs : List Holding) (f : ℕ) → count (uses_in hs) f ≡ times f (files_in (parts_in hs))
@@ -176,14 +161,11 @@ stays_push (o ∷ owners) owner u = by (eqb u.id o) (stays_push owners owner u)
     by false h = h
 
 without-push : (owners : List ℕ) (owner : ℕ) (us : List Use) → without (owners ++ owner ∷ []) us ≡ without_record owner (without owners us)
-without-push owners owner us =
-    filter-same (stays (owners ++ owner ∷ [])) (λ u. stays owners u && not (eqb u.id owner)) us (λ u k. stays_push owners owner u) ∙ sym (filter-filter (λ u. not (eqb u.id owner)) (stays owners) us)
+without-push owners owner us = grind (arith, common_steps, filter-filter, filter-same, stays_push)
 
 -- one record more is released, of a list of which i were
 pub without_more : (owners : List ℕ) (i owner : ℕ) (us now : List Use) → i < length owners → owner ≡ get_or owners i owner → now ≡ without (take i owners) us → without_record owner now ≡ without (take (i + 1) owners) us
-without_more owners i owner us now within at kept =
-    let more : take (i + 1) owners ≡ take i owners ++ owner ∷ [] = take_more owners i owner within ∙ ap (λ o. take i owners ++ o ∷ []) (sym at) in
-    ap (without_record owner) kept ∙ sym (ap (λ os. without os us) more ∙ without-push (take i owners) owner us)
+without_more owners i owner us now within at kept = grind (arith, common_steps, take_more, without-push)
 
 -- all stay if no record goes
 pub without-none : (us : List Use) → without [] us ≡ us

@@ -3,6 +3,7 @@ pub mod CounterLemmas
 pub mod CutLemmas
 pub mod HoldingLemmas
 pub mod ListLemmas
+mod Names
 pub mod PartLemmas
 pub mod PinLemmas
 pub mod PinnedLemmas

@@ -1,13 +1,9 @@
 -- How often the elements of a list pass a test, and what a filter leaves.
-use Rattle.std.proofs.Common.{◌≡◌, ℕ, ◌+◌, ◌<◌, ◌≤◌, Bool, true, false, not, cond, ltb, ◌&&◌, List, [], ◌∷◌, ◌++◌, refl, sym, ap, subst, ◌∙◌, ◌⊎◌, inl, inr, ⊎_elim, arith, count_by}
-use Rattle.std.specs.List.{filter}
-use Rattle.std.proofs.lemmas.Bool.{cases_Bool, cases_lt, both_ways, cond-true, cond-false, lt-ltb, le-ltb}
-use Rattle.ckpt_ids.specs.Ordered.{IsIn, put_once, in_order_once, IsStrictOrder, AreDistinct}
-use Rattle.ckpt_ids.specs.Ascending.{ascending_set}
-use Rattle.ckpt_ids.specs.Counting.{one_if, times}
-use Rattle.ckpt_ids.proofs.AscendingLemmas.{numbers_in_order}
-use Rattle.ckpt_ids.proofs.CountLemmas.{one_if-true, one_if-false, count_by-cons, count_by-append, counted-from_IsIn, IsIn-from_counted, times-from_IsIn, times_at_most_once, IsIn-from_times}
-use Rattle.ckpt_ids.proofs.OrderedLemmas.{IsIn-append_left, IsIn-append_right, IsIn-append_cases, IsIn-filter, IsIn-from_filter, IsInOrder-filter, IsInOrder-in_order_once, IsIn-in_order_once, IsIn-from_in_order_once, same_from_members, AreDistinct-append, AreDistinct-from_order}
+use Rattle.ckpt_registry.proofs.Names.{◌≡◌, ℕ, ◌+◌, ◌<◌, ◌≤◌, Bool, true, false, not, cond, ltb, ◌&&◌, List, [], ◌∷◌, ◌++◌, refl, sym, ap, subst, ◌∙◌, ◌⊎◌, inl, inr, ⊎_elim, arith, count_by, filter}
+use Rattle.ckpt_registry.proofs.Names.{cases_Bool, cases_lt, both_ways, cond-true, cond-false, lt-ltb, le-ltb, IsIn, put_once, in_order_once, IsStrictOrder, AreDistinct, ascending_set, one_if, times}
+use Rattle.ckpt_registry.proofs.Names.{numbers_in_order, one_if-true, one_if-false, count_by-cons, count_by-append, counted-from_IsIn, IsIn-from_counted, times-from_IsIn, times_at_most_once}
+use Rattle.ckpt_registry.proofs.Names.{IsIn-from_times, IsIn-append_left, IsIn-append_right, IsIn-append_cases, IsIn-filter, IsIn-from_filter, IsInOrder-filter, IsInOrder-in_order_once}
+use Rattle.ckpt_registry.proofs.Names.{IsIn-in_order_once, IsIn-from_in_order_once, same_from_members, AreDistinct-append, AreDistinct-from_order}
 
 module _ {X : Type 0} where
   -- the elements that pass both tests

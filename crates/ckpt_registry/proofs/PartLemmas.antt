@@ -1,18 +1,7 @@
 -- How often lists of files have a file, and the search for one.
-use Rattle.std.proofs.Common.{◌≡◌, ℕ, zero, suc, ◌<◌, ◌≤◌, ltb, List, [], ◌∷◌, length, get_or, take, sym, subst, ◌∙◌, ⊎_elim, arith, Ok, Err, Result}
-use Rattle.std.specs.List.{flat_map}
-use Rattle.std.specs.List.Sorted.{IsBinarySearchResult}
-use Rattle.std.specs.Ordering.{nat_cmp}
-use Rattle.std.specs.Result.{is_ok}
-use Rattle.std.proofs.lemmas.Bool.{cases_lt, le-ltb, lt-ltb}
-use Rattle.std.proofs.lemmas.List.{get_or_default}
-use Rattle.std.proofs.lemmas.List.Sorted.{searched}
-use Rattle.ckpt_ids.specs.Ascending.{IsAscending}
-use Rattle.ckpt_ids.specs.Counting.{times}
-use Rattle.ckpt_ids.specs.Ordered.{IsIn}
-use Rattle.ckpt_ids.proofs.CountLemmas.{times-append, times-from_IsIn, IsIn-from_times}
-use Rattle.ckpt_ids.proofs.AscendingLemmas.{ascending_at}
-use Rattle.ckpt_ids.proofs.OrderedLemmas.{IsIn-get_or, IsIn-place}
+use Rattle.ckpt_registry.proofs.Names.{◌≡◌, ℕ, zero, suc, ◌<◌, ◌≤◌, ltb, List, [], ◌∷◌, length, get_or, take, sym, subst, ◌∙◌, ⊎_elim, arith, Ok, Err, Result, flat_map, IsBinarySearchResult, nat_cmp}
+use Rattle.ckpt_registry.proofs.Names.{is_ok, cases_lt, le-ltb, lt-ltb, get_or_default, searched, IsAscending, times, IsIn, times-append, times-from_IsIn, IsIn-from_times, ascending_at, IsIn-get_or}
+use Rattle.ckpt_registry.proofs.Names.{IsIn-place}
 
 -- what a binary search returns
 pub times-from_search : (xs : List ℕ) (x : ℕ) (r : Result ℕ ℕ) → IsAscending xs → IsBinarySearchResult (λ y. nat_cmp y x) xs r → is_ok r ≡ ltb 0 (times x xs)

@@ -1,28 +1,11 @@
 -- What the pins of records come to, and how they change with the records.
-use Rattle.std.proofs.Common.{◌≡◌, ℕ, ◌+◌, ◌<◌, ◌≤◌, Bool, true, false, not, cond, eqb, ltb, List, [], ◌∷◌, ◌++◌, length, get_or, take, drop, set, refl, sym, ap, subst, ◌∙◌, inl, inr, ⊎_elim, arith, ◌||◌, append_assoc, length-append}
-use Rattle.std.specs.List.{filter}
-use Rattle.std.specs.Vec.{vec_capacity}
-use Rattle.std.proofs.lemmas.Bool.{cases_Bool, cond-true, cond-false}
-use Rattle.std.proofs.lemmas.Grind.{flat_map-append}
-use Rattle.std.proofs.lemmas.List.{append-nil, drop_at, drop_more, get_or_at, length-drop, take_at, take_more, take_more_set, get_or-drop, drop-set-lt, drop-drop}
-use Rattle.std.proofs.lemmas.List.{take-append-le}
-use Rattle.std.proofs.lemmas.List.Elements.{filter-append}
-use Rattle.std.proofs.lemmas.List.Sums.{sum_by-cons}
-use Rattle.ckpt_ids.specs.Counting.{one_if, times}
-use Rattle.ckpt_ids.specs.Ordered.{IsIn}
-use Rattle.ckpt_ids.specs.Records.{Use, Pin, Subtask, count, same_holder}
-use Rattle.ckpt_ids.proofs.ComparisonLemmas.{eqb_turned}
-use Rattle.ckpt_ids.proofs.CountLemmas.{count_by-append, count_by-map, times-append}
-use Rattle.ckpt_ids.proofs.OrderedLemmas.{IsIn-from_filter, IsIn-from_flat_map, IsIn-from_map, IsIn-get_or, IsIn-append_cases, filter-all, filter-none}
-use Rattle.ckpt_registry.specs.declared.holdings.Holding.{Holding}
-use Rattle.ckpt_registry.specs.declared.pins.FirstParts.{FirstParts}
-use Rattle.ckpt_registry.specs.declared.pins.Pinner.{Pinner}
-use Rattle.ckpt_registry.specs.declared.pins.Pins.{Pins}
-use Rattle.ckpt_registry.specs.declared.pins.Pins.TheVariants.{Record, Files}
-use Rattle.ckpt_registry.specs.Holdings.{Acknowledged, Extends, parts_of, uses_by, uses_in}
-use Rattle.ckpt_registry.specs.Pins.{AreKept, AreSettled, IsKept, IsSettled, each_file, first_of, is_named, own_files, own_in, own_of, parts_pinned, pinned_by, pins_in, pins_of_records}
-use Rattle.ckpt_registry.specs.Uses.{is_owned, triples, without}
-use Rattle.ckpt_registry.specs.Parts.{Part, files_in, files_of}
+use Rattle.ckpt_registry.proofs.Names.{◌≡◌, ℕ, ◌+◌, ◌<◌, ◌≤◌, Bool, true, false, not, cond, eqb, ltb, List, [], ◌∷◌, ◌++◌, length, get_or, take, drop, set, refl, sym, ap, subst, ◌∙◌, inl, inr, ⊎_elim}
+use Rattle.ckpt_registry.proofs.Names.{arith, ◌||◌, append_assoc, length-append, filter, vec_capacity, cases_Bool, cond-true, cond-false, flat_map-append, append-nil, drop_at, drop_more, get_or_at}
+use Rattle.ckpt_registry.proofs.Names.{length-drop, take_at, take_more, take_more_set, get_or-drop, drop-set-lt, drop-drop, take-append-le, filter-append, sum_by-cons, one_if, times, IsIn, Use, Pin}
+use Rattle.ckpt_registry.proofs.Names.{Subtask, count, same_holder, eqb_turned, count_by-append, count_by-map, times-append, IsIn-from_filter, IsIn-from_flat_map, IsIn-from_map, IsIn-get_or}
+use Rattle.ckpt_registry.proofs.Names.{IsIn-append_cases, filter-all, filter-none, Holding, FirstParts, Pinner, Pins, Record, Files, Acknowledged, Extends, parts_of, uses_by, uses_in, AreKept}
+use Rattle.ckpt_registry.proofs.Names.{AreSettled, IsKept, IsSettled, each_file, first_of, is_named, own_files, own_in, own_of, parts_pinned, pinned_by, pins_in, pins_of_records, is_owned, triples}
+use Rattle.ckpt_registry.proofs.Names.{without, Part, files_in, files_of, common_steps}
 use Rattle.ckpt_registry.proofs.HoldingLemmas.{count-parts_of}
 use Rattle.ckpt_registry.proofs.ListLemmas.{times-ascending_set}
 use Rattle.ckpt_registry.proofs.PartLemmas.{times_of_take}
@@ -33,18 +16,8 @@ pub count-triples_of : (id : ℕ) (f : ℕ) (files : List ℕ) → count (triple
 count-triples_of id f files = count_by-map (λ (u : Use). eqb u.file f) (λ (x : ℕ). record { id = id; holder = Pin; file = x }) files
 
 pub count-pins_in : (m : Acknowledged) (pinned : List Pinner) (f : ℕ) → count (pins_in m pinned) f ≡ pins_of_records m f pinned + times f (own_in pinned)
-count-pins_in m [] f = refl
-count-pins_in m (one ∷ pinned) f =
-    let whole : count (pins_in m (one ∷ pinned)) f ≡ count (triples one.id Pin (pinned_by m one.pins)) f + count (pins_in m pinned) f = count_by-append (λ (u : Use). eqb u.file f) (triples one.id Pin (pinned_by m one.pins)) (pins_in m pinned) in
-    omega (
-      arith,
-      whole,
-      count-triples_of one.id f (pinned_by m one.pins),
-      times-append f (each_file (parts_pinned m one.pins)) (own_files one.pins),
-      count-pins_in m pinned f,
-      sum_by-cons (λ (o : Pinner). times f (each_file (parts_pinned m o.pins))) one pinned,
-      times-append f (own_files one.pins) (own_in pinned),
-    )
+count-pins_in m [] f = grind (arith, common_steps)
+count-pins_in m (one ∷ pinned) f = grind (arith, common_steps, count-pins_in m pinned f,)
 
 -- a record that is pinned is live, so each of its files has a use
 
@@ -96,9 +69,7 @@ pub pins_in-push : (m : Acknowledged) (pinned : List Pinner) (one : Pinner) → 
 pins_in-push m pinned one = flat_map-append (λ o. triples o.id Pin (pinned_by m o.pins)) pinned (one ∷ []) ∙ ap (λ us. pins_in m pinned ++ us) (append-nil (triples one.id Pin (pinned_by m one.pins)))
 
 pub own_in-push : (f : ℕ) (pinned : List Pinner) (one : Pinner) → times f (own_in (pinned ++ one ∷ [])) ≡ times f (own_in pinned) + times f (own_files one.pins)
-own_in-push f pinned one =
-    let joined : own_in (pinned ++ one ∷ []) ≡ own_in pinned ++ own_files one.pins = flat_map-append (λ o. own_files o.pins) pinned (one ∷ []) ∙ ap (λ us. own_in pinned ++ us) (append-nil (own_files one.pins)) in
-    ap (times f) joined ∙ times-append f (own_in pinned) (own_files one.pins)
+own_in-push f pinned one = grind (arith, common_steps)
 
 pub AreKept-push : (m : Acknowledged) (pinned : List Pinner) (one : Pinner) → AreKept m pinned → IsKept m one.pins → AreKept m (pinned ++ one ∷ [])
 AreKept-push m pinned one kept new = λ o h.
@@ -136,15 +107,8 @@ pins_in-filter m owners (one ∷ pinned) =
 
 -- the files of the pinners that are removed, and of those that stay
 pub own_in-parts : (f : ℕ) (owners : List ℕ) (pinned : List Pinner) → times f (own_of owners pinned) + times f (own_in (filter (λ one. not (is_named owners one.id)) pinned)) ≡ times f (own_in pinned)
-own_in-parts f owners [] = refl
-own_in-parts f owners (one ∷ pinned) =
-    let yes : List Pinner = filter (goes owners) pinned in
-    let no : List Pinner = filter (λ o. not (is_named owners o.id)) pinned in
-    let rest : times f (own_in yes) + times f (own_in no) ≡ times f (own_in pinned) = own_in-parts f owners pinned in
-    let Goal : Bool → Type 0 = λ b. times f (own_in (cond b (one ∷ yes) yes)) + times f (own_in (cond (not b) (one ∷ no) no)) ≡ times f (own_in (one ∷ pinned)) in
-    let gone : Goal true = omega (arith, rest, times-append f (own_files one.pins) (own_in yes), times-append f (own_files one.pins) (own_in pinned)) in
-    let kept : Goal false = omega (arith, rest, times-append f (own_files one.pins) (own_in no), times-append f (own_files one.pins) (own_in pinned)) in
-    ⊎_elim (λ (e : goes owners one ≡ true). subst Goal (sym e) gone) (λ (e : goes owners one ≡ false). subst Goal (sym e) kept) (cases_Bool (goes owners one))
+own_in-parts f owners [] = grind (arith, common_steps)
+own_in-parts f owners (one ∷ pinned) = grind (arith, common_steps, own_in-parts f owners pinned)
 
 pub AreKept-filter : (m : Acknowledged) (t : Pinner → Bool) (pinned : List Pinner) → AreKept m pinned → AreKept m (filter t pinned)
 AreKept-filter m t pinned kept = λ one h. kept one (IsIn-from_filter t one pinned h).0
@@ -192,11 +156,7 @@ module _ (m n : Acknowledged) (c : ℕ) (others : (d : ℕ) → (d ≡ c → ⊥
 -- the files that become a pinner's own are those that it pins of the record
 own-settled : (m : Acknowledged) (c f : ℕ) (o x : Pins) → IsSettled c (parts_of m c) o x
     → (times f (own_files o) ≤ times f (own_files x)) × (times f (own_files x) ≤ times f (own_files o) + times f (each_file (parts_pinned m o)))
-own-settled m c f (Record first room) (Files own) s =
-    let same : times f own.items ≡ times f (each_file (first_of m first)) = ap (times f) (s.1 ∙ ap (λ d. each_file (take first.parts (parts_of m d))) (sym s.0)) in
-    (omega arith, omega (arith, same))
-own-settled m c f (Record first room) (Record same left) s = (omega arith, omega arith)
-own-settled m c f (Files own) x s = let same : times f (own_files x) ≡ times f own.items = ap (λ p. times f (own_files p)) s in (omega (arith, same), omega (arith, same))
+own-settled m c f o x h5 = grind (arith, common_steps)
 
 pub own_in-settled : (m : Acknowledged) (c f : ℕ) (os ns : List Pinner) → AreSettled c (parts_of m c) os ns → (times f (own_in os) ≤ times f (own_in ns)) × (times f (own_in ns) ≤ times f (own_in os) + pins_of_records m f os)
 own_in-settled m c f [] [] all = (omega arith, omega arith)
@@ -229,20 +189,11 @@ module _ (chosen : ℕ) (parts : List Part) (old now : List Pinner) (i : ℕ) (d
 -- the files of the pinners that are removed, for one pinner more
 
 own_of-push : (f : ℕ) (owners : List ℕ) (pinned : List Pinner) (one : Pinner) → times f (own_of owners (pinned ++ one ∷ [])) ≡ times f (own_of owners pinned) + cond (goes owners one) (times f (own_files one.pins)) 0
-own_of-push f owners pinned one =
-    let yes : List Pinner = filter (goes owners) pinned in
-    let split : filter (goes owners) (pinned ++ one ∷ []) ≡ yes ++ cond (goes owners one) (one ∷ []) [] = filter-append (goes owners) pinned (one ∷ []) in
-    let Goal : Bool → Type 0 = λ b. times f (own_in (yes ++ cond b (one ∷ []) [])) ≡ times f (own_in yes) + cond b (times f (own_files one.pins)) 0 in
-    let gone : Goal true = own_in-push f yes one in
-    let kept : Goal false = let none : times f (own_in (yes ++ [])) ≡ times f (own_in yes) = ap (λ os. times f (own_in os)) (append-nil yes) in omega arith in
-    let at : Goal (goes owners one) = ⊎_elim (λ (e : goes owners one ≡ true). subst Goal (sym e) gone) (λ (e : goes owners one ≡ false). subst Goal (sym e) kept) (cases_Bool (goes owners one)) in
-    ap (λ os. times f (own_in os)) split ∙ at
+own_of-push f owners pinned one = grind (arith, common_steps)
 
 pub own_of-more : (f : ℕ) (owners : List ℕ) (pinned : List Pinner) (i : ℕ) (one : Pinner) → i < length pinned → one ≡ get_or pinned i one
     → times f (own_of owners (take (i + 1) pinned)) ≡ times f (own_of owners (take i pinned)) + cond (goes owners one) (times f (own_files one.pins)) 0
-own_of-more f owners pinned i one within at =
-    let more : take (i + 1) pinned ≡ take i pinned ++ one ∷ [] = take_more pinned i one within ∙ ap (λ o. take i pinned ++ o ∷ []) (sym at) in
-    ap (λ os. times f (own_of owners os)) more ∙ own_of-push f owners (take i pinned) one
+own_of-more f owners pinned i one within at = grind (arith, common_steps)
 
 pub own_of-le : (f : ℕ) (owners : List ℕ) (n : ℕ) (pinned : List Pinner) → times f (own_of owners (take n pinned)) ≤ times f (own_in pinned)
 own_of-le f owners n pinned = omega (arith, own_in-parts f owners (take n pinned), times_of_take (λ (o : Pinner). own_files o.pins) f n pinned)
@@ -294,9 +245,7 @@ module _ (owners : List ℕ) (old row : List Pinner) (i place : ℕ) (one : Pinn
 
 -- before the end of the walk the row has one more
 pub walk_within : (owners : List ℕ) (old row : List Pinner) (i place : ℕ) → row ≡ staying owners (take i old) ++ drop i old → place ≡ length (staying owners (take i old)) → i < length old → place < length row
-walk_within owners old row i place is at below =
-    let same : length row ≡ length (staying owners (take i old) ++ drop i old) = ap (λ os. length os) is in
-    omega (arith, same, at, length-append (staying owners (take i old)) (drop i old), length-drop i old)
+walk_within owners old row i place is at below = grind (arith, common_steps)
 
 -- the holder of a use
 
@@ -308,7 +257,4 @@ uses_in-holder held u h =
     ap (λ (v : Use). same_holder v.holder Pin) file.2
 
 pub pins_in-holder : (m : Acknowledged) (pinned : List Pinner) (u : Use) → IsIn u (pins_in m pinned) → same_holder u.holder Pin ≡ true
-pins_in-holder m pinned u h =
-    let one = IsIn-from_flat_map (λ (o : Pinner). triples o.id Pin (pinned_by m o.pins)) u pinned h in
-    let file = IsIn-from_map (λ (x : ℕ). record { id = one.0.id; holder = Pin; file = x }) u (pinned_by m one.0.pins) one.2 in
-    ap (λ (v : Use). same_holder v.holder Pin) file.2
+pins_in-holder m pinned u h = grind (arith, common_steps, IsIn-from_flat_map, IsIn-from_map)

@@ -1,48 +1,24 @@
 -- What a record pins, computed from the uses.
-use Rattle.std.proofs.Common.{◌≡◌, ℕ, Bool, true, false, ◌&&◌, ◌||◌, eqb, ltb, List, [], ◌∷◌, ◌++◌, filter, map, refl, sym, ap, subst, ◌∙◌, inl, inr, ⊎_elim, arith}
-use Rattle.std.specs.List.Sorted.{IsPermutation, IsSorted}
-use Rattle.std.specs.List.Retain.{IsFiltered, DiffersFromLast}
-use Rattle.std.specs.Ordering.{nat_cmp}
-use Rattle.std.proofs.lemmas.Bool.{and_parts, cases_Bool, both_ways, eqb-true, ltb-true}
-use Rattle.ckpt_ids.specs.Ascending.{IsAscendingSet, ascending, ascending_set}
-use Rattle.ckpt_ids.specs.Ordered.{IsIn, IsInOrder}
-use Rattle.ckpt_ids.specs.Records.{Use, Holder, Subtask, Pin, holder_before, same_holder, use_before}
-use Rattle.ckpt_ids.proofs.AscendingLemmas.{numbers_in_order}
-use Rattle.ckpt_ids.proofs.OrderLemmas.{uses_in_order}
-use Rattle.ckpt_ids.proofs.OrderedLemmas.{ComesBefore-at, ComesBefore-from, IsIn-append_left, IsIn-append_right, IsIn-append_cases, IsIn-filter, IsIn-flat_map, IsIn-from_filter, IsIn-from_flat_map, IsIn-from_map, IsIn-from_in_order_once, IsIn-in_order_once, IsIn-map, IsInOrder-filter, IsInOrder-in_order_once, same_from_members}
-use Rattle.ckpt_ids.proofs.SetLemmas.{ascending-from_dedup}
-use Rattle.ckpt_registry.specs.declared.pins.Pinner.{Pinner}
-use Rattle.ckpt_registry.specs.Holdings.{Acknowledged, uses_in}
-use Rattle.ckpt_registry.specs.Pins.{each_file, named_by, own_files, parts_pinned, pinned_by, pins_in}
-use Rattle.ckpt_registry.specs.Sound.{in_use, stored}
-use Rattle.ckpt_registry.specs.Uses.{pins_by, triples}
-use Rattle.ckpt_registry.specs.Parts.{files_in}
+use Rattle.ckpt_registry.proofs.Names.{◌≡◌, ℕ, Bool, true, false, ◌&&◌, ◌||◌, eqb, ltb, List, [], ◌∷◌, ◌++◌, filter, map, refl, sym, ap, subst, ◌∙◌, inl, inr, ⊎_elim, arith, IsPermutation, IsSorted}
+use Rattle.ckpt_registry.proofs.Names.{IsFiltered, DiffersFromLast, nat_cmp, and_parts, cases_Bool, both_ways, eqb-true, ltb-true, IsAscendingSet, ascending, ascending_set, IsIn, IsInOrder, Use}
+use Rattle.ckpt_registry.proofs.Names.{Holder, Subtask, Pin, holder_before, same_holder, use_before, numbers_in_order, uses_in_order, ComesBefore-at, ComesBefore-from, IsIn-append_left}
+use Rattle.ckpt_registry.proofs.Names.{IsIn-append_right, IsIn-append_cases, IsIn-filter, IsIn-flat_map, IsIn-from_filter, IsIn-from_flat_map, IsIn-from_map, IsIn-from_in_order_once}
+use Rattle.ckpt_registry.proofs.Names.{IsIn-in_order_once, IsIn-map, IsInOrder-filter, IsInOrder-in_order_once, same_from_members, ascending-from_dedup, Pinner, Acknowledged, uses_in, each_file}
+use Rattle.ckpt_registry.proofs.Names.{named_by, own_files, parts_pinned, pinned_by, pins_in, in_use, stored, pins_by, triples, files_in, common_steps}
 use Rattle.ckpt_registry.proofs.PinLemmas.{uses_in-holder}
 
 abbrev pins_it : ℕ → Use → Bool
 pins_it id u = eqb u.id id && same_holder u.holder Pin
 
 pins_in_order : (i j f g : ℕ) → i ≡ j → (ltb i j || (eqb i j && ltb f g)) ≡ true → ltb f g ≡ true
-pins_in_order i j f g e t =
-    let rest : Bool = eqb i j && ltb f g in
-    let P : Bool → Type 0 = λ b. (b || rest) ≡ true in
-    ⊎_elim
-    (λ (b : ltb i j ≡ true). absurd (omega (arith, e, ltb-true i j b)))
-    (λ (b : ltb i j ≡ false). let r : rest ≡ true = subst P b t in (and_parts (eqb i j) (ltb f g) r).1)
-    (cases_Bool (ltb i j))
+pins_in_order i j f g e t = grind (arith, common_steps)
 
 by_holders : (i j : ℕ) (h k : Holder) (f g : ℕ) → i ≡ j → same_holder h Pin ≡ true → same_holder k Pin ≡ true → (ltb i j || (eqb i j && (holder_before h k || (same_holder h k && ltb f g)))) ≡ true → ltb f g ≡ true
-by_holders i j (Subtask s) k f g e x y t = absurd (both_ways false refl x)
-by_holders i j Pin (Subtask s) f g e x y t = absurd (both_ways false refl y)
-by_holders i j Pin Pin f g e x y t = pins_in_order i j f g e t
+by_holders i j h k f g h6 h7 h8 h9 = grind (arith, common_steps, both_ways, pins_in_order)
 
 -- two pins of one record are in the order of their files
 later_file : (id : ℕ) (u v : Use) → pins_it id u ≡ true → pins_it id v ≡ true → use_before u v ≡ true → ltb u.file v.file ≡ true
-later_file id u v p q b =
-    let a = and_parts (eqb u.id id) (same_holder u.holder Pin) p in
-    let c = and_parts (eqb v.id id) (same_holder v.holder Pin) q in
-    let same : u.id ≡ v.id = eqb-true u.id id a.0 ∙ sym (eqb-true v.id id c.0) in
-    by_holders u.id v.id u.holder v.holder u.file v.file same a.1 c.1 b
+later_file id u v p q b = grind (arith, common_steps)
 
 files_in_order : (id : ℕ) (us : List Use) → IsInOrder use_before us → ((u : Use) → IsIn u us → pins_it id u ≡ true) → IsAscendingSet (map (λ u. u.file) us)
 files_in_order id [] order pins = tt

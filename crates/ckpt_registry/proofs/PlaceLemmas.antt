@@ -1,16 +1,8 @@
 -- What is found in the row of what each record holds at the place of a number, and what a change at that place leaves.
-use Rattle.std.proofs.Common.{◌≡◌, ℕ, suc, ◌<◌, Bool, true, false, not, eqb, ltb, length, get_or, map, take, drop, set, List, [], ◌∷◌, ◌++◌, sym, ap, subst, ◌∙◌, ⊎_elim, ◌⊎◌, inl}
-use Rattle.std.specs.List.{filter, insert, remove}
-use Rattle.std.proofs.lemmas.Bool.{cases_Bool, eq-eqb, ne_eqb}
-use Rattle.std.proofs.lemmas.List.{append-nil, map-append, set-get_or, set_split}
-use Rattle.ckpt_ids.specs.Ordered.{AreDistinct, IsIn}
-use Rattle.ckpt_ids.specs.Ascending.{IsAscendingSet}
-use Rattle.ckpt_ids.specs.Places.{BelongsAt, LiesAt}
-use Rattle.ckpt_ids.proofs.AscendingLemmas.{numbers_in_order}
-use Rattle.ckpt_ids.proofs.OrderedLemmas.{AreDistinct-apart, AreDistinct-from_order, AreDistinct-right, IsIn-map, IsInOrder-map, IsInOrder-put_between, filter-none}
-use Rattle.ckpt_ids.proofs.PlaceLemmas.{IsInOrder-of_keys, apart_from, filter_lies, insert_belongs, remove_lies}
-use Rattle.ckpt_registry.specs.declared.holdings.Holding.{Holding}
-use Rattle.ckpt_registry.specs.Holdings.{AreRising}
+use Rattle.ckpt_registry.proofs.Names.{◌≡◌, ℕ, suc, ◌<◌, Bool, true, false, not, eqb, ltb, length, get_or, map, take, drop, set, List, [], ◌∷◌, ◌++◌, sym, ap, subst, ◌∙◌, ⊎_elim, ◌⊎◌, inl, filter}
+use Rattle.ckpt_registry.proofs.Names.{insert, remove, cases_Bool, eq-eqb, ne_eqb, append-nil, map-append, set-get_or, set_split, AreDistinct, IsIn, IsAscendingSet, BelongsAt, LiesAt}
+use Rattle.ckpt_registry.proofs.Names.{numbers_in_order, AreDistinct-apart, AreDistinct-from_order, AreDistinct-right, IsIn-map, IsInOrder-map, IsInOrder-put_between, filter-none, IsInOrder-of_keys}
+use Rattle.ckpt_registry.proofs.Names.{apart_from, filter_lies, insert_belongs, remove_lies, Holding, AreRising}
 use Rattle.ckpt_registry.proofs.HoldingLemmas.{number, has_id, parts_in}
 
 abbrev numbers : List Holding → List ℕ

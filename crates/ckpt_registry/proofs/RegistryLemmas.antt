@@ -1,38 +1,19 @@
 -- How a change of the parts changes the uses that a registry stands for.
-use Rattle.std.proofs.Common.{◌≡◌, ℕ, ◌+◌, ◌-◌, ◌<◌, ◌≤◌, ◌^◌, Bool, true, false, not, eqb, ltb, ◌&&◌, ◌||◌, List, [], ◌∷◌, ◌++◌, map, length, refl, sym, ap, subst, ◌∙◌, inl, inr, ⊎_elim, arith, count_by, Some, unwrap_or}
-use Rattle.std.specs.List.{filter, IsDistinct, AllByRecursion}
-use Rattle.std.proofs.lemmas.List.{length-map}
-use Rattle.std.proofs.lemmas.Option.{none-some}
-use Rattle.std.specs.List.Sorted.{IsPermutation, IsSorted}
-use Rattle.std.specs.Ordering.{nat_cmp}
-use Rattle.std.proofs.lemmas.List.Sorted.{sum_by-IsPermutation}
-use Rattle.std.specs.Map.{lookup, keys_of}
-use Rattle.std.proofs.lemmas.Bool.{and_parts, cases_Bool, cases_lt, both_ways, cond-true, cond-false, ltb-true, ltb-false, lt-ltb, le-ltb, eq-eqb, eqb-true, eqb-false, not-true}
-use Rattle.std.proofs.Math.Bool.{or-false}
-use Rattle.std.proofs.lemmas.List.Elements.{filter-append}
-use Rattle.std.proofs.lemmas.Map.Keys.{IsDistinct-head, IsDistinct-tail}
-use Rattle.indexmap.specs.IndexMap.{index_map_len, IsUnique}
-use Rattle.ckpt_ids.specs.Ordered.{IsIn, IsInOrder, in_order_once, AreDistinct}
-use Rattle.ckpt_ids.specs.Ascending.{IsAscending, ascending_set}
-use Rattle.ckpt_ids.specs.declared.subtask.SubtaskId.{SubtaskId}
-use Rattle.ckpt_ids.specs.Records.{Use, Holder, Subtask, Pin, count, is_present, released, same_holder, use_before}
-use Rattle.ckpt_ids.proofs.OrderedLemmas.{IsIn-append_left, IsIn-append_cases, IsIn-map, IsIn-from_map, IsIn-filter, IsIn-from_filter, IsIn-in_order_once, AreDistinct-from_order, IsIn-from_in_order_once, IsInOrder-in_order_once, IsInOrder-filter, same_from_members, filter-same, filter-filter}
-use Rattle.ckpt_ids.proofs.AscendingLemmas.{numbers_in_order, IsAscending-from_sorted, set-from_distinct}
-use Rattle.ckpt_ids.proofs.OrderLemmas.{uses_in_order}
-use Rattle.ckpt_registry.specs.Counters.{Counts, counter, counted_once, AreInRange}
-use Rattle.ckpt_registry.specs.declared.pins.Pinner.{Pinner}
-use Rattle.ckpt_registry.specs.Holdings.{Acknowledged, AreRising, Extends, parts_of, uses_in}
-use Rattle.ckpt_registry.specs.Pins.{AreKept, IsKept, each_file, own_files, pinned_by, pins_in, pins_of_records}
-use Rattle.ckpt_registry.specs.Sound.{stored, in_use, AreCounted, StandsOnce, IsSound}
-use Rattle.ckpt_registry.specs.Uses.{IsEachOnce, HasNoUse, triples, files_by, is_owned, is_ended, without, after_end}
-use Rattle.ckpt_registry.specs.Parts.{files_in}
+use Rattle.ckpt_registry.proofs.Names.{◌≡◌, ℕ, ◌+◌, ◌-◌, ◌<◌, ◌≤◌, ◌^◌, Bool, true, false, not, eqb, ltb, ◌&&◌, ◌||◌, List, [], ◌∷◌, ◌++◌, map, length, refl, sym, ap, subst, ◌∙◌, inl, inr, ⊎_elim}
+use Rattle.ckpt_registry.proofs.Names.{arith, count_by, Some, unwrap_or, filter, IsDistinct, AllByRecursion, length-map, none-some, IsPermutation, IsSorted, nat_cmp, sum_by-IsPermutation, lookup}
+use Rattle.ckpt_registry.proofs.Names.{keys_of, and_parts, cases_Bool, cases_lt, both_ways, cond-true, cond-false, ltb-true, ltb-false, lt-ltb, le-ltb, eq-eqb, eqb-true, eqb-false, not-true, or-false}
+use Rattle.ckpt_registry.proofs.Names.{filter-append, IsDistinct-head, IsDistinct-tail, index_map_len, IsUnique, IsIn, IsInOrder, in_order_once, AreDistinct, IsAscending, ascending_set, SubtaskId}
+use Rattle.ckpt_registry.proofs.Names.{Use, Holder, Subtask, Pin, count, is_present, released, same_holder, use_before, IsIn-append_left, IsIn-append_cases, IsIn-map, IsIn-from_map, IsIn-filter}
+use Rattle.ckpt_registry.proofs.Names.{IsIn-from_filter, IsIn-in_order_once, AreDistinct-from_order, IsIn-from_in_order_once, IsInOrder-in_order_once, IsInOrder-filter, same_from_members, filter-same}
+use Rattle.ckpt_registry.proofs.Names.{filter-filter, numbers_in_order, IsAscending-from_sorted, set-from_distinct, uses_in_order, Counts, counter, counted_once, AreInRange, Pinner, Acknowledged}
+use Rattle.ckpt_registry.proofs.Names.{AreRising, Extends, parts_of, uses_in, AreKept, IsKept, each_file, own_files, pinned_by, pins_in, pins_of_records, stored, in_use, AreCounted, StandsOnce}
+use Rattle.ckpt_registry.proofs.Names.{IsSound, IsEachOnce, HasNoUse, triples, files_by, is_owned, is_ended, without, after_end, files_in, count_by-cons, count_by-append, count_by-map}
+use Rattle.ckpt_registry.proofs.Names.{counted-from_IsIn, IsIn-from_counted, times-from_IsIn, times_at_most_once, AreDistinct-from_times, IsIn-from_times, one_if, times, common_steps}
 use Rattle.ckpt_registry.proofs.PinLemmas.{pins_in-extended, pins_in-holder, pins_in-push, uses_in-holder}
 use Rattle.ckpt_registry.proofs.SoundLemmas.{AreCounted-acknowledged, AreCounted-kept, AreCounted-pushed, count-stored, is_present-stored}
 use Rattle.ckpt_registry.proofs.HoldingLemmas.{count-used_by}
 use Rattle.ckpt_registry.proofs.CounterLemmas.{AreInRange-unchanged, counter-unchanged, get-from_counter, counted_once-above, counted_once-zero, counted_once-le, above_from_counted_once, zero_from_counted_once}
-use Rattle.ckpt_ids.proofs.CountLemmas.{count_by-cons, count_by-append, count_by-map, counted-from_IsIn, IsIn-from_counted, times-from_IsIn, times_at_most_once, AreDistinct-from_times, IsIn-from_times}
 use Rattle.ckpt_registry.proofs.ListLemmas.{count_by-in_order_once, in_order_once-filter, count_by-added, in_order_once-added, count_by-filtered}
-use Rattle.ckpt_ids.specs.Counting.{one_if, times}
 
 -- files and their uses
 
@@ -57,9 +38,7 @@ AreDistinct-triples id holder (x ∷ files) a =
     )
 
 triples-holder : (id : ℕ) (holder : Holder) (files : List ℕ) (u : Use) → IsIn u (triples id holder files) → (u.id ≡ id) × (u.holder ≡ holder)
-triples-holder id holder files u h =
-    let make : ℕ → Use = λ y. record { id = id; holder = holder; file = y } in
-    let q = IsIn-from_map make u files h in (ap (λ v. v.id) q.2, ap (λ v. v.holder) q.2)
+triples-holder id holder files u h = grind (arith, common_steps, IsIn-from_map)
 
 -- what is counted
 
@@ -82,11 +61,8 @@ in_use-in_order a p = IsInOrder-in_order_once uses_in_order (stored a p)
 -- the files that have a counter are the files in use
 
 key_from_lookup : (f n : ℕ) (es : List (ℕ × ℕ)) → lookup (eqb f) es ≡ Some n → IsIn f (keys_of es)
-key_from_lookup f n [] h = absurd (none-some n h)
-key_from_lookup f n (e ∷ es) h =
-    let here : eqb f e.0 ≡ true → IsIn f (keys_of (e ∷ es)) = λ (t : eqb f e.0 ≡ true). inl (eqb-true f e.0 t) in
-    let later : eqb f e.0 ≡ false → IsIn f (keys_of (e ∷ es)) = λ (t : eqb f e.0 ≡ false). inr (key_from_lookup f n es (sym (cond-false (eqb f e.0) (Some e.1) (lookup (eqb f) es) t) ∙ h)) in
-    ⊎_elim here later (cases_Bool (eqb f e.0))
+key_from_lookup f n [] h = grind (arith, common_steps)
+key_from_lookup f n (e ∷ es) h = grind (arith, common_steps, key_from_lookup f n es)
 
 lookup_from_key : (f : ℕ) (es : List (ℕ × ℕ)) → IsIn f (keys_of es) → (n : ℕ) × (lookup (eqb f) es ≡ Some n)
 lookup_from_key f [] h = absurd h
@@ -148,19 +124,13 @@ in_use-none a p id holder files none = in_use-added a p a p id holder files (λ 
 -- what is taken away
 
 pub stored-without : (a : Acknowledged) (p : List Pinner) (b : Acknowledged) (q : List Pinner) (owners : List ℕ) → uses_in b.items ≡ without owners (uses_in a.items) → pins_in b q ≡ without owners (pins_in a p) → stored b q ≡ without owners (stored a p)
-stored-without a p b q owners h k =
-    ap (λ us. us ++ pins_in b q) h ∙ ap (λ us. without owners (uses_in a.items) ++ us) k ∙ sym (filter-append (λ u. not (is_owned owners u)) (uses_in a.items) (pins_in a p))
+stored-without a p b q owners h k = grind (arith, common_steps)
 
 stays_other : (x y z : Bool) → z ≡ false → not x ≡ not (x || (y && z))
-stays_other true y z e = refl
-stays_other false true z e = ap not (sym e)
-stays_other false false z e = refl
+stays_other x y z h3 = grind (arith, common_steps)
 
 stays_pin : (x y z : Bool) → z ≡ true → (not y && not x) ≡ not (x || (y && z))
-stays_pin true true z e = refl
-stays_pin true false z e = refl
-stays_pin false true z e = ap not (sym e)
-stays_pin false false z e = refl
+stays_pin x y z h3 = grind (arith, common_steps)
 
 is_owned-one : (id : ℕ) (u : Use) → is_owned (id ∷ []) u ≡ eqb u.id id
 is_owned-one id u = or-false (eqb u.id id)
@@ -218,14 +188,10 @@ pub IsSound-filtered : (a : Acknowledged) (p : List Pinner) (b : Acknowledged) (
 IsSound-filtered a p b q m n room left t s counted kept fits = record { parts = counted; once = StandsOnce-filtered a p b q t kept s.once; has_room = fits }
 
 pub stored-acknowledged : (a : Acknowledged) (p : List Pinner) (b : Acknowledged) (us : List Use) → pins_in b p ≡ pins_in a p → ((t : Use → Bool) → count_by t (uses_in b.items) ≡ count_by t (uses_in a.items) + count_by t us) → (t : Use → Bool) → count_by t (stored b p) ≡ count_by t (stored a p) + count_by t us
-stored-acknowledged a p b us pins adds t =
-    let same : count_by t (pins_in b p) ≡ count_by t (pins_in a p) = ap (count_by t) pins in
-    omega (arith, adds t, same, count_by-append t (uses_in b.items) (pins_in b p), count_by-append t (uses_in a.items) (pins_in a p))
+stored-acknowledged a p b us pins adds t = grind (arith, common_steps)
 
 pub stored-pinned : (a : Acknowledged) (p q : List Pinner) (us : List Use) → pins_in a q ≡ pins_in a p ++ us → (t : Use → Bool) → count_by t (stored a q) ≡ count_by t (stored a p) + count_by t us
-stored-pinned a p q us pins t =
-    let same : count_by t (pins_in a q) ≡ count_by t (pins_in a p ++ us) = ap (count_by t) pins in
-    omega (arith, same, count_by-append t (pins_in a p) us, count_by-append t (uses_in a.items) (pins_in a q), count_by-append t (uses_in a.items) (pins_in a p))
+stored-pinned a p q us pins t = grind (arith, common_steps)
 
 -- each file is used once more at most, and there is a place for the count
 pub below_more : (us : List Use) (fresh reused : List ℕ) → ((f : ℕ) → count us f < 2 ^ 32) → IsEachOnce (fresh ++ reused) → ((f : ℕ) → IsIn f fresh → is_present us f ≡ false) → ((f : ℕ) → IsIn f reused → count us f < 2 ^ 32 - 1) → (f : ℕ) → count us f + times f (fresh ++ reused) < 2 ^ 32

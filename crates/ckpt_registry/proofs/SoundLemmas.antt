@@ -1,19 +1,8 @@
 -- What the counters say of the uses, and that it still holds when records are removed.
-use Rattle.std.proofs.Common.{◌≡◌, ℕ, ◌+◌, ◌<◌, ◌≤◌, ◌^◌, not, ltb, List, [], ◌∷◌, ◌++◌, refl, sym, ap, subst, ◌∙◌, ⊎_elim, arith, eqb}
-use Rattle.std.specs.List.{filter}
-use Rattle.std.proofs.lemmas.Bool.{cases_lt, lt-ltb, le-ltb}
-use Rattle.std.proofs.lemmas.List.{append-nil}
-use Rattle.ckpt_ids.specs.Counting.{times}
-use Rattle.ckpt_ids.specs.Records.{Use, Pin, count, is_present}
-use Rattle.ckpt_ids.proofs.CountLemmas.{count_by-append}
-use Rattle.ckpt_registry.specs.declared.holdings.Holding.{Holding}
-use Rattle.ckpt_registry.specs.declared.pins.Pinner.{Pinner}
-use Rattle.ckpt_registry.specs.Counters.{Counts, counter, counted_once, AreInRange}
-use Rattle.ckpt_registry.specs.Holdings.{Acknowledged, AreRising, Extends, parts_of, uses_in}
-use Rattle.ckpt_registry.specs.Pins.{AreKept, AreSettled, IsKept, is_named, own_files, own_in, own_of, pinned_by, pins_in, pins_of_records}
-use Rattle.ckpt_registry.specs.Sound.{AreCounted, stored}
-use Rattle.ckpt_registry.specs.Uses.{is_owned, triples, without, without_record}
-use Rattle.ckpt_registry.specs.Parts.{files_in}
+use Rattle.ckpt_registry.proofs.Names.{◌≡◌, ℕ, ◌+◌, ◌<◌, ◌≤◌, ◌^◌, not, ltb, List, [], ◌∷◌, ◌++◌, refl, sym, ap, subst, ◌∙◌, ⊎_elim, arith, eqb, filter, cases_lt, lt-ltb, le-ltb, append-nil, times}
+use Rattle.ckpt_registry.proofs.Names.{Use, Pin, count, is_present, count_by-append, Holding, Pinner, Counts, counter, counted_once, AreInRange, Acknowledged, AreRising, Extends, parts_of, uses_in}
+use Rattle.ckpt_registry.proofs.Names.{AreKept, AreSettled, IsKept, is_named, own_files, own_in, own_of, pinned_by, pins_in, pins_of_records, AreCounted, stored, is_owned, triples, without}
+use Rattle.ckpt_registry.proofs.Names.{without_record, files_in, common_steps}
 use Rattle.ckpt_registry.proofs.CounterLemmas.{counted_once-above, counted_once-zero}
 use Rattle.ckpt_registry.proofs.HoldingLemmas.{has_id, parts_in}
 use Rattle.ckpt_registry.proofs.ListLemmas.{count_by-filter_le}
@@ -25,14 +14,7 @@ count-stored m p counts s f = omega (arith, s.counted f, count-pins_in m p f, co
 
 -- exactly the files that are present have a counter
 pub is_present-stored : (m : Acknowledged) (p : List Pinner) (counts : Counts) → AreCounted m p counts → (f : ℕ) → is_present (stored m p) f ≡ ltb 0 (counter counts f)
-is_present-stored m p counts s f =
-    let whole = count-stored m p counts s f in
-    let some : 0 < counter counts f → is_present (stored m p) f ≡ ltb 0 (counter counts f) = λ (h : 0 < counter counts f).
-    lt-ltb 0 (count (stored m p) f) (omega (arith, whole, h)) ∙ sym (lt-ltb 0 (counter counts f) h) in
-    let none : counter counts f ≤ 0 → is_present (stored m p) f ≡ ltb 0 (counter counts f) = λ (h : counter counts f ≤ 0).
-    let pins : pins_of_records m f p ≡ 0 = pins_of_records-none m f p (omega (arith, s.counted f, h)) in
-    le-ltb 0 (count (stored m p) f) (omega (arith, whole, pins, h)) ∙ sym (le-ltb 0 (counter counts f) h) in
-    ⊎_elim some none (cases_lt 0 (counter counts f))
+is_present-stored m p counts s f = grind (arith, common_steps, cases_lt, count-stored, le-ltb, lt-ltb, pins_of_records-none)
 
 -- some no longer pin
 pub AreCounted-unpinned : (m : Acknowledged) (p q : List Pinner) (owners : List ℕ) (counts after : Counts) → AreCounted m p counts → q ≡ filter (λ one. not (is_named owners one.id)) p

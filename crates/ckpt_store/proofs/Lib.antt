@@ -1,3 +1,4 @@
 -- The lemmas that the proofs use.
+mod Names
 pub mod RowLemmas
 pub mod StoreLemmas

@@ -1,17 +1,8 @@
 -- Rows of records that rise by number: what is found there, and what an insertion and a removal leave.
-use Rattle.std.proofs.Common.{◌≡◌, ℕ, zero, suc, true, false, not, ltb, leb, List, [], ◌∷◌, get_or, length, sym, ap, ◌∙◌, arith, Bor, Option, Some, None, IfSome}
-use Rattle.std.specs.Prelude.{filter, slice_get}
-use Rattle.std.specs.List.{list_any, find, remove}
-use Rattle.std.specs.List.Sorted.{IsPartitionedBy, IsPartitionPoint}
-use Rattle.std.specs.Option.{is_some, option_copied}
-use Rattle.std.proofs.lemmas.Option.{slice_get-get_or, slice_get_past}
-use Rattle.std.proofs.lemmas.Bool.{cond-true, cond-false, eq-eqb, le-leb, lt-leb, ltb-true, ltb-false, ne_eqb}
-use Rattle.ckpt_ids.specs.Places.{BelongsAt, LiesAt}
-use Rattle.ckpt_ids.specs.Records.{Record}
-use Rattle.ckpt_ids.proofs.AscendingLemmas.{numbers_in_order}
-use Rattle.ckpt_ids.proofs.PlaceLemmas.{any_lies, find_lies, none_belongs, remove_lies}
+use Rattle.ckpt_store.proofs.Names.{◌≡◌, ℕ, zero, suc, true, false, not, ltb, leb, List, [], ◌∷◌, get_or, length, sym, ap, ◌∙◌, arith, Bor, Option, Some, None, IfSome, filter, slice_get, list_any}
+use Rattle.ckpt_store.proofs.Names.{find, remove, IsPartitionedBy, IsPartitionPoint, is_some, option_copied, slice_get-get_or, slice_get_past, cond-true, cond-false, eq-eqb, le-leb, lt-leb, ltb-true}
+use Rattle.ckpt_store.proofs.Names.{ltb-false, ne_eqb, BelongsAt, LiesAt, Record, numbers_in_order, any_lies, find_lies, none_belongs, remove_lies, AreRising, has_id, id_of}
 use Rattle.ckpt_ids.proofs.PlaceLemmas as rows
-use Rattle.ckpt_store.specs.Storing.{AreRising, has_id, id_of}
 
 module _ (id : ℕ) (records : List Record) where
   yes : (r : Record) → r.id ≡ id → has_id id r ≡ true

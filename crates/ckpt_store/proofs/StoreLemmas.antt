@@ -1,20 +1,10 @@
 -- A store stays one through each change.
-use Rattle.std.proofs.Common.{◌≡◌, ℕ, ◌+◌, ◌-◌, ◌^◌, ◌<◌, ◌≤◌, Bool, true, false, not, cond, List, [], ◌∷◌, ◌++◌, length, drop, refl, sym, ap, subst, ◌∙◌, inr, ⊎_elim, arith, ◌&&◌, Option, Some, None, IfSome, length-append}
-use Rattle.std.specs.Prelude.{filter, slice_get}
-use Rattle.std.specs.List.{list_any, find}
-use Rattle.std.proofs.lemmas.Bool.{cases_Bool, both_ways, lt-ltb, eq-eqb, eqb-true, ne_eqb, or_right}
-use Rattle.std.proofs.lemmas.List.Filters.{length-filter_both}
-use Rattle.ckpt_ids.specs.declared.numbers.Kind.{Kind}
+use Rattle.ckpt_store.proofs.Names.{◌≡◌, ℕ, ◌+◌, ◌-◌, ◌^◌, ◌<◌, ◌≤◌, Bool, true, false, not, cond, List, [], ◌∷◌, ◌++◌, length, drop, refl, sym, ap, subst, ◌∙◌, inr, ⊎_elim, arith, ◌&&◌, Option, Some}
+use Rattle.ckpt_store.proofs.Names.{None, IfSome, length-append, filter, slice_get, list_any, find, cases_Bool, both_ways, lt-ltb, eq-eqb, eqb-true, ne_eqb, or_right, length-filter_both, Kind, IsIn}
+use Rattle.ckpt_store.proofs.Names.{put, LiesAt, Record, IsIn-append_cases, IsIn-put_cases, IsIn-from_filter, IsInOrder-append, IsInOrder-filter, IsInOrder-put_between, list_any-from_IsIn, find-none}
+use Rattle.ckpt_store.proofs.Names.{some_at, numbers_in_order, IsDone, list_any-put, list_any-filter, list_any_same, Stored, IsStored, by_id, AreRising, AreDone, IsAbove, has_id, id_of, has_savepoint}
+use Rattle.ckpt_store.proofs.Names.{record_of}
 use Rattle.ckpt_ids.specs.declared.numbers.Kind.TheVariants as kind
-use Rattle.ckpt_ids.specs.Ordered.{IsIn, put}
-use Rattle.ckpt_ids.specs.Places.{LiesAt}
-use Rattle.ckpt_ids.specs.Records.{Record}
-use Rattle.ckpt_ids.proofs.OrderedLemmas.{IsIn-append_cases, IsIn-put_cases, IsIn-from_filter, IsInOrder-append, IsInOrder-filter, IsInOrder-put_between, list_any-from_IsIn}
-use Rattle.ckpt_ids.proofs.PlaceLemmas.{find-none, some_at}
-use Rattle.ckpt_ids.proofs.AscendingLemmas.{numbers_in_order}
-use Rattle.ckpt_pending.specs.Acknowledging.{IsDone}
-use Rattle.ckpt_pending.proofs.AckLemmas.{list_any-put, list_any-filter, list_any_same}
-use Rattle.ckpt_store.specs.Storing.{Stored, IsStored, by_id, AreRising, AreDone, IsAbove, has_id, id_of, has_savepoint, record_of}
 use Rattle.ckpt_store.proofs.RowLemmas.{find-place}
 
 -- rows

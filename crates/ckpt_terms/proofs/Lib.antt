@@ -1,4 +1,5 @@
 -- The lemmas that the proofs use.
+pub mod Absent
 pub mod Classes
 pub mod Counted
 pub mod Crossings

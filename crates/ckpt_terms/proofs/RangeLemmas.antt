@@ -8,6 +8,7 @@ use Rattle.std.proofs.lemmas.List.Elements.{All-head, All-tail, All-get_or, All-
 use Rattle.std.proofs.lemmas.List.Folds.{list_any_none, list_any_at, list_any-append}
 use Rattle.ckpt_ids.specs.Ordered.{IsIn}
 use Rattle.ckpt_ids.specs.Ascending.{IsAscendingSet}
+use Rattle.ckpt_ids.proofs.PlaceLemmas.{get_or_any}
 use Rattle.ckpt_ids.proofs.OrderedLemmas.{IsIn-append_right, IsIn-append_left, ComesBefore-at, IsInOrder-filter, filter-all, test-from_IsIn}
 use Rattle.ckpt_terms.specs.declared.names.Span.{Span}
 use Rattle.ckpt_terms.specs.Fencing.{without_all}
@@ -208,6 +209,13 @@ is_there : (xs : List Span) (i name : ℕ) (s : Span) → HasAt xs i s name → 
 is_there xs i name s h =
     let P : Span → Type 0 = λ t. in_span name t ≡ true in
     subst P (sym (h.there s)) (and_from (leb s.from name) (ltb name s.to) (le-leb s.from name h.from) (lt-ltb name s.to h.to))
+
+-- the range at a place, where it has the name
+pub at_place : (xs : List Span) (i name : ℕ) (d : Span) → i < length xs → in_span name (get_or xs i d) ≡ true → HasAt xs i (get_or xs i d) name
+at_place xs i name d within it =
+    let s : Span = get_or xs i d in
+    let its = and_parts (leb s.from name) (ltb name s.to) it in
+    record { within = within; there = λ e. get_or_any xs i e d within; from = leb-true s.from name its.0; to = ltb-true name s.to its.1 }
 
 -- a range that was found
 pub found_is : (xs : List Span) (name : ℕ) (r : Option (ℕ × Span)) → IfSome r (λ found. HasAt xs found.0 found.1 name) → (r ≡ None → list_any (in_span name) xs ≡ false) → is_some r ≡ list_any (in_span name) xs

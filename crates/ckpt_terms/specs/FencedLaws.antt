@@ -29,6 +29,12 @@ abbrev pub AreFencedCalls : List FencedCall → Type 0
 AreFencedCalls [] = ⊤
 AreFencedCalls (call ∷ calls) = IsFencedCall call × AreFencedCalls calls
 
+-- a coordinator that can be opened so, the calls that were made, and those that follow them
+pub record CanGoOn (o : Opening) (first : ℕ) (before calls : List FencedCall) : Type 0 where
+  pub opens : CanFence o first
+  pub made : AreFencedCalls before
+  pub follow : AreFencedCalls calls
+
 -- what always holds
 pub record IsFenced (m : Fenced) : Type 0 where
   pub core : IsSound m.core

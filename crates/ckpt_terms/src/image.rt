@@ -1,18 +1,19 @@
 //! What is saved of a coordinator whose tasks reserve the names of their files. One that is made from
 //! it answers as the saved one would.
 
-ghost use Rattle.std.specs.Prelude.{◌≡◌, ◌↔◌, true, length, Err, None, IfOk, IfSome, IsTrue, OnOk};
+ghost use Rattle.std.specs.Prelude.{◌≡◌, ◌↔◌, ◌<◌, ℕ, true, length, Err, None, IfOk, IfSome, IsTrue, OnOk};
 ghost use Rattle.std.specs.List.{list_all};
+ghost use Rattle.ckpt_ids.specs.Ordered.{IsIn};
 ghost use Rattle.ckpt_model.specs.Images.{HasSoundNumbers, record_in, state_in};
 ghost use Rattle.ckpt_model.specs.Refusals.{is_cancelled};
 ghost use Rattle.ckpt_model.specs.Soundness.{IsSound};
 ghost use Rattle.ckpt_terms.specs.FencedLaws.{IsFenced};
-ghost use Rattle.ckpt_terms.specs.Spans.{AreRanges, names_in};
+ghost use Rattle.ckpt_terms.specs.Spans.{AreRanges, AreRangesBelow, names_in};
 ghost use Rattle.ckpt_terms.specs.Spent.{files_are_spent, is_spent, record_is_spent};
 ghost use Rattle.ckpt_terms.specs.TermsImages.{CanOpenFenced, fenced_in, fenced_settled};
 
 use crate::call::{LAST_TERM, NAMES_END};
-use crate::names::{Names, Span, count_names, hold};
+use crate::names::{Names, Span, hold};
 use crate::terms::Terms;
 use ckpt_core::{Core, Image, ImageFault, Mode, Saved, Secret};
 use ckpt_ids::{Acked, Acks, FileId};
@@ -102,6 +103,27 @@ fn sound_names(image: &TermsImage) -> Option<u64>
     } else {
         None
     }
+}
+
+/// How many names these ranges have, or `None` if they are not in ascending order, if one is empty,
+/// or if one has a name from `end` on.
+fn count_names(ranges: &[Span], end: u64) -> Option<u64>
+    ensures some { IfSome result (λ held. AreRangesBelow ranges.now end held) }
+    ensures none { result ≡ None → AreRanges ranges.now → ((f : ℕ) → IsIn f (names_in ranges.now) → f < end) → ⊥ }
+{
+    let mut held = 0;
+    let mut last = 0;
+    for span in ranges {
+        if span.from < last {
+            return None;
+        }
+        if span.to <= span.from {
+            return None;
+        }
+        held += span.to - span.from;
+        last = span.to;
+    }
+    if last <= end { Some(held) } else { None }
 }
 
 /// Whether a job in this mode may hold this many names.

@@ -4,7 +4,7 @@ ghost use Rattle.std.specs.Prelude.{ℕ, List};
 ghost use Rattle.ckpt_model.specs.State.{Opening};
 ghost use Rattle.ckpt_terms.specs.declared.call.FencedCall.{FencedCall};
 ghost use Rattle.ckpt_terms.specs.Fencing.{Fenced, fenced, fenced_replay};
-ghost use Rattle.ckpt_terms.specs.FencedLaws.{CanFence, AreFencedCalls, IsFenced, Classified, GarbageForGood, DeletionsAreSafe, IssuedOnce, ZombiesAreFenced, SweepIsExact, CancelledIsSwept};
+ghost use Rattle.ckpt_terms.specs.FencedLaws.{CanFence, CanGoOn, AreFencedCalls, IsFenced, Classified, GarbageForGood, DeletionsAreSafe, IssuedOnce, ZombiesAreFenced, SweepIsExact, CancelledIsSwept};
 ghost use Rattle.ckpt_terms.specs.TermsImages.{AreFencedAlike, CanHoldFenced, FencedGoesOnAs, IsFencedCut, fenced_settled};
 
 /// What always holds for a fenced coordinator holds after every list of calls.
@@ -20,12 +20,12 @@ pub fn classified()
 
 /// Garbage is garbage for good.
 pub fn garbage_for_good()
-    ensures { (o : Opening) (first : ℕ) (before calls : List FencedCall) → CanFence o first → AreFencedCalls before → AreFencedCalls calls → GarbageForGood o first before calls }
+    ensures { (o : Opening) (first : ℕ) (before calls : List FencedCall) → CanGoOn o first before calls → GarbageForGood o first before calls }
 {}
 
 /// No live record uses a file that may be deleted, neither then nor later.
 pub fn deletions_are_safe()
-    ensures { (o : Opening) (first : ℕ) (before calls : List FencedCall) → CanFence o first → AreFencedCalls before → AreFencedCalls calls → DeletionsAreSafe o first before calls }
+    ensures { (o : Opening) (first : ℕ) (before calls : List FencedCall) → CanGoOn o first before calls → DeletionsAreSafe o first before calls }
 {}
 
 /// No deleted file is reported to the coordinator as new again, so a file was handed out exactly
@@ -36,7 +36,7 @@ pub fn issued_once()
 
 /// Once a restore or a cancel is accepted, the tasks that ran before change nothing.
 pub fn zombies_are_fenced()
-    ensures { (o : Opening) (first : ℕ) (before calls : List FencedCall) → CanFence o first → AreFencedCalls before → AreFencedCalls calls → ZombiesAreFenced o first before calls }
+    ensures { (o : Opening) (first : ℕ) (before calls : List FencedCall) → CanGoOn o first before calls → ZombiesAreFenced o first before calls }
 {}
 
 /// Right after an accepted restore or cancel each name that was given out is in use, waits for

@@ -12,6 +12,7 @@ pub mod laws;
 pub mod machine;
 pub mod names;
 mod scan;
+mod spending;
 pub mod terms;
 
 pub use call::{FencedAnswer, FencedCall, FencedRefusal};

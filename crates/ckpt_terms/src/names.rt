@@ -5,7 +5,7 @@ ghost use Rattle.std.specs.List.{list_any, range_with_len};
 ghost use Rattle.std.specs.Prelude.{◌==◌};
 ghost use Rattle.ckpt_ids.specs.Ordered.{IsIn};
 ghost use Rattle.ckpt_terms.specs.Fencing.{without_all};
-ghost use Rattle.ckpt_terms.specs.Spans.{AreRanges, AreRangesBelow, HasAt, IsCut, in_span, names_in};
+ghost use Rattle.ckpt_terms.specs.Spans.{AreRanges, HasAt, IsCut, in_span, names_in};
 
 use ckpt_ids::{FileId, Files};
 use std::alloc::{AllocError, Global};
@@ -110,11 +110,19 @@ impl Names {
         hold(&self.spans, name)
     }
 
-    /// The first of the files whose name is not one of these.
+    /// The first of the files whose name is not one of these. Makes a binary search among the ranges
+    /// for each file that is not in the range of the file before it.
     pub fn first_absent(&self, files: &[FileId]) -> Option<FileId>
         ensures { result ≡ find (λ f. not (list_any (λ g. f == g) self.now)) files.now }
     {
-        files.iter().copied().find(|file| !self.contains(*file))
+        let mut near = 0;
+        for file in files {
+            let Some((place, _)) = range_near(&self.spans, near, file.0) else {
+                return Some(*file);
+            };
+            near = place;
+        }
+        None
     }
 
     /// Adds `count` names from `first` on. Fails only if memory runs out, and then changes nothing.
@@ -141,24 +149,29 @@ impl Names {
         Ok(())
     }
 
-    /// Takes out those of these names that are there. Takes no memory.
+    /// Takes out those of these names that are there. Takes no memory. Searches as
+    /// [`Names::first_absent`] does.
     pub fn remove_all(&mut self, gone: &Files)
         ensures { self.new ≡ without_all gone.now self.old }
     {
         let numbers = gone.as_slice();
+        let mut near = 0;
         for name in numbers {
-            self.remove(*name);
+            near = self.remove(*name, near);
         }
     }
 
-    /// Takes the name out, if it is there.
-    fn remove(&mut self, name: FileId)
+    /// Takes the name out, if it is there, and looks for it first in the range at the place `near`.
+    /// Returns the place at which the names behind it begin, if it was there.
+    fn remove(&mut self, name: FileId, near: usize) -> usize
         ensures { self.new ≡ without_all (name ∷ []) self.old }
     {
-        if let Some((place, span)) = range_with(&self.spans, name.0) {
-            cut(&mut self.spans, place, span, name.0);
-            self.held -= 1;
-        }
+        let Some((place, span)) = range_near(&self.spans, near, name.0) else {
+            return near;
+        };
+        cut(&mut self.spans, place, span, name.0);
+        self.held -= 1;
+        if span.from < name.0 { place + 1 } else { place }
     }
 }
 
@@ -171,27 +184,6 @@ fn copy_of(alloc: Global, ranges: &[Span]) -> Result<Vec<Span>, AllocError>
     Ok(spans)
 }
 
-/// How many names these ranges have, or `None` if they are not in ascending order, if one is empty,
-/// or if one has a name from `end` on.
-pub(crate) fn count_names(ranges: &[Span], end: u64) -> Option<u64>
-    ensures some { IfSome result (λ held. AreRangesBelow ranges.now end held) }
-    ensures none { result ≡ None → AreRanges ranges.now → ((f : ℕ) → IsIn f (names_in ranges.now) → f < end) → ⊥ }
-{
-    let mut held = 0;
-    let mut last = 0;
-    for span in ranges {
-        if span.from < last {
-            return None;
-        }
-        if span.to <= span.from {
-            return None;
-        }
-        held += span.to - span.from;
-        last = span.to;
-    }
-    if last <= end { Some(held) } else { None }
-}
-
 /// Whether one of the ranges has the name. Makes a binary search.
 ///
 /// Condition: the ranges are in ascending order, and none is empty.
@@ -200,6 +192,24 @@ pub(crate) fn hold(ranges: &[Span], name: FileId) -> bool
     ensures { result ≡ list_any (λ g. name == g) (names_in ranges.now) }
 {
     range_with(ranges, name.0).is_some()
+}
+
+/// The same as [`range_with`]. Looks first at the range at the place `near`, because most names of an
+/// acknowledgement are in one range.
+///
+/// Condition: the ranges are in ascending order, and none is empty.
+fn range_near(spans: &[Span], near: usize, name: u64) -> Option<(usize, Span)>
+    requires { AreRanges spans.now }
+    ensures some { IfSome result (λ found. HasAt spans.now found.0 found.1 name) }
+    ensures none { result ≡ None → list_any (in_span name) spans.now ≡ false }
+{
+    if near < spans.len() {
+        let span = spans[near];
+        if span.has(name) {
+            return Some((near, span));
+        }
+    }
+    range_with(spans, name)
 }
 
 /// The range that has this name with its place, if there is one. Makes a binary search.

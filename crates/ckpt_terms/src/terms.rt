@@ -1,11 +1,10 @@
 //! A coordinator whose tasks reserve the names of their files.
 
-ghost use Rattle.std.specs.Prelude.{◌≡◌, ◌↔◌, ◌<◌, ◌≤◌, ◌+◌, ℕ, [], IfOk, IfSome, OnErr, None, find, not, true, ◌^◌, if◌then◌else◌};
+ghost use Rattle.std.specs.Prelude.{◌≡◌, IfOk, OnErr, find, not, true};
 ghost use Rattle.std.specs.Result.{result_err};
-ghost use Rattle.ckpt_ids.specs.declared.call.Call.TheVariants as call;
 ghost use Rattle.ckpt_model.specs.Soundness.{IsCall};
 ghost use Rattle.ckpt_terms.specs.declared.call.FencedCall.TheVariants.{Reserve, Forfeit, Make};
-ghost use Rattle.ckpt_terms.specs.Fencing.{ends_the_term, fence, fenced, fenced_step, fresh_of, is_garbage, is_unspent, is_of_task, not_held, not_reserved, unspent_after};
+ghost use Rattle.ckpt_terms.specs.Fencing.{fence, fenced, fenced_step, fresh_of, is_garbage, is_unspent, not_held, not_reserved};
 ghost use Rattle.ckpt_terms.specs.FencedLaws.{IsFenced, IsFencedCall};
 ghost use Rattle.ckpt_terms.specs.Spans.{AreRanges, names_in};
 ghost use Rattle.ckpt_terms.specs.TermsOpening.{terms_fault};
@@ -13,6 +12,7 @@ ghost use Rattle.ckpt_terms.specs.Wants.{wants_memory};
 
 use crate::call::{FencedAnswer, FencedCall, FencedRefusal, LAST_TERM, MOST_NAMES, NAMES_END};
 use crate::names::{Names, Span};
+use crate::spending::{ends, fresh_of, is_of_task, recall_call, spend, term_after};
 use ckpt_core::{Core, CoreFault, Mode, OpenFault, Secret};
 use ckpt_ids::{Answer, Call, Config, FileId, Files, Shape};
 use std::alloc::{AllocError, Global};
@@ -261,64 +261,5 @@ impl Terms {
             next_name,
             unspent,
         }
-    }
-}
-
-/// Whether a task makes the call.
-fn is_of_task(call: &Call) -> bool
-    ensures { result ≡ is_of_task call.now }
-{
-    matches!(call, Call::Ack { .. } | Call::Decline { .. })
-}
-
-/// The fresh files of an acknowledgement.
-fn fresh_of(call: &Call) -> Option<&Files>
-    ensures some { IfSome result (λ files. files.now ≡ fresh_of call.now) }
-    ensures none { result ≡ None → fresh_of call.now ≡ [] }
-{
-    match call {
-        Call::Ack { fresh, .. } => Some(fresh),
-        _ => None,
-    }
-}
-
-/// Leaves the names that are held after the call, if it is accepted.
-fn spend(names: &mut Names, alloc: Global, call: &Call)
-    ensures { names.new ≡ unspent_after names.old call.now }
-{
-    if ends(call) {
-        *names = Names::new(alloc);
-    } else if let Some(fresh) = fresh_of(call) {
-        names.remove_all(fresh);
-    }
-}
-
-/// The term after an accepted call.
-///
-/// Condition: the last term does not end.
-fn term_after(term: u64, call: &Call) -> u64
-    requires { ends_the_term call.now ≡ true → term < 2 ^ 62 }
-    ensures { result ≡ (if ends_the_term call.now then term + 1 else term) }
-{
-    if ends(call) { term + 1 } else { term }
-}
-
-/// Whether the call ends the term, if it is accepted.
-fn ends(call: &Call) -> bool
-    ensures { result ≡ ends_the_term call.now }
-{
-    matches!(call, Call::Restore { .. } | Call::Cancel { .. })
-}
-
-/// Does nothing. Its contract says that the shape of a restore is a valid shape.
-fn recall_call(call: &Call)
-    ensures { IsCall call.now }
-{
-    if let Call::Restore {
-        shape: Some(shape),
-        ..
-    } = call
-    {
-        shape.recall();
     }
 }

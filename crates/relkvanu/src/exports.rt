@@ -4,7 +4,8 @@ ghost use Rattle.std.specs.Prelude.{◌≡◌, ◌≢◌, ◌<◌, ◌≤◌, []
 ghost use Rattle.ckpt_ids.specs.declared.call.Call.TheVariants as call;
 ghost use Rattle.ckpt_model.specs.Coordinator.{State};
 ghost use Rattle.ckpt_embed.specs.Buffers.{BringsFiles, BringsJson, IsShowTold, StandsInFront};
-ghost use Rattle.ckpt_embed.specs.Calls.{HasNoNumbers, IsAnswered, IsBadShape, IsMade, IsRefusedAs, StaysAsItWas, StaysClosed, WantsMemory, ack_of, restore_of};
+ghost use Rattle.ckpt_embed.specs.Calls.{HasNoNumbers, IsAnswered, IsAnsweredPlainly, IsBadShape, IsMade, IsMadePlainly, IsRefusedAs, StaysAsItWas};
+ghost use Rattle.ckpt_embed.specs.Calls.{StaysClosed, WantsMemory, ack_of, restore_of, subtask_at};
 ghost use Rattle.ckpt_embed.specs.Fenced.{IsHandled, call_step};
 ghost use Rattle.ckpt_embed.specs.Names.{refusal_name};
 ghost use Rattle.ckpt_embed.specs.Opening.{opening_of, IsNotOpened, IsOpened, OpeningWantsMemory, StaysOpen};
@@ -88,8 +89,8 @@ pub extern "C" fn relkvanu_ack(
     reused: &[u64],
 ) -> Answer
     ensures closed { StaysClosed handle.old.value handle.new.value result }
-    ensures answered { handle.old.names ≡ None → IsAnswered handle.old.value handle.new.value (ack_of now id (record { vertex = vertex; index = index }) fresh.now reused.now) result }
-    ensures handled { IsHandled (λ k. call_step k (ack_of now id (record { vertex = vertex; index = index }) fresh.now reused.now)) handle.old.value handle.old.names handle.new.value handle.new.names result }
+    ensures answered { IsAnsweredPlainly handle.old handle.new (ack_of now id (subtask_at vertex index) fresh.now reused.now) result }
+    ensures handled { IsHandled (λ k. call_step k (ack_of now id (subtask_at vertex index) fresh.now reused.now)) handle.old handle.new result }
     ensures numbers { HasNoNumbers result }
     ensures unchanged { StaysAsItWas handle.old.value handle.new.value result }
     ensures names_unchanged { result.code ≡ no_memory → handle.new.names ≡ handle.old.names }
@@ -109,8 +110,8 @@ pub extern "C" fn relkvanu_decline(
     index: u16,
 ) -> Answer
     ensures closed { StaysClosed handle.old.value handle.new.value result }
-    ensures answered { handle.old.names ≡ None → IsMade handle.old.value handle.new.value (call.Decline now id (record { vertex = vertex; index = index })) result }
-    ensures handled { IsHandled (λ k. call_step k (call.Decline now id (record { vertex = vertex; index = index }))) handle.old.value handle.old.names handle.new.value handle.new.names result }
+    ensures answered { IsMadePlainly handle.old handle.new (call.Decline now id (subtask_at vertex index)) result }
+    ensures handled { IsHandled (λ k. call_step k (call.Decline now id (subtask_at vertex index))) handle.old handle.new result }
     ensures memory { result.code ≢ no_memory }
 {
     let call = Call::Decline {
@@ -149,8 +150,8 @@ pub extern "C" fn relkvanu_restore(
 ) -> Answer
     ensures closed { StaysClosed handle.old.value handle.new.value result }
     ensures bad_shape { IsBadShape shape.now → IsRefusedAs handle.old.value handle.new.value bad_shape result }
-    ensures answered { (IsBadShape shape.now → ⊥) → handle.old.names ≡ None → IsAnswered handle.old.value handle.new.value (restore_of now savepoint shape.now) result }
-    ensures handled { (IsBadShape shape.now → ⊥) → IsHandled (λ k. call_step k (restore_of now savepoint shape.now)) handle.old.value handle.old.names handle.new.value handle.new.names result }
+    ensures answered { (IsBadShape shape.now → ⊥) → IsAnsweredPlainly handle.old handle.new (restore_of now savepoint shape.now) result }
+    ensures handled { (IsBadShape shape.now → ⊥) → IsHandled (λ k. call_step k (restore_of now savepoint shape.now)) handle.old handle.new result }
     ensures memory { shape.now ≡ [] → result.code ≢ no_memory }
     ensures numbers { HasNoNumbers result }
     ensures unchanged { StaysAsItWas handle.old.value handle.new.value result }
@@ -164,8 +165,8 @@ pub extern "C" fn relkvanu_restore(
 #[unsafe(no_mangle)]
 pub extern "C" fn relkvanu_cancel(alloc: Global, handle: &mut Handle, now: u64) -> Answer
     ensures closed { StaysClosed handle.old.value handle.new.value result }
-    ensures answered { handle.old.names ≡ None → IsMade handle.old.value handle.new.value (call.Cancel now) result }
-    ensures handled { IsHandled (λ k. call_step k (call.Cancel now)) handle.old.value handle.old.names handle.new.value handle.new.names result }
+    ensures answered { IsMadePlainly handle.old handle.new (call.Cancel now) result }
+    ensures handled { IsHandled (λ k. call_step k (call.Cancel now)) handle.old handle.new result }
     ensures memory { result.code ≢ no_memory }
 {
     ckpt_embed::call(alloc, handle, &Call::Cancel { now })

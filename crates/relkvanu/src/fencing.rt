@@ -5,10 +5,9 @@ ghost use Rattle.ckpt_ids.specs.declared.call.Call.TheVariants as call;
 ghost use Rattle.ckpt_ids.specs.Ascending.{ascending};
 ghost use Rattle.ckpt_model.specs.Coordinator.{State};
 ghost use Rattle.ckpt_terms.specs.declared.call.FencedCall.TheVariants as fencing;
-ghost use Rattle.ckpt_terms.specs.Machines.{Issued};
 ghost use Rattle.ckpt_embed.specs.Buffers.{StandsInFront};
-ghost use Rattle.ckpt_embed.specs.Calls.{HasNoNumbers, StaysAsItWas, StaysClosed, ack_of};
-ghost use Rattle.ckpt_embed.specs.Fenced.{IsHandled, WantsNames, fence_step, garbage_of, garbage_told, term_step, term_told, unissued_of};
+ghost use Rattle.ckpt_embed.specs.Calls.{HasNoNumbers, StaysAsItWas, StaysClosed, subtask_at};
+ghost use Rattle.ckpt_embed.specs.Fenced.{BringsOf, IsHandled, WantsNames, ack_step, fence_step, garbage_of, garbage_told, term_step, term_told, unissued_of};
 ghost use Rattle.ckpt_embed.specs.Names.{fenced_name};
 ghost use Rattle.ckpt_embed.specs.Naming.{IsNotOpenedNamed, IsOpenedNamed};
 ghost use Rattle.ckpt_embed.specs.Opening.{OpeningWantsMemory, StaysOpen, opening_of};
@@ -50,7 +49,7 @@ pub extern "C" fn relkvanu_open_fenced(
 #[unsafe(no_mangle)]
 pub extern "C" fn relkvanu_fence(alloc: Global, handle: &mut Handle, first_name: u64) -> Answer
     ensures closed { StaysClosed handle.old.value handle.new.value result }
-    ensures handled { IsHandled (λ k. fence_step k first_name) handle.old.value handle.old.names handle.new.value handle.new.names result }
+    ensures handled { IsHandled (λ k. fence_step k first_name) handle.old handle.new result }
     ensures memory { result.code ≡ no_memory → handle.old.names ≡ None }
     ensures numbers { HasNoNumbers result }
     ensures unchanged { StaysAsItWas handle.old.value handle.new.value result }
@@ -79,8 +78,8 @@ pub extern "C" fn relkvanu_reserve(
     count: u64,
 ) -> Answer
     ensures closed { StaysClosed handle.old.value handle.new.value result }
-    ensures handled { IsHandled (λ k. term_step k (fencing.Reserve term count)) handle.old.value handle.old.names handle.new.value handle.new.names result }
-    ensures memory { WantsNames handle.old.value handle.old.names (fencing.Reserve term count) result }
+    ensures handled { IsHandled (λ k. term_step k (fencing.Reserve term count)) handle.old handle.new result }
+    ensures memory { WantsNames handle.old (fencing.Reserve term count) result }
     ensures numbers { HasNoNumbers result }
     ensures unchanged { StaysAsItWas handle.old.value handle.new.value result }
     ensures names_unchanged { result.code ≡ no_memory → handle.new.names ≡ handle.old.names }
@@ -97,7 +96,7 @@ pub extern "C" fn relkvanu_forfeit(
     names: &[u64],
 ) -> Answer
     ensures closed { StaysClosed handle.old.value handle.new.value result }
-    ensures handled { IsHandled (λ k. term_step k (fencing.Forfeit term (ascending names.now))) handle.old.value handle.old.names handle.new.value handle.new.names result }
+    ensures handled { IsHandled (λ k. term_step k (fencing.Forfeit term (ascending names.now))) handle.old handle.new result }
     ensures numbers { HasNoNumbers result }
     ensures unchanged { StaysAsItWas handle.old.value handle.new.value result }
     ensures names_unchanged { result.code ≡ no_memory → handle.new.names ≡ handle.old.names }
@@ -119,7 +118,7 @@ pub extern "C" fn relkvanu_ack_in(
     reused: &[u64],
 ) -> Answer
     ensures closed { StaysClosed handle.old.value handle.new.value result }
-    ensures handled { IsHandled (λ k. term_step k (fencing.Make term (ack_of now id (record { vertex = vertex; index = index }) fresh.now reused.now))) handle.old.value handle.old.names handle.new.value handle.new.names result }
+    ensures handled { IsHandled (λ k. ack_step k term now id (subtask_at vertex index) fresh.now reused.now) handle.old handle.new result }
     ensures numbers { HasNoNumbers result }
     ensures unchanged { StaysAsItWas handle.old.value handle.new.value result }
     ensures names_unchanged { result.code ≡ no_memory → handle.new.names ≡ handle.old.names }
@@ -140,7 +139,7 @@ pub extern "C" fn relkvanu_decline_in(
     index: u16,
 ) -> Answer
     ensures closed { StaysClosed handle.old.value handle.new.value result }
-    ensures handled { IsHandled (λ k. term_step k (fencing.Make term (call.Decline now id (record { vertex = vertex; index = index })))) handle.old.value handle.old.names handle.new.value handle.new.names result }
+    ensures handled { IsHandled (λ k. term_step k (fencing.Make term (call.Decline now id (subtask_at vertex index)))) handle.old handle.new result }
     ensures memory { result.code ≢ no_memory }
 {
     let subtask = SubtaskId { vertex, index };
@@ -158,8 +157,8 @@ pub extern "C" fn relkvanu_garbage(
 ) -> Answer
     ensures closed { StaysClosed handle.old.value handle.new.value result }
     ensures answered { (m : State) → handle.old.value ≡ Some m → result ≡ garbage_told m handle.old.names files.now (length garbage.old) (length unissued.old) }
-    ensures garbage { (m : State) (n : Issued) → handle.old.value ≡ Some m → handle.old.names ≡ Some n → result.code ≡ 0 → StandsInFront (garbage_of m n files.now) garbage.old garbage.new }
-    ensures unissued { (n : Issued) → handle.old.names ≡ Some n → result.code ≡ 0 → StandsInFront (unissued_of n files.now) unissued.old unissued.new }
+    ensures garbage { (m : State) → handle.old.value ≡ Some m → BringsOf (λ n. garbage_of m n files.now) handle.old.names garbage.old garbage.new result }
+    ensures unissued { BringsOf (λ n. unissued_of n files.now) handle.old.names unissued.old unissued.new result }
     ensures kept { result.code ≢ 0 → (garbage.new ≡ garbage.old) × (unissued.new ≡ unissued.old) }
     ensures unchanged { handle.new.value ≡ handle.old.value }
     ensures names { handle.new.names ≡ handle.old.names }

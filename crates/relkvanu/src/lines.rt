@@ -1,15 +1,13 @@
-//! Lines of a script through C: what a line says, the call of a line, and the line of a call.
+//! Lines of a log through C: what a line says, the call of a line, and the line of a call.
 
-ghost use Rattle.std.specs.Prelude.{◌≡◌, ◌≢◌, ◌||◌, true, false, is_none, Ok, Some, IsOk, length};
-ghost use Rattle.ckpt_ids.specs.declared.call.Call.{Call};
+ghost use Rattle.std.specs.Prelude.{◌≡◌, ◌≢◌, true, Some, IsOk, length};
 ghost use Rattle.ckpt_model.specs.Coordinator.{State};
-ghost use Rattle.ckpt_lines.specs.declared.meaning.Meaning.TheVariants as meant;
-ghost use Rattle.ckpt_terms.specs.Machines.{is_free};
-ghost use Rattle.ckpt_lines.specs.Reading.{may_want_memory, reading};
+ghost use Rattle.ckpt_term_lines.specs.TermReading.{term_may_want_memory, term_reading};
+ghost use Rattle.ckpt_embed.specs.Asking.{reading_wants, said};
 ghost use Rattle.ckpt_embed.specs.Buffers.{StandsInFront};
 ghost use Rattle.ckpt_embed.specs.Calls.{HasNoNumbers, StaysAsItWas, StaysClosed};
-ghost use Rattle.ckpt_embed.specs.Fenced.{IsHandled, call_step, is_free_line};
-ghost use Rattle.ckpt_embed.specs.Lines.{BringsLineFiles, IsLineAnswered, LineWantsMemory, reading_wants, said, says_numbers, says_told};
+ghost use Rattle.ckpt_embed.specs.Fenced.{IsHandled};
+ghost use Rattle.ckpt_embed.specs.Lines.{BringsLineFiles, IsLineAnswered, LineWantsMemory, is_free_line, line_step, says_numbers, says_told};
 ghost use Rattle.ckpt_embed.specs.Opening.{OpeningWantsMemory, opening_of};
 ghost use Rattle.ckpt_embed.specs.Saying.{BringsCallList, BringsFields, GivesBack, first_of, meant_told, says_call, second_of};
 ghost use Rattle.ckpt_embed.specs.Told.{no_memory};
@@ -18,7 +16,7 @@ ghost use Rattle.ckpt_embed.specs.Writing.{OpeningReadsBack, ReadsBack, SaysBack
 use ckpt_embed::{Answer, CallFields, Handle, Settings};
 use std::alloc::Global;
 
-/// Makes the call of a script's line.
+/// Makes the call of a line.
 #[unsafe(no_mangle)]
 pub extern "C" fn relkvanu_line(
     alloc: Global,
@@ -27,11 +25,11 @@ pub extern "C" fn relkvanu_line(
     files: &mut [u64],
 ) -> Answer
     ensures closed { StaysClosed handle.old.value handle.new.value result }
-    ensures answered { (is_free_line (said line.now) || is_none handle.old.names) ≡ true → IsLineAnswered handle.old.value handle.new.value line.now (length files.old) result }
-    ensures handled { (call : Call) → said line.now ≡ Ok (meant.Call call) → is_free call ≡ false → IsHandled (λ k. call_step k call) handle.old.value handle.old.names handle.new.value handle.new.names result }
+    ensures answered { IsLineAnswered handle.old handle.new line.now (length files.old) result }
+    ensures handled { IsHandled (λ k. line_step k (length files.old) line.now) handle.old handle.new result }
     ensures front { (m : State) → handle.old.value ≡ Some m → BringsLineFiles m line.now files.old files.new result }
     ensures kept { result.code ≢ 0 → files.new ≡ files.old }
-    ensures memory { LineWantsMemory handle.old.value line.now result }
+    ensures memory { LineWantsMemory handle.old line.now result }
     ensures numbers { HasNoNumbers result }
     ensures unchanged { StaysAsItWas handle.old.value handle.new.value result }
     ensures names { is_free_line (said line.now) ≡ true → handle.new.names ≡ handle.old.names }
@@ -40,13 +38,13 @@ pub extern "C" fn relkvanu_line(
     ckpt_embed::line(alloc, handle, line, files)
 }
 
-/// Returns the kind of a script's line, and the numbers of a line that makes no call.
+/// Returns the kind of a line, and the numbers of a line that makes no call.
 #[unsafe(no_mangle)]
 pub extern "C" fn relkvanu_line_says(alloc: Global, line: &[u8], numbers: &mut [u64]) -> Answer
-    ensures told { result.code ≢ no_memory → result ≡ says_told (reading line.now) (length numbers.old) }
-    ensures front { result.code ≡ 0 → StandsInFront (says_numbers (reading line.now)) numbers.old numbers.new }
+    ensures told { result.code ≢ no_memory → result ≡ says_told (term_reading line.now) (length numbers.old) }
+    ensures front { result.code ≡ 0 → StandsInFront (says_numbers (term_reading line.now)) numbers.old numbers.new }
     ensures kept { result.code ≢ 0 → numbers.new ≡ numbers.old }
-    ensures memory { result.code ≡ no_memory → may_want_memory line.now ≡ true }
+    ensures memory { result.code ≡ no_memory → term_may_want_memory line.now ≡ true }
     ensures numbers { HasNoNumbers result }
 {
     ckpt_embed::line_says(alloc, line, numbers)

@@ -1,5 +1,6 @@
 /* What include/relkvanu.h says, made from it by embed/bindings: change the header, and run that. */
 #include "room.h"
+#include "structs.h"
 
 /* How many elements an answer has written to the start of the buffer. */
 static uint64_t written(relkvanu_answer told) {
@@ -22,16 +23,6 @@ static uint64_t written(relkvanu_answer told) {
     }
 }
 
-static void tell_relkvanu_answer(JNIEnv *env, jlongArray out, relkvanu_answer told) {
-    const jlong of_told[] = {(jlong)told.code, (jlong)told.what, (jlong)told.a, (jlong)told.b};
-    (*env)->SetLongArrayRegion(env, out, 0, 4, of_told);
-}
-
-static void tell_relkvanu_counts(JNIEnv *env, jlongArray out, relkvanu_counts told) {
-    const jlong of_told[] = {(jlong)told.code, (jlong)told.in_use, (jlong)told.waiting, (jlong)told.taken};
-    (*env)->SetLongArrayRegion(env, out, 0, 4, of_told);
-}
-
 JNIEXPORT jstring JNICALL Java_relkvanu_Native_version(JNIEnv *env, jclass of) {
     (void)of;
     return (*env)->NewStringUTF(env, relkvanu_version());
@@ -39,16 +30,14 @@ JNIEXPORT jstring JNICALL Java_relkvanu_Native_version(JNIEnv *env, jclass of) {
 
 JNIEXPORT void JNICALL Java_relkvanu_Native_open(JNIEnv *env, jclass of, jlong handle, jlongArray settings, jlongArray shape, jlong now, jlong first, jlong first_word, jlong second_word, jlongArray out) {
     (void)of;
-    jlong of_settings[7];
-    (*env)->GetLongArrayRegion(env, settings, 0, 7, of_settings);
-    relkvanu_settings in_settings = {(uint64_t)of_settings[0], (uint64_t)of_settings[1], (uint64_t)of_settings[2], (uint64_t)of_settings[3], (uint64_t)of_settings[4], (uint64_t)of_settings[5], (bool)of_settings[6]};
+    relkvanu_settings in_settings = settings_in(env, settings);
     struct room of_shape;
     relkvanu_answer told = {RELKVANU_NO_MEMORY, 0, 0, 0};
     if (longs_in(env, &of_shape, shape)) {
         told = relkvanu_open((relkvanu *)(uintptr_t)handle, &in_settings, of_shape.at, of_shape.len, (uint64_t)now, (uint64_t)first, (uint64_t)first_word, (uint64_t)second_word);
     }
     close_room(&of_shape);
-    tell_relkvanu_answer(env, out, told);
+    answer_out(env, out, told);
 }
 
 JNIEXPORT void JNICALL Java_relkvanu_Native_close(JNIEnv *env, jclass of, jlong handle) {
@@ -59,12 +48,12 @@ JNIEXPORT void JNICALL Java_relkvanu_Native_close(JNIEnv *env, jclass of, jlong 
 
 JNIEXPORT void JNICALL Java_relkvanu_Native_tick(JNIEnv *env, jclass of, jlong handle, jlong now, jlongArray out) {
     (void)of;
-    tell_relkvanu_answer(env, out, relkvanu_tick((relkvanu *)(uintptr_t)handle, (uint64_t)now));
+    answer_out(env, out, relkvanu_tick((relkvanu *)(uintptr_t)handle, (uint64_t)now));
 }
 
 JNIEXPORT void JNICALL Java_relkvanu_Native_savepoint(JNIEnv *env, jclass of, jlong handle, jlong now, jlongArray out) {
     (void)of;
-    tell_relkvanu_answer(env, out, relkvanu_savepoint((relkvanu *)(uintptr_t)handle, (uint64_t)now));
+    answer_out(env, out, relkvanu_savepoint((relkvanu *)(uintptr_t)handle, (uint64_t)now));
 }
 
 JNIEXPORT void JNICALL Java_relkvanu_Native_ack(JNIEnv *env, jclass of, jlong handle, jlong now, jlong id, jint vertex, jint index, jlongArray fresh, jlongArray reused, jlongArray out) {
@@ -77,17 +66,17 @@ JNIEXPORT void JNICALL Java_relkvanu_Native_ack(JNIEnv *env, jclass of, jlong ha
     }
     close_room(&of_fresh);
     close_room(&of_reused);
-    tell_relkvanu_answer(env, out, told);
+    answer_out(env, out, told);
 }
 
 JNIEXPORT void JNICALL Java_relkvanu_Native_decline(JNIEnv *env, jclass of, jlong handle, jlong now, jlong id, jint vertex, jint index, jlongArray out) {
     (void)of;
-    tell_relkvanu_answer(env, out, relkvanu_decline((relkvanu *)(uintptr_t)handle, (uint64_t)now, (uint64_t)id, (uint16_t)vertex, (uint16_t)index));
+    answer_out(env, out, relkvanu_decline((relkvanu *)(uintptr_t)handle, (uint64_t)now, (uint64_t)id, (uint16_t)vertex, (uint16_t)index));
 }
 
 JNIEXPORT void JNICALL Java_relkvanu_Native_dispose(JNIEnv *env, jclass of, jlong handle, jlong id, jlongArray out) {
     (void)of;
-    tell_relkvanu_answer(env, out, relkvanu_dispose((relkvanu *)(uintptr_t)handle, (uint64_t)id));
+    answer_out(env, out, relkvanu_dispose((relkvanu *)(uintptr_t)handle, (uint64_t)id));
 }
 
 JNIEXPORT void JNICALL Java_relkvanu_Native_restore(JNIEnv *env, jclass of, jlong handle, jlong now, jlong savepoint, jlongArray shape, jlongArray out) {
@@ -98,12 +87,12 @@ JNIEXPORT void JNICALL Java_relkvanu_Native_restore(JNIEnv *env, jclass of, jlon
         told = relkvanu_restore((relkvanu *)(uintptr_t)handle, (uint64_t)now, (uint64_t)savepoint, of_shape.at, of_shape.len);
     }
     close_room(&of_shape);
-    tell_relkvanu_answer(env, out, told);
+    answer_out(env, out, told);
 }
 
 JNIEXPORT void JNICALL Java_relkvanu_Native_cancel(JNIEnv *env, jclass of, jlong handle, jlong now, jlongArray out) {
     (void)of;
-    tell_relkvanu_answer(env, out, relkvanu_cancel((relkvanu *)(uintptr_t)handle, (uint64_t)now));
+    answer_out(env, out, relkvanu_cancel((relkvanu *)(uintptr_t)handle, (uint64_t)now));
 }
 
 JNIEXPORT void JNICALL Java_relkvanu_Native_take(JNIEnv *env, jclass of, jlong handle, jlongArray files, jlongArray out) {
@@ -115,17 +104,17 @@ JNIEXPORT void JNICALL Java_relkvanu_Native_take(JNIEnv *env, jclass of, jlong h
     }
     longs_out(env, &of_files, files, written(told));
     close_room(&of_files);
-    tell_relkvanu_answer(env, out, told);
+    answer_out(env, out, told);
 }
 
 JNIEXPORT void JNICALL Java_relkvanu_Native_deleted(JNIEnv *env, jclass of, jlong handle, jlong file, jlongArray out) {
     (void)of;
-    tell_relkvanu_answer(env, out, relkvanu_deleted((relkvanu *)(uintptr_t)handle, (uint64_t)file));
+    answer_out(env, out, relkvanu_deleted((relkvanu *)(uintptr_t)handle, (uint64_t)file));
 }
 
 JNIEXPORT void JNICALL Java_relkvanu_Native_undeleted(JNIEnv *env, jclass of, jlong handle, jlong file, jlongArray out) {
     (void)of;
-    tell_relkvanu_answer(env, out, relkvanu_undeleted((relkvanu *)(uintptr_t)handle, (uint64_t)file));
+    answer_out(env, out, relkvanu_undeleted((relkvanu *)(uintptr_t)handle, (uint64_t)file));
 }
 
 JNIEXPORT void JNICALL Java_relkvanu_Native_show(JNIEnv *env, jclass of, jlong handle, jlong id, jbyteArray json, jlongArray out) {
@@ -137,52 +126,52 @@ JNIEXPORT void JNICALL Java_relkvanu_Native_show(JNIEnv *env, jclass of, jlong h
     }
     bytes_out(env, &of_json, json, written(told));
     close_room(&of_json);
-    tell_relkvanu_answer(env, out, told);
+    answer_out(env, out, told);
 }
 
 JNIEXPORT void JNICALL Java_relkvanu_Native_count(JNIEnv *env, jclass of, jlong handle, jlong file, jlongArray out) {
     (void)of;
-    tell_relkvanu_answer(env, out, relkvanu_count((relkvanu *)(uintptr_t)handle, (uint64_t)file));
+    answer_out(env, out, relkvanu_count((relkvanu *)(uintptr_t)handle, (uint64_t)file));
 }
 
 JNIEXPORT void JNICALL Java_relkvanu_Native_mode(JNIEnv *env, jclass of, jlong handle, jlongArray out) {
     (void)of;
-    tell_relkvanu_answer(env, out, relkvanu_mode((relkvanu *)(uintptr_t)handle));
+    answer_out(env, out, relkvanu_mode((relkvanu *)(uintptr_t)handle));
 }
 
 JNIEXPORT void JNICALL Java_relkvanu_Native_moment(JNIEnv *env, jclass of, jlong handle, jlongArray out) {
     (void)of;
-    tell_relkvanu_answer(env, out, relkvanu_moment((relkvanu *)(uintptr_t)handle));
+    answer_out(env, out, relkvanu_moment((relkvanu *)(uintptr_t)handle));
 }
 
 JNIEXPORT void JNICALL Java_relkvanu_Native_due(JNIEnv *env, jclass of, jlong handle, jlongArray out) {
     (void)of;
-    tell_relkvanu_answer(env, out, relkvanu_due((relkvanu *)(uintptr_t)handle));
+    answer_out(env, out, relkvanu_due((relkvanu *)(uintptr_t)handle));
 }
 
 JNIEXPORT void JNICALL Java_relkvanu_Native_oldestExpiry(JNIEnv *env, jclass of, jlong handle, jlongArray out) {
     (void)of;
-    tell_relkvanu_answer(env, out, relkvanu_oldest_expiry((relkvanu *)(uintptr_t)handle));
+    answer_out(env, out, relkvanu_oldest_expiry((relkvanu *)(uintptr_t)handle));
 }
 
 JNIEXPORT void JNICALL Java_relkvanu_Native_choice(JNIEnv *env, jclass of, jlong handle, jlongArray out) {
     (void)of;
-    tell_relkvanu_answer(env, out, relkvanu_choice((relkvanu *)(uintptr_t)handle));
+    answer_out(env, out, relkvanu_choice((relkvanu *)(uintptr_t)handle));
 }
 
 JNIEXPORT void JNICALL Java_relkvanu_Native_live(JNIEnv *env, jclass of, jlong handle, jlong place, jlongArray out) {
     (void)of;
-    tell_relkvanu_answer(env, out, relkvanu_live((relkvanu *)(uintptr_t)handle, (size_t)place));
+    answer_out(env, out, relkvanu_live((relkvanu *)(uintptr_t)handle, (size_t)place));
 }
 
 JNIEXPORT void JNICALL Java_relkvanu_Native_missing(JNIEnv *env, jclass of, jlong handle, jlong id, jlongArray out) {
     (void)of;
-    tell_relkvanu_answer(env, out, relkvanu_missing((relkvanu *)(uintptr_t)handle, (uint64_t)id));
+    answer_out(env, out, relkvanu_missing((relkvanu *)(uintptr_t)handle, (uint64_t)id));
 }
 
 JNIEXPORT void JNICALL Java_relkvanu_Native_fileCounts(JNIEnv *env, jclass of, jlong handle, jlongArray out) {
     (void)of;
-    tell_relkvanu_counts(env, out, relkvanu_file_counts((relkvanu *)(uintptr_t)handle));
+    counts_out(env, out, relkvanu_file_counts((relkvanu *)(uintptr_t)handle));
 }
 
 JNIEXPORT jlong JNICALL Java_relkvanu_Native_refusalText(JNIEnv *env, jclass of, jint what, jbyteArray text) {
@@ -199,9 +188,7 @@ JNIEXPORT jlong JNICALL Java_relkvanu_Native_refusalText(JNIEnv *env, jclass of,
 
 JNIEXPORT jlong JNICALL Java_relkvanu_Native_answerText(JNIEnv *env, jclass of, jlongArray answer, jbyteArray text) {
     (void)of;
-    jlong of_answer[4];
-    (*env)->GetLongArrayRegion(env, answer, 0, 4, of_answer);
-    relkvanu_answer in_answer = {(uint32_t)of_answer[0], (uint32_t)of_answer[1], (uint64_t)of_answer[2], (uint64_t)of_answer[3]};
+    relkvanu_answer in_answer = answer_in(env, answer);
     struct room of_text;
     size_t told = 0;
     if (bytes_room(env, &of_text, text)) {
@@ -223,7 +210,7 @@ JNIEXPORT void JNICALL Java_relkvanu_Native_line(JNIEnv *env, jclass of, jlong h
     longs_out(env, &of_files, files, written(told));
     close_room(&of_line);
     close_room(&of_files);
-    tell_relkvanu_answer(env, out, told);
+    answer_out(env, out, told);
 }
 
 JNIEXPORT void JNICALL Java_relkvanu_Native_lineSays(JNIEnv *env, jclass of, jbyteArray line, jlongArray numbers, jlongArray out) {
@@ -237,15 +224,13 @@ JNIEXPORT void JNICALL Java_relkvanu_Native_lineSays(JNIEnv *env, jclass of, jby
     longs_out(env, &of_numbers, numbers, written(told));
     close_room(&of_line);
     close_room(&of_numbers);
-    tell_relkvanu_answer(env, out, told);
+    answer_out(env, out, told);
 }
 
 JNIEXPORT void JNICALL Java_relkvanu_Native_lineCall(JNIEnv *env, jclass of, jbyteArray line, jlongArray call, jlongArray first, jlongArray second, jlongArray out) {
     (void)of;
     struct room of_line;
-    jlong of_call[5];
-    (*env)->GetLongArrayRegion(env, call, 0, 5, of_call);
-    relkvanu_call in_call = {(uint32_t)of_call[0], (uint16_t)of_call[1], (uint16_t)of_call[2], (uint64_t)of_call[3], (uint64_t)of_call[4]};
+    relkvanu_call in_call = call_in(env, call);
     struct room of_first;
     struct room of_second;
     relkvanu_answer told = {RELKVANU_NO_MEMORY, 0, 0, 0};
@@ -254,19 +239,16 @@ JNIEXPORT void JNICALL Java_relkvanu_Native_lineCall(JNIEnv *env, jclass of, jby
     }
     longs_out(env, &of_first, first, told.code == RELKVANU_DONE && told.what == RELKVANU_LINE_CALL ? told.a : 0);
     longs_out(env, &of_second, second, told.code == RELKVANU_DONE && told.what == RELKVANU_LINE_CALL ? told.b : 0);
-    const jlong to_call[] = {(jlong)in_call.kind, (jlong)in_call.vertex, (jlong)in_call.index, (jlong)in_call.now, (jlong)in_call.number};
-    (*env)->SetLongArrayRegion(env, call, 0, 5, to_call);
+    call_out(env, call, in_call);
     close_room(&of_line);
     close_room(&of_first);
     close_room(&of_second);
-    tell_relkvanu_answer(env, out, told);
+    answer_out(env, out, told);
 }
 
 JNIEXPORT void JNICALL Java_relkvanu_Native_callLine(JNIEnv *env, jclass of, jlongArray call, jlongArray first, jlongArray second, jbyteArray line, jlongArray out) {
     (void)of;
-    jlong of_call[5];
-    (*env)->GetLongArrayRegion(env, call, 0, 5, of_call);
-    relkvanu_call in_call = {(uint32_t)of_call[0], (uint16_t)of_call[1], (uint16_t)of_call[2], (uint64_t)of_call[3], (uint64_t)of_call[4]};
+    relkvanu_call in_call = call_in(env, call);
     struct room of_first;
     struct room of_second;
     struct room of_line;
@@ -278,14 +260,12 @@ JNIEXPORT void JNICALL Java_relkvanu_Native_callLine(JNIEnv *env, jclass of, jlo
     close_room(&of_first);
     close_room(&of_second);
     close_room(&of_line);
-    tell_relkvanu_answer(env, out, told);
+    answer_out(env, out, told);
 }
 
 JNIEXPORT void JNICALL Java_relkvanu_Native_openingLines(JNIEnv *env, jclass of, jlongArray settings, jlongArray shape, jlong now, jbyteArray lines, jlongArray out) {
     (void)of;
-    jlong of_settings[7];
-    (*env)->GetLongArrayRegion(env, settings, 0, 7, of_settings);
-    relkvanu_settings in_settings = {(uint64_t)of_settings[0], (uint64_t)of_settings[1], (uint64_t)of_settings[2], (uint64_t)of_settings[3], (uint64_t)of_settings[4], (uint64_t)of_settings[5], (bool)of_settings[6]};
+    relkvanu_settings in_settings = settings_in(env, settings);
     struct room of_shape;
     struct room of_lines;
     relkvanu_answer told = {RELKVANU_NO_MEMORY, 0, 0, 0};
@@ -295,7 +275,7 @@ JNIEXPORT void JNICALL Java_relkvanu_Native_openingLines(JNIEnv *env, jclass of,
     bytes_out(env, &of_lines, lines, written(told));
     close_room(&of_shape);
     close_room(&of_lines);
-    tell_relkvanu_answer(env, out, told);
+    answer_out(env, out, told);
 }
 
 JNIEXPORT void JNICALL Java_relkvanu_Native_save(JNIEnv *env, jclass of, jlong handle, jbyteArray image, jlongArray out) {
@@ -307,7 +287,7 @@ JNIEXPORT void JNICALL Java_relkvanu_Native_save(JNIEnv *env, jclass of, jlong h
     }
     bytes_out(env, &of_image, image, written(told));
     close_room(&of_image);
-    tell_relkvanu_answer(env, out, told);
+    answer_out(env, out, told);
 }
 
 JNIEXPORT void JNICALL Java_relkvanu_Native_openSaved(JNIEnv *env, jclass of, jlong handle, jbyteArray image, jlong first_word, jlong second_word, jlongArray out) {
@@ -318,17 +298,17 @@ JNIEXPORT void JNICALL Java_relkvanu_Native_openSaved(JNIEnv *env, jclass of, jl
         told = relkvanu_open_saved((relkvanu *)(uintptr_t)handle, of_image.at, of_image.len, (uint64_t)first_word, (uint64_t)second_word);
     }
     close_room(&of_image);
-    tell_relkvanu_answer(env, out, told);
+    answer_out(env, out, told);
 }
 
 JNIEXPORT void JNICALL Java_relkvanu_Native_liveFrom(JNIEnv *env, jclass of, jlong handle, jlong id, jlongArray out) {
     (void)of;
-    tell_relkvanu_answer(env, out, relkvanu_live_from((relkvanu *)(uintptr_t)handle, (uint64_t)id));
+    answer_out(env, out, relkvanu_live_from((relkvanu *)(uintptr_t)handle, (uint64_t)id));
 }
 
 JNIEXPORT void JNICALL Java_relkvanu_Native_standing(JNIEnv *env, jclass of, jlong handle, jlong id, jlongArray out) {
     (void)of;
-    tell_relkvanu_answer(env, out, relkvanu_standing((relkvanu *)(uintptr_t)handle, (uint64_t)id));
+    answer_out(env, out, relkvanu_standing((relkvanu *)(uintptr_t)handle, (uint64_t)id));
 }
 
 JNIEXPORT void JNICALL Java_relkvanu_Native_filesOf(JNIEnv *env, jclass of, jlong handle, jlong id, jint vertex, jint index, jlongArray files, jlongArray out) {
@@ -340,7 +320,7 @@ JNIEXPORT void JNICALL Java_relkvanu_Native_filesOf(JNIEnv *env, jclass of, jlon
     }
     longs_out(env, &of_files, files, written(told));
     close_room(&of_files);
-    tell_relkvanu_answer(env, out, told);
+    answer_out(env, out, told);
 }
 
 JNIEXPORT void JNICALL Java_relkvanu_Native_pinsOf(JNIEnv *env, jclass of, jlong handle, jlong id, jlongArray files, jlongArray out) {
@@ -352,12 +332,12 @@ JNIEXPORT void JNICALL Java_relkvanu_Native_pinsOf(JNIEnv *env, jclass of, jlong
     }
     longs_out(env, &of_files, files, written(told));
     close_room(&of_files);
-    tell_relkvanu_answer(env, out, told);
+    answer_out(env, out, told);
 }
 
 JNIEXPORT void JNICALL Java_relkvanu_Native_waitingFile(JNIEnv *env, jclass of, jlong handle, jlong place, jlongArray out) {
     (void)of;
-    tell_relkvanu_answer(env, out, relkvanu_waiting_file((relkvanu *)(uintptr_t)handle, (size_t)place));
+    answer_out(env, out, relkvanu_waiting_file((relkvanu *)(uintptr_t)handle, (size_t)place));
 }
 
 JNIEXPORT void JNICALL Java_relkvanu_Native_takenFiles(JNIEnv *env, jclass of, jlong handle, jlongArray files, jlongArray out) {
@@ -369,36 +349,34 @@ JNIEXPORT void JNICALL Java_relkvanu_Native_takenFiles(JNIEnv *env, jclass of, j
     }
     longs_out(env, &of_files, files, written(told));
     close_room(&of_files);
-    tell_relkvanu_answer(env, out, told);
+    answer_out(env, out, told);
 }
 
 JNIEXPORT void JNICALL Java_relkvanu_Native_openFenced(JNIEnv *env, jclass of, jlong handle, jlongArray settings, jlongArray shape, jlong now, jlong first, jlong first_name, jlong first_word, jlong second_word, jlongArray out) {
     (void)of;
-    jlong of_settings[7];
-    (*env)->GetLongArrayRegion(env, settings, 0, 7, of_settings);
-    relkvanu_settings in_settings = {(uint64_t)of_settings[0], (uint64_t)of_settings[1], (uint64_t)of_settings[2], (uint64_t)of_settings[3], (uint64_t)of_settings[4], (uint64_t)of_settings[5], (bool)of_settings[6]};
+    relkvanu_settings in_settings = settings_in(env, settings);
     struct room of_shape;
     relkvanu_answer told = {RELKVANU_NO_MEMORY, 0, 0, 0};
     if (longs_in(env, &of_shape, shape)) {
         told = relkvanu_open_fenced((relkvanu *)(uintptr_t)handle, &in_settings, of_shape.at, of_shape.len, (uint64_t)now, (uint64_t)first, (uint64_t)first_name, (uint64_t)first_word, (uint64_t)second_word);
     }
     close_room(&of_shape);
-    tell_relkvanu_answer(env, out, told);
+    answer_out(env, out, told);
 }
 
 JNIEXPORT void JNICALL Java_relkvanu_Native_fence(JNIEnv *env, jclass of, jlong handle, jlong first_name, jlongArray out) {
     (void)of;
-    tell_relkvanu_answer(env, out, relkvanu_fence((relkvanu *)(uintptr_t)handle, (uint64_t)first_name));
+    answer_out(env, out, relkvanu_fence((relkvanu *)(uintptr_t)handle, (uint64_t)first_name));
 }
 
 JNIEXPORT void JNICALL Java_relkvanu_Native_term(JNIEnv *env, jclass of, jlong handle, jlongArray out) {
     (void)of;
-    tell_relkvanu_answer(env, out, relkvanu_term((relkvanu *)(uintptr_t)handle));
+    answer_out(env, out, relkvanu_term((relkvanu *)(uintptr_t)handle));
 }
 
 JNIEXPORT void JNICALL Java_relkvanu_Native_reserve(JNIEnv *env, jclass of, jlong handle, jlong term, jlong count, jlongArray out) {
     (void)of;
-    tell_relkvanu_answer(env, out, relkvanu_reserve((relkvanu *)(uintptr_t)handle, (uint64_t)term, (uint64_t)count));
+    answer_out(env, out, relkvanu_reserve((relkvanu *)(uintptr_t)handle, (uint64_t)term, (uint64_t)count));
 }
 
 JNIEXPORT void JNICALL Java_relkvanu_Native_forfeit(JNIEnv *env, jclass of, jlong handle, jlong term, jlongArray names, jlongArray out) {
@@ -409,7 +387,7 @@ JNIEXPORT void JNICALL Java_relkvanu_Native_forfeit(JNIEnv *env, jclass of, jlon
         told = relkvanu_forfeit((relkvanu *)(uintptr_t)handle, (uint64_t)term, of_names.at, of_names.len);
     }
     close_room(&of_names);
-    tell_relkvanu_answer(env, out, told);
+    answer_out(env, out, told);
 }
 
 JNIEXPORT void JNICALL Java_relkvanu_Native_ackIn(JNIEnv *env, jclass of, jlong handle, jlong term, jlong now, jlong id, jint vertex, jint index, jlongArray fresh, jlongArray reused, jlongArray out) {
@@ -422,12 +400,12 @@ JNIEXPORT void JNICALL Java_relkvanu_Native_ackIn(JNIEnv *env, jclass of, jlong 
     }
     close_room(&of_fresh);
     close_room(&of_reused);
-    tell_relkvanu_answer(env, out, told);
+    answer_out(env, out, told);
 }
 
 JNIEXPORT void JNICALL Java_relkvanu_Native_declineIn(JNIEnv *env, jclass of, jlong handle, jlong term, jlong now, jlong id, jint vertex, jint index, jlongArray out) {
     (void)of;
-    tell_relkvanu_answer(env, out, relkvanu_decline_in((relkvanu *)(uintptr_t)handle, (uint64_t)term, (uint64_t)now, (uint64_t)id, (uint16_t)vertex, (uint16_t)index));
+    answer_out(env, out, relkvanu_decline_in((relkvanu *)(uintptr_t)handle, (uint64_t)term, (uint64_t)now, (uint64_t)id, (uint16_t)vertex, (uint16_t)index));
 }
 
 JNIEXPORT void JNICALL Java_relkvanu_Native_garbage(JNIEnv *env, jclass of, jlong handle, jlongArray files, jlongArray garbage, jlongArray unissued, jlongArray out) {
@@ -444,7 +422,7 @@ JNIEXPORT void JNICALL Java_relkvanu_Native_garbage(JNIEnv *env, jclass of, jlon
     close_room(&of_files);
     close_room(&of_garbage);
     close_room(&of_unissued);
-    tell_relkvanu_answer(env, out, told);
+    answer_out(env, out, told);
 }
 
 JNIEXPORT jlong JNICALL Java_relkvanu_Native_fencedText(JNIEnv *env, jclass of, jint what, jbyteArray text) {

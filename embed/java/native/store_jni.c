@@ -1,14 +1,18 @@
 /* The functions of include/relkvanu_store.h over JNI, for the class StoreNative: calls and their lists as arrays of numbers. Arrays are copied, so
  * nothing is pinned while a commit lasts. The coordinator itself is that of librelkvanu_jni.so. */
-#include "../../../include/relkvanu_store.h"
+#define _POSIX_C_SOURCE 200809L /* strerror_r */
 
+#include "../../../include/relkvanu_store.h"
+#include "structs.h"
+
+#include <errno.h>
 #include <jni.h>
 #include <stdlib.h>
 #include <string.h>
 
-/* Numbers of a call: kind, vertex, index, moment, number, and the lengths of its two lists and of its buffer. Of an outcome: the answer, the
- * choice's what and a, and the place. */
-enum { GIVEN = 8, TOLD = 7, OPTIONS = 4, SETTINGS = 7, REPORT = 12 };
+/* Numbers of a call: those of relkvanu_call, and the lengths of its two lists and of its buffer. Of an outcome: the answer, the choice's what
+ * and a, the place, and the term. */
+enum { GIVEN = CALL_NUMBERS + 3, TOLD = ANSWER_NUMBERS + 4, OPTIONS = 4, REPORT = 14 };
 
 static relkvanu_store *store_at(jlong at) {
     return (relkvanu_store *)(uintptr_t)at;
@@ -24,7 +28,7 @@ static uint64_t *longs_of(JNIEnv *env, jlongArray array, size_t *len) {
     return copy;
 }
 
-/* A copy of bytes as a text; NULL without memory, or if there is no array. */
+/* A copy of bytes, with a zero at its end; NULL without memory, or if there is no array. */
 static char *text_of(JNIEnv *env, jbyteArray array) {
     size_t len = array == NULL ? 0 : (size_t)(*env)->GetArrayLength(env, array);
     char *copy = array == NULL ? NULL : calloc(len + 1, 1);
@@ -40,20 +44,19 @@ static void tell(JNIEnv *env, jlongArray to, const jlong *numbers, size_t len) {
 
 static void tell_report(JNIEnv *env, jlongArray to, const relkvanu_store_report *it) {
     jlong numbers[REPORT + RELKVANU_STORE_MOST_STEPS] = {it->is_recovered, it->settings_differ, (jlong)it->epoch, (jlong)it->job[0], (jlong)it->job[1],
-        (jlong)it->image_place, (jlong)it->replayed, (jlong)it->taken, (jlong)it->moment, it->mode.what, it->choice.what, (jlong)it->choice.a};
+        (jlong)it->image_place, (jlong)it->replayed, (jlong)it->taken, (jlong)it->moment, it->mode.what, it->choice.what, (jlong)it->choice.a, (jlong)it->term, (jlong)it->next_name};
     for (size_t place = 0; place < it->steps_len; place++) {
         numbers[REPORT + place] = it->steps[place];
     }
     tell(env, to, numbers, REPORT + it->steps_len);
 }
 
-static int opened(JNIEnv *env, const char *path, const char *storage, const jlong *numbers, const jlong *of, const uint64_t *shape, size_t shape_len, jlongArray handle,
-    jlongArray report, jbyteArray message) {
+static int opened(JNIEnv *env, const char *path, const char *storage, const jlong *numbers, relkvanu_settings settings, const uint64_t *shape, size_t shape_len,
+    jlongArray handle, jlongArray report, jbyteArray message) {
     relkvanu_store *store;
     relkvanu_store_report found;
     relkvanu_store_options options = {.flags = (uint32_t)numbers[0], .patience = (uint32_t)numbers[1], .image_calls = (uint64_t)numbers[2], .most_ahead = (uint64_t)numbers[3],
-        .storage = storage, .settings = {(uint64_t)of[0], (uint64_t)of[1], (uint64_t)of[2], (uint64_t)of[3], (uint64_t)of[4], (uint64_t)of[5], of[6] != 0},
-        .shape = shape, .shape_len = shape_len};
+        .storage = storage, .settings = settings, .shape = shape, .shape_len = shape_len};
     int status = relkvanu_store_open(&store, path, &options, &found);
     tell(env, handle, &(jlong){(jlong)(uintptr_t)store}, 1);
     (*env)->SetByteArrayRegion(env, message, 0, sizeof found.message, (const jbyte *)found.message);
@@ -66,15 +69,14 @@ static int opened(JNIEnv *env, const char *path, const char *storage, const jlon
 JNIEXPORT jint JNICALL Java_relkvanu_StoreNative_open(JNIEnv *env, jclass of, jbyteArray path, jbyteArray storage, jlongArray options, jlongArray settings, jlongArray shape,
     jlongArray handle, jlongArray report, jbyteArray message) {
     (void)of;
-    jlong numbers[OPTIONS], setting[SETTINGS];
+    jlong numbers[OPTIONS];
     size_t shape_len;
     (*env)->GetLongArrayRegion(env, options, 0, OPTIONS, numbers);
-    (*env)->GetLongArrayRegion(env, settings, 0, SETTINGS, setting);
     uint64_t *shape_copy = longs_of(env, shape, &shape_len);
     char *path_copy = text_of(env, path), *storage_copy = text_of(env, storage);
     int status = RELKVANU_STORE_NO_MEMORY;
     if (shape_copy != NULL && path_copy != NULL && (storage == NULL || storage_copy != NULL)) {
-        status = opened(env, path_copy, storage_copy, numbers, setting, shape_copy, shape_len, handle, report, message);
+        status = opened(env, path_copy, storage_copy, numbers, settings_in(env, settings), shape_copy, shape_len, handle, report, message);
     }
     free(shape_copy);
     free(path_copy);
@@ -89,21 +91,25 @@ JNIEXPORT void JNICALL Java_relkvanu_StoreNative_close(JNIEnv *env, jclass of, j
 }
 
 /* The numbers of calls become calls, with lists and buffers in the words behind them. */
-static void fill(relkvanu_store_call *calls, size_t len, const uint64_t *given, uint64_t *words) {
+static void fill(relkvanu_store_call *calls, size_t len, const jlong *given, uint64_t *words) {
     for (size_t place = 0; place < len; place++, given += GIVEN) {
-        calls[place] = (relkvanu_store_call){.call = {(uint32_t)given[0], (uint16_t)given[1], (uint16_t)given[2], given[3], given[4]}, .first = words,
-            .first_len = given[5], .second = words + given[5], .second_len = given[6], .files = words + given[5] + given[6], .files_len = given[7]};
-        words += given[5] + given[6] + given[7];
+        size_t first = (size_t)given[CALL_NUMBERS], second = (size_t)given[CALL_NUMBERS + 1], files = (size_t)given[CALL_NUMBERS + 2];
+        calls[place] = (relkvanu_store_call){.call = call_of(given), .first = words, .first_len = first, .second = words + first, .second_len = second,
+            .files = words + first + second, .files_len = files};
+        words += first + second + files;
     }
 }
 
-static void tell_call(uint64_t *told, const relkvanu_store_call *it) {
-    const uint64_t numbers[TOLD] = {it->answer.code, it->answer.what, it->answer.a, it->answer.b, it->choice.what, it->choice.a, it->place};
-    memcpy(told, numbers, sizeof numbers);
+static void tell_call(jlong *told, const relkvanu_store_call *it) {
+    answer_to(told, it->answer);
+    told[ANSWER_NUMBERS] = it->choice.what;
+    told[ANSWER_NUMBERS + 1] = (jlong)it->choice.a;
+    told[ANSWER_NUMBERS + 2] = (jlong)it->place;
+    told[ANSWER_NUMBERS + 3] = (jlong)it->term;
 }
 
 /* Makes calls, and writes their outcomes over their numbers. */
-static int made(relkvanu_store *store, uint64_t *given, size_t len, uint64_t *words) {
+static int made(relkvanu_store *store, jlong *given, size_t len, uint64_t *words) {
     relkvanu_store_call *calls = malloc((len + 1) * sizeof *calls);
     if (calls == NULL) {
         return RELKVANU_STORE_NO_MEMORY;
@@ -123,7 +129,7 @@ JNIEXPORT jint JNICALL Java_relkvanu_StoreNative_calls(JNIEnv *env, jclass of, j
     uint64_t *given_copy = longs_of(env, given, &given_len), *words_copy = longs_of(env, words, &words_len);
     int status = RELKVANU_STORE_NO_MEMORY;
     if (given_copy != NULL && words_copy != NULL) {
-        status = made(store_at(store), given_copy, given_len / GIVEN, words_copy);
+        status = made(store_at(store), (jlong *)given_copy, given_len / GIVEN, words_copy);
     }
     if (status == RELKVANU_STORE_OK) {
         tell(env, given, (const jlong *)given_copy, given_len);
@@ -134,13 +140,52 @@ JNIEXPORT jint JNICALL Java_relkvanu_StoreNative_calls(JNIEnv *env, jclass of, j
     return status;
 }
 
+JNIEXPORT jint JNICALL Java_relkvanu_StoreNative_forfeit(JNIEnv *env, jclass of, jlong store, jlong term, jlongArray names, jlongArray told) {
+    (void)of;
+    size_t len;
+    relkvanu_answer answer = {0};
+    uint64_t *copy = longs_of(env, names, &len);
+    int status = copy == NULL ? RELKVANU_STORE_NO_MEMORY : relkvanu_store_forfeit(store_at(store), (uint64_t)term, copy, len, &answer);
+    answer_out(env, told, answer);
+    free(copy);
+    return status;
+}
+
+JNIEXPORT jint JNICALL Java_relkvanu_StoreNative_term(JNIEnv *env, jclass of, jlong store, jlongArray told) {
+    (void)of;
+    relkvanu_answer answer = {0};
+    int status = relkvanu_store_term(store_at(store), &answer);
+    answer_out(env, told, answer);
+    return status;
+}
+
+JNIEXPORT jint JNICALL Java_relkvanu_StoreNative_garbage(JNIEnv *env, jclass of, jlong store, jlongArray files, jlongArray garbage, jlongArray unissued, jlongArray told) {
+    (void)of;
+    size_t len;
+    relkvanu_answer answer = {0};
+    uint64_t *copy = longs_of(env, files, &len), *first = malloc((len + 1) * sizeof *first), *second = malloc((len + 1) * sizeof *second);
+    int status = RELKVANU_STORE_NO_MEMORY;
+    if (copy != NULL && first != NULL && second != NULL) {
+        status = relkvanu_store_garbage(store_at(store), copy, len, first, second, &answer);
+    }
+    if (status == RELKVANU_STORE_OK && answer.code == RELKVANU_DONE) {
+        tell(env, garbage, (const jlong *)first, (size_t)answer.a);
+        tell(env, unissued, (const jlong *)second, (size_t)answer.b);
+    }
+    answer_out(env, told, answer);
+    free(copy);
+    free(first);
+    free(second);
+    return status;
+}
+
 JNIEXPORT jint JNICALL Java_relkvanu_StoreNative_awaitTick(JNIEnv *env, jclass of, jlong store, jlong longest, jlongArray told) {
     (void)of;
     relkvanu_store_call tick;
-    uint64_t numbers[TOLD];
+    jlong numbers[TOLD];
     int status = relkvanu_store_await_tick(store_at(store), (uint64_t)longest, &tick);
     tell_call(numbers, &tick);
-    tell(env, told, (const jlong *)numbers, TOLD);
+    tell(env, told, numbers, TOLD);
     return status;
 }
 
@@ -185,6 +230,32 @@ JNIEXPORT jint JNICALL Java_relkvanu_StoreNative_unknown(JNIEnv *env, jclass of,
     return status;
 }
 
+JNIEXPORT jint JNICALL Java_relkvanu_StoreNative_put(JNIEnv *env, jclass of, jlong store, jlong file, jbyteArray contents, jbyteArray why) {
+    (void)of;
+    char *copy = text_of(env, contents), text[RELKVANU_STORE_MESSAGE] = "";
+    int status = copy == NULL ? RELKVANU_STORE_NO_MEMORY : relkvanu_store_put(store_at(store), (uint64_t)file, copy, (size_t)(*env)->GetArrayLength(env, contents));
+    if (status == RELKVANU_STORE_NOT_PUT) {
+        strerror_r(errno, text, sizeof text);
+    }
+    (*env)->SetByteArrayRegion(env, why, 0, sizeof text, (const jbyte *)text);
+    free(copy);
+    return status;
+}
+
+JNIEXPORT jint JNICALL Java_relkvanu_StoreNative_sweep(JNIEnv *env, jclass of, jlong store, jlongArray told) {
+    (void)of;
+    size_t left = 0;
+    int status = relkvanu_store_sweep(store_at(store), &left);
+    tell(env, told, &(jlong){(jlong)left}, 1);
+    return status;
+}
+
+JNIEXPORT jint JNICALL Java_relkvanu_StoreNative_discardFiles(JNIEnv *env, jclass of, jlong store) {
+    (void)env;
+    (void)of;
+    return relkvanu_store_discard(store_at(store), 0, relkvanu_store_delete_files, store_at(store));
+}
+
 JNIEXPORT jint JNICALL Java_relkvanu_StoreNative_folder(JNIEnv *env, jclass of, jlong store) {
     (void)env;
     (void)of;
@@ -202,7 +273,7 @@ JNIEXPORT void JNICALL Java_relkvanu_StoreNative_count(JNIEnv *env, jclass of, j
     relkvanu_store_counts it;
     relkvanu_store_count(store_at(store), &it);
     const jlong numbers[] = {(jlong)it.commits, (jlong)it.calls, (jlong)it.largest, (jlong)it.images, (jlong)it.failed_images, (jlong)it.checkpoints,
-        (jlong)it.failed_checkpoints, (jlong)it.retries};
+        (jlong)it.failed_checkpoints, (jlong)it.retries, (jlong)it.swept, (jlong)it.unissued};
     tell(env, told, numbers, sizeof numbers / sizeof *numbers);
 }
 

@@ -12,14 +12,15 @@ from relkvanu.discarder import Discarded, Discarder, Outbox, Patience
 from relkvanu.reads import Chosen, FileCounts, Garbage, Kind, Live, Mode, RunningTerm, Standing
 from relkvanu.replies import (
     AckCompleted, AckLate, AckPending, Cancelled, Counted, DeclineAborted, DeclineFailed, DeclineLate, Deleted,
-    Disposed, Failed, HeldAtOnce, HeldInterval, HeldPause, Reply, RestoredCheckpoint, RestoredFresh,
+    Disposed, Failed, Forfeited, HeldAtOnce, HeldInterval, HeldPause, Named, Reply, Reserved, RestoredCheckpoint, RestoredFresh,
     RestoredSavepoint, SavepointTriggered, Shown, Taken, Triggered, Undeleted,
 )
 
 __all__ = [
     "AckCompleted", "AckLate", "AckPending", "BadArgument", "BadLine", "Cancelled", "Chosen", "Closed", "Coordinator", "Counted",
-    "DeclineAborted", "DeclineFailed", "DeclineLate", "Deleted", "Discarded", "Discarder", "Disposed", "Error", "Failed", "Fenced", "FileCounts",
-    "Garbage", "HeldAtOnce", "HeldInterval", "HeldPause", "Kind", "Live", "Mode", "OutOfMemory", "OutOfRange", "Outbox", "Patience", "Refused", "Reply", "RestoredCheckpoint",
-    "RestoredFresh", "RestoredSavepoint", "RunningTerm", "SavepointTriggered", "Settings", "Shown", "Standing", "Taken", "TooShort", "Triggered", "Undeleted", "Unknown",
+    "DeclineAborted", "DeclineFailed", "DeclineLate", "Deleted", "Discarded", "Discarder", "Disposed", "Error", "Failed", "Fenced",
+    "FileCounts", "Forfeited", "Garbage", "HeldAtOnce", "HeldInterval", "HeldPause", "Kind", "Live", "Mode", "Named", "OutOfMemory",
+    "OutOfRange", "Outbox", "Patience", "Refused", "Reply", "Reserved", "RestoredCheckpoint", "RestoredFresh", "RestoredSavepoint",
+    "RunningTerm", "SavepointTriggered", "Settings", "Shown", "Standing", "Taken", "TooShort", "Triggered", "Undeleted", "Unknown",
     "calls", "lines", "version",
 ]

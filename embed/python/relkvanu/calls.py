@@ -1,4 +1,4 @@
-"""Calls as values: what a line of a log says (docs/SCRIPT.md), and the line of each."""
+"""Calls as values: what a line of a log says (docs/SCRIPT.md, docs/LOGS.md), and the line of each. The term is that of the caller, 0 for none."""
 import ctypes
 import enum
 from dataclasses import dataclass
@@ -7,8 +7,8 @@ from typing import Callable, Dict, Optional, Tuple, Union
 from relkvanu import header
 from relkvanu.coordinator import U64, Unknown, _done, _shared, _text
 from relkvanu.lines import (
-    _line, ack_line, cancel_line, decline_line, deleted_line, dispose_line, restore_line, savepoint_line, take_line, tick_line,
-    undeleted_line,
+    _line, ack_line, cancel_line, decline_line, deleted_line, dispose_line, fence_line, forfeit_line, reserve_line, restore_line,
+    savepoint_line, take_line, tick_line, undeleted_line,
 )
 
 
@@ -28,23 +28,28 @@ class CallKind(enum.IntEnum):
     UNDELETED = header.CALL_UNDELETED
     SHOW = header.CALL_SHOW
     COUNT = header.CALL_COUNT
+    FENCE = header.CALL_FENCE
+    RESERVE = header.CALL_RESERVE
+    FORFEIT = header.CALL_FORFEIT
 # embed/bindings: end
 
 
 @dataclass(frozen=True)
 class Tick:
     now: int
+    term: int = 0
 
     def line(self) -> str:
-        return tick_line(self.now)
+        return tick_line(self.now, self.term)
 
 
 @dataclass(frozen=True)
 class Savepoint:
     now: int
+    term: int = 0
 
     def line(self) -> str:
-        return savepoint_line(self.now)
+        return savepoint_line(self.now, self.term)
 
 
 @dataclass(frozen=True)
@@ -57,9 +62,10 @@ class Ack:
     index: int
     fresh: Tuple[int, ...]
     reused: Tuple[int, ...] = ()
+    term: int = 0
 
     def line(self) -> str:
-        return ack_line(self.now, self.id, self.vertex, self.index, self.fresh, self.reused)
+        return ack_line(self.now, self.id, self.vertex, self.index, self.fresh, self.reused, self.term)
 
 
 @dataclass(frozen=True)
@@ -68,17 +74,19 @@ class Decline:
     id: int
     vertex: int
     index: int
+    term: int = 0
 
     def line(self) -> str:
-        return decline_line(self.now, self.id, self.vertex, self.index)
+        return decline_line(self.now, self.id, self.vertex, self.index, self.term)
 
 
 @dataclass(frozen=True)
 class Dispose:
     id: int
+    term: int = 0
 
     def line(self) -> str:
-        return dispose_line(self.id)
+        return dispose_line(self.id, self.term)
 
 
 @dataclass(frozen=True)
@@ -88,63 +96,98 @@ class Restore:
     now: int
     savepoint: Optional[int] = None
     shape: Optional[Tuple[int, ...]] = None
+    term: int = 0
 
     def line(self) -> str:
-        return restore_line(self.now, self.savepoint, self.shape)
+        return restore_line(self.now, self.savepoint, self.shape, self.term)
 
 
 @dataclass(frozen=True)
 class Cancel:
     now: int
+    term: int = 0
 
     def line(self) -> str:
-        return cancel_line(self.now)
+        return cancel_line(self.now, self.term)
 
 
 @dataclass(frozen=True)
 class Take:
     most: int
+    term: int = 0
 
     def line(self) -> str:
-        return take_line(self.most)
+        return take_line(self.most, self.term)
 
 
 @dataclass(frozen=True)
 class Deleted:
     file: int
+    term: int = 0
 
     def line(self) -> str:
-        return deleted_line(self.file)
+        return deleted_line(self.file, self.term)
 
 
 @dataclass(frozen=True)
 class Undeleted:
     file: int
+    term: int = 0
 
     def line(self) -> str:
-        return undeleted_line(self.file)
+        return undeleted_line(self.file, self.term)
 
 
 @dataclass(frozen=True)
 class Show:
     id: int
+    term: int = 0
 
     def line(self) -> str:
-        return _line(CallKind.SHOW, number=self.id)
+        return _line(CallKind.SHOW, number=self.id, term=self.term)
 
 
 @dataclass(frozen=True)
 class Count:
     file: int
+    term: int = 0
 
     def line(self) -> str:
-        return _line(CallKind.COUNT, number=self.file)
+        return _line(CallKind.COUNT, number=self.file, term=self.term)
 
 
-Call = Union[Tick, Savepoint, Ack, Decline, Dispose, Restore, Cancel, Take, Deleted, Undeleted, Show, Count]
+@dataclass(frozen=True)
+class Fence:
+    """From here on names are given out, from this one on."""
 
-OF_A_MOMENT: Dict[int, Callable[[int], Call]] = {CallKind.TICK: Tick, CallKind.SAVEPOINT: Savepoint, CallKind.CANCEL: Cancel}
-OF_A_NUMBER: Dict[int, Callable[[int], Call]] = {
+    first_name: int
+
+    def line(self) -> str:
+        return fence_line(self.first_name)
+
+
+@dataclass(frozen=True)
+class Reserve:
+    term: int
+    count: int
+
+    def line(self) -> str:
+        return reserve_line(self.term, self.count)
+
+
+@dataclass(frozen=True)
+class Forfeit:
+    term: int
+    names: Tuple[int, ...]
+
+    def line(self) -> str:
+        return forfeit_line(self.term, self.names)
+
+
+Call = Union[Tick, Savepoint, Ack, Decline, Dispose, Restore, Cancel, Take, Deleted, Undeleted, Show, Count, Fence, Reserve, Forfeit]
+
+OF_A_MOMENT: Dict[int, Callable[[int, int], Call]] = {CallKind.TICK: Tick, CallKind.SAVEPOINT: Savepoint, CallKind.CANCEL: Cancel}
+OF_A_NUMBER: Dict[int, Callable[[int, int], Call]] = {
     CallKind.DISPOSE: Dispose, CallKind.TAKE: Take, CallKind.DELETED: Deleted, CallKind.UNDELETED: Undeleted,
     CallKind.SHOW: Show, CallKind.COUNT: Count,
 }
@@ -172,13 +215,19 @@ def line_call(line: bytes) -> Optional[Call]:
 
 def _call(it: header.relkvanu_call, first: Tuple[int, ...], second: Tuple[int, ...]) -> Call:
     if it.kind in OF_A_MOMENT:
-        return OF_A_MOMENT[it.kind](it.now)
+        return OF_A_MOMENT[it.kind](it.now, it.term)
     if it.kind in OF_A_NUMBER:
-        return OF_A_NUMBER[it.kind](it.number)
+        return OF_A_NUMBER[it.kind](it.number, it.term)
     if it.kind == CallKind.ACK:
-        return Ack(it.now, it.number, it.vertex, it.index, first, second)
+        return Ack(it.now, it.number, it.vertex, it.index, first, second, it.term)
     if it.kind == CallKind.DECLINE:
-        return Decline(it.now, it.number, it.vertex, it.index)
+        return Decline(it.now, it.number, it.vertex, it.index, it.term)
     if it.kind == CallKind.RESTORE:
-        return Restore(it.now, it.number or None, first or None)
+        return Restore(it.now, it.number or None, first or None, it.term)
+    if it.kind == CallKind.FENCE:
+        return Fence(it.number)
+    if it.kind == CallKind.RESERVE:
+        return Reserve(it.term, it.number)
+    if it.kind == CallKind.FORFEIT:
+        return Forfeit(it.term, first)
     raise Unknown(header.DONE, header.LINE_CALL)

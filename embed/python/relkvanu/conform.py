@@ -2,10 +2,12 @@
 or that the trace obeys the rules. `-` reads the standard input. Its status is 0 (it obeys), 1 (a rule is broken, or a file is lost) or 2 (no trace)."""
 import sys
 from dataclasses import dataclass, field
-from typing import Callable, Dict, Iterable, List, Optional, Set, Tuple
+from typing import Callable, Dict, Iterable, List, Optional, Sequence, Set, Tuple
 
 from relkvanu.coordinator import Coordinator, Error
-from relkvanu.replies import AckLate, DeclineLate, Reply, RestoredCheckpoint, RestoredFresh, RestoredSavepoint, SavepointTriggered, Taken, Triggered
+from relkvanu.replies import (
+    AckLate, DeclineLate, Reply, Reserved, RestoredCheckpoint, RestoredFresh, RestoredSavepoint, SavepointTriggered, Taken, Triggered,
+)
 from relkvanu.storage import unknown
 from relkvanu.trace import Event, NoTrace, Task, World, drained, live_files, read
 
@@ -77,7 +79,7 @@ class Checker:
         name = "on_" + event.verb.replace(" ", "_")
         method: Callable[[Event], None] = getattr(self, name)
         method(event)
-        if event.verb in ("call", "unlinks", "storage", "log cut", "process starts"):
+        if event.verb in ("call", "unlinks", "writes", "storage", "log cut", "process starts"):
             self.look()
 
     # The process and its log.
@@ -118,11 +120,13 @@ class Checker:
             self.broken(3, f"{event.line} came from {sender}, which was replaced")
         if word == "start":
             self.durable.logged.add(("restore", 0))
-        self.note(reply, sender, rest)
+        self.note(reply, sender, rest[2:] if word == "in" else rest)
 
     def note(self, reply: Optional[Reply], sender: Optional[Task], words: List[str]) -> None:
         """What the answer of a call entitles others to."""
-        if isinstance(reply, (Triggered, SavepointTriggered)):
+        if isinstance(reply, Reserved):
+            self.durable.logged |= {("name", name) for name in reply.names}
+        elif isinstance(reply, (Triggered, SavepointTriggered)):
             self.durable.logged.add(("record", reply.id))
             self.mixed.discard(reply.id)
         elif isinstance(reply, Taken):
@@ -189,6 +193,8 @@ class Checker:
         (file,) = event.files
         if self.world.storage.is_away:
             self.broken(10, f"{event.task} writes file {file}, and the storage is away")
+        if self.world.has_names:
+            self.rests_on("name", file, f"{event.task} writes file {file}")
         if self.writers.setdefault(file, event.task) != event.task:
             self.broken(7, f"{event.task} writes file {file}, which {self.writers[file]} wrote")
         self.clean.discard((event.task, file))
@@ -205,8 +211,9 @@ class Checker:
         for file in event.files:
             if (event.task, file) not in self.clean:
                 self.broken(2, f"{event.task} acknowledges file {file}, which it has not synced")
-            if self.named.setdefault(file, (event.task, event.number)) != (event.task, event.number):
-                self.broken(7, f"{event.task} names file {file} as fresh in record {event.number}, and %s named it in record %d" % self.named[file])
+            first = self.named.setdefault(file, (event.task, event.number))
+            if first != (event.task, event.number) and not self.world.has_names:  # else its name is spent, and the message is refused
+                self.broken(7, f"{event.task} names file {file} as fresh in record {event.number}, and %s named it in record %d" % first)
             self.under_way[event.task, file] = self.under_way.get((event.task, file), 0) + 1
 
     # Deletions, and the storage.
@@ -217,9 +224,20 @@ class Checker:
         elif event.word == "discarder":
             for file in event.files:
                 self.rests_on("taken", file, f"a discarder deletes file {file}")
+        elif self.world.has_names:
+            self.deleted_as_garbage(event.files)
         elif not self.may_sweep:
             self.broken(8, "a sweeper deletes" + "".join(f" {file}" for file in event.files))
         self.world.storage.unlink(event.files)
+
+    def deleted_as_garbage(self, files: Sequence[int]) -> None:
+        """With names a sweep needs no restore, but what it deletes has to be garbage by the lines that are durable."""
+        try:
+            wrong = self.world.not_garbage(files)
+        except Error:  # the lines of two processes
+            wrong = set(files)
+        if wrong:
+            self.broken(8, "a sweeper deletes what is not garbage:" + "".join(f" {file}" for file in sorted(wrong)))
 
     def deleted_by_task(self, task: Task, files: Iterable[int]) -> None:
         for file in files:
@@ -237,6 +255,8 @@ class Checker:
 
     def reported(self, file: int) -> None:
         storage = self.world.storage
+        if self.world.has_names:
+            return  # a file that is there or comes back is garbage, and the sweeper finds it
         if file in storage.shown:
             self.broken(9, f"file {file} is in the storage")
         elif file in storage.kept:
@@ -274,10 +294,15 @@ class Checker:
                     ending(core)
                 except Error:
                     continue
-                gone = drained(core)
-                owned = set(self.world.storage.shown) & set(self.world.accepted)
-                for file in sorted(unknown(core, owned - gone)):
+                for file in sorted(self.left(core, set(self.world.storage.shown) - drained(core))):
                     self.came(f"file {file} is left: no record uses it, and nobody deletes it")
+
+    def left(self, core: Coordinator, files: Set[int]) -> Set[int]:
+        """Those of the files that no record uses. With names a sweeper deletes the garbage of them. Without, the sweep of the next recovery deletes
+        those that no accepted acknowledgement named."""
+        if self.world.has_names:
+            return unknown(core, files) - set(core.garbage(list(files)).garbage)
+        return unknown(core, files & set(self.world.accepted))
 
 
 def check(trace: Iterable[str]) -> List[Finding]:

@@ -126,6 +126,9 @@ CALL_DELETED = 9
 CALL_UNDELETED = 10
 CALL_SHOW = 11
 CALL_COUNT = 12
+CALL_FENCE = 13
+CALL_RESERVE = 14
+CALL_FORFEIT = 15
 ANSWER_TEXT = 128
 
 
@@ -172,6 +175,7 @@ class relkvanu_call(Structure):
         ("index", c_uint16),
         ("now", c_uint64),
         ("number", c_uint64),
+        ("term", c_uint64),
     ]
 
 

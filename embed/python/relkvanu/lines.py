@@ -74,57 +74,70 @@ def opening_lines(settings: Settings, shape: Sequence[int], now: int) -> str:
 
 
 def _line(
-    kind: int, now: int = 0, number: int = 0, subtask: Tuple[int, int] = (0, 0), first: Sequence[int] = (), second: Sequence[int] = ()
+    kind: int, now: int = 0, number: int = 0, subtask: Tuple[int, int] = (0, 0), first: Sequence[int] = (), second: Sequence[int] = (),
+    term: int = 0
 ) -> str:
     vertex, index = subtask
-    call = header.relkvanu_call(kind, _within(vertex, 16), _within(index, 16), _u64(now), _u64(number))
+    call = header.relkvanu_call(kind, _within(vertex, 16), _within(index, 16), _u64(now), _u64(number), _u64(term))
     lists = _words(first), len(first), _words(second), len(second)
     return _written(lambda text, length: _shared().relkvanu_call_line(ctypes.byref(call), *lists, text, length))
 
 
 # The line of each call, without a newline. It reads back as that call. Each raises BadLine if the line would be too long: none is
-# cut.
+# cut. The term is that of the caller, 0 for none (docs/LOGS.md).
 
 
-def tick_line(now: int) -> str:
-    return _line(header.CALL_TICK, now)
+def tick_line(now: int, term: int = 0) -> str:
+    return _line(header.CALL_TICK, now, term=term)
 
 
-def savepoint_line(now: int) -> str:
-    return _line(header.CALL_SAVEPOINT, now)
+def savepoint_line(now: int, term: int = 0) -> str:
+    return _line(header.CALL_SAVEPOINT, now, term=term)
 
 
-def ack_line(now: int, id: int, vertex: int, index: int, fresh: Sequence[int], reused: Sequence[int] = ()) -> str:
-    return _line(header.CALL_ACK, now, id, (vertex, index), fresh, reused)
+def ack_line(now: int, id: int, vertex: int, index: int, fresh: Sequence[int], reused: Sequence[int] = (), term: int = 0) -> str:
+    return _line(header.CALL_ACK, now, id, (vertex, index), fresh, reused, term)
 
 
-def decline_line(now: int, id: int, vertex: int, index: int) -> str:
-    return _line(header.CALL_DECLINE, now, id, (vertex, index))
+def decline_line(now: int, id: int, vertex: int, index: int, term: int = 0) -> str:
+    return _line(header.CALL_DECLINE, now, id, (vertex, index), term=term)
 
 
-def dispose_line(id: int) -> str:
-    return _line(header.CALL_DISPOSE, number=id)
+def dispose_line(id: int, term: int = 0) -> str:
+    return _line(header.CALL_DISPOSE, number=id, term=term)
 
 
-def restore_line(now: int, savepoint: Optional[int] = None, shape: Optional[Sequence[int]] = None) -> str:
+def restore_line(now: int, savepoint: Optional[int] = None, shape: Optional[Sequence[int]] = None, term: int = 0) -> str:
     if savepoint == 0:
         raise BadArgument("no savepoint has the number 0")
     if shape is not None and len(shape) == 0:
         raise BadArgument("BadShape")
-    return _line(header.CALL_RESTORE, now, savepoint or 0, first=shape or ())
+    return _line(header.CALL_RESTORE, now, savepoint or 0, first=shape or (), term=term)
 
 
-def cancel_line(now: int) -> str:
-    return _line(header.CALL_CANCEL, now)
+def cancel_line(now: int, term: int = 0) -> str:
+    return _line(header.CALL_CANCEL, now, term=term)
 
 
-def take_line(most: int) -> str:
-    return _line(header.CALL_TAKE, number=most)
+def take_line(most: int, term: int = 0) -> str:
+    return _line(header.CALL_TAKE, number=most, term=term)
 
 
-def deleted_line(file: int) -> str:
-    return _line(header.CALL_DELETED, number=file)
+def deleted_line(file: int, term: int = 0) -> str:
+    return _line(header.CALL_DELETED, number=file, term=term)
 
 
-def undeleted_line(file: int) -> str:
-    return _line(header.CALL_UNDELETED, number=file)
+def undeleted_line(file: int, term: int = 0) -> str:
+    return _line(header.CALL_UNDELETED, number=file, term=term)
+
+
+def fence_line(first_name: int) -> str:
+    return _line(header.CALL_FENCE, number=first_name)
+
+
+def reserve_line(term: int, count: int) -> str:
+    return _line(header.CALL_RESERVE, number=count, term=term)
+
+
+def forfeit_line(term: int, names: Sequence[int]) -> str:
+    return _line(header.CALL_FORFEIT, first=names, term=term)

@@ -261,3 +261,29 @@ MADE: Dict[int, Callable[[int, int], Reply]] = {
     header.COUNTED: Counted,
 }
 # embed/bindings: end
+
+
+# The replies of calls on terms and names, of a line or a store.
+@dataclass(frozen=True)
+class Named(Reply):
+    """The job has names from here on, in term 1."""
+
+
+@dataclass(frozen=True)
+class Reserved(Reply):
+    """So many names, from the first one on."""
+
+    first: int
+    count: int
+
+    @property
+    def names(self) -> range:
+        return range(self.first, self.first + self.count)
+
+
+@dataclass(frozen=True)
+class Forfeited(Reply):
+    """The names are given up: their files are garbage."""
+
+
+MADE.update({header.NAMED: lambda a, b: Named(), header.RESERVED: Reserved, header.FORFEITED: lambda a, b: Forfeited()})

@@ -1,21 +1,20 @@
 """State files in a bucket of S3, or of a server that speaks its protocol. It needs boto3 (Debian's python3-boto3), which finds keys and region
 as it does everywhere: in the environment, ~/.aws, or the role of the machine."""
 import errno
+import posixpath
 from typing import Any, Callable, Dict, Iterable, Iterator, List, Optional
 
 import boto3  # type: ignore[import]
 from botocore.config import Config  # type: ignore[import]
 from botocore.exceptions import BotoCoreError, ClientError  # type: ignore[import]
 
-from relkvanu.storage import PAGE, Exists, Names, NotThere, StorageError, check_marker, marker_text
+from relkvanu.storage import PAGE, Exists, KeepsVersions, Marker, Names, NotThere, StorageError, check_marker
+
+__all__ = ["Bucket", "KeepsVersions", "client"]
 
 MOST_KEYS = 1000  # in a DeleteObjects, and on a page of a listing
 GONE = ("NoSuchBucket",)  # not NoSuchKey: that is an object that is not there
 ABSENT = ("NoSuchKey", "404", "NotFound")
-
-
-class KeepsVersions(StorageError):
-    """The bucket keeps versions of what is deleted, so no file would ever be gone."""
 
 
 def client(endpoint: Optional[str] = None, region: Optional[str] = None) -> Any:
@@ -26,11 +25,13 @@ def client(endpoint: Optional[str] = None, region: Optional[str] = None) -> Any:
 
 class Bucket:
     """The objects of a bucket with this prefix. `is_new` makes the marker, where there is no state file. A bucket that has versions is refused
-    (KeepsVersions), unless `keeps_versions` says that its lifecycle rules delete old versions."""
+    (KeepsVersions), unless `keeps_versions` says that its lifecycle rules delete old versions. A marker that is given is an object beside the
+    files, where a folder would have it: the part of the prefix after its last slash is not in its key."""
 
     def __init__(self, bucket: str, job: str, is_new: bool = False, prefix: str = "", suffix: str = "", s3: Any = None,
-                 keeps_versions: bool = False) -> None:
+                 keeps_versions: bool = False, marker: Optional[Marker] = None) -> None:
         self.bucket, self.job, self.names = bucket, job, Names(prefix, suffix)
+        self.marker = self.names.marker(job) if marker is None else Marker(posixpath.join(posixpath.dirname(prefix), marker.name), marker.text)
         self._s3 = client() if s3 is None else s3
         self._keeps_versions = keeps_versions
         if not keeps_versions and self._ask(self._s3.get_bucket_versioning).get("Status"):
@@ -43,11 +44,11 @@ class Bucket:
         """The marker, where there is no state file: beside files there was a job, and its log is missing."""
         if next(self.pages(1), None):
             raise StorageError(errno.ENOTEMPTY, "a new job needs a place without state files", f"{self.bucket}/{self.names.prefix}")
-        if self._read(self.names.marker()) is None:
-            self._ask(self._s3.put_object, Key=self.names.marker(), Body=marker_text(self.job))
+        if self._read(self.marker.name) is None:
+            self._ask(self._s3.put_object, Key=self.marker.name, Body=self.marker.text.encode())
 
     def check(self) -> None:
-        check_marker(self._read(self.names.marker()), self.job, f"{self.bucket}/{self.names.prefix}")
+        check_marker(self._read(self.marker.name), self.marker, self.job, f"{self.bucket}/{self.names.prefix}")
 
     def put(self, file: int, contents: bytes) -> None:
         """One request, so the object is whole or not there. It has at most 5 GiB. After a time-out the object may come later, so its number
@@ -92,13 +93,26 @@ class Bucket:
         return failed
 
     def pages(self, most: int = PAGE) -> Iterator[List[int]]:
-        after: Dict[str, str] = {}
-        while True:
-            told = self._ask(self._s3.list_objects_v2, Prefix=self.names.prefix, MaxKeys=min(most, MOST_KEYS), **after)
-            found = (self.names.file(it["Key"]) for it in told.get("Contents", []))
-            page = [file for file in found if file is not None]
+        for page in self.sizes(most):
+            yield list(page)
+
+    def sizes(self, most: int = PAGE) -> Iterator[Dict[int, int]]:
+        for objects in self._objects(self.names.prefix, most):
+            found = ((self.names.file(it["Key"]), it["Size"]) for it in objects)
+            page = {file: size for file, size in found if file is not None}
             if page:
                 yield page
+
+    def beside(self, start: str) -> List[str]:
+        folder = posixpath.dirname(self.marker.name)
+        keys = (it["Key"] for objects in self._objects(posixpath.join(folder, start), MOST_KEYS) for it in objects)
+        return [posixpath.relpath(key, folder or ".") for key in keys]
+
+    def _objects(self, prefix: str, most: int) -> Iterator[List[Any]]:
+        after: Dict[str, str] = {}
+        while True:
+            told = self._ask(self._s3.list_objects_v2, Prefix=prefix, MaxKeys=min(most, MOST_KEYS), **after)
+            yield told.get("Contents", [])
             if not told.get("IsTruncated"):
                 return
             after = {"ContinuationToken": told["NextContinuationToken"]}

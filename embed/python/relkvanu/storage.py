@@ -4,7 +4,7 @@ import errno
 import itertools
 import os
 import re
-from typing import Callable, Dict, Iterable, Iterator, List, Optional, Protocol, Sequence, Set, Tuple, Union
+from typing import Callable, Dict, Iterable, Iterator, List, NamedTuple, Optional, Protocol, Sequence, Set, Tuple, Union
 
 from relkvanu.coordinator import Coordinator, Error
 from relkvanu.discarder import Outbox
@@ -24,6 +24,10 @@ class NotThere(StorageError):
 
 class OtherJob(StorageError):
     """The storage is that of another job."""
+
+
+class KeepsVersions(StorageError):
+    """The bucket keeps versions of what is deleted, so no file would ever be gone."""
 
 
 class Exists(StorageError):
@@ -50,6 +54,24 @@ class Storage(Protocol):
         """The numbers of all files, also of those that were put in part. Raises StorageError: then the list is not whole."""
 
 
+class SizedStorage(Storage, Protocol):
+    """A storage that tells how large its files are, and which other jobs have files beside them."""
+
+    def sizes(self, most: int = PAGE) -> Iterator[Dict[int, int]]:
+        """pages(), with the bytes of each file."""
+
+    def beside(self, start: str) -> List[str]:
+        """The names of files beside the marker that begin so."""
+
+
+class Marker(NamedTuple):
+    """A file of the storage that says whose files it has. By default it has the name of the job; that of a job of the service also says when the
+    job was opened (`Marker(*job.marker())` with the service's client), since another service may have a job of the same name."""
+
+    name: str
+    text: str
+
+
 class Names:
     """The names of files: a number between a prefix and a suffix."""
 
@@ -65,26 +87,32 @@ class Names:
         found = self._form.fullmatch(name)
         return int(found.group(1)) if found and int(found.group(1)) < 1 << 64 else None
 
-    def marker(self) -> str:
-        return self.prefix + MARKER
+    def marker(self, job: str) -> Marker:
+        if not job or "\n" in job:
+            raise ValueError("the name of a job has one line")
+        return Marker(self.prefix + MARKER, f"relkvanu: state files of the job {job}\n")
 
 
-def marker_text(job: str) -> bytes:
-    if not job or "\n" in job:
-        raise ValueError("the name of a job has one line")
-    return f"relkvanu: state files of the job {job}\n".encode()
-
-
-def check_marker(found: Optional[bytes], job: str, where: str) -> None:
+def check_marker(found: Optional[bytes], marker: Marker, job: str, where: str) -> None:
     """Whether a marker is the job's. `found` is None if there is none."""
     if found is None:
-        raise NotThere(errno.ENOENT, "no marker of a job: a wrong place, or it is not mounted", where)
-    if found != marker_text(job):
+        raise NotThere(errno.ENOENT, f"no marker {marker.name} of a job: a wrong place, or it is not mounted", where)
+    if found != marker.text.encode():
         raise OtherJob(errno.EEXIST, f"not the storage of the job {job}", where)
 
 
 PART = ".part"
 FILE_FLAGS = os.O_NOFOLLOW | os.O_CLOEXEC
+
+
+def _size(entry: "os.DirEntry[str]") -> int:
+    """The bytes of a file. It may have been deleted since it was listed."""
+    try:
+        return entry.stat(follow_symlinks=False).st_size
+    except FileNotFoundError:
+        return 0
+    except OSError as error:
+        raise StorageError(error.errno, error.strerror, entry.name) from error
 
 
 def _write_all(to: int, contents: bytes) -> None:
@@ -97,8 +125,10 @@ class Folder:
     """A folder. It stays open, so no call reaches a folder that is mounted or renamed to its path later. No symbolic link in it is
     followed. `is_new` makes the marker, in a folder that has no state file; without it a folder without the marker is refused."""
 
-    def __init__(self, path: Union[str, "os.PathLike[str]"], job: str, is_new: bool = False, prefix: str = "", suffix: str = "") -> None:
+    def __init__(self, path: Union[str, "os.PathLike[str]"], job: str, is_new: bool = False, prefix: str = "", suffix: str = "",
+                 marker: Optional[Marker] = None) -> None:
         self.path, self.job, self.names = os.fspath(path), job, Names(prefix, suffix)
+        self.marker = self.names.marker(job) if marker is None else marker
         self._part = Names(prefix, suffix + PART)
         try:
             self._folder = os.open(self.path, os.O_RDONLY | os.O_DIRECTORY | os.O_CLOEXEC)
@@ -128,13 +158,13 @@ class Folder:
         finds its own marker."""
         if next(self.pages(1), None):
             raise StorageError(errno.ENOTEMPTY, "a new job needs a folder without state files", self.path)
-        if self._read(self.names.marker()) is None:
-            part = self.names.marker() + PART
+        if self._read(self.marker.name) is None:
+            part = self.marker.name + PART
             self._unlink(part)
-            self._make(part, self.names.marker(), marker_text(self.job))
+            self._make(part, self.marker.name, self.marker.text.encode())
 
     def check(self) -> None:
-        check_marker(self._read(self.names.marker()), self.job, self.path)
+        check_marker(self._read(self.marker.name), self.marker, self.job, self.path)
 
     def put(self, file: int, contents: bytes) -> None:
         self.check()
@@ -161,20 +191,37 @@ class Folder:
         return failed
 
     def pages(self, most: int = PAGE) -> Iterator[List[int]]:
+        for page in self._entries(most):
+            yield [file for file, _ in page]
+
+    def sizes(self, most: int = PAGE) -> Iterator[Dict[int, int]]:
+        for page in self._entries(most):
+            sizes: Dict[int, int] = {}
+            for file, entry in page:
+                sizes[file] = sizes.get(file, 0) + _size(entry)
+            yield sizes
+
+    def beside(self, start: str) -> List[str]:
+        try:
+            return sorted(name for name in os.listdir(self._folder) if name.startswith(start))
+        except OSError as error:
+            raise StorageError(error.errno, error.strerror, self.path) from error
+
+    def _entries(self, most: int) -> Iterator[List[Tuple[int, "os.DirEntry[str]"]]]:
         try:
             with os.scandir(self._folder) as entries:
-                found = self._numbers(entries)
+                found = self._files(entries)
                 while page := list(itertools.islice(found, most)):
                     yield page
         except OSError as error:
             raise StorageError(error.errno, error.strerror, self.path) from error
 
-    def _numbers(self, entries: Iterable["os.DirEntry[str]"]) -> Iterator[int]:
+    def _files(self, entries: Iterable["os.DirEntry[str]"]) -> Iterator[Tuple[int, "os.DirEntry[str]"]]:
         for entry in entries:
             file = self.names.file(entry.name)
             file = self._part.file(entry.name) if file is None else file
             if file is not None and entry.is_file(follow_symlinks=False):
-                yield file
+                yield file, entry
 
     def _read(self, name: str) -> Optional[bytes]:
         try:

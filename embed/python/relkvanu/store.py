@@ -14,10 +14,10 @@ from typing import Any, Callable, Dict, Iterator, List, NoReturn, Optional, Sequ
 
 from relkvanu import header, store_header
 from relkvanu.coordinator import (
-    U64, BadArgument, Coordinator, Error, OutOfMemory, Settings, _done, _made, _settings, _u64, _within, _words,
+    U64, BadArgument, Coordinator, Error, OutOfMemory, Settings, _done, _made, _settings, _told, _u64, _within, _words,
 )
-from relkvanu.reads import CHOSEN, Chosen, Mode
-from relkvanu.replies import Reply, Taken
+from relkvanu.reads import CHOSEN, Chosen, Garbage, Mode, RunningTerm
+from relkvanu.replies import Reply, Reserved, Taken
 
 LIBRARY = "librelkvanu-store.so.0"
 FOREVER = (1 << 64) - 1
@@ -64,11 +64,13 @@ class Report:
     moment: int
     mode: Mode
     choice: Optional[Chosen]
+    term: int = 0  # that runs: the tasks of a new job are started with it. 0: the job has no names
+    next_name: int = 0
 
 
 @dataclass(frozen=True)
 class Call:
-    """A call of a list. Without a moment it has that of the store's clock."""
+    """A call of a list. Without a moment it has that of the store's clock. The term is that of its task, 0 in a job without names."""
 
     kind: int
     now: Optional[int] = None
@@ -77,6 +79,7 @@ class Call:
     index: int = 0
     first: Sequence[int] = ()
     second: Sequence[int] = ()
+    term: int = 0
 
     @classmethod
     def tick(cls, now: Optional[int] = None) -> "Call":
@@ -87,12 +90,26 @@ class Call:
         return cls(header.CALL_SAVEPOINT, now)
 
     @classmethod
-    def ack(cls, id: int, vertex: int, index: int, fresh: Sequence[int], reused: Sequence[int] = (), now: Optional[int] = None) -> "Call":
-        return cls(header.CALL_ACK, now, id, vertex, index, fresh, reused)
+    def ack(
+        cls, id: int, vertex: int, index: int, fresh: Sequence[int], reused: Sequence[int] = (), now: Optional[int] = None, term: int = 0
+    ) -> "Call":
+        return cls(header.CALL_ACK, now, id, vertex, index, fresh, reused, term)
 
     @classmethod
-    def decline(cls, id: int, vertex: int, index: int, now: Optional[int] = None) -> "Call":
-        return cls(header.CALL_DECLINE, now, id, vertex, index)
+    def decline(cls, id: int, vertex: int, index: int, now: Optional[int] = None, term: int = 0) -> "Call":
+        return cls(header.CALL_DECLINE, now, id, vertex, index, term=term)
+
+    @classmethod
+    def fence(cls, first_name: int) -> "Call":
+        return cls(header.CALL_FENCE, 0, first_name)
+
+    @classmethod
+    def reserve(cls, term: int, count: int) -> "Call":
+        return cls(header.CALL_RESERVE, 0, count, term=term)
+
+    @classmethod
+    def forfeit(cls, term: int, names: Sequence[int]) -> "Call":
+        return cls(header.CALL_FORFEIT, 0, first=names, term=term)
 
     @classmethod
     def dispose(cls, id: int) -> "Call":
@@ -126,11 +143,12 @@ class Call:
 @dataclass(frozen=True)
 class Made:
     """A call that was made and committed: its reply, its place in the log (0 if it changed nothing), and after a trigger the record that its
-    barrier names beside it."""
+    barrier names beside it. In a job with names, after a restore, cancel or fence: the term that begins. Tasks are started with it."""
 
     reply: Reply
     place: int
     choice: Optional[Chosen]
+    term: int = 0
 
 
 Outcome = Union[Made, Error]
@@ -141,7 +159,7 @@ def _loaded() -> ctypes.CDLL:
     beside = pathlib.Path(__file__).resolve().parent / LIBRARY
     path = os.path.join(folder, LIBRARY) if folder is not None else str(beside) if beside.is_file() else LIBRARY
     try:
-        library = ctypes.CDLL(path)  # which releases the interpreter's lock in each call
+        library = ctypes.CDLL(path, use_errno=True)  # which releases the interpreter's lock in each call
         for name, (result, parameters) in store_header.FUNCTIONS.items():
             function = getattr(library, name)
             function.argtypes, function.restype = parameters, result
@@ -166,7 +184,8 @@ class _List:
         self.kept: List[Any] = []
         for given, call in zip(calls, self.calls):
             now = store_header.NOW if given.now is None else _within(given.now, 63)
-            call.call = header.relkvanu_call(given.kind, _within(given.vertex, 16), _within(given.index, 16), now, _u64(given.number))
+            call.call = header.relkvanu_call(
+                given.kind, _within(given.vertex, 16), _within(given.index, 16), now, _u64(given.number), _u64(given.term))
             places = _within(given.number, 20) if given.kind == header.CALL_TAKE else 0
             for name, array, length in (
                 ("first", _words(given.first), len(given.first)),
@@ -190,7 +209,7 @@ class _List:
             reply = Taken(tuple(call.files[: answer.a])) if answer.what == header.TAKEN else _made(answer)
         except Error as error:
             return error
-        return Made(reply, call.place, _chosen(call.choice))
+        return Made(reply, call.place, _chosen(call.choice), call.term)
 
 
 class Reads:
@@ -201,7 +220,7 @@ class Reads:
         self._job._begin()
         self._job._handle = header.relkvanu.from_address(ctypes.addressof(handle.contents))
         for name in ("mode", "moment", "due", "oldest_expiry", "choice", "live", "live_from", "standing", "files_of", "pins_of",
-                     "waiting_file", "taken_files", "missing", "file_counts", "show", "save", "count"):
+                     "waiting_file", "taken_files", "missing", "file_counts", "show", "save", "count", "term", "garbage"):
             setattr(self, name, getattr(self._job, name))
 
     def __getattr__(self, name: str) -> Any:
@@ -229,12 +248,14 @@ class Store:
         only_create: bool = False,
         adopt: bool = False,
         earlier_image: bool = False,
+        plain: bool = False,
         patience: int = 0,
         image_calls: Optional[int] = 10_000,
         most_ahead: int = 0,
     ) -> None:
         """Recovers the job at `path`, or makes one if `create` says so. `storage` is the folder of the state files, which has to exist.
-        `image_calls` is None for no images. The settings are those of a new job; `report.settings_differ` compares them."""
+        `image_calls` is None for no images. The settings are those of a new job; `report.settings_differ` compares them. So is `plain`: a job
+        that is made so has no names, and its engine gives out the numbers of files."""
         self._store = ctypes.c_void_p()
         self._process = os.getpid()
         self._users = threading.Condition()
@@ -245,7 +266,7 @@ class Store:
         flags = create * store_header.CREATE | only_create * store_header.CREATE_ONLY | adopt * store_header.ADOPT
         words, found = _words(shape), store_header.relkvanu_store_report()
         options = store_header.relkvanu_store_options(
-            flags | earlier_image * store_header.EARLIER_IMAGE, _within(patience, 32),
+            flags | earlier_image * store_header.EARLIER_IMAGE | plain * store_header.PLAIN, _within(patience, 32),
             store_header.NO_IMAGES if image_calls is None else _u64(image_calls), _u64(most_ahead),
             None if storage is None else os.fsencode(storage), _settings(settings), ctypes.cast(words, ctypes.POINTER(U64)), len(shape))
         status = _library.relkvanu_store_open(ctypes.byref(self._store), os.fsencode(path), ctypes.byref(options), ctypes.byref(found))
@@ -254,7 +275,7 @@ class Store:
         self.report = Report(
             found.is_recovered, found.settings_differ, tuple(Step(it) for it in found.steps[: found.steps_len]), found.epoch,
             f"{found.job[0]:016x}{found.job[1]:016x}", found.image_place, found.replayed, found.taken, found.moment, Mode(found.mode.what),
-            _chosen(found.choice))
+            _chosen(found.choice), found.term, found.next_name)
 
     def _raise(self, status: int, message: Optional[str] = None) -> NoReturn:
         if status == store_header.NO_MEMORY:
@@ -335,6 +356,52 @@ class Store:
 
     def decline(self, id: int, vertex: int, index: int, now: Optional[int] = None) -> Made:
         return self.call(Call.decline(id, vertex, index, now))
+
+    # In a job with names a task has a term, and its calls raise Fenced("OldTerm") once it has ended. Such a call changes nothing.
+
+    def ack_in(
+        self, term: int, id: int, vertex: int, index: int, fresh: Sequence[int], reused: Sequence[int] = (), now: Optional[int] = None
+    ) -> Made:
+        """ack() of a task of this term. The same once more raises Fenced("Spent"), if it has fresh files: a task deletes no file."""
+        return self.call(Call.ack(id, vertex, index, fresh, reused, now, term))
+
+    def decline_in(self, term: int, id: int, vertex: int, index: int, now: Optional[int] = None) -> Made:
+        return self.call(Call.decline(id, vertex, index, now, term))
+
+    def reserve(self, term: int, count: int) -> range:
+        """Names for files that the task will write, 1 to 65536. They are durable, and not given out again."""
+        reply = self.call(Call.reserve(term, count)).reply
+        assert isinstance(reply, Reserved), reply
+        return reply.names
+
+    def forfeit(self, term: int, names: Sequence[int]) -> None:
+        """Gives up names that the task will not acknowledge, as after a failed put: their files are garbage. At most 65536. Names that the
+        term does not hold are passed over."""
+        answer = header.relkvanu_answer()
+        with self._use() as store:
+            self._check(_library.relkvanu_store_forfeit(store, _u64(term), _words(names), len(names), ctypes.byref(answer)))
+        _told(answer, header.FORFEITED)
+
+    def fence(self, first_name: int) -> Made:
+        """Gives names to a job without, from this one on: after a restore and before tasks start. Each number that a task was told of is below it;
+        the store looks at the storage folder, and raises Fenced("NameInUse")."""
+        return self.call(Call.fence(first_name))
+
+    def term(self) -> RunningTerm:
+        """The term that runs, and the next name. Whoever starts tasks takes the term from its restore (Made.term). A task never asks."""
+        answer = header.relkvanu_answer()
+        with self._use() as store:
+            self._check(_library.relkvanu_store_term(store, ctypes.byref(answer)))
+        return RunningTerm(_told(answer, header.TERM).a, answer.b)
+
+    def garbage(self, files: Sequence[int]) -> Garbage:
+        """Of these files those that may be deleted at any time, and those whose names were not given out, which nobody deletes."""
+        answer, length = header.relkvanu_answer(), len(files)
+        garbage, unissued = (U64 * max(length, 1))(), (U64 * max(length, 1))()
+        with self._use() as store:
+            self._check(_library.relkvanu_store_garbage(store, _words(files), length, garbage, unissued, ctypes.byref(answer)))
+        _told(answer, header.GARBAGE)
+        return Garbage(tuple(garbage[: answer.a]), tuple(unissued[: answer.b]))
 
     def restore(self, savepoint: Optional[int] = None, shape: Optional[Sequence[int]] = None, now: Optional[int] = None) -> Made:
         return self.call(Call.restore(savepoint, shape, now))
@@ -417,16 +484,27 @@ class Store:
         return outcome
 
     def unknown(self, files: Sequence[int]) -> List[int]:
-        """For the sweep of a recovery: those of the files that the coordinator does not know. Raises StoreError("NotNow") if a task may have
-        written a file whose acknowledgement is on its way."""
+        """For a sweep: those of the files that may be deleted. In a job with names these are garbage, at any time. In one without they are those that
+        the coordinator does not know: raises StoreError("NotNow") if a task may have written a file whose acknowledgement is on its way."""
         words, length = _words(files), ctypes.c_size_t(len(files))
         with self._use() as store:
             self._check(_library.relkvanu_store_unknown(store, words, ctypes.byref(length)))
         return list(words[: length.value])
 
+    def put(self, file: int, contents: bytes) -> None:
+        """Makes a file of the storage folder by its number. When it returns, a loss of power does not take the file, and a task may acknowledge it.
+        Raises StoreError "Present", "Storage" or "NotPut": then the task forfeits the name and declines, and leaves what is there to a sweep."""
+        with self._use() as store:
+            status = _library.relkvanu_store_put(store, _u64(file), contents, len(contents))
+        if status == store_header.NOT_PUT:
+            raise StoreError(store_header.STATUSES[status], os.strerror(ctypes.get_errno()), False)
+        self._check(status)
+
     def sweep(self) -> int:
-        """The sweep of a recovery, of each restore and of a cancelled job, after all tasks have ended: deletes the files of the storage folder
-        that the coordinator does not know, and syncs it. Returns how many could not be deleted. Raises StoreError("NotNow") as unknown()."""
+        """A sweep: deletes the files of the storage folder that unknown() returns, and syncs it. Returns how many could not be deleted.
+        In a job with names it runs at any time, also beside tasks, and counts()["unissued"] are the files that it left since their names were not
+        given out. In one without it is for a recovery, each restore and a cancelled job, after all tasks have ended: raises
+        StoreError("NotNow") as unknown()."""
         left = ctypes.c_size_t()
         with self._use() as store:
             self._check(_library.relkvanu_store_sweep(store, ctypes.byref(left)))
@@ -438,16 +516,18 @@ class Store:
             folder: int = _library.relkvanu_store_folder(store)
             return None if folder < 0 else folder
 
-    def discard(self, delete: Callable[[int], bool], batch: int = 0) -> None:
+    def discard(self, delete: Optional[Callable[[int], bool]] = None, batch: int = 0) -> None:
         """A discarder in a thread of the engine: runs until stop() or close(). delete(file) says whether the file is not there any more, also
-        if it was not there before; an OSError says that it is. Never gives up."""
+        if it was not there before; an OSError says that it is. Without it the files of the storage folder are deleted. Never gives up."""
         def delete_files(_: Any, files: Any, length: int, is_gone: Any) -> None:
             for place in range(length):
                 with contextlib.suppress(OSError):
-                    is_gone[place] = 1 if delete(files[place]) else 0
+                    is_gone[place] = 1 if delete is not None and delete(files[place]) else 0
 
         with self._use() as store:
-            status = _library.relkvanu_store_discard(store, batch, store_header.relkvanu_store_delete(delete_files), None)
+            by_number = ctypes.cast(_library.relkvanu_store_delete_files, store_header.relkvanu_store_delete)
+            deletes = by_number if delete is None else store_header.relkvanu_store_delete(delete_files)
+            status = _library.relkvanu_store_discard(store, batch, deletes, store)
         if status != store_header.STOPPED:
             self._check(status)
 
@@ -457,7 +537,7 @@ class Store:
             _library.relkvanu_store_stop(store)
 
     def counts(self) -> Dict[str, int]:
-        """Counts since the opening: commits, calls, largest, images, failed_images, checkpoints, failed_checkpoints, retries."""
+        """Counts since the opening: commits, calls, largest, images, failed_images, checkpoints, failed_checkpoints, retries, swept, unissued."""
         found = store_header.relkvanu_store_counts()
         with self._use() as store:
             _library.relkvanu_store_count(store, ctypes.byref(found))

@@ -8,12 +8,14 @@ OK = 0
 NO_MEMORY = 2
 TIMED_OUT = 12
 STOPPED = 14
+NOT_PUT = 15
 FAILED = 16
 NOT_MADE = 100
 CREATE = 1
 CREATE_ONLY = 2
 ADOPT = 4
 EARLIER_IMAGE = 8
+PLAIN = 16
 NOW = (1 << 64) - 1
 NO_IMAGES = (1 << 64) - 1
 MOST_CALLS = 4096
@@ -34,7 +36,7 @@ STATUSES: Dict[int, str] = {
     TIMED_OUT: "TimedOut",
     13: "NotNow",
     STOPPED: "Stopped",
-    15: "NotPut",
+    NOT_PUT: "NotPut",
     FAILED: "Failed",
     17: "Full",
     18: "ReadOnly",
@@ -72,7 +74,9 @@ class relkvanu_store_report(Structure):
         ("mode", relkvanu_answer),
         ("choice", relkvanu_answer),
         ("message", c_char * 512),
-        ("reserved", c_uint64 * 4),
+        ("term", c_uint64),
+        ("next_name", c_uint64),
+        ("reserved", c_uint64 * 2),
     ]
 
 
@@ -89,6 +93,7 @@ class relkvanu_store_call(Structure):
         ("answer", relkvanu_answer),
         ("choice", relkvanu_answer),
         ("place", c_uint64),
+        ("term", c_uint64),
     ]
 
 
@@ -109,7 +114,9 @@ class relkvanu_store_counts(Structure):
         ("checkpoints", c_uint64),
         ("failed_checkpoints", c_uint64),
         ("retries", c_uint64),
-        ("reserved", c_uint64 * 4),
+        ("swept", c_uint64),
+        ("unissued", c_uint64),
+        ("reserved", c_uint64 * 2),
     ]
 
 
@@ -128,7 +135,12 @@ FUNCTIONS: Dict[str, Tuple[Any, List[Any]]] = {
     "relkvanu_store_now": (c_uint64, [c_void_p]),
     "relkvanu_store_next_tick": (c_int, [c_void_p, POINTER(c_uint64)]),
     "relkvanu_store_await_tick": (c_int, [c_void_p, c_uint64, POINTER(relkvanu_store_call)]),
+    "relkvanu_store_forfeit": (c_int, [c_void_p, c_uint64, POINTER(c_uint64), c_size_t, POINTER(relkvanu_answer)]),
+    "relkvanu_store_term": (c_int, [c_void_p, POINTER(relkvanu_answer)]),
+    "relkvanu_store_garbage": (
+        c_int, [c_void_p, POINTER(c_uint64), c_size_t, POINTER(c_uint64), POINTER(c_uint64), POINTER(relkvanu_answer)]),
     "relkvanu_store_unknown": (c_int, [c_void_p, POINTER(c_uint64), POINTER(c_size_t)]),
+    "relkvanu_store_put": (c_int, [c_void_p, c_uint64, c_char_p, c_size_t]),
     "relkvanu_store_sweep": (c_int, [c_void_p, POINTER(c_size_t)]),
     "relkvanu_store_folder": (c_int, [c_void_p]),
     "relkvanu_store_discard": (c_int, [c_void_p, c_size_t, relkvanu_store_delete, c_void_p]),

@@ -20,7 +20,7 @@ import streamz  # type: ignore[import]
 import streamz.core  # type: ignore[import]
 import streamz.sinks  # type: ignore[import]
 
-from relkvanu.coordinator import Error, OutOfMemory, Refused, Settings
+from relkvanu.coordinator import Error, Fenced, OutOfMemory, Refused, Settings
 from relkvanu.replies import AckCompleted, DeclineFailed, Failed, RestoredCheckpoint, RestoredSavepoint, SavepointTriggered, Triggered
 from relkvanu.store import Call, Made, Step, Store, StoreError
 
@@ -32,6 +32,7 @@ STATELESS = (
 STATES, POSITION = 0, 1  # the vertices of the job: a subtask for each node, and one for the position
 HEAD = b"relkvanu.streamz 1 "
 EVERY = 10_000
+NAMES = 100  # that a reservation gets
 FAILED = "1000 checkpoints in a row could not be taken: restore()"
 T = TypeVar("T")
 
@@ -106,7 +107,8 @@ class Checkpoints:
         # as bytes, because a function of the graph may change a state in place
         self._starts = [self._packed(name, node.state) for name, node in self._nodes.items()]
         self._lock = threading.RLock()
-        self._files = 0  # how many this process has named
+        self._term = 0  # in which this process names files
+        self._names: Iterator[int] = iter(())  # that it has reserved
         self._whole = True
         self._fault: Optional[BaseException] = None  # of the discarder
         self.position: Any = None
@@ -174,8 +176,12 @@ class Checkpoints:
         """Puts the states of the last checkpoint, or of a savepoint, back into the nodes. Returns the position that was saved with them, or
         None if there is no checkpoint: then the nodes begin again."""
         with self._lock:
-            reply = self._make(self._job.restore, savepoint, self._shape).reply
+            made = self._make(self._job.restore, savepoint, self._shape)
+            reply = made.reply
             self._whole = False
+            self._names, self._term = iter(()), made.term
+            if self._term == 0:  # an earlier version of this module has made the job, and has numbered the files of each opening from epoch << 32 on
+                self._term = self._make(self._job.fence, (self._job.report.epoch + 1) << 32).term
             id = reply.id if isinstance(reply, (RestoredCheckpoint, RestoredSavepoint)) else None
             states = dict(self._unpacked("a start", it) for it in self._starts) if id is None else self._read(id)
             self.position = states.pop("", None)
@@ -213,12 +219,12 @@ class Checkpoints:
             self.restore()
         elif Step.START_TASKS not in self._job.report.steps:
             raise GraphError("the job was cancelled")
+        else:
+            self._term = self._job.report.term
 
     def _sweep(self) -> None:
-        """Deletes the files that nobody knows: an earlier process has written them, and has not acknowledged them."""
-        there = [int(it) for it in os.listdir(self._folder()) if it.isdigit()]
-        for file in self._make(self._job.unknown, there):
-            self._delete(file)
+        """Deletes the files that nobody can acknowledge any more. What can't be deleted is for the next sweep."""
+        self._make(self._job.sweep)
 
     def _discard(self) -> None:
         try:
@@ -271,15 +277,17 @@ class Checkpoints:
         return len(found) == len(self._nodes) and all(found.get(name) is node for name, node in self._nodes.items())
 
     def _decline(self, id: int) -> None:
-        if isinstance(self._make(self._job.decline, id, POSITION, 0).reply, DeclineFailed):
+        if isinstance(self._make(self._job.decline_in, self._term, id, POSITION, 0).reply, DeclineFailed):
             raise StoreError("Failed", FAILED, False)
 
     def _acknowledged(self, id: int, parts: Sequence[Tuple[int, int, int]]) -> Optional[int]:
-        """Acknowledges the files in one commit. Each that is refused was never accepted, and is deleted."""
+        """Acknowledges the files in one commit. Each that is refused is given up."""
         left, done = list(parts), None
         while left:
-            outcomes = self._job.calls([Call.ack(id, vertex, index, [file]) for vertex, index, file in left])
-            self._drop([file for (_, _, file), outcome in zip(left, outcomes) if isinstance(outcome, Refused)])
+            outcomes = self._job.calls([Call.ack(id, vertex, index, [file], term=self._term) for vertex, index, file in left])
+            refused = [file for (_, _, file), outcome in zip(left, outcomes) if isinstance(outcome, (Refused, Fenced))]
+            if refused:
+                self._give_up(refused)
             if any(isinstance(it, Made) and isinstance(it.reply, AckCompleted) for it in outcomes):
                 done = id
             left = [part for part, outcome in zip(left, outcomes) if isinstance(outcome, OutOfMemory)]
@@ -307,23 +315,30 @@ class Checkpoints:
         files: List[int] = []
         try:
             for _, _, data in parts:
-                self._files += 1
-                files.append(self._job.report.epoch << 32 | self._files)
+                files.append(self._name())
                 with self._made(files[-1]) as to:
                     to.write(data)
                     to.flush()
                     os.fsync(to.fileno())
             os.fsync(self._folder())
         except OSError:
-            self._drop(files)
+            self._give_up(files)
             return None
         return files
 
-    def _drop(self, files: Sequence[int]) -> None:
-        """Deletes files that were not acknowledged. What stays, the sweep of the next start deletes."""
-        for file in files:
-            with contextlib.suppress(OSError):
-                self._delete(file)
+    def _name(self) -> int:
+        """A name for a file, which is durable, and is not given again."""
+        name = next(self._names, None)
+        if name is None:
+            self._names = iter(self._make(self._job.reserve, self._term, NAMES))
+            name = next(self._names)
+        return name
+
+    def _give_up(self, files: Sequence[int]) -> None:
+        """Files that were not acknowledged: nobody can do so any more, and they are swept."""
+        with contextlib.suppress(Fenced):  # somebody has cancelled the job
+            self._make(self._job.forfeit, self._term, files)
+        self._sweep()
 
     @contextlib.contextmanager
     def _made(self, file: int) -> Iterator[Any]:

@@ -2,10 +2,10 @@
 docs/PROTOCOL.md has the lines. World replays them: it makes the calls of the log again, and keeps what the storage holds."""
 import re
 from dataclasses import dataclass, field
-from typing import Dict, FrozenSet, Iterable, Iterator, List, Optional, Set, Tuple
+from typing import Dict, FrozenSet, Iterable, Iterator, List, Optional, Sequence, Set, Tuple
 
 from relkvanu import lines
-from relkvanu.coordinator import Coordinator, Error, Refused, Settings
+from relkvanu.coordinator import Coordinator, Error, Fenced, Refused, Settings
 from relkvanu.replies import Reply, Taken
 
 Files = Tuple[int, ...]
@@ -71,7 +71,8 @@ FORMS: Tuple[Tuple[str, str, str], ...] = (
     (rf"term {NUMBER} of {TASK}", "term", "number task"),
 )
 COMPILED = tuple((re.compile(form), verb, names.split()) for form, verb, names in FORMS)
-LOGGED = re.compile(r"(config|job|start|tick|savepoint|ack|decline|dispose|restore|cancel|take|deleted|undeleted) .*|cancel")
+LOGGED = re.compile(
+    r"(config|job|start|tick|savepoint|ack|decline|dispose|restore|cancel|take|deleted|undeleted|fence|reserve|forfeit|in) .*|cancel")
 
 
 def _event(verb: str, names: List[str], groups: Iterator[str]) -> Event:
@@ -153,6 +154,7 @@ class World:
         self.sender: Optional[Task] = None  # whose message the next call is made for
         self.accepted: Dict[int, Task] = {}  # the files of accepted acknowledgements, and whose each was first
         self.running: Dict[str, Task] = {}
+        self.has_names = False  # the job gives out the names of files
 
     def core(self) -> Coordinator:
         """That of the newest process."""
@@ -162,14 +164,22 @@ class World:
         return core
 
     def start_process(self, number: int) -> None:
-        self.processes[number] = self._replayed() if self.log.lines else None
+        self.processes[number] = self.replayed(len(self.log.lines)) if self.log.lines else None
         self.newest = self.speaker = number
 
-    def _replayed(self) -> Coordinator:
+    def replayed(self, count: int) -> Coordinator:
+        """A coordinator that makes the calls of so many lines of the log."""
         core = self._opened(self.log.lines[:3])
-        for line in self.log.lines[3:]:
+        for line in self.log.lines[3:count]:
             core.line(line.encode())
         return core
+
+    def not_garbage(self, files: Sequence[int]) -> Set[int]:
+        """Those of the files that nobody may delete, as the durable lines of the log say."""
+        if self.log.synced == len(self.log.lines):
+            return set(files) - set(self.core().garbage(files).garbage)
+        with self.replayed(self.log.synced) as durable:
+            return set(files) - set(durable.garbage(files).garbage)
 
     @staticmethod
     def _opened(opening: List[str]) -> Coordinator:
@@ -190,16 +200,18 @@ class World:
                 self.processes[self.speaker] = self._opened(self.opening)
             return None
         try:
-            return core.line(line.encode())
+            reply = core.line(line.encode())
         except Error as fault:
             raise NoTrace(f"the library does not take this call: {line}: {fault}") from fault
+        self.has_names = self.has_names or line.startswith("fence ")
+        return reply
 
     def refuse(self, line: str) -> None:
         """Makes a call that the library refused. Raises NoTrace if it takes it now."""
         core = self.processes.get(self.speaker)
         try:
             reply = core.line(line.encode()) if core else None
-        except Refused:
+        except (Refused, Fenced):
             return
         raise NoTrace(f"the library does not refuse this call: {line}: {reply}")
 

@@ -1,8 +1,11 @@
-"""State files in a bucket of the server that the environment names (embed/s3/start): what is put, deleted and listed, and what counts as deleted
-when the server fails. embed/s3/run runs it."""
+"""State files in a bucket of the server that the environment names (embed/s3/start): what is put, deleted and listed, what counts as deleted
+when the server fails, and what a sweeper deletes. embed/s3/run runs it."""
+import contextlib
+import io
 import json
 import os
 import signal
+import threading
 import unittest
 import uuid
 from unittest import mock
@@ -10,9 +13,12 @@ from unittest import mock
 import boto3
 from botocore.config import Config
 
+import relkvanu.sweep
 from relkvanu import Coordinator, FileCounts, Settings
 from relkvanu.s3 import Bucket, KeepsVersions
-from relkvanu.storage import Exists, NotThere, OtherJob, StorageError, discard, sweep, unknown
+from relkvanu.storage import Exists, Marker, NotThere, OtherJob, StorageError, discard, sweep, unknown
+from relkvanu.sweep import Swept
+from served import MARKER, job_with_files, served
 
 
 def client(**words):
@@ -178,6 +184,143 @@ class WithACoordinator(OnAServer):
             core.restore(20)
             self.assertEqual(sweep(files, lambda some: unknown(core, some)), {})
             self.assertEqual(self.keys(), ["2"])
+
+
+class Sweeping(OnAServer):
+    def setUp(self):
+        super().setUp()
+        self.job = job_with_files()
+        self.addCleanup(self.job.close)
+        self.files = self.opened(is_new=True, prefix="orders/state-", suffix=".sst", marker=Marker(".relkvanu-orders", MARKER))
+        for file in range(4, 10):
+            self.files.put(file, b"x" * file)
+
+    def test_the_marker_is_beside_the_files(self):
+        self.assertEqual(self.s3.get_object(Bucket=self.bucket, Key="orders/.relkvanu-orders")["Body"].read().decode(), MARKER)
+        self.assertEqual(self.files.beside(".relkvanu-"), [".relkvanu-orders"])
+        with self.assertRaises(OtherJob):
+            self.opened(prefix="orders/state-", marker=Marker(".relkvanu-orders", "another"))
+
+    def test_only_garbage_goes(self):
+        self.assertEqual(relkvanu.sweep.sweep(self.files, self.job.garbage), Swept(listed=6, garbage=2, garbage_bytes=12, unissued=1))
+        self.assertEqual(len(self.keys()), 6)
+        swept = relkvanu.sweep.sweep(self.files, self.job.garbage, delete=True)
+        self.assertEqual(swept, Swept(listed=6, garbage=2, garbage_bytes=12, deleted=2, unissued=1))
+        self.assertEqual(self.keys(), [f"orders/state-{file}.sst" for file in (5, 6, 7, 9)])
+        self.job.restore(20)
+        self.assertEqual(relkvanu.sweep.sweep(self.files, self.job.garbage, delete=True).deleted, 1)
+        self.assertEqual(self.keys(), [f"orders/state-{file}.sst" for file in (5, 6, 9)])
+
+    def test_pages_while_it_deletes(self):
+        """Each third file is in use. The listing goes on behind the last key of a page, though files of the page are gone."""
+        self.files.delete([9])  # a name that is given out next
+        names = list(self.job.reserve(1, 300))
+        self.job.tick(20)
+        self.job.ack_in(1, 20, 2, 0, 0, names[::3])
+        self.job.restore(30)
+        for file in names:
+            self.files.put(file, b"")
+        found = list(relkvanu.sweep.pages(self.files, self.job.garbage, delete=True, most=50))
+        self.assertGreaterEqual(len(found), 7)
+        waiting = [5, 6]  # of checkpoint 1, which a discarder has not fetched
+        self.assertEqual(self.keys(), sorted(f"orders/state-{file}.sst" for file in [*waiting, *names[::3]]))
+
+    def test_one_key_fails_in_an_answer_that_succeeds(self):
+        denied = {"Effect": "Deny", "Principal": "*", "Action": "s3:DeleteObject", "Resource": f"arn:aws:s3:::{self.bucket}/orders/state-4.sst"}
+        self.s3.put_bucket_policy(Bucket=self.bucket, Policy=json.dumps({"Version": "2012-10-17", "Statement": [denied]}))
+        swept = relkvanu.sweep.sweep(self.files, self.job.garbage, delete=True)
+        self.assertEqual((swept.garbage, swept.deleted, list(swept.failed)), (2, 1, [4]))
+        self.assertIn("AccessDenied", swept.failed[4])
+        self.assertIn("orders/state-4.sst", self.keys())
+
+    def test_a_bucket_that_goes_while_it_sweeps(self):
+        def ask(files):
+            for it in self.s3.list_objects_v2(Bucket=self.bucket)["Contents"]:
+                self.s3.delete_object(Bucket=self.bucket, Key=it["Key"])
+            self.s3.delete_bucket(Bucket=self.bucket)
+            return self.job.garbage(files)
+
+        swept = relkvanu.sweep.sweep(self.files, ask, delete=True)
+        self.assertEqual((swept.deleted, sorted(swept.failed)), (0, [4, 8]))
+
+    def test_a_time_out_is_not_deleted(self):
+        osd = int(os.environ["S3_OSD"])
+        slow = self.opened(prefix="orders/state-", suffix=".sst", s3=client(patience=1), marker=Marker(".relkvanu-orders", MARKER))
+
+        def ask(files):
+            os.kill(osd, signal.SIGSTOP)
+            return self.job.garbage(files)
+
+        try:
+            swept = relkvanu.sweep.sweep(slow, ask, delete=True)
+        finally:
+            os.kill(osd, signal.SIGCONT)
+        self.assertEqual((swept.deleted, sorted(swept.failed)), (0, [4, 8]))
+        self.assertEqual(relkvanu.sweep.sweep(self.files, self.job.garbage, delete=True).failed, {})
+        self.assertEqual(self.keys(), [f"orders/state-{file}.sst" for file in (5, 6, 7, 9)])
+
+    def test_versions_that_are_switched_on_later(self):
+        self.s3.put_bucket_versioning(Bucket=self.bucket, VersioningConfiguration={"Status": "Enabled"})
+        swept = relkvanu.sweep.sweep(self.files, self.job.garbage, delete=True)
+        self.assertEqual((swept.deleted, sorted(swept.failed)), (0, [4, 8]))
+
+    def test_beside_a_job_that_runs(self):
+        """Of 40 checkpoints each file of the last complete one is there after each, while two sweepers run."""
+        over, swept, faults = threading.Event(), [], []
+        self.files.delete([9])  # a name that is given out next
+
+        def sweeps():
+            try:
+                while not over.is_set():
+                    swept.append(relkvanu.sweep.sweep(self.files, self.job.garbage, delete=True))
+            except BaseException as fault:
+                faults.append(fault)
+
+        sweepers = [threading.Thread(target=sweeps) for _ in range(2)]
+        for it in sweepers:
+            it.start()
+        try:
+            for turn in range(40):
+                names = list(self.job.reserve(self.job.term().term, 2))
+                for name in names:
+                    self.files.put(name, b"state")
+                triggered = self.job.tick(20 + 10 * turn)
+                if turn % 4 == 3:
+                    self.job.restore(20 + 10 * turn)  # its files are garbage
+                    continue
+                self.job.ack_in(self.job.term().term, 20 + 10 * turn, triggered.id, 0, 0, names)
+                for name in names:
+                    self.files.get(name)  # or it raises
+                discard(self.job, self.files)
+                self.assertEqual(faults, [])
+        finally:
+            over.set()
+            for it in sweepers:
+                it.join()
+        relkvanu.sweep.sweep(self.files, self.job.garbage, delete=True)
+        self.assertEqual(len(self.keys()), 2)
+        self.assertGreater(sum(it.deleted for it in swept), 10)
+
+    def test_the_command(self):
+        words = ["--job", "orders", "--bucket", self.bucket, "--prefix", "orders/state-", "--suffix", ".sst", "--patience", "1s",
+                 "--endpoint", os.environ["S3_ENDPOINT"], "--region", os.environ["S3_REGION"]]
+        with served(self.job) as url:
+            words += ["--service", url]
+            self.assertEqual(self.ran(words)[0], 3)
+            self.assertEqual(len(self.keys()), 6)
+            status, told = self.ran([*words, "--delete"])
+            self.assertEqual((status, told[:-1]), (3, ["deleted orders/state-4.sst 4", "deleted orders/state-8.sst 8", "unissued orders/state-9.sst 9"]))
+            self.assertEqual(self.keys(), [f"orders/state-{file}.sst" for file in (5, 6, 7, 9)])
+            self.s3.delete_object(Bucket=self.bucket, Key="orders/.relkvanu-orders")
+            self.assertEqual(self.ran([*words, "--delete"]), (78, []))
+            self.s3.put_bucket_versioning(Bucket=self.bucket, VersioningConfiguration={"Status": "Enabled"})
+            self.assertEqual(self.ran([*words, "--delete"]), (78, []))
+
+    def ran(self, words):
+        out = io.StringIO()
+        with contextlib.redirect_stdout(out), contextlib.redirect_stderr(io.StringIO()):
+            status = relkvanu.sweep.main(words)
+        return status, out.getvalue().split("\n")[:-1]
 
 
 if __name__ == "__main__":

@@ -62,15 +62,17 @@ class Obeying(unittest.TestCase):
         self.assertEqual(check([*OPENING, "task 0.0 1 writes 9", "task 0.0 1 unlinks 9"]), [])
 
 
-class Breaking(unittest.TestCase):
-    """Each changes the job that obeys the rules in one place."""
-
+class Judging(unittest.TestCase):
     def breaks(self, lines, rule, line, *came):
         """The first broken rule is this one, at this line (from 1)."""
         rules, what = found(lines)
         self.assertEqual(rules[:1], [(line, rule)], lines)
         for it in came:
             self.assertTrue(any(it in one for one in what), (it, what))
+
+
+class Breaking(Judging):
+    """Each changes the job that obeys the rules in one place."""
 
     def test_each_rule_has_a_sentence(self):
         self.assertEqual(sorted(RULES), list(range(1, 11)))
@@ -136,6 +138,82 @@ class Breaking(unittest.TestCase):
         at = WHOLE.index("task 0.0 1 writes 1")
         lines.insert(at, "storage away")
         self.breaks(lines, 10, at + 2, "file 1 is lost")
+
+
+NAMED = [*OPENING[:4], "fence 1", *OPENING[4:]]
+
+
+def named(record, file, start=1, term=1, reused=""):
+    """A checkpoint of one task, which reserves the name of its file."""
+    plain = [line.replace("ack", f"in {term} ack") if line.startswith("ack") else line for line in checkpoint(record, file, start, reused)]
+    at = next(place for place, line in enumerate(plain) if " writes " in line)
+    return [*plain[:at], f"reserve {term} 1", "log synced", *plain[at:]]
+
+
+# The task of term 1 has written file 3, and never acknowledges it.
+REPLACED = [*NAMED, *named(1, 1), *named(2, 2), "reserve 1 1", "log synced", "task 0.0 1 writes 3", "restore 20 latest", "log synced", "task 0.0 2 starts"]
+
+
+class WithNames(Judging):
+    """The job gives out the names of files."""
+
+    def test_a_whole_job(self):
+        self.assertEqual(check([*NAMED, *named(1, 1), *named(2, 2), *DISCARD]), [])
+        self.assertEqual(check([*REPLACED, *named(3, 4, 2, 2, " =2")]), [])
+
+    def test_a_sweep_deletes_garbage_at_any_time(self):
+        self.assertEqual(check([*REPLACED, "sweeper lists 1 2 3", "sweeper unlinks 3"]), [])
+        self.assertEqual(check([*NAMED, *named(1, 1), "reserve 1 1", "log synced", "task 0.0 1 writes 2", "forfeit 1 2", "log synced", "sweeper unlinks 2"]), [])
+
+    def test_8_a_sweep_of_what_is_not_garbage(self):
+        held = REPLACED[:REPLACED.index("task 0.0 1 writes 3") + 1]
+        for before, file in ((held, 2), (held, 1), (held, 3), (held, 9), (REPLACED, 2)):  # in use, waiting, held, not given out, in use
+            self.breaks([*before, f"sweeper unlinks {file}"], 8, len(before) + 1)
+        self.breaks([*held, "sweeper unlinks 2"], 8, len(held) + 1, "file 2 is lost: record 2")
+
+    def test_8_a_restore_that_is_not_durable_makes_no_garbage(self):
+        lines = [*REPLACED[:REPLACED.index("restore 20 latest") + 1], "sweeper unlinks 3"]
+        self.breaks(lines, 8, len(lines))
+
+    def test_1_a_name_is_used_before_its_reservation_is_durable(self):
+        at = NAMED.index("task 0.0 1 starts") + 1 + named(1, 1).index("reserve 1 1") + 1
+        lines = [*NAMED, *named(1, 1)]
+        self.breaks([*lines[:at], *lines[at + 1:]], 1, at + 1)
+
+    def test_1_a_name_that_nobody_reserved(self):
+        self.breaks([*NAMED, "task 0.0 1 writes 7"], 1, len(NAMED) + 1)
+
+    def test_a_message_of_a_replaced_task_is_refused(self):
+        told = ["tick 30", "log synced", "barrier 3 to 0.0 2", "from 0.0 1"]
+        for message in ("in 1 ack 30 3 0.0 =2", "in 1 ack 30 3 0.0 +3", "in 1 decline 30 3 0.0", "ack 30 3 0.0 =2"):
+            self.assertEqual(check([*REPLACED, *told, f"refused {message}"]), [], message)
+        for call in ("reserve 1 1", "forfeit 1 3"):
+            self.assertEqual(check([*REPLACED, f"refused {call}"]), [], call)
+        lines = [*REPLACED, *told, "in 2 ack 30 3 0.0 =2"]  # it got the term of others
+        self.breaks(lines, 3, len(lines), "record 3 is done, and has a part of a task that was replaced")
+
+    def test_a_message_that_comes_twice(self):
+        lines = [*NAMED, *named(1, 1), "task 0.0 1 sends ack 1 +1", "from 0.0 1", "refused in 1 ack 10 1 0.0 +1", "answer to 0.0 1 refused"]
+        self.assertEqual(check(lines), [])
+        self.breaks([*lines, "task 0.0 1 unlinks 1"], 6, len(lines) + 1, "file 1 is lost: record 1")
+
+    def test_a_report_rests_on_nothing(self):
+        """A file that comes back is garbage."""
+        lines = [*NAMED, *named(1, 1), *named(2, 2), *without(DISCARD, "folder synced"), "storage loses power"]
+        self.assertEqual(check(lines), [])
+        self.assertEqual(check([*lines, "sweeper unlinks 1", "folder synced"]), [])
+
+    def test_a_process_that_goes_on(self):
+        ended = [*REPLACED, "reserve 2 1", "process 1 ends", "log cut", "process 2 starts", "restore 20 latest", "log synced", "task 0.0 3 starts"]
+        self.assertEqual(check([*ended, *named(3, 4, 3, 3, " =2")]), [])
+
+    def test_damaged_lines(self):
+        for line in ("reserve 1", "reserve 1 x", "reserve", "fence", "in 1", "in x tick 10", "forfeit", "reserve 1 1 1", "in 1 in 1 tick 10", "fence 9"):
+            with self.subTest(line=line), self.assertRaises(NoTrace):
+                check([*NAMED, line])
+        for line in ("reserve 1 1", "in 1 tick 10", "forfeit 1"):
+            with self.subTest(line=line), self.assertRaises(NoTrace):
+                check([*OPENING, line])
 
 
 class Damaged(unittest.TestCase):

@@ -1,8 +1,10 @@
 """Terms and names: what a task of the term that runs may do, what one of an ended term may not, and what is garbage."""
+import pathlib
 import unittest
 
 from relkvanu import (
-    AckCompleted, AckLate, BadArgument, Cancelled, Closed, Coordinator, DeclineFailed, Fenced, Refused, RestoredCheckpoint, Settings, Taken, Triggered,
+    AckCompleted, AckLate, BadArgument, Cancelled, Closed, Coordinator, DeclineFailed, Fenced, Forfeited, Named, Refused, Reserved, RestoredCheckpoint,
+    Settings, Taken, Triggered, lines,
 )
 
 SETTINGS = Settings(interval=1000)
@@ -147,6 +149,38 @@ class Names(unittest.TestCase):
                 lambda: job.ack_in((1 << 64) + 1, 2000, 2, 0, 0, [7]), lambda: job.decline_in(1, 2000, 2, 1 << 16, 0),
             ):
                 self.assertRaises(OverflowError, call)
+
+
+class Logs(unittest.TestCase):
+    """The example of docs/LOGS.md, whose answers stand beside its lines."""
+
+    @staticmethod
+    def told(job, line):
+        try:
+            reply = job.line(line.encode())
+        except Fenced as error:
+            return [f"refused {error}" if line.startswith("fence") else f"fenced {error}"]
+        texts = {
+            Triggered: "tick expired {0.expired} triggered {0.id}", AckCompleted: "ack completed {0.dropped} {0.released}", AckLate: "ack late {0.handed_out}",
+            Reserved: "reserved {0.first}", Forfeited: "forfeited", RestoredCheckpoint: "restored checkpoint {0.id} {0.released}",
+            Cancelled: "cancelled {0.dropped} {0.released}",
+        }
+        if isinstance(reply, Taken):
+            return [" ".join(["take", *map(str, reply.files)])]
+        told = [] if isinstance(reply, Named) else [texts[type(reply)].format(reply)]
+        return told + ([f"term {job.term().term}"] if isinstance(reply, (Named, RestoredCheckpoint, Cancelled)) else [])
+
+    def test_the_example(self):
+        page = (pathlib.Path(__file__).resolve().parents[3] / "docs/LOGS.md").read_text()
+        example = page.partition("## 5. An example")[2].split("```")[1].strip().split("\n")
+        settings, shape, start = (lines.line_says(line.encode()) for line in example[:3])
+        wanted, found = [], []
+        with Coordinator(settings, shape.shape, start.now) as job:
+            for line, _, answer in (it.partition("->") for it in example[3:]):
+                wanted.append(answer.strip())
+                found += self.told(job, line.strip()) if line.strip() else []
+        self.assertEqual(found, wanted)
+        self.assertGreater(len(found), 15)
 
 
 if __name__ == "__main__":

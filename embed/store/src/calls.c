@@ -3,10 +3,12 @@
 
 #include <stdlib.h>
 
+enum { NAMES = 4096, MOST_NAMES = 65536 }; /* of a line; of a list */
+
 static bool is_well_formed(const relkvanu_store_call *call) {
     uint32_t kind = call->call.kind;
-    return kind >= RELKVANU_CALL_TICK && kind <= RELKVANU_CALL_UNDELETED && call->reserved[0] == 0 && call->reserved[1] == 0 &&
-           (kind != RELKVANU_CALL_TAKE || call->call.number <= call->files_len);
+    bool is_made = kind >= RELKVANU_CALL_TICK && kind <= RELKVANU_CALL_FORFEIT && kind != RELKVANU_CALL_SHOW && kind != RELKVANU_CALL_COUNT;
+    return is_made && call->reserved[0] == 0 && call->reserved[1] == 0 && (kind != RELKVANU_CALL_TAKE || call->call.number <= call->files_len);
 }
 
 /* Appends the line of a call. */
@@ -35,10 +37,13 @@ int rks_write_lines(relkvanu_store *s, struct rks_waiter *w) {
         relkvanu_store_call *call = &w->calls[i];
         relkvanu_call made = call->call;
         call->answer = call->choice = (relkvanu_answer){0};
-        call->place = 0;
+        call->place = call->term = 0;
         made.now = made.now == RELKVANU_STORE_NOW ? now : made.now;
         status = is_well_formed(call) ? write_line(call, made, &w->lines) : RELKVANU_STORE_BAD_ARGUMENT;
         w->ends[i] = w->lines.len;
+        if (status == RELKVANU_STORE_OK && made.kind == RELKVANU_CALL_FENCE && s->folder >= 0) {
+            status = rks_owner(s) == RELKVANU_STORE_OK ? rks_greatest_file(s, &w->greatest) : RELKVANU_STORE_STORAGE;
+        }
     }
     return status;
 }
@@ -68,10 +73,42 @@ int relkvanu_store_calls(relkvanu_store *s, relkvanu_store_call *calls, size_t c
     return status;
 }
 
-int relkvanu_store_ack(relkvanu_store *s, uint64_t now, uint64_t id, uint16_t vertex, uint16_t index, const uint64_t *fresh, size_t fresh_len, const uint64_t *reused, size_t reused_len, relkvanu_answer *answer) {
-    relkvanu_store_call call = {.call = {.kind = RELKVANU_CALL_ACK, .vertex = vertex, .index = index, .now = now, .number = id},
-        .first = fresh, .first_len = fresh_len, .second = reused, .second_len = reused_len};
+static int make_one(relkvanu_store *s, relkvanu_store_call call, relkvanu_answer *answer) {
     int status = relkvanu_store_calls(s, &call, 1);
     *answer = call.answer;
+    return status;
+}
+
+int relkvanu_store_ack_in(relkvanu_store *s, uint64_t term, uint64_t now, uint64_t id, uint16_t vertex, uint16_t index, const uint64_t *fresh, size_t fresh_len, const uint64_t *reused, size_t reused_len, relkvanu_answer *answer) {
+    relkvanu_call call = {.kind = RELKVANU_CALL_ACK, .vertex = vertex, .index = index, .now = now, .number = id, .term = term};
+    return make_one(s, (relkvanu_store_call){.call = call, .first = fresh, .first_len = fresh_len, .second = reused, .second_len = reused_len}, answer);
+}
+
+int relkvanu_store_ack(relkvanu_store *s, uint64_t now, uint64_t id, uint16_t vertex, uint16_t index, const uint64_t *fresh, size_t fresh_len, const uint64_t *reused, size_t reused_len, relkvanu_answer *answer) {
+    return relkvanu_store_ack_in(s, 0, now, id, vertex, index, fresh, fresh_len, reused, reused_len, answer);
+}
+
+int relkvanu_store_reserve(relkvanu_store *s, uint64_t term, uint64_t count, relkvanu_answer *answer) {
+    relkvanu_call call = {.kind = RELKVANU_CALL_RESERVE, .number = count, .term = term};
+    return make_one(s, (relkvanu_store_call){.call = call}, answer);
+}
+
+/* No line has room for as many names as a task can reserve, so there may be several calls, in one list. */
+int relkvanu_store_forfeit(relkvanu_store *s, uint64_t term, const uint64_t *names, size_t names_len, relkvanu_answer *answer) {
+    relkvanu_store_call calls[MOST_NAMES / NAMES] = {0};
+    size_t len = 0, place = 0;
+    *answer = (relkvanu_answer){.code = RELKVANU_STORE_NOT_MADE};
+    if (names_len > MOST_NAMES) {
+        return RELKVANU_STORE_BAD_ARGUMENT;
+    }
+    do {
+        size_t rest = names_len - len * NAMES;
+        calls[len] = (relkvanu_store_call){.call = {.kind = RELKVANU_CALL_FORFEIT, .term = term}, .first = names + len * NAMES, .first_len = rest < NAMES ? rest : NAMES};
+    } while (++len * NAMES < names_len);
+    int status = relkvanu_store_calls(s, calls, len);
+    while (place + 1 < len && calls[place].answer.code == RELKVANU_DONE) {
+        place++;
+    }
+    *answer = calls[place].answer;
     return status;
 }

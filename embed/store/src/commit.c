@@ -78,6 +78,9 @@ static int insert_all(relkvanu_store *s) {
     int status = RELKVANU_STORE_OK;
     for (size_t i = 0; i < s->rows_len && status == RELKVANU_STORE_OK; i++) {
         status = insert(s, &s->rows[i]);
+        if (status == RELKVANU_STORE_OK && s->rows[i].answer.what == RELKVANU_NAMED) {
+            status = rks_set_format(s, RKS_NAMED);
+        }
     }
     return status;
 }

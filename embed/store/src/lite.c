@@ -42,6 +42,13 @@ int rks_run(relkvanu_store *s, const char *sql) {
     return sqlite3_exec(s->db, sql, NULL, NULL, NULL) == SQLITE_OK ? RELKVANU_STORE_OK : rks_fault(s, sql);
 }
 
+/* Within the transaction that is under way. */
+int rks_set_format(relkvanu_store *s, int format) {
+    char pragma[40];
+    snprintf(pragma, sizeof pragma, "PRAGMA user_version=%d", format);
+    return rks_run(s, pragma);
+}
+
 int rks_step(relkvanu_store *s, enum rks_statement statement, const char *what) {
     sqlite3_stmt *it = s->statements[statement];
     int code = sqlite3_step(it), status = code == SQLITE_DONE || code == SQLITE_ROW ? RELKVANU_STORE_OK : rks_fault(s, what);

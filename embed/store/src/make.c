@@ -58,9 +58,23 @@ static void add_row(relkvanu_store *s, relkvanu_store_call *call, const uint8_t 
     s->chain = row->chain = rks_chain(s->chain, row);
 }
 
-static void make(relkvanu_store *s, relkvanu_store_call *call, const uint8_t *line, size_t len) {
+/* Whether the folder has a file that a fence would give the name of to another one. The coordinator knows acknowledged files only. */
+static bool is_named(relkvanu_store *s, const relkvanu_call *call, uint64_t greatest) {
+    return call->kind == RELKVANU_CALL_FENCE && call->number != 0 && call->number <= greatest && call->number <= RKS_MOST_NAME && !rks_has_names(s);
+}
+
+/* A term begins with an accepted restore, cancel or fence. Who starts tasks gets it from the answer: another one may begin meanwhile. */
+static bool begins_a_term(uint32_t what) {
+    return (what >= RELKVANU_RESTORED_CHECKPOINT && what <= RELKVANU_CANCELLED) || what == RELKVANU_NAMED;
+}
+
+static void make(relkvanu_store *s, relkvanu_store_call *call, uint64_t greatest, const uint8_t *line, size_t len) {
     if (is_ahead(s, &call->call)) {
         call->answer = (relkvanu_answer){.code = RELKVANU_REFUSED, .what = RELKVANU_MOMENT_TOO_LARGE};
+        return;
+    }
+    if (is_named(s, &call->call, greatest)) {
+        call->answer = (relkvanu_answer){.code = RELKVANU_FENCED, .what = RELKVANU_NAME_IN_USE};
         return;
     }
     call->answer = relkvanu_line(&s->handle, line, len, call->files, call->files_len);
@@ -74,6 +88,7 @@ static void make(relkvanu_store *s, relkvanu_store_call *call, const uint8_t *li
     if (what == RELKVANU_TICK_TRIGGERED || what == RELKVANU_SAVEPOINT_TRIGGERED) {
         call->choice = relkvanu_choice(&s->handle);
     }
+    call->term = begins_a_term(what) ? relkvanu_term(&s->handle).a : 0;
     note(s, call->answer);
     add_row(s, call, line, len);
 }
@@ -85,7 +100,7 @@ static void make_list(relkvanu_store *s, struct rks_waiter *w) {
         if (is_out) {
             w->calls[i].answer.code = RELKVANU_STORE_NOT_MADE;
         } else {
-            make(s, &w->calls[i], w->lines.at + begin, w->ends[i] - begin);
+            make(s, &w->calls[i], w->greatest, w->lines.at + begin, w->ends[i] - begin);
             is_out = w->calls[i].answer.code == RELKVANU_NO_MEMORY;
         }
     }

@@ -11,7 +11,7 @@
 #include <sys/random.h>
 #include <unistd.h>
 
-enum { APPLICATION = 0x52564b53, FORMAT = 1, LINES = 16384, NO_STORAGE = 0, TO_MARK = 1, MARKED = 2 };
+enum { APPLICATION = 0x52564b53, LINES = 16384, NO_STORAGE = 0, TO_MARK = 1, MARKED = 2 };
 static const uint64_t DAY = 86400000, IMAGE_CALLS = 10000;
 
 /* The tables. The lines of the opening are kept as they are written, to compare them with those of a later opening. */
@@ -72,7 +72,7 @@ static int read_job(relkvanu_store *s, struct job *job) {
     if (application != APPLICATION) {
         return told(s, RELKVANU_STORE_NOT_A_STORE, "it is another kind of database");
     }
-    if (format != FORMAT) {
+    if (format != RKS_PLAIN && format != RKS_NAMED) {
         return told(s, RELKVANU_STORE_NOT_A_STORE, "a later version of the library made it");
     }
     status = rks_ask(s, "SELECT epoch FROM job", &job->epoch, NULL, 0);
@@ -94,14 +94,41 @@ static int opening_lines(const relkvanu_store_options *o, char lines[LINES]) {
     return answer.code == RELKVANU_DONE ? RELKVANU_STORE_OK : answer.code == RELKVANU_NO_MEMORY ? RELKVANU_STORE_NO_MEMORY : RELKVANU_STORE_BAD_ARGUMENT;
 }
 
-/* Opens the coordinator of a new job, at the moment 0, and names the job. */
-static int begin_job(relkvanu_store *s, const relkvanu_store_options *o) {
-    uint64_t words[4];
+static bool is_plain(const relkvanu_store *s) {
+    return (s->options.flags & RELKVANU_STORE_PLAIN) != 0;
+}
+
+/* The first name of a new job: above the numbers of all files that are adopted, so that these count as given out; 0: it has no names. */
+static int choose_first_name(relkvanu_store *s, uint64_t *name) {
+    uint64_t greatest = 0;
+    int status = is_plain(s) || s->folder < 0 ? RELKVANU_STORE_OK : rks_greatest_file(s, &greatest);
+    if (status != RELKVANU_STORE_OK) {
+        return told(s, status, "the storage folder can't be read");
+    }
+    if (greatest >= RKS_MOST_NAME) {
+        return told(s, RELKVANU_STORE_STORAGE, "the storage folder has a file with a number from 2^62 on, so that no name is above it");
+    }
+    *name = is_plain(s) ? 0 : greatest + 1;
+    return status;
+}
+
+/* Opens the coordinator of a new job, at the moment 0, and names the job. Adds what begins its names to the lines. */
+static int begin_job(relkvanu_store *s, const relkvanu_store_options *o, char lines[LINES]) {
+    uint64_t words[4], name = 0;
+    int status = choose_first_name(s, &name);
+    if (status != RELKVANU_STORE_OK) {
+        return status;
+    }
     if (getentropy(words, sizeof words) != 0) {
         return told(s, RELKVANU_STORE_FAILED, "no random numbers");
     }
     snprintf(s->identity, sizeof s->identity, "%016" PRIx64 "%016" PRIx64, words[2], words[3]);
-    relkvanu_answer answer = relkvanu_open(&s->handle, &o->settings, o->shape, o->shape_len, 0, 1, words[0], words[1]);
+    relkvanu_answer answer = name == 0 ? relkvanu_open(&s->handle, &o->settings, o->shape, o->shape_len, 0, 1, words[0], words[1])
+                                       : relkvanu_open_fenced(&s->handle, &o->settings, o->shape, o->shape_len, 0, 1, name, words[0], words[1]);
+    if (name != 0) {
+        size_t len = strlen(lines);
+        snprintf(lines + len, LINES - len, "fence %" PRIu64 "\n", name);
+    }
     return answer.code == RELKVANU_DONE ? rks_save(s) : answer.code == RELKVANU_NO_MEMORY ? RELKVANU_STORE_NO_MEMORY : told(s, RELKVANU_STORE_BAD_ARGUMENT, "bad settings or shape");
 }
 
@@ -119,10 +146,11 @@ static int insert_job(relkvanu_store *s, const char *lines, int storage) {
 
 /* Makes the tables of a new job in one transaction, with the image of its opening. */
 static int write_job(relkvanu_store *s, const char *lines, int storage) {
-    char pragmas[96];
-    snprintf(pragmas, sizeof pragmas, "PRAGMA application_id=%d; PRAGMA user_version=%d", APPLICATION, FORMAT);
+    char pragma[40];
+    snprintf(pragma, sizeof pragma, "PRAGMA application_id=%d", APPLICATION);
     int status = rks_run(s, TABLES);
-    status = status == RELKVANU_STORE_OK ? rks_run(s, pragmas) : status;
+    status = status == RELKVANU_STORE_OK ? rks_run(s, pragma) : status;
+    status = status == RELKVANU_STORE_OK ? rks_set_format(s, is_plain(s) ? RKS_PLAIN : RKS_NAMED) : status;
     status = status == RELKVANU_STORE_OK ? insert_job(s, lines, storage) : status;
     status = status == RELKVANU_STORE_OK ? rks_prepare(s) : status;
     status = status == RELKVANU_STORE_OK ? rks_write_image(s) : status;
@@ -139,7 +167,7 @@ static int create(relkvanu_store *s, const relkvanu_store_options *o) {
     if (status == RELKVANU_STORE_BAD_ARGUMENT) {
         return told(s, status, "bad settings or shape");
     }
-    status = status == RELKVANU_STORE_OK ? begin_job(s, o) : status;
+    status = status == RELKVANU_STORE_OK ? begin_job(s, o, lines) : status;
     return status == RELKVANU_STORE_OK ? write_job(s, lines, o->storage == NULL ? NO_STORAGE : TO_MARK) : status;
 }
 
@@ -175,7 +203,8 @@ static int recover(relkvanu_store *s, const struct job *job, const relkvanu_stor
     status = status == RELKVANU_STORE_OK ? begin_epoch(s) : status;
     if (status == RELKVANU_STORE_OK) {
         report->is_recovered = true;
-        report->settings_differ = opening_lines(o, lines) != RELKVANU_STORE_OK || strcmp(lines, job->opening) != 0;
+        /* the line of the names, if there is one, comes last */
+        report->settings_differ = opening_lines(o, lines) != RELKVANU_STORE_OK || strncmp(lines, job->opening, strlen(lines)) != 0;
     }
     return status;
 }
@@ -218,6 +247,9 @@ static void fill(relkvanu_store *s, const struct job *job, relkvanu_store_report
     report->moment = relkvanu_moment(&s->handle).a;
     report->mode = relkvanu_mode(&s->handle);
     report->choice = relkvanu_choice(&s->handle);
+    relkvanu_answer term = relkvanu_term(&s->handle);
+    report->term = term.a;
+    report->next_name = term.b;
     set_steps(report);
     s->clock_offset = report->moment - rks_clock_ns() / 1000000;
     s->last_mode = report->mode.what;
@@ -273,7 +305,7 @@ static void release(relkvanu_store *s) {
 }
 
 static bool are_known(const relkvanu_store_options *o) {
-    const uint32_t flags = RELKVANU_STORE_CREATE | RELKVANU_STORE_CREATE_ONLY | RELKVANU_STORE_ADOPT | RELKVANU_STORE_EARLIER_IMAGE;
+    const uint32_t flags = RELKVANU_STORE_CREATE | RELKVANU_STORE_CREATE_ONLY | RELKVANU_STORE_ADOPT | RELKVANU_STORE_EARLIER_IMAGE | RELKVANU_STORE_PLAIN;
     return (o->flags & ~flags) == 0 && (o->reserved[0] | o->reserved[1] | o->reserved[2] | o->reserved[3]) == 0;
 }
 

@@ -20,6 +20,12 @@
 
 enum { RKS_CUT = 1000, RKS_MESSAGE = RELKVANU_STORE_MESSAGE, RKS_IDENTITY = 32 };
 
+/* The format of a file, its user_version: of a job without names, and of one with names. Libraries that know no names refuse the second. */
+enum { RKS_PLAIN = 1, RKS_NAMED = 2 };
+
+/* No name is greater, and no first name either. */
+#define RKS_MOST_NAME (UINT64_C(1) << 62)
+
 /* Bytes that grow. */
 struct rks_text {
     uint8_t *at;
@@ -41,6 +47,7 @@ struct rks_waiter {
     bool is_answered;      /* otherwise its turn is to lead */
     bool is_submitted;
     uint64_t token;
+    uint64_t greatest;     /* number of a file in the folder, if a call is a fence */
     size_t few[4];         /* what ends points to, if that is enough */
 };
 
@@ -98,6 +105,7 @@ struct relkvanu_store {
     uint64_t version; /* of what is committed */
     unsigned awaiting;
     bool is_stopped, is_discarding;
+    uint64_t swept, unissued; /* files: that sweeps have deleted; that the last one left, since their names were not given out */
     relkvanu_store_counts counts;
     char message[RKS_MESSAGE];
 
@@ -145,6 +153,7 @@ int rks_run(relkvanu_store *s, const char *sql);
 int rks_step(relkvanu_store *s, enum rks_statement statement, const char *what);
 int rks_ask(relkvanu_store *s, const char *sql, int64_t *number, char *text, size_t text_len);
 int rks_open_database(relkvanu_store *s);
+int rks_set_format(relkvanu_store *s, int format);
 int rks_prepare(relkvanu_store *s);
 int rks_checkpoint(relkvanu_store *s, int mode);
 void rks_close_database(relkvanu_store *s);
@@ -177,6 +186,15 @@ void rks_free_waiter(struct rks_waiter *w);
 
 /* calls.c */
 int rks_write_lines(relkvanu_store *s, struct rks_waiter *w);
+
+/* reads.c */
+bool rks_has_names(relkvanu_store *s);
+
+/* Moves those of the files to the front that may be deleted. Of a job with names it also counts those whose names were not given out. */
+int rks_deletable(relkvanu_store *s, uint64_t *files, size_t *files_len, size_t *unissued);
+
+/* storage.c: the greatest number of a file in the folder, or of a part; 0 if there is none. */
+int rks_greatest_file(relkvanu_store *s, uint64_t *greatest);
 
 /* timer.c */
 uint64_t rks_clock_ns(void);

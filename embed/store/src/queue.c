@@ -7,7 +7,7 @@
 void rks_drop_answers(relkvanu_store_call *calls, size_t calls_len) {
     for (size_t i = 0; i < calls_len; i++) {
         calls[i].answer = calls[i].choice = (relkvanu_answer){.code = RELKVANU_STORE_NOT_MADE};
-        calls[i].place = 0;
+        calls[i].place = calls[i].term = 0;
     }
 }
 

@@ -5,6 +5,8 @@
 #include <stdlib.h>
 #include <string.h>
 
+enum { PAGE = 256 };
+
 int relkvanu_store_read(relkvanu_store *s, relkvanu **handle) {
     struct rks_waiter w = {0};
     int status = rks_enter(s, &w);
@@ -27,6 +29,8 @@ void relkvanu_store_count(relkvanu_store *s, relkvanu_store_counts *counts) {
     if (!rks_is_forked(s)) {
         pthread_mutex_lock(&s->mutex);
         *counts = s->counts;
+        counts->swept = s->swept;
+        counts->unissued = s->unissued;
         pthread_mutex_unlock(&s->mutex);
     }
 }
@@ -71,6 +75,46 @@ static int released_files(relkvanu_store *s, uint64_t **released, size_t *len) {
     return RELKVANU_STORE_OK;
 }
 
+bool rks_has_names(relkvanu_store *s) {
+    return relkvanu_term(&s->handle).code == RELKVANU_DONE;
+}
+
+int relkvanu_store_term(relkvanu_store *s, relkvanu_answer *answer) {
+    relkvanu *handle;
+    int status = relkvanu_store_read(s, &handle);
+    *answer = (relkvanu_answer){.code = RELKVANU_STORE_NOT_MADE};
+    if (status == RELKVANU_STORE_OK) {
+        *answer = relkvanu_term(handle);
+        relkvanu_store_read_end(s);
+    }
+    return status;
+}
+
+int relkvanu_store_garbage(relkvanu_store *s, const uint64_t *files, size_t files_len, uint64_t *garbage, uint64_t *unissued, relkvanu_answer *answer) {
+    relkvanu *handle;
+    int status = relkvanu_store_read(s, &handle);
+    *answer = (relkvanu_answer){.code = RELKVANU_STORE_NOT_MADE};
+    if (status == RELKVANU_STORE_OK) {
+        *answer = relkvanu_garbage(handle, files, files_len, garbage, files_len, unissued, files_len);
+        relkvanu_store_read_end(s);
+    }
+    return status;
+}
+
+/* Moves the files that are garbage to the front, and counts those whose names were not given out. Takes no memory. */
+static size_t garbage_of(relkvanu_store *s, uint64_t *files, size_t len, size_t *unissued) {
+    uint64_t garbage[PAGE], others[PAGE];
+    size_t found = 0;
+    for (size_t begin = 0; begin < len; begin += PAGE) {
+        size_t page = len - begin < PAGE ? len - begin : PAGE;
+        relkvanu_answer answer = relkvanu_garbage(&s->handle, files + begin, page, garbage, PAGE, others, PAGE);
+        memcpy(files + found, garbage, answer.a * sizeof *files);
+        found += answer.a;
+        *unissued += answer.b;
+    }
+    return found;
+}
+
 /* Moves the files that nobody knows to the front. */
 static size_t unknown_of(relkvanu_store *s, const uint64_t *released, size_t released_len, uint64_t *files, size_t len) {
     size_t found = 0;
@@ -83,19 +127,34 @@ static size_t unknown_of(relkvanu_store *s, const uint64_t *released, size_t rel
     return found;
 }
 
-int relkvanu_store_unknown(relkvanu_store *s, uint64_t *files, size_t *files_len) {
-    relkvanu *handle;
+/* The same of a job without names: at the right time only, since its tasks may write any file. */
+static int unknown_now(relkvanu_store *s, uint64_t *files, size_t *files_len) {
     uint64_t *released = NULL;
     size_t released_len = 0;
+    int status = s->may_sweep ? released_files(s, &released, &released_len) : RELKVANU_STORE_NOT_NOW;
+    if (status == RELKVANU_STORE_OK) {
+        *files_len = unknown_of(s, released, released_len, files, *files_len);
+    }
+    free(released);
+    return status;
+}
+
+int rks_deletable(relkvanu_store *s, uint64_t *files, size_t *files_len, size_t *unissued) {
+    relkvanu *handle;
     int status = relkvanu_store_read(s, &handle);
     if (status != RELKVANU_STORE_OK) {
         return status;
     }
-    status = s->may_sweep ? released_files(s, &released, &released_len) : RELKVANU_STORE_NOT_NOW;
-    if (status == RELKVANU_STORE_OK) {
-        *files_len = unknown_of(s, released, released_len, files, *files_len);
+    if (rks_has_names(s)) {
+        *files_len = garbage_of(s, files, *files_len, unissued);
+    } else {
+        status = unknown_now(s, files, files_len);
     }
     relkvanu_store_read_end(s);
-    free(released);
     return status;
+}
+
+int relkvanu_store_unknown(relkvanu_store *s, uint64_t *files, size_t *files_len) {
+    size_t unissued = 0;
+    return rks_deletable(s, files, files_len, &unissued);
 }

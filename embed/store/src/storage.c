@@ -96,16 +96,36 @@ static bool is_file(const char *name, uint64_t *file) {
     return errno == 0 && (strcmp(name, whole) == 0 || strcmp(name, part) == 0);
 }
 
-/* Deletes those of the files that nobody knows. */
-static int sweep_page(relkvanu_store *s, uint64_t *files, size_t len, size_t *left) {
-    int status = relkvanu_store_unknown(s, files, &len);
+/* What is done with a page of the files of the folder. */
+struct pages {
+    int (*each)(relkvanu_store *s, struct pages *pages, uint64_t *files, size_t len);
+    size_t left, swept, unissued;
+    uint64_t greatest;
+};
+
+/* Deletes those of the files that may be deleted. Another opening may have the folder meanwhile. */
+static int sweep_page(relkvanu_store *s, struct pages *pages, uint64_t *files, size_t len) {
+    int status = rks_deletable(s, files, &len, &pages->unissued);
+    if (status == RELKVANU_STORE_OK && len != 0 && rks_owner(s) != RELKVANU_STORE_OK) {
+        status = RELKVANU_STORE_STORAGE;
+    }
     for (size_t place = 0; status == RELKVANU_STORE_OK && place < len; place++) {
-        *left += !is_unlinked(s, files[place]);
+        bool is_gone = is_unlinked(s, files[place]);
+        pages->swept += is_gone;
+        pages->left += !is_gone;
     }
     return status;
 }
 
-static int sweep_folder(relkvanu_store *s, DIR *listing, size_t *left) {
+static int note_greatest(relkvanu_store *s, struct pages *pages, uint64_t *files, size_t len) {
+    (void)s;
+    for (size_t place = 0; place < len; place++) {
+        pages->greatest = files[place] > pages->greatest ? files[place] : pages->greatest;
+    }
+    return RELKVANU_STORE_OK;
+}
+
+static int visit(relkvanu_store *s, struct pages *pages, DIR *listing) {
     uint64_t files[PAGE];
     size_t len = 0;
     int status = RELKVANU_STORE_OK;
@@ -113,14 +133,36 @@ static int sweep_folder(relkvanu_store *s, DIR *listing, size_t *left) {
     while (status == RELKVANU_STORE_OK && (errno = 0, entry = readdir(listing)) != NULL) {
         len += is_file(entry->d_name, &files[len]);
         if (len == PAGE) {
-            status = sweep_page(s, files, len, left);
+            status = pages->each(s, pages, files, len);
             len = 0;
         }
     }
     if (status == RELKVANU_STORE_OK && errno != 0) {
         return RELKVANU_STORE_STORAGE;
     }
-    return status == RELKVANU_STORE_OK ? sweep_page(s, files, len, left) : status;
+    return status == RELKVANU_STORE_OK ? pages->each(s, pages, files, len) : status;
+}
+
+/* Visits the files of the folder, page by page. RELKVANU_STORE_STORAGE: it can't be read. */
+static int visit_folder(relkvanu_store *s, struct pages *pages) {
+    int copy = openat(s->folder, ".", O_RDONLY | O_DIRECTORY | O_CLOEXEC);
+    DIR *listing = copy < 0 ? NULL : fdopendir(copy);
+    if (listing == NULL) {
+        if (copy >= 0) {
+            close(copy);
+        }
+        return RELKVANU_STORE_STORAGE;
+    }
+    int status = visit(s, pages, listing);
+    closedir(listing);
+    return status;
+}
+
+int rks_greatest_file(relkvanu_store *s, uint64_t *greatest) {
+    struct pages pages = {.each = note_greatest};
+    int status = visit_folder(s, &pages);
+    *greatest = pages.greatest;
+    return status;
 }
 
 int relkvanu_store_sweep(relkvanu_store *s, size_t *left) {
@@ -131,15 +173,12 @@ int relkvanu_store_sweep(relkvanu_store *s, size_t *left) {
     if (s->folder < 0) {
         return RELKVANU_STORE_BAD_ARGUMENT;
     }
-    int copy = rks_owner(s) == RELKVANU_STORE_OK ? openat(s->folder, ".", O_RDONLY | O_DIRECTORY | O_CLOEXEC) : -1;
-    DIR *listing = copy < 0 ? NULL : fdopendir(copy);
-    if (listing == NULL) {
-        if (copy >= 0) {
-            close(copy);
-        }
-        return RELKVANU_STORE_STORAGE;
-    }
-    int status = sweep_folder(s, listing, left);
-    closedir(listing);
+    struct pages pages = {.each = sweep_page};
+    int status = rks_owner(s) == RELKVANU_STORE_OK ? visit_folder(s, &pages) : RELKVANU_STORE_STORAGE;
+    *left = pages.left;
+    pthread_mutex_lock(&s->mutex);
+    s->swept += pages.swept;
+    s->unissued = status == RELKVANU_STORE_OK ? pages.unissued : s->unissued;
+    pthread_mutex_unlock(&s->mutex);
     return status == RELKVANU_STORE_OK && fsync(s->folder) != 0 ? RELKVANU_STORE_STORAGE : status;
 }

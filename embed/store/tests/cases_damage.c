@@ -39,7 +39,7 @@ static void other_files(void) {
     unlink(in("x.db"));
     unlink(in("x.db-wal"));
     make_job(RELKVANU_STORE_NO_IMAGES);
-    run_sql(in("x.db"), "PRAGMA user_version=2");
+    run_sql(in("x.db"), "PRAGMA user_version=3");
     refuses(RELKVANU_STORE_NOT_A_STORE, "later version");
     run_sql(in("x.db"), "PRAGMA user_version=1");
     CHECK(link(in("x.db"), in("y.db")) == 0, "a second name");
@@ -85,6 +85,28 @@ static void other_answers(void) {
     relkvanu_store_options options = job_options(RELKVANU_STORE_RECOVER, 0);
     relkvanu_store_close(opens(&options, RELKVANU_STORE_OK));
     free(rows);
+}
+
+/* A log of 18 reservations of one name: another name, and a term that has not begun, which fences the call. */
+static void other_names(void) {
+    relkvanu_store_options options = job_options(RELKVANU_STORE_CREATE, RELKVANU_STORE_NO_IMAGES);
+    options.flags = RELKVANU_STORE_CREATE;
+    relkvanu_store *store = opens(&options, RELKVANU_STORE_OK);
+    for (uint64_t i = 1; i <= CALLS; i++) {
+        relkvanu_answer answer;
+        CHECK(relkvanu_store_reserve(store, 1, 1, &answer) == RELKVANU_STORE_OK && answer.what == RELKVANU_RESERVED && answer.a == i, "name %" PRIu64, answer.a);
+    }
+    relkvanu_store_close(store);
+    replace_last("reserve 1 1", RELKVANU_RESERVED, 17, 1);
+    refuses(RELKVANU_STORE_DIFFERS, "call 18");
+    CHECK(says("0/56 18 1") && says("0/56 17 1") && says("reserve 1 1"), "%s", report.message);
+    replace_last("reserve 2 1", RELKVANU_RESERVED, 18, 1);
+    refuses(RELKVANU_STORE_DIFFERS, "call 18");
+    CHECK(says("7/1 0 0"), "%s", report.message);
+    replace_last("reserve 1 1", RELKVANU_RESERVED, 18, 1);
+    options.flags = RELKVANU_STORE_RECOVER;
+    relkvanu_store_close(opens(&options, RELKVANU_STORE_OK));
+    CHECK(report.next_name == CALLS + 1, "next name %" PRIu64, report.next_name);
 }
 
 static void damaged_rows(void) {
@@ -199,5 +221,5 @@ static void replaced_files(void) {
     }
 }
 
-const struct test damage_cases[] = {{"other_files", other_files}, {"other_answers", other_answers}, {"damaged_rows", damaged_rows},
+const struct test damage_cases[] = {{"other_files", other_files}, {"other_answers", other_answers}, {"other_names", other_names}, {"damaged_rows", damaged_rows},
     {"an_earlier_image", an_earlier_image}, {"any_damaged_byte", any_damaged_byte}, {"replaced_files", replaced_files}, {NULL, NULL}};

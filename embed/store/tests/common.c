@@ -7,7 +7,7 @@
 static const uint64_t shape[] = {SUBTASKS};
 
 relkvanu_store_options job_options(uint32_t flags, uint64_t image_calls) {
-    return (relkvanu_store_options){.flags = flags, .image_calls = image_calls,
+    return (relkvanu_store_options){.flags = flags | RELKVANU_STORE_PLAIN, .image_calls = image_calls,
         .settings = {.interval = 10, .at_once = 1, .timeout = UINT64_C(1) << 30, .tolerable = 1000, .retained = 1}, .shape = shape, .shape_len = 1};
 }
 
@@ -70,8 +70,21 @@ void shadow_open_as(struct shadow *shadow, const char *path) {
     relkvanu_store_options options = {.settings = {numbers[0], numbers[1], numbers[2], numbers[3], numbers[4], numbers[5], numbers[6] != 0},
         .shape = shape_found, .shape_len = second.a};
     shadow_open(shadow, &options);
+    if (first_name_of(config) != 0) {
+        CHECK(relkvanu_fence(&shadow->handle, first_name_of(config)).what == RELKVANU_NAMED, "%s", config);
+    }
     sqlite3_finalize(it);
     sqlite3_close(db);
+}
+
+uint64_t first_name_of(const char *opening) {
+    const char *fence = strstr(opening, "\nfence ");
+    return fence == NULL ? 0 : strtoull(fence + 7, NULL, 10);
+}
+
+struct names names_of(const relkvanu_answer *answer) {
+    bool is_reserved = answer->code == RELKVANU_DONE && answer->what == RELKVANU_RESERVED;
+    return is_reserved ? (struct names){answer->a, answer->a + answer->b} : (struct names){0};
 }
 
 void shadow_make(struct shadow *shadow, const struct told *told) {

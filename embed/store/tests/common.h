@@ -32,7 +32,7 @@ struct told {
     char line[LINE];
 };
 
-/* The options of the tests' job: 8 subtasks, an image after so many calls. */
+/* The options of the tests' job: 8 subtasks, an image after so many calls. A new one has no names unless the test takes the flag away. */
 relkvanu_store_options job_options(uint32_t flags, uint64_t image_calls);
 
 /* Notes an answered call with the line that it has in the log. */
@@ -58,6 +58,15 @@ void shadow_open_as(struct shadow *shadow, const char *path);
 
 /* Makes a call, and checks that it is the next one and gets the answer. */
 void shadow_make(struct shadow *shadow, const struct told *told);
+
+/* The first name of the line fence of an opening; 0 if it has none. */
+uint64_t first_name_of(const char *opening);
+
+/* The names that a call was answered to have reserved: the first, and the one behind the last; both 0 otherwise. */
+struct names {
+    uint64_t next, end;
+};
+struct names names_of(const relkvanu_answer *answer);
 
 /* Whether the coordinator of the store has the image of the shadow. */
 bool shadow_equals(struct shadow *shadow, relkvanu_store *store);

@@ -1,5 +1,6 @@
-/* crowd FOLDER TOLD IMAGE_CALLS: 24 threads make calls of FOLDER/x.db until the process is killed. Each answered call is a line of the file
- * TOLD. If a commit fails, the process opens the job again and goes on. */
+/* crowd FOLDER TOLD IMAGE_CALLS MODE: 24 threads make calls of FOLDER/x.db until the process is killed. Each answered call is a line of the file
+ * TOLD. If a commit fails, the process opens the job again and goes on. MODE: plain, or names: a thread goes on with its term until it is told
+ * that it has ended. */
 #include "common.h"
 
 #include <pthread.h>
@@ -15,6 +16,8 @@ static relkvanu_store_options options;
 static char path[PATHS];
 static int told_to;
 static atomic_uint_fast64_t file;
+static bool has_names;
+static atomic_uint_fast64_t term, next_name; /* the last that a thread was told */
 
 static int open_again(void) {
     relkvanu_store_report report;
@@ -23,6 +26,8 @@ static int open_again(void) {
         status = relkvanu_store_open(&store, path, &options, &report);
     }
     CHECK(status == RELKVANU_STORE_OK, "status %d: %s", status, report.message);
+    CHECK(report.term >= term && report.next_name >= next_name && (report.term != 0) == has_names, "term %" PRIu64 ", next name %" PRIu64, report.term, report.next_name);
+    term = report.term;
     if (file < report.epoch * 10000000) {
         file = report.epoch * 10000000;
     }
@@ -43,12 +48,20 @@ static void reopen(void) {
     pthread_rwlock_unlock(&use);
 }
 
+static void raise_to(atomic_uint_fast64_t *last, uint64_t told) {
+    uint_fast64_t before = *last;
+    while (before < told && !atomic_compare_exchange_weak(last, &before, told)) {
+    }
+}
+
 static int make(relkvanu_store_call *calls, size_t len) {
     pthread_rwlock_rdlock(&use);
     int status = relkvanu_store_calls(store, calls, len);
     for (size_t i = 0; i < len; i++) {
         CHECK(status == RELKVANU_STORE_OK || (calls[i].answer.code == RELKVANU_STORE_NOT_MADE && calls[i].place == 0), "an answer with the status %d", status);
         tell(told_to, &calls[i]);
+        raise_to(&term, calls[i].term);
+        raise_to(&next_name, names_of(&calls[i].answer).end);
     }
     pthread_rwlock_unlock(&use);
     if (status != RELKVANU_STORE_OK) {
@@ -89,16 +102,55 @@ static void discard(unsigned *seed) {
     }
 }
 
-static void acknowledge(uint64_t id, uint16_t index, uint64_t reused) {
-    uint64_t fresh[2] = {atomic_fetch_add(&file, 2), 0};
+/* A thread takes the part of a task. It learns a term when its calls are refused; a real task is started anew. */
+struct task {
+    uint64_t term;
+    struct names held;
+};
+
+/* A call of the task. Once another term was told to anybody, nothing of it is made. */
+static uint32_t make_in(struct task *t, relkvanu_store_call *call) {
+    bool has_ended = term > t->term;
+    call->call.term = t->term;
+    if (make(call, 1) != RELKVANU_STORE_OK) {
+        return RELKVANU_STORE_NOT_MADE;
+    }
+    bool is_old = call->answer.code == RELKVANU_FENCED && call->answer.what == RELKVANU_OLD_TERM;
+    CHECK(!has_ended || (is_old && call->place == 0), "a call of the term %" PRIu64 ": code %" PRIu32, t->term, call->answer.code);
+    if (is_old) {
+        *t = (struct task){.term = term};
+    }
+    return call->answer.code;
+}
+
+static bool has_two(struct task *t) {
+    relkvanu_store_call call = {.call = {.kind = RELKVANU_CALL_RESERVE, .number = 30}};
+    if (t->held.end - t->held.next < 2 && make_in(t, &call) == RELKVANU_DONE) {
+        t->held = names_of(&call.answer);
+    }
+    return t->held.end - t->held.next >= 2;
+}
+
+static void acknowledge(struct task *t, unsigned *seed, uint64_t id, uint16_t index, uint64_t reused) {
+    uint64_t fresh[2] = {0};
+    if (has_names && !has_two(t)) {
+        return;
+    }
+    fresh[0] = has_names ? t->held.next : atomic_fetch_add(&file, 2);
     fresh[1] = fresh[0] + 1;
+    t->held.next += has_names ? 2 : 0;
     relkvanu_store_call call = {.call = {.kind = RELKVANU_CALL_ACK, .number = id, .index = index}, .first = fresh, .first_len = 2, .second = &reused, .second_len = reused != 0};
-    make(&call, 1);
+    relkvanu_store_call forfeit = {.call = {.kind = RELKVANU_CALL_FORFEIT}, .first = fresh, .first_len = 2};
+    uint32_t code = has_names ? make_in(t, &call) : (uint32_t)make(&call, 1);
+    if (has_names && (code == RELKVANU_REFUSED || rand_r(seed) % 20 == 0)) {
+        make_in(t, &forfeit);
+    }
 }
 
 static void *calls(void *with) {
     uint16_t me = (uint16_t)(uintptr_t)with;
     unsigned seed = me * 7919u + (unsigned)getpid();
+    struct task task = {.term = term};
     for (;;) {
         int pick = rand_r(&seed) % 100;
         uint64_t pending, due, reused;
@@ -109,10 +161,11 @@ static void *calls(void *with) {
         } else if (pick < 25) {
             discard(&seed);
         } else if (pick < 27) {
-            call.call = (relkvanu_call){.kind = pick < 26 ? RELKVANU_CALL_RESTORE : RELKVANU_CALL_DECLINE, .now = 1, .number = pick < 26 ? 0 : pending, .index = me % SUBTASKS};
+            call.call = (relkvanu_call){.kind = pick < 26 ? RELKVANU_CALL_RESTORE : RELKVANU_CALL_DECLINE, .now = 1, .number = pick < 26 ? 0 : pending, .index = me % SUBTASKS,
+                .term = pick < 26 ? 0 : task.term};
             make(&call, 1);
         } else {
-            acknowledge(pending, me % SUBTASKS, pick < 60 ? reused : 0);
+            acknowledge(&task, &seed, pending, me % SUBTASKS, pick < 60 ? reused : 0);
         }
     }
     return NULL;
@@ -120,9 +173,11 @@ static void *calls(void *with) {
 
 int main(int argc, char **argv) {
     pthread_t thread;
-    CHECK(argc == 4, "crowd FOLDER TOLD IMAGE_CALLS");
+    CHECK(argc == 5, "crowd FOLDER TOLD IMAGE_CALLS MODE");
+    has_names = strcmp(argv[4], "names") == 0;
     snprintf(path, sizeof path, "%s/x.db", argv[1]);
     options = options_in(argv[1], RELKVANU_STORE_CREATE, strtoull(argv[3], NULL, 10));
+    options.flags = RELKVANU_STORE_CREATE | (has_names ? 0 : RELKVANU_STORE_PLAIN);
     options.settings.at_once = 3;
     options.settings.timeout = 3000;
     options.patience = 200;

@@ -61,10 +61,10 @@ def await_opening(folder, process):
 
 
 def await_checkpoints(folder, process, before):
-    """Waits until the process has made some files, so that a kill comes among checkpoints also on a busy machine. The lower bits of a
-    number count the files of a process or of a task."""
-    end = time.monotonic() + 60
-    while process.poll() is None and time.monotonic() < end and max((it % (1 << 20) for it in listed(folder) - before), default=0) < FILES:
+    """Waits until the process has made some files, so that a kill comes among checkpoints also on a busy machine."""
+    end, seen = time.monotonic() + 60, set()
+    while process.poll() is None and time.monotonic() < end and len(seen) < FILES:
+        seen |= listed(folder) - before
         time.sleep(0.001)
 
 

@@ -3,6 +3,8 @@
 
 - The process ends before and after each call that writes, of a new job and of a recovery.
 - Each call that writes, syncs, makes or cuts a file fails once, and from then on; so do reads, short writes, full disks and quotas.
+- The same, at fewer calls, of jobs with names whose tasks put files, and of a job that gets names at its recovery. Power is lost at a call, too: each file
+  in use is there, and the next process leaves no other.
 - A crowd of threads is killed at random moments; loses power, so that only synced bytes are left, or a mix of both states sector by
   sector; and goes on after syncs that fail. ROUNDS (default 1) multiplies these.
 
@@ -26,8 +28,8 @@ SECTOR = 512
 class Run:
     """A job in a folder of its own, and what its callers were told."""
 
-    def __init__(self, bin_folder, work):
-        self.bin, self.work = bin_folder, pathlib.Path(work)
+    def __init__(self, bin_folder, work, mode="plain"):
+        self.bin, self.work, self.mode = bin_folder, pathlib.Path(work), mode
         self.folder, self.told, self.safe = self.work / "job", self.work / "told", self.work / "safe"
 
     def begin(self):
@@ -35,9 +37,9 @@ class Run:
         self.safe.mkdir()
         return self
 
-    def copy(self, work):
+    def copy(self, work, mode=None):
         shutil.copytree(self.work, work)
-        return Run(self.bin, work)
+        return Run(self.bin, work, mode or self.mode)
 
     def environment(self, **what):
         more = {f"STORE_{name.upper()}": str(value) for name, value in what.items()}
@@ -45,20 +47,20 @@ class Run:
 
     def scenario(self, lists=LISTS, images=20, **what):
         """Returns the exit status and what it printed."""
-        command = [self.bin / "scenario", self.folder, self.told, str(lists), str(images)]
+        command = [self.bin / "scenario", self.folder, self.told, str(lists), str(images), self.mode]
         ran = subprocess.run(command, env=self.environment(**what), stdout=subprocess.PIPE, stderr=subprocess.STDOUT, text=True, timeout=120)
         assert ran.returncode in (0, -signal.SIGKILL), ran.stdout
         return ran.returncode, ran.stdout
 
     def crowd(self, program, seconds, images, **what):
-        process = subprocess.Popen([self.bin / program, self.folder, self.told, str(images)], env=self.environment(**what), stdout=subprocess.PIPE, stderr=subprocess.STDOUT, text=True)
+        process = subprocess.Popen([self.bin / program, self.folder, self.told, str(images), self.mode], env=self.environment(**what), stdout=subprocess.PIPE, stderr=subprocess.STDOUT, text=True)
         time.sleep(seconds)
         process.kill()
         told, _ = process.communicate()
         assert process.returncode == -signal.SIGKILL, told
 
-    def verify(self, most):
-        ran = subprocess.run([self.bin / "verify", self.folder, self.told, str(most)], stdout=subprocess.PIPE, stderr=subprocess.STDOUT, text=True, timeout=120)
+    def verify(self, most, has_files=False):
+        ran = subprocess.run([self.bin / "verify", self.folder, self.told, str(most), *(["files"] if has_files else [])], stdout=subprocess.PIPE, stderr=subprocess.STDOUT, text=True, timeout=120)
         assert ran.returncode == 0, ran.stdout
         words = ran.stdout.split()
         return int(words[0]), words[-1] == "whole"
@@ -118,30 +120,35 @@ class Tests:
         self.passed += 1
         return told
 
-    def new(self):
+    def new(self, mode="plain"):
         folder = self.folder()
         folder.mkdir()
-        return Run(self.bin, folder).begin()
+        return Run(self.bin, folder, mode).begin()
 
-    def killed(self):
+    def killed(self, mode="plain"):
         """A job whose process was killed among its calls, with a -wal that is not in the file."""
-        run = self.new()
-        run.scenario(lists=30, images=15, die=150)
+        run = self.new(mode)
+        run.scenario(lists=30, images=15, die=150 if mode == "plain" else 600)
         copy = run.copy(self.folder())
-        copy.verify(5)
+        copy.verify(5, mode == "names")
         shutil.copy(copy.told, run.told)
+        run.keep_safe()
         return run
 
     def at(self, base, number, what):
         """One fault. Returns whether it was reached."""
         folder = self.work / f"{base.work.name}-{'-'.join(map(str, what.values()))}-{number}"
         run = base.copy(folder)
-        status, told = run.scenario(**{name: value if value != "N" else number for name, value in what.items()})
-        run.verify(5)
-        if self.rounds > 1 or number % 5 == 1:  # the job goes on
+        given = {name: value if value != "N" else number for name, value in what.items()}
+        loss = given.pop("loss", None)
+        status, told = run.scenario(**given, **({"safe": run.safe} if loss else {}))
+        if loss:
+            run.lose_power(random.Random(number) if loss == "mix" else None)
+        run.verify(5, run.mode == "names")
+        if self.rounds > 1 or run.mode != "plain" or number % 5 == 1:  # the job goes on
             again, words = run.scenario(lists=3)
             assert again == 0 and words.startswith("calls 0"), words
-            run.verify(5)
+            run.verify(5, run.mode == "names")
         shutil.rmtree(folder)
         return status != 0 or not told.startswith("calls 0")
 
@@ -179,6 +186,18 @@ class Tests:
         for often in (1, 0):
             self.each(base, 600, step=self.step(5), fault="read", at="N", **{"for": often})
 
+    def names(self, new, killed, plain):
+        """Jobs with names, and a plain one that gets some."""
+        for base in (new, killed):
+            self.each(base, 6000, step=self.step(13), die="N")
+            self.each(base, 6000, step=self.step(17), fault="any", at="N", **{"for": 1})
+            self.each(base, 6000, step=self.step(61), fault="any", at="N", **{"for": 0})
+            self.each(base, 6000, step=self.step(23), die="N", loss="power")
+            self.each(base, 6000, step=self.step(23), die="N", loss="mix")
+        turning = plain.copy(self.folder(), "turn")
+        self.each(turning, 3000, step=self.step(5), die="N")
+        self.each(turning, 3000, step=self.step(5), fault="any", at="N", **{"for": 1})
+
     def crowd_run(self, run, chance, kind, images, most):
         what = {"kill": {}, "power": {"safe": run.safe}, "mix": {"safe": run.safe}, "faults": {"safe": run.safe, "fault": "sync", "on": "-wal", "random": 100}}[kind]
         run.keep_safe()
@@ -193,7 +212,7 @@ class Tests:
         chance = random.Random(f"{kind} {os.environ.get('SEED', time.time())}")
         calls = whole = runs = 0
         for job in range(2 * self.rounds):
-            run = self.new()
+            run = self.new("names" if job % 4 in (1, 2) else "plain")
             images = 10 ** 9 if job % 2 == 0 or kind == "faults" else 300
             for _ in range(4):
                 told = self.note(f"a crowd with {kind} in {run.work}", self.crowd_run, run, chance, kind, images, 24 * 6 * (40 if kind == "faults" else 1))
@@ -219,6 +238,9 @@ def main(bin_folder, rounds="1"):
                 before = tests.passed
                 part(base)
                 print(f"store: {name} of a {'new job' if base is new else 'recovery'}: {tests.passed - before} passed, {time.monotonic() - began:.0f} s", flush=True)
+        before = tests.passed
+        tests.names(tests.new("names"), tests.killed("names"), killed)
+        print(f"store: faults of jobs with names: {tests.passed - before} passed, {time.monotonic() - began:.0f} s", flush=True)
         for kind in ("kill", "power", "mix", "faults"):
             tests.crowds(kind)
             print(f"store: crowds with {kind}: {tests.failed} failed so far, {time.monotonic() - began:.0f} s", flush=True)

@@ -1,7 +1,6 @@
 #!/usr/bin/env python3
 """full.py FAULT SHIM COMMAND..: runs the engine `COMMAND FOLDER LAST` while one write of a state file finds the disk full (FAULT full), or its sync
-fails (sync: the shim does not know the function by which Python writes). The engine restores its job
-and goes on, at each of some places, and leaves no file that the coordinator does not know."""
+fails (sync). The engine restores its job and goes on, at each of some places, and leaves no file that the coordinator does not know."""
 import os
 import pathlib
 import subprocess

@@ -85,6 +85,8 @@ static char path[PATHS], storage[PATHS];
 static struct told told[400];
 static size_t told_len;
 static char words[RELKVANU_STORE_MESSAGE]; /* of the last opening */
+static uint32_t plain = RELKVANU_STORE_PLAIN; /* or 0: the job has names */
+static uint64_t term;                         /* 0: the job has none */
 
 static void set_refused(enum kind kind, unsigned long from, bool is_for_good) {
     requests = 0;
@@ -139,16 +141,25 @@ static int work(relkvanu_store *store, uint64_t file) {
         return status;
     }
     uint64_t id = calls[0].answer.b;
+    if (term != 0) {
+        calls[0] = (relkvanu_store_call){.call = {.kind = RELKVANU_CALL_RESERVE, .number = 2 * SUBTASKS, .term = term}};
+        if ((status = make(store, calls, 1)) != RELKVANU_STORE_OK) {
+            return status;
+        }
+        file = calls[0].answer.a;
+    }
     for (size_t i = 0; i < SUBTASKS; i++) {
         files[i][0] = file + 2 * i;
         files[i][1] = file + 2 * i + 1;
-        calls[i] = (relkvanu_store_call){.call = {.kind = RELKVANU_CALL_ACK, .number = id, .index = (uint16_t)i}, .first = files[i], .first_len = 2};
+        calls[i] = (relkvanu_store_call){.call = {.kind = RELKVANU_CALL_ACK, .number = id, .index = (uint16_t)i, .term = term}, .first = files[i], .first_len = 2};
     }
     calls[SUBTASKS] = (relkvanu_store_call){.call = {.kind = RELKVANU_CALL_TAKE, .number = 4}, .files = taken, .files_len = 4};
     calls[SUBTASKS + 1] = (relkvanu_store_call){.call = {.kind = RELKVANU_CALL_RESTORE}};
     if ((status = make(store, calls, SUBTASKS + 2)) != RELKVANU_STORE_OK) {
         return status;
     }
+    CHECK((term == 0) == (calls[SUBTASKS + 1].term == 0) && (term == 0 || calls[SUBTASKS + 1].term == term + 1), "the term %" PRIu64, calls[SUBTASKS + 1].term);
+    term = calls[SUBTASKS + 1].term;
     status = relkvanu_store_unknown(store, list, &len);
     CHECK(status != RELKVANU_STORE_OK || len <= 2, "a sweep");
     return status;
@@ -158,8 +169,10 @@ static int open_and_work(uint64_t file, uint64_t images) {
     relkvanu_store *store;
     relkvanu_store_report report;
     relkvanu_store_options options = job_options(RELKVANU_STORE_CREATE, images);
+    options.flags = RELKVANU_STORE_CREATE | plain;
     options.storage = storage;
     int status = relkvanu_store_open(&store, path, &options, &report);
+    term = report.term;
     CHECK((store != NULL) == (status == RELKVANU_STORE_OK), "status %d", status);
     snprintf(words, sizeof words, "%s", report.message);
     for (uint64_t i = 0; i < 3 && status == RELKVANU_STORE_OK; i++) {
@@ -188,13 +201,14 @@ static void check_job(void) {
     struct shadow shadow;
     size_t len;
     relkvanu_store_options options = job_options(RELKVANU_STORE_CREATE, RELKVANU_STORE_NO_IMAGES);
+    options.flags = RELKVANU_STORE_CREATE | plain;
     options.storage = storage;
     int status = relkvanu_store_open(&store, path, &options, &report);
-    CHECK(status == RELKVANU_STORE_OK, "status %d: %s", status, report.message);
+    CHECK(status == RELKVANU_STORE_OK && (report.term == 0) == (plain != 0), "status %d: %s", status, report.message);
     relkvanu_store_close(store);
     struct told *rows = log_rows(path, 0, &len);
     CHECK(len >= told_len && len <= told_len + SUBTASKS + 2, "%zu calls, %zu were told", len, told_len);
-    shadow_open(&shadow, &options);
+    shadow_open_as(&shadow, path);
     for (size_t i = 0; i < len; i++) {
         CHECK(i >= told_len || (rows[i].place == told[i].place && strcmp(rows[i].line, told[i].line) == 0 && rows[i].a == told[i].a), "call %zu: %s, not %s", i + 1,
             rows[i].line, told[i].line);
@@ -241,7 +255,9 @@ static void images_wait(enum kind kind) {
     remove_job();
     options.storage = storage;
     options.patience = 1000;
+    options.flags = RELKVANU_STORE_CREATE | plain;
     CHECK(relkvanu_store_open(&store, path, &options, &report) == RELKVANU_STORE_OK, "%s", report.message);
+    term = report.term;
     for (uint64_t i = 0; i < 4; i++) {
         CHECK(work(store, 1 + i * 100) == RELKVANU_STORE_OK, "work");
     }
@@ -265,12 +281,15 @@ static void images_wait(enum kind kind) {
 }
 
 int main(int argc, char **argv) {
-    unsigned passed = 2;
+    unsigned passed = 3;
     CHECK(argc == 2, "memory FOLDER");
     snprintf(path, sizeof path, "%s/x.db", argv[1]);
     snprintf(storage, sizeof storage, "%s/storage", argv[1]);
     CHECK(mkdir(storage, 0700) == 0, "%s", storage);
     watch_sqlite();
+    unsigned first = refuse_each(COORDINATOR, false, false);
+    printf("store: memory of the coordinator, once, of a new job without names: up to request %u\n", first);
+    plain = 0;
     for (int kind = OWN; kind < KINDS; kind++) {
         for (int way = 0; way < 4; way++) {
             bool is_for_good = way % 2 == 1;

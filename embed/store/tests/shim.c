@@ -22,7 +22,7 @@
 #include <sys/syscall.h>
 #include <unistd.h>
 
-enum { FILES = 64, PATH = 700 };
+enum { FILES = 1024, PATH = 700 };
 
 struct range {
     off_t at;
@@ -103,8 +103,11 @@ static bool fails(const char *kind, const char *path) {
 
 static struct file *find(const char *path) {
     struct file *it = files;
-    while (it->path[0] != 0 && strcmp(it->path, path) != 0) {
+    while (it < files + FILES && it->path[0] != 0 && strcmp(it->path, path) != 0) {
         it++;
+    }
+    if (it == files + FILES) {
+        abort(); /* more files than a test may make */
     }
     if (it->path[0] == 0) {
         strcpy(it->path, path);
@@ -169,7 +172,7 @@ static void keep(int fd, const char *path) {
 /* A folder was synced: the names of its files are durable, and those that are gone are gone. */
 static void keep_names(const char *folder) {
     size_t len = strlen(folder);
-    for (struct file *it = files; it->path[0] != 0; it++) {
+    for (struct file *it = files; it < files + FILES && it->path[0] != 0; it++) {
         if (strncmp(it->path, folder, len) == 0 && it->path[len] == '/' && strchr(it->path + len + 1, '/') == NULL) {
             char before[2 * PATH], safe[2 * PATH];
             bool was_named = it->is_named;
@@ -311,6 +314,19 @@ int unlink(const char *name) {
         return -1;
     }
     int result = (int)syscall(SYS_unlink, name);
+    if (is_in(path)) {
+        may_die(true);
+    }
+    return result;
+}
+
+int unlinkat(int at, const char *name, int flags) {
+    char path[PATH];
+    full_path(at, name, path);
+    if (is_in(path) && !changes(path)) {
+        return -1;
+    }
+    int result = (int)syscall(SYS_unlinkat, at, name, flags);
     if (is_in(path)) {
         may_die(true);
     }

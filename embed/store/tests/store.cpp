@@ -1,4 +1,4 @@
-/* store FOLDER: the class ckpt::Store of include/relkvanu_store.hpp: calls, refusals, errors, moves, reads that throw, submits, a discarder and state files. */
+/* store FOLDER: the class ckpt::Store of include/relkvanu_store.hpp: calls, refusals, errors, moves, reads that throw, submits, a discarder, state files and names. */
 #include "../../../include/relkvanu_store.hpp"
 
 #include <chrono>
@@ -21,9 +21,10 @@
 
 static const std::uint64_t two[] = {2};
 
+/* Of a job without names, unless it says otherwise. */
 static relkvanu_store_options options(std::uint32_t flags) {
     relkvanu_store_options it = {};
-    it.flags = flags;
+    it.flags = flags | RELKVANU_STORE_PLAIN;
     it.settings = relkvanu_settings{10, 0, 1, std::uint64_t{1} << 30, 1000, 1, false};
     it.shape = two;
     it.shape_len = 1;
@@ -171,6 +172,45 @@ static void files(const std::string &path) {
     CHECK(!job.sweep(left) && left == 0 && access((folder + "/77").c_str(), F_OK) != 0 && access((folder + "/12").c_str(), F_OK) == 0);
 }
 
+static void names(const std::string &path) {
+    const std::string folder = path + "-names";
+    CHECK(mkdir(folder.c_str(), 0700) == 0);
+    relkvanu_store_options with = options(0);
+    with.flags = RELKVANU_STORE_CREATE;
+    with.storage = folder.c_str();
+    auto opening = ckpt::Store::open(path + "6", with);
+    ckpt::Store job = std::move(std::get<ckpt::Store>(opening));
+    CHECK(job.report().term == 1 && job.report().next_name == 1);
+    auto held = std::get<ckpt::reserved>(job.reserve(1, 5));
+    CHECK(held.first == 1 && held.count == 5);
+    std::uint64_t id = std::get<ckpt::triggered>(job.tick(due(job))).id;
+    for (std::uint64_t file : {1, 2, 3, 9}) {
+        CHECK(!job.put(file, "state"));
+    }
+    const std::uint64_t first[] = {1}, second[] = {2}, third[] = {3};
+    CHECK(why(job.ack(id, 0, 0, first)) == ckpt::error::fenced_old_term);
+    CHECK(std::holds_alternative<ckpt::ack_pending>(job.ack_in(1, id, 0, 0, first)));
+    auto spent = std::get<ckpt::refused>(job.ack_in(1, id, 0, 0, first));
+    CHECK(spent.why == ckpt::error::fenced_spent && spent.file == 1);
+    CHECK(std::holds_alternative<ckpt::ack_completed>(job.ack_in(1, id, 0, 1, second)));
+    CHECK(std::holds_alternative<ckpt::forfeited>(job.forfeit(1, third)));
+    const std::uint64_t all[] = {1, 2, 3, 4, 9};
+    auto sorted = std::get<ckpt::sorted_files>(job.garbage(all));
+    CHECK(sorted.garbage == std::vector<std::uint64_t>{3} && sorted.unissued == std::vector<std::uint64_t>{9});
+    std::size_t left = 1;
+    CHECK(!job.sweep(left) && left == 0 && job.counts().swept == 1 && job.counts().unissued == 1);
+    auto restored = std::get<ckpt::restored>(job.restore());
+    auto term = std::get<ckpt::running_term>(job.term());
+    CHECK(restored.term == 2 && term.term == 2 && term.next_name == 6);
+    CHECK(why(job.decline_in(1, id, 0, 0)) == ckpt::error::fenced_old_term);
+    CHECK(why(job.reserve(2, 0)) == ckpt::error::fenced_bad_count && why(job.fence(9)) == ckpt::error::fenced_has_names);
+
+    ckpt::Store plain = opened(path + "7", RELKVANU_STORE_CREATE);
+    CHECK(plain.report().term == 0 && why(plain.term()) == ckpt::error::fenced_no_names && why(plain.garbage(all)) == ckpt::error::fenced_no_names);
+    CHECK(std::get<ckpt::restored>(plain.restore()).term == 0 && std::holds_alternative<ckpt::fenced>(plain.fence(10)));
+    CHECK(std::get<ckpt::reserved>(plain.reserve(1, 2)).first == 10);
+}
+
 int main(int argc, char **argv) {
     CHECK(argc == 2);
     std::string path = std::string(argv[1]) + "/x.db";
@@ -180,5 +220,6 @@ int main(int argc, char **argv) {
     submits(path);
     discarder(path);
     files(path);
+    names(path);
     return 0;
 }

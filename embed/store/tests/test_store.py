@@ -1,17 +1,19 @@
-"""The module relkvanu.store: replies and errors, threads, an event loop, the discarder, and its structs beside those of the header. STORE_LAYOUT is
+"""The module relkvanu.store: replies and errors, names, threads, an event loop, the discarder, and its structs beside those of the header. STORE_LAYOUT is
 the program of layout.c."""
 import asyncio
 import ctypes
+import errno
 import os
 import pathlib
+import resource
 import subprocess
 import tempfile
 import threading
 import unittest
 
 from relkvanu import (
-    AckCompleted, AckPending, BadArgument, Chosen, Closed, Kind, Mode, OutOfRange, Refused, RestoredCheckpoint, Settings, Taken,
-    Triggered, store, store_header,
+    AckCompleted, AckPending, BadArgument, Chosen, Closed, Fenced, Forfeited, Kind, Mode, Named, OutOfRange, Refused, Reserved,
+    RestoredCheckpoint, Settings, Taken, Triggered, store, store_header,
 )
 from relkvanu.store import Call, Made, Step, Store, StoreError
 
@@ -28,7 +30,7 @@ class Folder(unittest.TestCase):
         self.storage.mkdir()
 
     def open(self, **more):
-        return Store(self.path, SETTINGS, [2], **{"create": True, **more})
+        return Store(self.path, SETTINGS, [2], **{"create": True, "plain": True, **more})
 
     def raises(self, name, run, *words, closes=False):
         with self.assertRaises(StoreError) as caught:
@@ -149,6 +151,94 @@ class Calls(Folder):
                 os._exit(2)
             self.assertEqual(os.waitstatus_to_exitcode(os.waitpid(child, 0)[1]), 7)
             self.complete(job, 1)
+
+
+class Names(Folder):
+    def fenced(self, name, call, *words, file=None):
+        with self.assertRaises(Fenced) as caught:
+            call(*words)
+        self.assertEqual((caught.exception.name, caught.exception.file), (name, file))
+
+    def test_terms(self):
+        with self.open(plain=False) as job:
+            self.assertEqual((job.report.term, job.report.next_name, job.term()), (1, 1, (1, 1)))
+            self.assertEqual(job.reserve(1, 5), range(1, 6))
+            job.tick(10)
+            self.fenced("OldTerm", job.ack, 1, 0, 0, [1])
+            self.fenced("OldTerm", job.decline_in, 2, 1, 0, 0)
+            self.fenced("NeverReserved", job.ack_in, 1, 1, 0, 0, [9], file=9)
+            self.assertEqual(job.ack_in(1, 1, 0, 0, [1], now=11).reply, AckPending(1))
+            self.fenced("Spent", job.ack_in, 1, 1, 0, 0, [1], file=1)
+            outcomes = job.calls([Call.forfeit(1, [3, 4]), Call.reserve(1, 2), Call.ack(1, 0, 1, [2], now=12, term=1), Call.reserve(2, 1), Call.reserve(1, 0)])
+            self.assertEqual([it.reply for it in outcomes[:3]], [Forfeited(), Reserved(6, 2), AckCompleted(0, 0)])
+            self.assertEqual([(type(it), it.name) for it in outcomes[3:]], [(Fenced, "OldTerm"), (Fenced, "BadCount")])
+            self.assertEqual((job.garbage([5, 4, 9, 1, 3]), job.unknown([5, 4, 9, 1, 3])), (((4, 3), (9,)), [4, 3]))
+            made = job.restore()
+            self.assertEqual((made.reply, made.term), (RestoredCheckpoint(1, 0), 2))
+            job.forfeit(2, [])
+            self.fenced("OldTerm", job.forfeit, 1, [5])
+            with job.read() as reads:
+                self.assertEqual((reads.term(), reads.garbage([5, 8])), ((2, 8), ((5,), (8,))))
+            self.fenced("HasNames", job.fence, 100)
+        with self.open(create=False) as job:
+            self.assertEqual((job.report.term, job.report.next_name, job.cancel().term), (2, 8, 3))
+            self.fenced("Ended", job.reserve, 3, 1)
+
+    def test_a_fence(self):
+        with self.open(storage=self.storage) as job:
+            self.complete(job, 1)
+            (self.storage / "70").touch()
+            self.assertEqual(job.report.term, 0)
+            for call, words in [(job.term, ()), (job.garbage, ([1],)), (job.reserve, (1, 1)), (job.forfeit, (1, [1])), (job.decline_in, (1, 1, 0, 0))]:
+                self.fenced("NoNames", call, *words)
+            self.fenced("NameInUse", job.fence, 70)
+            restored, named = job.calls([Call.restore(), Call.fence(71)])
+            self.assertEqual((restored.term, named.reply, named.term), (0, Named(), 1))
+            self.assertEqual(job.reserve(1, 1), range(71, 72))
+
+    def test_a_sweep_at_any_time(self):
+        with self.open(plain=False, storage=self.storage) as job:
+            names = job.reserve(1, 4)
+            for file in (*names, 99):
+                (self.storage / str(file)).touch()
+            job.forfeit(1, names[2:3])
+            self.assertEqual((job.sweep(), sorted(os.listdir(self.storage))), (0, [".relkvanu-job", "1", "2", "4", "99"]))
+            self.assertEqual((job.counts()["swept"], job.counts()["unissued"]), (1, 1))
+            job.restore()
+            self.assertEqual((job.sweep(), sorted(os.listdir(self.storage))), (0, [".relkvanu-job", "99"]))
+
+
+class Files(Folder):
+    def test_files_are_put_and_discarded(self):
+        job = self.open(plain=False, storage=self.storage)
+        names = job.reserve(1, 4)
+        for file in names:
+            job.put(file, b"state %d" % file)
+        self.assertEqual((self.storage / "3").read_bytes(), b"state 3")
+        self.raises("Present", job.put, 3, b"other")
+        (self.storage / ".relkvanu-job").rename(self.folder / "marker")
+        self.raises("Storage", job.put, 5, b"")
+        (self.folder / "marker").rename(self.storage / ".relkvanu-job")
+        soft, hard = resource.getrlimit(resource.RLIMIT_FSIZE)
+        resource.setrlimit(resource.RLIMIT_FSIZE, (10, hard))
+        self.assertEqual(self.raises("NotPut", job.put, 5, b"state" * 10), "NotPut: " + os.strerror(errno.EFBIG))
+        resource.setrlimit(resource.RLIMIT_FSIZE, (soft, hard))
+        self.assertFalse((self.storage / "5").exists() or (self.storage / "5.part").exists())
+        (self.storage / "6.part").symlink_to("nothing")
+        self.raises("Present", job.put, 6, b"")
+        discarder = threading.Thread(target=job.discard)
+        discarder.start()
+        for file in (1, 3):
+            with job.read() as reads:
+                due = reads.due()
+            id = job.tick(due).reply.id
+            for index in range(2):
+                job.ack_in(1, id, 0, index, [file + index], now=due)
+        while (self.storage / "1").exists() or (self.storage / "2").exists():
+            pass
+        self.assertTrue((self.storage / "3").exists() and (self.storage / "4").exists())
+        job.close()
+        discarder.join()
 
 
 class Threads(Folder):

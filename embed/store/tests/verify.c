@@ -1,6 +1,7 @@
-/* verify FOLDER TOLD MOST: opens the job FOLDER/x.db again, and checks that each call of TOLD is there as it was told, unless the log was cut
+/* verify FOLDER TOLD MOST [files]: opens the job FOLDER/x.db again, and checks that each call of TOLD is there as it was told, unless the log was cut
  * there; that at most MOST calls are there beside those; and that a second coordinator answers all calls as they were answered, and then
- * has the same image. The calls beside are appended to TOLD, for a next run. The last word of the line that it prints is "part" if the log was
+ * has the same image. In a job with names no name was given twice, no term came back, and both go on from what was told; with "files" each file in
+ * use is in the folder, whole. The calls beside are appended to TOLD, for a next run. The last word of the line that it prints is "part" if the log was
  * cut behind a call that nobody was told: then there is no second coordinator. */
 #include "common.h"
 
@@ -37,6 +38,7 @@ struct check {
     struct shadow shadow;
     bool is_whole;
     int to;
+    uint64_t term, next_name; /* by the calls so far */
 };
 
 static void check_same(const struct told *told, const struct told *row) {
@@ -45,10 +47,47 @@ static void check_same(const struct told *told, const struct told *row) {
         told->what, told->a, told->b, row->line, row->what, row->a, row->b);
 }
 
+/* What the call says of terms and names, read from its text. */
+static void check_names(struct check *c, const struct told *call) {
+    uint64_t term;
+    bool has_term = sscanf(call->line, "in %" SCNu64, &term) == 1 || sscanf(call->line, "reserve %" SCNu64, &term) == 1 || sscanf(call->line, "forfeit %" SCNu64, &term) == 1;
+    if (call->what == RELKVANU_NAMED) {
+        c->term = 1;
+    } else if (c->term != 0 && call->what >= RELKVANU_RESTORED_CHECKPOINT && call->what <= RELKVANU_CANCELLED) {
+        c->term++;
+    }
+    CHECK(!has_term || term == c->term || !c->is_whole, "call %" PRIu64 ", %s, in the term %" PRIu64, call->place, call->line, c->term);
+    c->term = has_term && term > c->term ? term : c->term; /* the beginning may be cut */
+    if (call->what == RELKVANU_RESERVED) {
+        CHECK(call->a >= c->next_name && call->b >= 1, "call %" PRIu64 ": the names from %" PRIu64 " on are given again", call->place, call->a);
+        c->next_name = call->a + call->b;
+    }
+}
+
+static void check_files(const char *folder, relkvanu_store *store) {
+    relkvanu *handle;
+    CHECK(relkvanu_store_read(store, &handle) == RELKVANU_STORE_OK, "a read");
+    for (relkvanu_answer it = relkvanu_live_from(handle, 0); it.what != RELKVANU_LIVE_NONE; it = relkvanu_live_from(handle, it.a + 1)) {
+        for (uint16_t i = 0; i < SUBTASKS; i++) {
+            uint64_t files[MOST_FILES];
+            relkvanu_answer found = relkvanu_files_of(handle, it.a, 0, i, files, MOST_FILES);
+            for (uint64_t at = 0; found.what == RELKVANU_FILES && at < found.a; at++) {
+                char name[PATHS], contents[8] = "";
+                snprintf(name, sizeof name, "%s/storage/%" PRIu64, folder, files[at]);
+                FILE *from = fopen(name, "r");
+                CHECK(from != NULL && fread(contents, 1, sizeof contents, from) == 5 && memcmp(contents, "state", 5) == 0, "%s of record %" PRIu64, name, it.a);
+                fclose(from);
+            }
+        }
+    }
+    relkvanu_store_read_end(store);
+}
+
 static void make(struct check *c, const struct told *call) {
     if (call->place != c->shadow.place + 1) {
         c->is_whole = false;
     }
+    check_names(c, call);
     if (c->is_whole) {
         shadow_make(&c->shadow, call);
     }
@@ -79,7 +118,7 @@ int main(int argc, char **argv) {
     relkvanu_store *store;
     relkvanu_store_report report;
     struct check c = {.is_whole = true};
-    CHECK(argc == 4, "verify FOLDER TOLD MOST");
+    CHECK(argc == 4 || argc == 5, "verify FOLDER TOLD MOST [files]");
     relkvanu_store_options options = options_in(argv[1], RELKVANU_STORE_RECOVER, RELKVANU_STORE_NO_IMAGES);
     c.told = read_told(argv[2], &c.told_len);
     snprintf(path, sizeof path, "%s/x.db", argv[1]);
@@ -93,6 +132,9 @@ int main(int argc, char **argv) {
     c.rows = log_rows(path, 0, &c.rows_len);
     c.to = told_file(argv[2]);
     shadow_open_as(&c.shadow, path);
+    relkvanu_answer begins = relkvanu_term(&c.shadow.handle);
+    c.term = begins.a;
+    c.next_name = begins.b;
     compare(&c);
     CHECK(c.beside <= strtoull(argv[3], NULL, 10), "%zu calls beside those that were told", c.beside);
     status = relkvanu_store_open(&store, path, &options, &report);
@@ -100,6 +142,11 @@ int main(int argc, char **argv) {
     uint64_t last = c.rows_len != 0 ? c.rows[c.rows_len - 1].place : 0;
     CHECK(report.image_place + report.replayed == last, "%" PRIu64 " calls", report.image_place + report.replayed);
     CHECK(!c.is_whole || shadow_equals(&c.shadow, store), "another image");
+    CHECK(report.term >= c.term && report.next_name >= c.next_name && (!c.is_whole || report.term == c.term), "term %" PRIu64 " after %" PRIu64
+          ", next name %" PRIu64 " after %" PRIu64, report.term, c.term, report.next_name, c.next_name);
+    if (argc == 5) {
+        check_files(argv[1], store);
+    }
     relkvanu_store_close(store);
     printf("%zu told, %zu beside, %s\n", c.told_len, c.beside, c.is_whole ? "whole" : "part");
     free(c.told);

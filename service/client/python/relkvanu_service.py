@@ -1,12 +1,13 @@
 """A client of the service: jobs, their calls and their events, over `requests`.
 
-    from relkvanu_service import Service, ack, file_numbers
+    from relkvanu_service import Service
 
-    job = Service("http://127.0.0.1:7780").open("orders", {"interval": 60_000}, [1])
-    numbers = file_numbers()
-    for event in job.begin().events():
+    start = Service("http://127.0.0.1:7780").open("orders", {"interval": 60_000}, [1]).begin()
+    task = start.session()  # in a process of its own: job.session(term), with the term that it was started with
+    for event in start.events():
         if event["event"] == "triggered":
-            job.call(ack(event["id"], "0.0", fresh=[next(numbers)]))  # once the file is synced
+            name = task.name()  # of a new file, which no other file ever has
+            task.ack(event["id"], "0.0", fresh=[name])  # once the file is synced
 
 docs/SERVICE.md has the whole loop of an engine. If a request is not answered, the client makes it again, by default for a minute, at the service's next address. Calls have an
 Idempotency-Key, so the service makes them once. File numbers are integers here, and strings in the API. Threads may share
@@ -25,8 +26,8 @@ import uuid
 import requests
 
 __all__ = [
-    "Failed", "Gone", "OtherLog", "Refused", "Service", "Job", "Start", "Follower", "file_numbers", "ack", "decline", "restore",
-    "savepoint", "take", "cancel", "dispose", "deleted", "undeleted",
+    "Failed", "Fenced", "Gone", "OldTerm", "OtherLog", "Refused", "Service", "Job", "Start", "Session", "Follower", "file_numbers", "ack",
+    "decline", "reserve", "forfeit", "restore", "savepoint", "take", "cancel", "dispose", "deleted", "undeleted",
 ]
 
 _CONNECT = 2.0  # seconds in which a machine that is there takes a connection
@@ -34,6 +35,8 @@ _ONE_TRY = 10.0  # seconds in which an address has to answer, besides the wait o
 _FIRST_PAUSE, _LONGEST_PAUSE = 0.05, 1.0  # between two tries at an address
 _LONGEST_LATER = 60.0  # the longest Retry-After that is believed
 _COUNT_BITS = 24  # of a file's number; random ones are above them
+_RESERVED = 1000  # names that a task reserves at once
+_MOST_FORFEITED, _MOST_GARBAGE = 4096, 10_000  # of a call, and of a request
 _ONE_LOOK, _HISTORY_PATIENCE = 0.1, 60.0  # seconds between two looks at how far the history is, and until they end
 # A proxy, a standby or a service that starts answers so; another try may be answered otherwise.
 _PASSING = {429, 502, 503, 504}
@@ -70,24 +73,55 @@ class Refused(Exception):
         self.name, self.file = name, file
 
 
+class Fenced(Exception):
+    """The term or the names of a job refused a call, which changed nothing: its `name`, and the `file` that it names. After `Spent` the
+    file may be in use: nobody deletes it for that answer."""
+
+    def __init__(self, name, file=None):
+        super().__init__(name if file is None else f"{name} {file}")
+        self.name, self.file = name, file
+
+
+class OldTerm(Fenced):
+    """The term of the task has ended: the job was restored or cancelled since the task was started. The task ends, and deletes nothing."""
+
+
+def _fenced(name, file=None):
+    return (OldTerm if name == "OldTerm" else Fenced)(name, file)
+
+
 def file_numbers():
-    """Yields numbers for new files: 40 random bits, and a count in the 24 bits below. So no two tasks give the same, and none comes
-    twice after a backup of the service was restored, as numbers of records do then."""
+    """Yields numbers for new files of a job without names: 40 random bits, and a count in the 24 bits below. So no two tasks give the same, and
+    none comes twice after a backup of the service was restored, as numbers of records do then."""
     while True:
         begin = secrets.randbits(64 - _COUNT_BITS) << _COUNT_BITS
         yield from range(begin, begin + (1 << _COUNT_BITS))
 
 
-def ack(record, subtask, fresh=(), reused=(), sizes=None):
+def ack(record, subtask, fresh=(), reused=(), sizes=None, term=None):
     """A subtask has taken its part of a record: its new files, and those of live records that it uses again. `sizes` are the bytes of
-    each new file, which the service shows; one of an earlier version refuses them."""
+    each new file, which the service shows; one of an earlier version refuses them. `term` is that of the task, if the job has names."""
     said = {} if sizes is None else {"bytes": list(sizes)}
-    return {"call": "ack", "id": record, "subtask": subtask, "fresh": _texts(fresh), "reused": _texts(reused), **said}
+    return {"call": "ack", **_in(term), "id": record, "subtask": subtask, "fresh": _texts(fresh), "reused": _texts(reused), **said}
 
 
-def decline(record, subtask):
+def decline(record, subtask, term=None):
     """A subtask can't take its part of a record."""
-    return {"call": "decline", "id": record, "subtask": subtask}
+    return {"call": "decline", **_in(term), "id": record, "subtask": subtask}
+
+
+def reserve(term, count):
+    """A task of this term reserves names for new files, at most 65,536."""
+    return {"call": "reserve", "term": term, "count": count}
+
+
+def forfeit(term, names):
+    """A task of this term gives up names that it will not acknowledge, at most 4096."""
+    return {"call": "forfeit", "term": term, "names": _texts(names)}
+
+
+def _in(term):
+    return {} if term is None else {"term": term}
 
 
 def savepoint():
@@ -167,9 +201,11 @@ class Service:
         it._patience = seconds
         return it
 
-    def open(self, name, settings, shape):
-        """Opens a job, or finds it: the same name, settings and shape give the same job."""
-        self.request("POST", "/v1/jobs", {"name": name, "settings": settings, "shape": shape})
+    def open(self, name, settings, shape, names=None):
+        """Opens a job, or finds it: the same name, settings and shape give the same job. A new job gives out names, unless `names` is
+        false or the service is set so: then the engine numbers its files itself. One of an earlier version refuses `names`."""
+        said = {} if names is None else {"names": names}
+        self.request("POST", "/v1/jobs", {"name": name, "settings": settings, "shape": shape, **said})
         return Job(self, name)
 
     def job(self, name):
@@ -249,6 +285,8 @@ def _body(told):
         said = body if isinstance(body, dict) else {}
         if told.status_code == 410:
             raise (OtherLog if said.get("reason") == "other_log" else Gone)(said)
+        if "fenced" in said:
+            raise _fenced(said["fenced"])
         raise Failed(told.status_code, said.get("error", told.text), said.get("field"))
     return body
 
@@ -269,9 +307,11 @@ def _make_whole(folder, name, text):
 
 def _made(answer):
     """An answer of a call that was made."""
+    file = answer.get("file")
     if "refused" in answer:
-        file = answer.get("file")
         raise Refused(answer["refused"], None if file is None else int(file))
+    if "fenced" in answer:
+        raise _fenced(answer["fenced"], None if file is None else int(file))
     if answer.get("no_memory"):
         raise Failed(507, "memory ran out")
     return answer
@@ -299,15 +339,15 @@ class Job:
         return self._service.request("POST", f"{self._path}/calls", {"calls": calls}, key)
 
     def call(self, call, key=None):
-        """Makes one call. Raises `Refused` if the coordinator refuses it."""
+        """Makes one call. Raises `Refused` if the coordinator refuses it, and `Fenced` if the term or the names do."""
         return _made(self.calls([call], key)[0])
 
     def claim(self, folder):
         """Makes sure that a folder's files are this job's: the file `.relkvanu-NAME` there names the job and when it was opened, as
         `relkvanu discard` has it. It is made in a folder without files for a job without files. Otherwise this raises `Failed`: the
         folder is of another job, its disk is not mounted, or the service has lost this job and opened it anew."""
-        state, name = self.state(), f".relkvanu-{self.name}"
-        text = f"relkvanu discard deletes files of the job {self.name}, opened at {state['opened']}, from this folder.\n"
+        state = self.state()
+        name, text = self._marker(state)
         try:
             with open(f"{folder}/{name}", encoding="utf-8") as it:
                 found = it.read()
@@ -320,15 +360,51 @@ class Job:
         if found != text:
             raise Failed(409, f"{folder}/{name} names another job, or this one as another database has it")
 
+    def marker(self):
+        """The name and the text of that file."""
+        return self._marker(self.state())
+
+    def _marker(self, state):
+        text = f"relkvanu discard deletes files of the job {self.name}, opened at {state['opened']}, from this folder.\n"
+        return f".relkvanu-{self.name}", text
+
     def begin(self, start="latest", shape=None, key=None):
-        """Begins the job again, from the latest record or from a savepoint, once all its tasks have ended: makes the call `restore`, and
-        returns a `Start`. Pending records end. Raises `Refused` if the job is cancelled."""
+        """Begins the job again, from the latest record or from a savepoint: makes the call `restore`, and returns a `Start`. Pending records
+        end, and so does the term of the tasks; those of a job without names have all ended before. Raises `Refused` if the job is
+        cancelled."""
         told = self._make([restore(start, shape)], key)
         return Start(self, _made(told["answers"][0]), told.get("log"))
 
+    def session(self, term, block=_RESERVED):
+        """A task of the start that has this term. It reserves `block` names at a time."""
+        return Session(self, term, block)
+
+    def term(self):
+        """The term that runs and the next name, for whoever starts tasks: each learns its term there. A task never asks, since one that
+        should be dead would learn the new term. Raises `Fenced` if the job has no names."""
+        told = self._get("/term")
+        return {"term": told["term"], "next_name": int(told["next_name"])}
+
+    def fence(self, first_name, key=None):
+        """Makes the job give out names, from this one on: all numbers of files that it ever used are below. The call is made between the
+        end of all tasks and `begin`. Raises `Fenced` if the job has names, or a file of it has this number or a greater one."""
+        key = uuid.uuid4().hex if key is None else key
+        return self._service.request("POST", f"{self._path}/fence", {"first_name": str(first_name)}, key)
+
+    def garbage(self, files):
+        """Those of these files that may be deleted, and those whose names were never given out, which nobody deletes: a file of another
+        job, or the log was lost. The first stay garbage for good, so they may be deleted at any time, however the job goes on."""
+        files, garbage, unissued = list(files), [], []
+        for place in range(0, len(files), _MOST_GARBAGE):
+            some = _texts(files[place:place + _MOST_GARBAGE])
+            told = self._service.request("POST", f"{self._path}/garbage", {"files": some})
+            garbage += map(int, told["garbage"])
+            unissued += map(int, told["unissued"])
+        return garbage, unissued
+
     def orphans(self, files):
-        """Those of these files that the job does not know: no record uses them, and they don't wait for deletion and are not taken. An
-        engine deletes them if it listed them after all its tasks had ended, has made `begin` since, and starts no task before it has
+        """Of a job without names: those of these files that the job does not know. No record uses them, and they don't wait for deletion and
+        are not taken. An engine deletes them if it listed them after all its tasks had ended, has made `begin` since, and starts no task before it has
         deleted them. At any other time a file may be one whose acknowledgement is on its way."""
         state, until = self.state(), time.monotonic() + _HISTORY_PATIENCE
         while self.files(1)["upto"] < state["seq"]:
@@ -374,9 +450,9 @@ class Job:
         """Files that were taken and not reported, and those that were deleted last."""
         return self._get("/files", limit=limit)
 
-    def log(self, after=0):
-        """Yields the log's entries after a place."""
-        while page := self._get("/log", after=after, limit=1000)["calls"]:
+    def log(self, after=0, terms=False):
+        """Yields the log's entries after a place; with the terms in their lines if the token allows calls."""
+        while page := self._get("/log", after=after, limit=1000, **({"terms": 1} if terms else {}))["calls"]:
             yield from page
             after = page[-1]["seq"]
 
@@ -411,19 +487,89 @@ class Job:
 
 class Start:
     """What a job begins from: the `kind` of a record, which is `checkpoint` or `savepoint`, its number `id`, and the `files` that each
-    subtask loads. Or the kind is `fresh`, and there is no record. `follower` has the events after it."""
+    subtask loads. Or the kind is `fresh`, and there is no record. `follower` has the events after it. `term` is for each task that is
+    started from here, and for nobody else; it is None if the job has no names."""
 
     def __init__(self, job, answer, log):
-        self.kind, self.id = answer["restore"], answer.get("id")
+        self.kind, self.id, self.term = answer["restore"], answer.get("id"), answer.get("term")
+        self._job = job
         self.files = {} if self.id is None else job._held(self.id)
         if self.files is None:
             raise Failed(404, f"{self.kind} {self.id} has ended meanwhile: somebody else has restored or cancelled the job")
         self.follower = Follower(job, answer["seq"], log)
 
+    def session(self, block=_RESERVED):
+        """A task of this start in this process."""
+        if self.term is None:
+            raise Fenced("NoNames")
+        return self._job.session(self.term, block)
+
     def events(self):
         """Yields the events after it, for ever."""
         while True:
             yield from self.follower.next()
+
+
+class Session:
+    """A task of one start of a job, by the `term` that it was started with: its new files get names that no other file ever has, and its
+    calls carry the term. Once the job is restored or cancelled, each call raises `OldTerm`, and the task ends: it changes nothing any more,
+    and deletes nothing. Threads may share one."""
+
+    def __init__(self, job, term, block=_RESERVED):
+        self._job, self.term, self._block = job, term, block
+        self._lock, self._next, self._end, self._is_over = threading.Lock(), 0, 0, False
+
+    def name(self):
+        """The number of a new file. It was reserved before, durably."""
+        with self._lock:
+            self._check()
+            if self._next == self._end:
+                told = self._call(reserve(self.term, self._block))
+                self._next, self._end = int(told["first"]), int(told["first"]) + told["count"]
+            self._next += 1
+            return self._next - 1
+
+    def names(self):
+        """Yields the numbers of new files."""
+        while True:
+            yield self.name()
+
+    def ack(self, record, subtask, fresh=(), reused=(), sizes=None, key=None):
+        """The function `ack` in the term. If it is refused, the names of the new files are the task's still: it names the files in a later
+        acknowledgement, or gives the names up."""
+        return self._call(ack(record, subtask, fresh, reused, sizes, self.term), key)
+
+    def decline(self, record, subtask, key=None):
+        """The function `decline` in the term."""
+        return self._call(decline(record, subtask, self.term), key)
+
+    def calls(self, calls, key=None):
+        """Makes acknowledgements and declines of several subtasks in one request, each in the term. Returns the answer of each, a refusal
+        too."""
+        self._check()
+        answers = self._job.calls([{**call, "term": self.term} for call in calls], key)
+        if {"fenced": "OldTerm"} in answers:
+            self._is_over = True
+            raise OldTerm("OldTerm")
+        return answers
+
+    def forfeit(self, names):
+        """Gives up names that the task will not acknowledge, such as those of a failed upload: their files are garbage then."""
+        names = list(names)
+        for place in range(0, len(names), _MOST_FORFEITED):
+            self._call(forfeit(self.term, names[place:place + _MOST_FORFEITED]))
+
+    def _check(self):
+        if self._is_over:
+            raise OldTerm("OldTerm")
+
+    def _call(self, call, key=None):
+        self._check()
+        try:
+            return self._job.call(call, key)
+        except OldTerm:
+            self._is_over = True
+            raise
 
 
 class Follower:

@@ -51,7 +51,7 @@ impl Ended {
         match self {
             Ended::Refused(_) | Ended::Incomplete(_) | Ended::NoJob(_) => NO,
             Ended::Asked(Asked::Status { status: NOT_FOUND | CONFLICT, .. }) => NO,
-            Ended::NoneWhole | Ended::AtWork(_) => NO,
+            Ended::NoneWhole | Ended::AtWork(_) | Ended::Asked(Asked::Fenced { .. } | Asked::OldTerm) => NO,
             Ended::NoMemory | Ended::Late(_) | Ended::Asked(Asked::Status { status: NO_MEMORY, .. }) => START_AGAIN,
             Ended::Behind => START_AGAIN,
             Ended::Asked(error) if error.may_pass() => START_AGAIN,

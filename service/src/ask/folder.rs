@@ -65,18 +65,6 @@ pub async fn orphans(job: &Job, given: &Orphans) -> Result<(), Ended> {
     said(given.at.json, &json!(orphans), tables::lines)
 }
 
-impl Names {
-    fn of(&self, file: u64) -> String {
-        format!("{}{file}{}", self.prefix, self.suffix)
-    }
-
-    /// The number in a name, if it is one of these.
-    fn number(&self, name: &str) -> Option<u64> {
-        let digits = name.strip_prefix(&self.prefix)?.strip_suffix(&self.suffix)?;
-        digits.parse().ok().filter(|number: &u64| number.to_string() == digits)
-    }
-}
-
 /// The numbers of the folder's files.
 fn listed(folder: &Path, names: &Names) -> Result<BTreeSet<u64>, Ended> {
     let failed = |why| Ended::Folder { path: folder.to_path_buf(), why };
@@ -148,23 +136,6 @@ fn items(value: &Value) -> &[Value] {
 #[cfg(test)]
 mod tests {
     use super::*;
-
-    #[test]
-    fn a_name_has_one_number() {
-        let names = Names { prefix: "state-".to_string(), suffix: ".bin".to_string() };
-        assert_eq!(names.number(&names.of(u64::MAX)), Some(u64::MAX));
-        for name in [
-            "state-.bin",
-            "state-07.bin",
-            "state-+7.bin",
-            "state-7",
-            "7.bin",
-            "state-18446744073709551616.bin",
-            "state-7.bin~",
-        ] {
-            assert_eq!(names.number(name), None, "{name}");
-        }
-    }
 
     #[test]
     fn an_engine_is_at_work_if_a_pending_record_is_acknowledged() {

@@ -4,12 +4,12 @@ mod folder;
 mod tables;
 mod words;
 
-pub use words::Ask;
+pub use words::{Ask, Names};
 
 use crate::log;
 use crate::remote;
 use ended::Ended;
-use relkvanu_client::{Answer, Call, Job, Service};
+use relkvanu_client::{Answer, Call, Error, Job, Service};
 use serde_json::{json, Value};
 use std::io::{ErrorKind, Write};
 use std::process::ExitCode;
@@ -17,6 +17,10 @@ use std::time::{Duration, Instant};
 
 /// How many calls of the log one request reads.
 const PAGE: u64 = 1000;
+/// How many names one call reserves, and how many calls one request has.
+const MOST_NAMES: u64 = 65_536;
+const MOST_CALLS: u64 = 1000;
+const HAS_NAMES: &str = "HasNames";
 /// How long one poll waits, in seconds.
 const POLL: u64 = 20;
 
@@ -54,6 +58,8 @@ async fn asked(given: &Ask) -> Result<(), Ended> {
             let restore = Call::Restore { savepoint: given.savepoint, shape: given.shape.clone() };
             call(&service.job(&given.job), at.json, restore).await.map(|_| ())
         }
+        Ask::Term(given) => said(at.json, &service.job(&given.job).term().await?, tables::term),
+        Ask::Fence(given) => fence(&service.job(&given.job), given).await,
         Ask::Cancel(given) => call(&service.job(&given.job), at.json, Call::Cancel).await.map(|_| ()),
         Ask::Delete(given) => delete(&service, given).await,
     }
@@ -90,7 +96,8 @@ async fn files(job: &Job, given: &words::Files) -> Result<(), Ended> {
 async fn print_log(job: &Job, given: &words::Log) -> Result<(), Ended> {
     let (mut after, mut left) = (given.after, given.most.unwrap_or(u64::MAX));
     while left > 0 {
-        let told = job.log(after, left.min(PAGE)).await?;
+        let most = left.min(PAGE);
+        let told = if given.terms { job.log_with_terms(after, most).await } else { job.log(after, most).await }?;
         let calls = told["calls"].as_array().map(Vec::as_slice).unwrap_or_default();
         let Some(last) = calls.last() else {
             break;
@@ -110,9 +117,40 @@ async fn call(job: &Job, json: bool, call: Call) -> Result<Value, Ended> {
             said(json, &reply, tables::made)?;
             Ok(reply)
         }
-        Some(Answer::Refused { name, .. }) => Err(Ended::Refused(name)),
+        Some(Answer::Refused { name, .. } | Answer::Fenced { name, .. }) => Err(Ended::Refused(name)),
         Some(Answer::NoMemory | Answer::NotMade) => Err(Ended::NoMemory),
-        None => Err(relkvanu_client::Error::Answer("has no answer of the call".to_string()).into()),
+        None => Err(Error::Answer("has no answer of the call".to_string()).into()),
+    }
+}
+
+/// Makes the job give out names from a first one on. One that gives out names already goes on there.
+async fn fence(job: &Job, given: &words::Fence) -> Result<(), Ended> {
+    match job.fence(given.first_name).await {
+        Err(Error::Fenced { name, .. }) if name == HAS_NAMES => {
+            said(given.at.json, &pass_over(job, given.first_name).await?, tables::term)
+        }
+        told => said(given.at.json, &told?, tables::fenced),
+    }
+}
+
+/// Reserves the names below this one, so that nobody gets them. The next restore makes them garbage. Returns the term and the next name.
+async fn pass_over(job: &Job, first_name: u64) -> Result<Value, Ended> {
+    loop {
+        let told = job.term().await?;
+        let next: u64 = told["next_name"].as_str().and_then(|name| name.parse().ok()).unwrap_or(u64::MAX);
+        if next >= first_name {
+            return Ok(told);
+        }
+        let term = told["term"].as_u64().unwrap_or_default();
+        let counts = (0..MOST_CALLS).map(|call| (first_name - next).saturating_sub(call * MOST_NAMES).min(MOST_NAMES));
+        let calls: Vec<Call> = counts.filter(|count| *count > 0).map(|count| Call::Reserve { term, count }).collect();
+        for answer in job.calls(&calls).await? {
+            match answer {
+                Answer::Made { .. } => {}
+                Answer::Refused { name, .. } | Answer::Fenced { name, .. } => return Err(Ended::Refused(name)),
+                Answer::NoMemory | Answer::NotMade => return Err(Ended::NoMemory),
+            }
+        }
     }
 }
 

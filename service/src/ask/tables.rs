@@ -57,6 +57,9 @@ pub fn job(job: &Value) -> String {
         ),
         format!("calls\t{}, of which the log has those from {} on", cell(&job["seq"]), cell(&job["first"])),
     ];
+    if job["names"] == true {
+        rows.push(format!("next name\t{}", cell(&job["next_name"])));
+    }
     let bytes = &job["bytes"];
     if bytes["files"].as_u64() > Some(0) {
         let [in_use, waiting, taken] = ["in_use", "waiting", "taken"].map(|name| cell(&bytes[name]));
@@ -175,6 +178,17 @@ pub fn call(call: &Value) -> String {
     format!("{seq:>8}  {}  {line}  ->  {answer}\n", at(&call["at"]))
 }
 
+/// The term that runs.
+pub fn term(told: &Value) -> String {
+    table(&[format!("term\t{}", cell(&told["term"])), format!("next name\t{}", cell(&told["next_name"]))])
+}
+
+/// A job that gives out names now.
+pub fn fenced(told: &Value) -> String {
+    let (first, term) = (cell(&told["first_name"]), cell(&told["term"]));
+    format!("the job gives out names, from {first} on; the term is {term}, until the restore with which its tasks start again\n")
+}
+
 /// What a call did that a user made.
 pub fn made(reply: &Value) -> String {
     let of = |name: &str| cell(&reply[name]);
@@ -192,6 +206,9 @@ pub fn made(reply: &Value) -> String {
     };
     if !reply["released"].is_null() {
         let _ = write!(text, "; files that wait for deletion now: {} more", of("released"));
+    }
+    if !reply["term"].is_null() {
+        let _ = write!(text, "; the term is {}", of("term"));
     }
     text + "\n"
 }

@@ -24,6 +24,10 @@ pub enum Ask {
     Dispose(Dispose),
     /// Begin a job again from its latest record, or from a savepoint
     Restore(Restore),
+    /// Show the term that runs, for whoever starts the tasks of a job
+    Term(Term),
+    /// Make a job give out the names of its files, between the end of all its tasks and their restart
+    Fence(Fence),
     /// Cancel a job for good: its checkpoints are dropped, unless it has `keep_on_cancel`
     Cancel(Cancel),
     /// Delete a job that was cancelled or has failed, with its log and its history
@@ -75,6 +79,9 @@ pub struct Log {
     /// At most so many calls
     #[arg(long, value_name = "CALLS")]
     pub most: Option<u64>,
+    /// With the terms in the lines, as `ckpt_log` reads them; the token has to be a write token
+    #[arg(long)]
+    pub terms: bool,
     #[command(flatten)]
     pub at: At,
 }
@@ -94,7 +101,7 @@ pub struct Files {
 }
 
 /// How a folder's files are named.
-#[derive(Args)]
+#[derive(Args, Clone)]
 pub struct Names {
     /// The part of a file's name before its number
     #[arg(long, default_value = "")]
@@ -171,6 +178,27 @@ pub struct Restore {
 }
 
 #[derive(Args)]
+pub struct Term {
+    /// The job
+    #[arg(value_parser = job_name)]
+    pub job: String,
+    #[command(flatten)]
+    pub at: At,
+}
+
+#[derive(Args)]
+pub struct Fence {
+    /// The job
+    #[arg(value_parser = job_name)]
+    pub job: String,
+    /// The first name: all numbers of files that the job ever used are below it
+    #[arg(value_parser = clap::value_parser!(u64).range(1..=1 << 62))]
+    pub first_name: u64,
+    #[command(flatten)]
+    pub at: At,
+}
+
+#[derive(Args)]
 pub struct Cancel {
     /// The job
     #[arg(value_parser = job_name)]
@@ -203,8 +231,70 @@ impl Ask {
             Ask::Savepoint(given) => &given.at,
             Ask::Dispose(given) => &given.at,
             Ask::Restore(given) => &given.at,
+            Ask::Term(given) => &given.at,
+            Ask::Fence(given) => &given.at,
             Ask::Cancel(given) => &given.at,
             Ask::Delete(given) => &given.at,
         }
+    }
+}
+
+/// A file's name while it is written.
+const PART: &str = ".part";
+
+impl Names {
+    pub fn of(&self, file: u64) -> String {
+        format!("{}{file}{}", self.prefix, self.suffix)
+    }
+
+    /// The number in a name, if it is one of these.
+    pub fn number(&self, name: &str) -> Option<u64> {
+        let digits = name.strip_prefix(&self.prefix)?.strip_suffix(&self.suffix)?;
+        digits.parse().ok().filter(|number: &u64| number.to_string() == digits)
+    }
+
+    /// The number in a name, also of a file that is not whole yet.
+    pub fn number_or_part(&self, name: &str) -> Option<u64> {
+        self.number(name).or_else(|| self.number(name.strip_suffix(PART)?))
+    }
+
+    /// Refuses what would name files of another folder.
+    pub fn check(&self) -> Result<(), String> {
+        if self.prefix.contains('/') || self.suffix.contains('/') {
+            return Err("--prefix and --suffix: a '/' would name another folder".to_string());
+        }
+        Ok(())
+    }
+}
+
+#[cfg(test)]
+mod tests {
+    use super::*;
+
+    #[test]
+    fn a_name_has_one_number() {
+        let names = Names { prefix: "state-".to_string(), suffix: ".bin".to_string() };
+        assert_eq!(names.number(&names.of(u64::MAX)), Some(u64::MAX));
+        for name in [
+            "state-.bin",
+            "state-07.bin",
+            "state-+7.bin",
+            "state-7",
+            "7.bin",
+            "state-18446744073709551616.bin",
+            "state-7.bin~",
+            "state-7.bin.part",
+        ] {
+            assert_eq!(names.number(name), None, "{name}");
+        }
+    }
+
+    #[test]
+    fn a_file_that_is_not_whole_has_a_number_too() {
+        let names = Names { prefix: "state-".to_string(), suffix: ".bin".to_string() };
+        let found = ["state-7.bin", "state-7.bin.part", "state-7.bin.part.part", "state-07.bin.part", ".part"];
+        assert_eq!(found.map(|name| names.number_or_part(name)), [Some(7), Some(7), None, None, None]);
+        let plain = Names { prefix: String::new(), suffix: String::new() };
+        assert_eq!(["7", "7.part", "7.bin"].map(|name| plain.number_or_part(name)), [Some(7), Some(7), None]);
     }
 }

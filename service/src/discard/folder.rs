@@ -1,4 +1,5 @@
 //! The folder of a job's files: held open, marked as the job's, and synced after deletions.
+use crate::ask::Names;
 use crate::cli;
 use crate::log;
 use rustix::fd::OwnedFd;
@@ -63,15 +64,48 @@ pub enum Outcome {
     Failed,
 }
 
-/// An open folder. It stays the same one if another is mounted or renamed to its path.
-pub struct Folder {
-    path: PathBuf,
-    folder: File,
-    /// The marker's name, and the open file, which is locked: it keeps other discarders out.
+/// An open folder that has the marker of a job. It stays the same one if another is mounted or renamed to its path.
+pub struct Marked {
+    pub path: PathBuf,
+    pub folder: File,
+    /// The marker's name, and the open file.
     name: String,
     marker: File,
-    prefix: String,
-    suffix: String,
+}
+
+impl Marked {
+    /// Opens a folder that has the marker of this job.
+    pub fn open(path: &Path, owner: &Owner) -> Result<Marked, Stop> {
+        let failed = |error: std::io::Error| Stop::Again(format!("{}: {error}", path.display()));
+        let (folder, name) = (File::open(path).map_err(failed)?, owner.marker());
+        match open_marker(&folder, &name) {
+            Ok(marker) if says(&marker, owner) => Ok(Marked { path: path.to_path_buf(), folder, name, marker }),
+            Ok(_) => Err(Stop::Never(other_marker(path, &name))),
+            Err(Errno::NOENT) => Err(Stop::Never(no_marker(path, &name))),
+            Err(error) => Err(failed(error.into())),
+        }
+    }
+
+    /// The folder still has its marker.
+    pub fn check(&self) -> Result<(), Stop> {
+        let failed = |error: std::io::Error| Stop::Again(format!("{}: {error}", self.path.display()));
+        let held = self.marker.metadata().map_err(failed)?;
+        match statat(&self.folder, &self.name, AtFlags::SYMLINK_NOFOLLOW) {
+            Ok(found) if found.st_ino == held.ino() => Ok(()),
+            Ok(_) | Err(Errno::NOENT) => Err(Stop::Never(no_marker(&self.path, &self.name))),
+            Err(error) => Err(failed(error.into())),
+        }
+    }
+
+    pub fn sync(&self) -> Result<(), Stop> {
+        sync(&self.folder).map_err(|error| Stop::Again(format!("{} is not synced: {error}", self.path.display())))
+    }
+}
+
+/// The folder that a discarder works in. Its marker is locked, which keeps other discarders out.
+pub struct Folder {
+    marked: Marked,
+    names: Names,
     allow_absent: bool,
 }
 
@@ -96,8 +130,8 @@ impl Folder {
             }
         };
         lock(&marker, &path)?;
-        let (prefix, suffix) = (given.prefix.clone(), given.suffix.clone());
-        Ok(Folder { path, folder, name, marker, prefix, suffix, allow_absent: given.allow_absent })
+        let (names, allow_absent) = (given.names.clone(), given.allow_absent);
+        Ok(Folder { marked: Marked { path, folder, name, marker }, names, allow_absent })
     }
 
     /// Deletes files, and syncs the folder. Deletes none if all are absent, unless an earlier run began with these, or
@@ -106,53 +140,38 @@ impl Folder {
         if files.is_empty() {
             return Ok(Vec::new());
         }
-        self.check()?;
+        self.marked.check()?;
         if files.iter().any(|file| self.is_there(*file)) {
             self.begin(files);
         } else if !self.allow_absent && !self.has_begun(files) {
             return Err(Stop::Never(self.all_absent(files)));
         }
         let outcomes = files.iter().map(|file| self.delete_one(*file)).collect();
-        self.sync().map_err(|error| Stop::Again(format!("{} is not synced: {error}", self.path.display())))?;
+        self.marked.sync()?;
         Ok(outcomes)
     }
 
     fn all_absent(&self, files: &[u64]) -> String {
-        let (count, path, name) = (files.len(), self.path.display(), self.file_name(files[0]));
+        let (count, path, name) = (files.len(), self.marked.path.display(), self.names.of(files[0]));
         format!(
             "none of {count} files is in {path}, as {name}: is it the wrong folder, --prefix or --suffix? They wait for \
              deletion again. If they were deleted by others, run it once with --allow-absent"
         )
     }
 
-    /// The folder still has its marker.
-    fn check(&self) -> Result<(), Stop> {
-        let failed = |error: std::io::Error| Stop::Again(format!("{}: {error}", self.path.display()));
-        let held = self.marker.metadata().map_err(failed)?;
-        match statat(&self.folder, &self.name, AtFlags::SYMLINK_NOFOLLOW) {
-            Ok(found) if found.st_ino == held.ino() => Ok(()),
-            Ok(_) | Err(Errno::NOENT) => Err(Stop::Never(no_marker(&self.path, &self.name))),
-            Err(error) => Err(failed(error.into())),
-        }
-    }
-
-    fn file_name(&self, file: u64) -> String {
-        format!("{}{file}{}", self.prefix, self.suffix)
-    }
-
     /// Whether there is such a file, or it is not known.
     fn is_there(&self, file: u64) -> bool {
-        !matches!(statat(&self.folder, self.file_name(file), AtFlags::SYMLINK_NOFOLLOW), Err(Errno::NOENT))
+        !matches!(statat(&self.marked.folder, self.names.of(file), AtFlags::SYMLINK_NOFOLLOW), Err(Errno::NOENT))
     }
 
     fn delete_one(&self, file: u64) -> Outcome {
-        match unlinkat(&self.folder, self.file_name(file), AtFlags::empty()) {
+        match unlinkat(&self.marked.folder, self.names.of(file), AtFlags::empty()) {
             Ok(()) => Outcome::Deleted,
             Err(Errno::NOENT) => Outcome::Absent,
             Err(error) => {
                 log::warn(&format!(
                     "{}: {}",
-                    self.path.join(self.file_name(file)).display(),
+                    self.marked.path.join(self.names.of(file)).display(),
                     std::io::Error::from(error)
                 ));
                 Outcome::Failed
@@ -165,20 +184,21 @@ impl Folder {
     fn begin(&self, files: &[u64]) {
         let text = files.iter().map(u64::to_string).collect::<Vec<_>>().join(" ");
         let flags = OFlags::WRONLY | OFlags::CREATE | OFlags::TRUNC;
-        let written = open_in(&self.folder, &self.begun(), flags).map_err(std::io::Error::from).and_then(|mut file| {
-            file.write_all(format!("{text}\n").as_bytes())?;
-            file.sync_all()
-        });
+        let written =
+            open_in(&self.marked.folder, &self.begun(), flags).map_err(std::io::Error::from).and_then(|mut file| {
+                file.write_all(format!("{text}\n").as_bytes())?;
+                file.sync_all()
+            });
         // on a full disk deletions matter most
         if let Err(error) = written {
-            log::warn(&format!("{}/{}: {error}", self.path.display(), self.begun()));
+            log::warn(&format!("{}/{}: {error}", self.marked.path.display(), self.begun()));
         }
     }
 
     /// Whether an earlier run wrote down all these files.
     fn has_begun(&self, files: &[u64]) -> bool {
         let mut text = String::new();
-        let read = open_in(&self.folder, &self.begun(), OFlags::RDONLY).map_err(std::io::Error::from);
+        let read = open_in(&self.marked.folder, &self.begun(), OFlags::RDONLY).map_err(std::io::Error::from);
         if read.and_then(|mut file| file.read_to_string(&mut text)).is_err() || !text.ends_with('\n') {
             return false;
         }
@@ -187,11 +207,7 @@ impl Folder {
     }
 
     fn begun(&self) -> String {
-        format!("{}.begun", self.name)
-    }
-
-    fn sync(&self) -> std::io::Result<()> {
-        sync(&self.folder)
+        format!("{}.begun", self.marked.name)
     }
 }
 

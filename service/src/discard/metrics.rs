@@ -1,17 +1,12 @@
 //! The discarder's metrics for Prometheus, which `--metrics` serves.
-use super::folder::{Outcome, Stop};
+use super::folder::Outcome;
 use crate::log;
-use hyper::service::{make_service_fn, service_fn};
-use hyper::{Body, Request, Response, Server, StatusCode};
-use prometheus::{Encoder, Gauge, IntCounter, IntCounterVec, Opts, Registry, TextEncoder};
+use prometheus::{Gauge, IntCounter, IntCounterVec, Opts, Registry};
 use relkvanu_client::Error;
-use std::convert::Infallible;
-use std::net::SocketAddr;
-use std::sync::Arc;
 use std::time::{SystemTime, UNIX_EPOCH};
 
 pub struct Metrics {
-    registry: Registry,
+    pub registry: Registry,
     files: IntCounterVec,
     lost: IntCounter,
     reported: Gauge,
@@ -58,20 +53,6 @@ impl Metrics {
         let now = SystemTime::now().duration_since(UNIX_EPOCH).unwrap_or_default();
         self.reported.set(now.as_secs_f64());
     }
-
-    fn answer(&self, request: &Request<Body>) -> Response<Body> {
-        let mut text = Vec::new();
-        let mut answer = Response::new(Body::empty());
-        if request.uri().path() != "/metrics" {
-            *answer.status_mut() = StatusCode::NOT_FOUND;
-            return answer;
-        }
-        match TextEncoder::new().encode(&self.registry.gather(), &mut text) {
-            Ok(()) => *answer.body_mut() = Body::from(text),
-            Err(_) => *answer.status_mut() = StatusCode::INTERNAL_SERVER_ERROR,
-        }
-        answer
-    }
 }
 
 fn word(outcome: Outcome) -> &'static str {
@@ -80,21 +61,4 @@ fn word(outcome: Outcome) -> &'static str {
         Outcome::Absent => "absent",
         Outcome::Failed => "failed",
     }
-}
-
-/// Serves `/metrics` at an address, beside the work.
-pub fn serve(metrics: &Arc<Metrics>, address: SocketAddr) -> Result<(), Stop> {
-    let server = Server::try_bind(&address).map_err(|error| Stop::Again(format!("--metrics {address}: {error}")))?;
-    let metrics = Arc::clone(metrics);
-    let make = make_service_fn(move |_| {
-        let metrics = Arc::clone(&metrics);
-        async move {
-            Ok::<_, Infallible>(service_fn(move |request| {
-                let answer = metrics.answer(&request);
-                async move { Ok::<_, Infallible>(answer) }
-            }))
-        }
-    });
-    tokio::spawn(server.serve(make));
-    Ok(())
 }

@@ -2,13 +2,14 @@
 mod folder;
 mod metrics;
 
-pub use folder::{no_marker, Owner};
+pub use folder::{no_marker, Marked, Owner, Stop};
 
 use crate::cli;
 use crate::exit::NOT_TO_START;
+use crate::exposed;
 use crate::log;
 use crate::remote;
-use folder::{Folder, Outcome, Stop};
+use folder::{Folder, Outcome};
 use metrics::Metrics;
 use relkvanu_client::{new_key, Answer, Call, Error, Job, Service};
 use serde_json::Value;
@@ -72,7 +73,7 @@ async fn work(given: &cli::Discard) -> Result<(), Stop> {
     let service = service(given)?;
     let metrics = Arc::new(Metrics::new(&given.job).map_err(|error| Stop::Again(error.to_string()))?);
     if let Some(address) = given.metrics {
-        metrics::serve(&metrics, address)?;
+        exposed::serve(&metrics.registry, address).map_err(Stop::Again)?;
     }
     let noticed = Arc::clone(&metrics);
     let service = service.within(given.once.then_some(ONCE_PATIENCE)).noticing(move |error| noticed.lost(error));
@@ -89,9 +90,7 @@ fn service(given: &cli::Discard) -> Result<Service, Stop> {
     if !crate::http::is_name(&given.job) {
         return Err(Stop::Again(format!("--job: {:?} is no name of a job", given.job)));
     }
-    if given.prefix.contains('/') || given.suffix.contains('/') {
-        return Err(Stop::Again("--prefix and --suffix: a '/' would name another folder".to_string()));
-    }
+    given.names.check().map_err(Stop::Again)?;
     remote::service(&given.urls, given.token_file.as_deref()).map_err(|error| Stop::Again(error.to_string()))
 }
 

@@ -26,6 +26,11 @@ pub struct Tables(Connection);
 /// How many rows a piece of a deletion has, beside as many as came since the last one.
 pub const PIECE: u64 = 1000;
 
+/// The first words of a line.
+fn words(line: &str, count: usize) -> String {
+    line.split(' ').take(count).collect::<Vec<_>>().join(" ")
+}
+
 impl Tables {
     /// Opens the tables. Makes them if the file is new, and upgrades those of an earlier version.
     pub fn open(path: &Path) -> Result<Tables, Error> {
@@ -150,7 +155,8 @@ impl Tables {
     /// Keeps a call without its lists of files, since the log may be cut before its files are deleted.
     pub fn place(&self, call: &Call, entry: &Entry) -> rusqlite::Result<()> {
         let line = match call {
-            Call::Ack { .. } => entry.line.splitn(5, ' ').take(4).collect::<Vec<_>>().join(" "),
+            Call::Ack { term: 0, .. } => words(&entry.line, 4),
+            Call::Ack { .. } => words(&entry.line, 6),
             _ => entry.line.clone(),
         };
         let answer = if matches!(call, Call::Take { .. }) { "take" } else { entry.answer.as_str() };

@@ -18,8 +18,12 @@ pub struct Did(String);
 impl Did {
     /// `None` if a task made all of them.
     pub fn of(calls: &[Call]) -> Option<Did> {
-        let is_users =
-            |call: &&Call| matches!(call, Call::Savepoint | Call::Dispose { .. } | Call::Restore { .. } | Call::Cancel);
+        let is_users = |call: &&Call| {
+            matches!(
+                call,
+                Call::Savepoint | Call::Dispose { .. } | Call::Restore { .. } | Call::Cancel | Call::Fence { .. }
+            )
+        };
         let names: Vec<&str> = calls.iter().filter(is_users).map(Call::name).collect();
         (!names.is_empty()).then(|| Did(names.join(" ")))
     }

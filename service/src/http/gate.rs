@@ -4,7 +4,7 @@ use super::members::PATH;
 use super::reply::{as_problem, error, text, wants_problems, with_header, Reply};
 use super::route::{NoRoute, Route};
 use super::seats::{Kind, Seat};
-use super::{page, reads, room, stream, trace, writes, App};
+use super::{names, page, reads, room, stream, trace, writes, App};
 use crate::auth::Caller;
 use crate::log;
 use hyper::header::{HeaderMap, HeaderName, ALLOW, CONNECTION, CONTENT_TYPE, HOST, RETRY_AFTER, WWW_AUTHENTICATE};
@@ -100,6 +100,8 @@ async fn dispatch(app: &Arc<App>, route: Route, caller: &Caller, request: Reques
         Route::NewJob => writes::new_job(app, caller, request).await,
         Route::DeleteJob(job) => writes::delete_job(app, job, request.uri().query().unwrap_or("")).await,
         Route::Calls(job) => writes::calls(app, job, request).await,
+        Route::Fence(job) => names::fence(app, job, request).await,
+        Route::Garbage(job) => names::garbage(app, job, request).await,
         Route::Stream(job) => stream::answer(app, job, caller, &request).await,
         read => reads::answer(app, read, caller, request.uri().query().unwrap_or("")).await,
     }
@@ -190,7 +192,7 @@ pub fn busy(why: &str) -> Reply {
 
 /// Names the leader. Where there is none, this process may lead in far less than the second that `Retry-After` says at least, so
 /// clients pause as they do by themselves.
-async fn standby(app: &App) -> Reply {
+pub async fn standby(app: &App) -> Reply {
     let refused = error(503, "this process does not lead");
     let found = app.read_events(|reader| Ok(reader.leader()));
     match tokio::time::timeout(FIND_LEADER, found).await {

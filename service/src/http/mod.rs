@@ -5,6 +5,7 @@ mod connection;
 mod gate;
 mod keys;
 mod members;
+mod names;
 mod page;
 mod places;
 mod query;
@@ -63,6 +64,8 @@ pub struct App {
     /// Room for large answers that were not sent yet, likewise.
     pub answers: Arc<Semaphore>,
     pub limits: Limits,
+    /// Whether a new job gives out names if its creation does not say.
+    pub names: bool,
 }
 
 /// Room for this many bytes.

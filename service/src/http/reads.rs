@@ -4,7 +4,7 @@ use super::query::{self, numbers, Parameter};
 use super::render::{self, Metadata};
 use super::reply::{bad_field, body, error, json_reply, with_type, Reply};
 use super::route::Route;
-use super::{acks, no_job, view, App};
+use super::{acks, names, no_job, view, App};
 use crate::auth::Caller;
 use crate::history::{FileRow, HistoryReader, Search};
 use crate::store::Reader;
@@ -33,9 +33,10 @@ pub async fn answer(app: &App, route: Route, caller: &Caller, query: &str) -> Re
         Route::Acks(job, id) => acks::answer(app, job, id, query).await,
         Route::Files(job) => files(app, &job, query).await,
         Route::File(job, file) => one_file(app, job, file, query).await,
-        Route::Log(job) => log(app, &job, query).await,
+        Route::Log(job) => log(app, &job, caller, query).await,
         Route::Events(job) => events(app, &job, query).await,
         Route::Samples(job) => samples(app, &job, query).await,
+        Route::Term(job) => names::term(app, job, query).await,
         Route::View(job) => view::answer(app, job, caller, query).await,
         Route::Asset(_)
         | Route::Health
@@ -43,6 +44,8 @@ pub async fn answer(app: &App, route: Route, caller: &Caller, query: &str) -> Re
         | Route::NewJob
         | Route::DeleteJob(_)
         | Route::Calls(_)
+        | Route::Fence(_)
+        | Route::Garbage(_)
         | Route::Stream(_) => Err(error(404, "is no read").into()),
     }
 }
@@ -219,14 +222,21 @@ async fn used_by(app: &App, job: &str, file: u64, live: Vec<u64>) -> Result<Vec<
     Ok(by)
 }
 
-async fn log(app: &App, job: &str, query: &str) -> Result<Reply, Box<Reply>> {
-    let [after, most] = numbers(query, [AFTER, limit(MOST_ROWS, 100)])?;
+async fn log(app: &App, job: &str, caller: &Caller, query: &str) -> Result<Reply, Box<Reply>> {
+    let terms = Parameter { name: "terms", most: 1, default: 0 };
+    let [after, most, terms] = numbers(query, [AFTER, limit(MOST_ROWS, 100), terms])?;
+    if terms == 1 && !caller.may_write {
+        return Err(error(403, "Authorization: lines with their terms need a write token").into());
+    }
     let number = app.number(job)?;
     let first = app.board.first(job);
     let after = after.max(first - 1);
     let log = app.board.log().to_string();
     // a page may be large, so there is one at a time: it becomes text before the next one is read
-    let page = move |reader: &mut dyn Reader| Ok(render::log(first, &log, &reader.log(number, after, rows(most))?));
+    let page = move |reader: &mut dyn Reader| {
+        let entries = reader.log(number, after, rows(most))?;
+        Ok(render::log(first, &log, &entries, terms == 1))
+    };
     Ok(body(200, app.read_log(page).await?))
 }
 
@@ -258,7 +268,8 @@ async fn events(app: &App, job: &str, query: &str) -> Result<Reply, Box<Reply>> 
     // if there is none, the calls that were committed before it was read are no events
     let none = if most > 0 { after.max(length) } else { after };
     let upto = page.last().map_or(none, |entry| entry.seq);
-    let events: Vec<Value> = page.iter().filter_map(render::event).collect();
+    let events: Vec<Value> =
+        page.iter().filter_map(|entry| render::event(entry, |seq| app.board.base(job, seq))).collect();
     Ok(json_reply(200, &json!({"first": first, "log": app.board.log(), "upto": upto, "events": events})))
 }
 

@@ -1,9 +1,10 @@
 //! JSON of jobs, records, files, events and the log.
 use crate::history::{FileRow, RecordRow};
-use crate::model::{kind, settings_json, Answer, Choice, Entry, Event, LiveRecord, Mode, Reply};
+use crate::model::{kind, settings_json, without_term, Answer, Choice, Entry, Event, LiveRecord, Mode, Reply};
 use crate::writer::JobState;
 use serde::{Deserialize, Serialize, Serializer};
 use serde_json::{json, Value};
+use std::borrow::Cow;
 use std::collections::HashSet;
 
 pub fn mode(mode: Mode) -> &'static str {
@@ -50,6 +51,9 @@ pub fn job(state: &JobState, log: &str) -> Value {
         "first": state.first,
         "image": state.image.map(|image| json!({"seq": image.seq, "at": image.at, "bytes": image.bytes})),
         "live": state.live.iter().map(live).collect::<Vec<_>>(),
+        // not the term: a task of an ended term could learn it here
+        "names": state.term.is_some(),
+        "next_name": state.term.map(|now| now.next_name.to_string()),
     })
 }
 
@@ -59,40 +63,48 @@ pub struct Row<'a> {
     seq: u64,
     at: u64,
     record: Option<u64>,
-    line: &'a str,
+    line: Cow<'a, str>,
     answer: &'a str,
     ended: Vec<u64>,
     waiting: u64,
 }
 
 impl Row<'_> {
-    fn of(entry: &Entry) -> Row<'_> {
+    /// The row with its term, or without it.
+    fn of(entry: &Entry, has_term: bool) -> Row<'_> {
         let Entry { seq, at, record, line, answer, waiting, .. } = entry;
+        let line = if has_term { Cow::Borrowed(line.as_str()) } else { without_term(line) };
         Row { seq: *seq, at: *at, record: *record, line, answer, ended: entry.ended(), waiting: *waiting }
     }
 }
 
-/// A part of the log, which begins with the call `first`.
-pub fn log(first: u64, log: &str, page: &[Entry]) -> String {
+/// A part of the log, which begins with the call `first`, with the terms in its lines or without.
+pub fn log(first: u64, log: &str, page: &[Entry], has_terms: bool) -> String {
     #[derive(Serialize)]
     struct Log<'a> {
         first: u64,
         log: &'a str,
         calls: Vec<Row<'a>>,
     }
-    serde_json::to_string(&Log { first, log, calls: page.iter().map(Row::of).collect() }).unwrap_or_default()
+    let calls = page.iter().map(|entry| Row::of(entry, has_terms)).collect();
+    serde_json::to_string(&Log { first, log, calls }).unwrap_or_default()
 }
 
-/// The event that a row of the log is for an engine, or `None`.
-pub fn event(entry: &Entry) -> Option<Value> {
+/// The event that a row of the log is for an engine, or `None`. A trigger has what its tasks build on, if `base` knows it for the row's
+/// place, and no term: a task of an ended term could learn the new one there.
+pub fn event(entry: &Entry, base: impl Fn(u64) -> Option<Choice>) -> Option<Value> {
     let reply = entry.reply()?;
-    let word = Event::of(&reply)?.word();
+    let is = Event::of(&reply)?;
+    let word = is.word();
     let mut event = json!({"seq": entry.seq, "at": entry.at, "event": word, "ended": entry.ended()});
     if let Some(id) = entry.record {
         event["id"] = json!(id);
     }
     if let Some(kind) = kind(&reply) {
         event["kind"] = json!(kind);
+    }
+    if let Some(base) = base(entry.seq).filter(|_| is == Event::Triggered) {
+        event["base"] = choice(base);
     }
     Some(event)
 }
@@ -101,7 +113,7 @@ pub fn event(entry: &Entry) -> Option<Value> {
 pub fn file_history(row: &FileRow, entries: &[Entry]) -> Value {
     let at = |seq: Option<u64>| {
         let found = entries.iter().find(|entry| Some(entry.seq) == seq);
-        found.map(Row::of)
+        found.map(|entry| Row::of(entry, false))
     };
     json!({
         "born": at(row.born), "released": at(row.released), "taken": at(row.taken), "deleted": at(row.deleted),
@@ -129,7 +141,7 @@ fn why(entry: &Entry) -> Option<String> {
         A::Disposed { .. } => format!("savepoint {id} was disposed of"),
         A::Restored { .. } => format!("the job was restored, and {dropped}"),
         A::Cancelled { .. } => format!("the job was cancelled, and {dropped}"),
-        A::SavepointTriggered(_) | A::Deleted(_) | A::Undeleted(_) | A::Counted { .. } => return None,
+        // the others release none
         _ => return None,
     })
 }

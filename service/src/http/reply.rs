@@ -51,6 +51,8 @@ pub fn refusal(status: u16, members: Value) -> Reply {
 }
 
 const PROBLEM: &str = "application/problem+json";
+/// The type of a problem that a term or the names of a job are.
+const FENCED: &str = "urn:relkvanu:problem:fenced";
 
 /// Whether a client asks for errors as RFC 9457 describes them.
 pub fn wants_problems(headers: &HeaderMap) -> bool {
@@ -65,7 +67,7 @@ pub fn as_problem(mut reply: Reply) -> Reply {
         return reply;
     };
     let status = reply.status();
-    members["type"] = json!("about:blank");
+    members["type"] = json!(if members["fenced"].is_null() { "about:blank" } else { FENCED });
     members["title"] = json!(status.canonical_reason());
     members["status"] = json!(status.as_u16());
     members["detail"] = members["error"].clone();

@@ -17,6 +17,12 @@ pub enum Route {
     Job(String),
     DeleteJob(String),
     Calls(String),
+    /// Gives the job names, at a restart of its tasks.
+    Fence(String),
+    /// The term that runs, for whoever starts tasks.
+    Term(String),
+    /// Which of some files may be deleted.
+    Garbage(String),
     Records(String),
     Record(String, u64),
     /// When each subtask acknowledged a record.
@@ -45,7 +51,7 @@ pub enum NoRoute {
 
 /// All routes of the API. The description must have each.
 #[cfg(test)]
-pub const API: [(&str, &str); 20] = [
+pub const API: [(&str, &str); 23] = [
     ("get", "/healthz"),
     ("get", "/readyz"),
     ("get", "/metrics"),
@@ -55,6 +61,9 @@ pub const API: [(&str, &str); 20] = [
     ("get", "/v1/jobs/{job}"),
     ("delete", "/v1/jobs/{job}"),
     ("post", "/v1/jobs/{job}/calls"),
+    ("post", "/v1/jobs/{job}/fence"),
+    ("get", "/v1/jobs/{job}/term"),
+    ("post", "/v1/jobs/{job}/garbage"),
     ("get", "/v1/jobs/{job}/records"),
     ("get", "/v1/jobs/{job}/records/{id}"),
     ("get", "/v1/jobs/{job}/records/{id}/acks"),
@@ -96,8 +105,14 @@ impl Route {
             return Err(NoRoute::Part("job"));
         }
         let name = name.to_string();
-        if rest == ["calls"] {
-            return if method == Method::POST { Ok(Route::Calls(name)) } else { Err(NoRoute::Method("POST")) };
+        let posted = match rest {
+            ["calls"] => Some(Route::Calls(name.clone())),
+            ["fence"] => Some(Route::Fence(name.clone())),
+            ["garbage"] => Some(Route::Garbage(name.clone())),
+            _ => None,
+        };
+        if let Some(route) = posted {
+            return if method == Method::POST { Ok(route) } else { Err(NoRoute::Method("POST")) };
         }
         if rest.is_empty() && !is_get {
             let is_delete = method == Method::DELETE;
@@ -114,6 +129,7 @@ impl Route {
             ["events"] => Route::Events(name),
             ["stream"] => Route::Stream(name),
             ["samples"] => Route::Samples(name),
+            ["term"] => Route::Term(name),
             _ => return Err(NoRoute::Path),
         };
         if is_get {
@@ -128,6 +144,7 @@ impl Route {
         match self {
             Route::Asset(_) | Route::Health | Route::Ready => None,
             Route::NewJob | Route::Calls(_) | Route::DeleteJob(_) => Some(Access::Write),
+            Route::Fence(_) | Route::Term(_) | Route::Garbage(_) => Some(Access::Write),
             _ => Some(Access::Read),
         }
     }
@@ -138,6 +155,7 @@ impl Route {
             Route::Job(job) | Route::DeleteJob(job) | Route::Calls(job) | Route::Records(job) => Some(job),
             Route::Record(job, _) | Route::Acks(job, _) | Route::Files(job) | Route::File(job, _) => Some(job),
             Route::Log(job) | Route::Events(job) | Route::Stream(job) | Route::Samples(job) => Some(job),
+            Route::Fence(job) | Route::Term(job) | Route::Garbage(job) => Some(job),
             Route::View(job) => job.as_deref(),
             Route::Asset(_) | Route::Health | Route::Ready | Route::Metrics | Route::Jobs | Route::NewJob => None,
         }
@@ -145,7 +163,7 @@ impl Route {
 
     /// Whether it has a body of JSON. A page of another site can't send that type, nor a DELETE.
     pub fn has_body(&self) -> bool {
-        matches!(self, Route::NewJob | Route::Calls(_))
+        matches!(self, Route::NewJob | Route::Calls(_) | Route::Fence(_) | Route::Garbage(_))
     }
 
     /// The kind of place that its connection takes.
@@ -175,6 +193,9 @@ impl Route {
             Route::Job(_) => "job",
             Route::DeleteJob(_) => "delete_job",
             Route::Calls(_) => "calls",
+            Route::Fence(_) => "fence",
+            Route::Term(_) => "term",
+            Route::Garbage(_) => "garbage",
             Route::Records(_) => "records",
             Route::Record(..) => "record",
             Route::Acks(..) => "acks",
@@ -252,6 +273,9 @@ mod tests {
         assert_eq!(Route::of(&Method::PUT, "/v1/jobs"), Err(NoRoute::Method("GET, POST")));
         assert_eq!(Route::of(&Method::PUT, "/v1/jobs/a"), Err(NoRoute::Method("GET, DELETE")));
         assert_eq!(Route::of(&Method::DELETE, "/v1/jobs/a/log"), Err(NoRoute::Method("GET")));
-        assert_eq!(Route::of(&Method::GET, "/v1/jobs/a/calls"), Err(NoRoute::Method("POST")));
+        for path in ["/v1/jobs/a/calls", "/v1/jobs/a/fence", "/v1/jobs/a/garbage"] {
+            assert_eq!(Route::of(&Method::GET, path), Err(NoRoute::Method("POST")));
+        }
+        assert_eq!(Route::of(&Method::POST, "/v1/jobs/a/term"), Err(NoRoute::Method("GET")));
     }
 }

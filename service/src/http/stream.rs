@@ -117,7 +117,7 @@ impl Stream {
             let page = self.app.read_events(move |reader| reader.events(number, after, PAGE)).await?;
             for entry in &page {
                 self.after = entry.seq;
-                if let Some(event) = render::event(entry) {
+                if let Some(event) = render::event(entry, |seq| self.app.board.base(&self.job, seq)) {
                     let id = format!("{}@{}", entry.seq, self.app.board.log());
                     text += &message(event["event"].as_str().unwrap_or_default(), Some(&id), &event);
                 }

@@ -10,7 +10,15 @@ const LONGEST_NAME: usize = 64;
 /// How many parts of a shape are read. A list that is too long is refused by its length.
 const MOST_VERTICES: usize = 1 << 16;
 pub const NO_NAME: &str = "is no name: 1 to 64 of a-z, A-Z, 0-9, '-', '_' and '.', and a letter or digit first";
-const CALLS: &str = "ack, decline, tick, savepoint, dispose, restore, cancel, take, deleted and undeleted";
+const CALLS: &str =
+    "ack, decline, tick, savepoint, dispose, restore, cancel, take, deleted, undeleted, reserve and forfeit";
+/// How many names a task reserves at once, and gives up.
+const MOST_RESERVED: u64 = 65_536;
+const MOST_FORFEITED: usize = 4096;
+/// The first name is at most this.
+const LAST_NAME: u64 = 1 << 62;
+/// Of how many files a request asks which may be deleted.
+pub const MOST_GARBAGE: usize = 10_000;
 
 /// The members that calls have.
 impl Members<'_> {
@@ -36,6 +44,34 @@ impl Members<'_> {
         let place = |at: usize| format!("{}[{at}]", self.field(name));
         let files = each(value, |at, item| file(item, || place(at)));
         files.unwrap_or_else(|| Err(self.wrong(name, "is no list of files")))
+    }
+
+    /// A list of at most so many files, which has to be there.
+    fn some_files(&mut self, name: &str, most: usize) -> Checked<Vec<u64>> {
+        if !self.has(name) {
+            return Err(self.wrong(name, "is missing"));
+        }
+        let files = self.files(name)?;
+        if files.len() > most {
+            return Err(self.wrong(name, &format!("has {} files, and not at most {most}", files.len())));
+        }
+        Ok(files)
+    }
+
+    /// The term of the task, or what the request says of all its calls; 0: none.
+    fn term(&mut self, of_all: u64) -> Checked<u64> {
+        if self.has("term") {
+            return self.number("term", 1, GREATEST);
+        }
+        Ok(of_all)
+    }
+
+    /// Whether it is true; `None` if there is no such member.
+    fn flag(&mut self, name: &str) -> Checked<Option<bool>> {
+        let Some(value) = self.take(name) else {
+            return Ok(None);
+        };
+        read(value).map(Some).ok_or_else(|| self.wrong(name, "is neither true nor false"))
     }
 
     /// The bytes of fresh files, which are none if there is no such member.
@@ -80,6 +116,8 @@ pub struct NewJob {
     pub name: String,
     pub settings: Settings,
     pub shape: Vec<u64>,
+    /// Whether it gives out names, if that is said.
+    pub names: Option<bool>,
 }
 
 /// Reads the body that opens a job.
@@ -91,8 +129,27 @@ pub fn new_job(bytes: &[u8]) -> Checked<NewJob> {
     }
     let settings = settings(Members::of("settings", members.wanted("settings")?)?)?;
     let shape = members.shape()?.ok_or_else(|| members.wrong("shape", "is missing"))?;
+    let names = members.flag("names")?;
     members.finish()?;
-    Ok(NewJob { name, settings, shape })
+    Ok(NewJob { name, settings, shape, names })
+}
+
+/// Reads the body that gives a job names: the first one, as a string or as a number.
+pub fn first_name(bytes: &[u8]) -> Checked<u64> {
+    let mut members = Members::of_body(bytes)?;
+    let value = members.wanted("first_name")?;
+    members.finish()?;
+    let number = text(value).map_or_else(|| read::<u64>(value).filter(|it| *it <= GREATEST), |text| parse_file(&text));
+    let wrong = || invalid("first_name", "is no whole number from 1 to 2^62, which above 2^53 is a string");
+    number.filter(|number| (1..=LAST_NAME).contains(number)).ok_or_else(wrong)
+}
+
+/// Reads the body that asks which files may be deleted.
+pub fn garbage(bytes: &[u8]) -> Checked<Vec<u64>> {
+    let mut members = Members::of_body(bytes)?;
+    let files = members.some_files("files", MOST_GARBAGE)?;
+    members.finish()?;
+    Ok(files)
 }
 
 fn settings(mut members: Members) -> Checked<Settings> {
@@ -103,10 +160,7 @@ fn settings(mut members: Members) -> Checked<Settings> {
             _ => members.number(field.name, field.least, field.most)?,
         };
     }
-    let keep_on_cancel = match members.take("keep_on_cancel") {
-        None => false,
-        Some(value) => read(value).ok_or_else(|| members.wrong("keep_on_cancel", "is neither true nor false"))?,
-    };
+    let keep_on_cancel = members.flag("keep_on_cancel")?.unwrap_or(false);
     members.finish()?;
     Ok(settings_of(numbers, keep_on_cancel))
 }
@@ -118,45 +172,48 @@ pub fn is_name(text: &str) -> bool {
     begins && text.len() <= LONGEST_NAME && text.bytes().all(may_stand)
 }
 
-/// Reads the body of a request with calls, at most `most`.
+/// Reads the body of a request with calls, at most `most`. It may say the term of all that have none.
 pub fn calls(bytes: &[u8], most: usize) -> Checked<Vec<Call>> {
     let mut members = Members::of_body(bytes)?;
+    let term = members.term(0)?;
     let items = items(members.wanted("calls")?, most).ok_or_else(|| members.wrong("calls", "is no list"))?;
     members.finish()?;
     if items.count == 0 || items.count > most {
         return Err(invalid("calls", &format!("has {} calls, not 1 to {most}", items.count)));
     }
     let calls = items.first.into_iter().enumerate();
-    calls.map(|(at, item)| Members::of(&format!("calls[{at}]"), item).and_then(call)).collect()
+    calls.map(|(at, item)| Members::of(&format!("calls[{at}]"), item).and_then(|members| call(members, term))).collect()
 }
 
-fn call(mut members: Members) -> Checked<Call> {
+fn call(mut members: Members, term: u64) -> Checked<Call> {
     let name = members.text("call")?;
     let call = match name.as_ref() {
         "tick" => Call::Tick,
         "savepoint" => Call::Savepoint,
-        "ack" => ack(&mut members)?,
-        "decline" => Call::Decline { id: members.id()?, subtask: members.subtask()? },
+        "ack" => ack(&mut members, term)?,
+        "decline" => Call::Decline { term: members.term(term)?, id: members.id()?, subtask: members.subtask()? },
         "dispose" => Call::Dispose { id: members.id()? },
         "restore" => Call::Restore { target: target(&mut members)?, shape: members.shape()? },
         "cancel" => Call::Cancel,
         "take" => Call::Take { most: members.number("most", 1, MOST_TAKEN)? },
         "deleted" => Call::Deleted { file: members.file()? },
         "undeleted" => Call::Undeleted { file: members.file()? },
+        "reserve" => Call::Reserve { term: members.term(term)?, count: members.number("count", 1, MOST_RESERVED)? },
+        "forfeit" => Call::Forfeit { term: members.term(term)?, names: members.some_files("names", MOST_FORFEITED)? },
         _ => return Err(members.wrong("call", &format!("{:?} is no call: there are {CALLS}", shown(&name)))),
     };
     members.finish()?;
     Ok(call)
 }
 
-fn ack(members: &mut Members) -> Checked<Call> {
-    let (id, subtask) = (members.id()?, members.subtask()?);
+fn ack(members: &mut Members, term: u64) -> Checked<Call> {
+    let (term, id, subtask) = (members.term(term)?, members.id()?, members.subtask()?);
     let (fresh, reused, bytes) = (members.files("fresh")?, members.files("reused")?, members.bytes()?);
     if !bytes.is_empty() && bytes.len() != fresh.len() {
         let why = format!("has {} numbers, and fresh has {} files", bytes.len(), fresh.len());
         return Err(members.wrong("bytes", &why));
     }
-    Ok(Call::Ack { id, subtask, fresh, reused, bytes })
+    Ok(Call::Ack { term, id, subtask, fresh, reused, bytes })
 }
 
 fn target(members: &mut Members) -> Checked<Target> {
@@ -184,13 +241,64 @@ mod tests {
             {"call":"take","most":64},{"call":"restore","from":3,"shape":[2]},{"call":"restore","from":"latest"}]}"#;
         let subtask = Subtask { vertex: 1, index: 0 };
         let wanted = vec![
-            Call::Ack { id: 12, subtask, fresh: vec![31], reused: vec![u64::MAX], bytes: vec![] },
-            Call::Ack { id: 12, subtask, fresh: vec![32, 30], reused: vec![], bytes: vec![0, 1 << 53] },
+            Call::Ack { term: 0, id: 12, subtask, fresh: vec![31], reused: vec![u64::MAX], bytes: vec![] },
+            Call::Ack { term: 0, id: 12, subtask, fresh: vec![32, 30], reused: vec![], bytes: vec![0, 1 << 53] },
             Call::Take { most: 64 },
             Call::Restore { target: Target::Savepoint(3), shape: Some(vec![2]) },
             Call::Restore { target: Target::Latest, shape: None },
         ];
         assert_eq!(calls(body.as_bytes(), 10), Ok(wanted));
+    }
+
+    #[test]
+    fn reads_calls_of_tasks_with_a_term() {
+        let subtask = Subtask { vertex: 1, index: 0 };
+        let ack = |term| Call::Ack { term, id: 12, subtask, fresh: vec![31], reused: vec![], bytes: vec![] };
+        let body = |of_all: &str| {
+            format!(
+                r#"{{{of_all}"calls":[{{"call":"ack","id":12,"subtask":"1.0","fresh":["31"]}},
+                {{"call":"ack","term":3,"id":12,"subtask":"1.0","fresh":["31"]}},{{"call":"decline","id":12,"subtask":"1.0"}},
+                {{"call":"reserve","count":1000}},{{"call":"forfeit","term":3,"names":["31","32"]}},{{"call":"cancel"}}]}}"#
+            )
+        };
+        let wanted = |term| {
+            let decline = Call::Decline { term, id: 12, subtask };
+            let forfeit = Call::Forfeit { term: 3, names: vec![31, 32] };
+            Ok(vec![ack(term), ack(3), decline, Call::Reserve { term, count: 1000 }, forfeit, Call::Cancel])
+        };
+        assert_eq!(calls(body("").as_bytes(), 10), wanted(0));
+        assert_eq!(calls(body(r#""term":5,"#).as_bytes(), 10), wanted(5));
+        for (call, field) in [
+            (r#"{"call":"reserve","count":0}"#, "calls[0].count"),
+            (r#"{"call":"reserve","count":65537}"#, "calls[0].count"),
+            (r#"{"call":"reserve","count":1,"term":0}"#, "calls[0].term"),
+            (r#"{"call":"reserve","count":1,"term":"3"}"#, "calls[0].term"),
+            (r#"{"call":"forfeit","term":3}"#, "calls[0].names"),
+            (r#"{"call":"forfeit","term":3,"names":[7]}"#, "calls[0].names[0]"),
+            (r#"{"call":"tick","term":3}"#, "calls[0].term"),
+            (r#"{"call":"fence","first_name":"1"}"#, "calls[0].call"),
+        ] {
+            assert_eq!(field_of(&format!(r#"{{"calls":[{call}]}}"#)), field);
+        }
+        let many = vec![r#""7""#; MOST_FORFEITED + 1].join(",");
+        assert_eq!(field_of(&format!(r#"{{"calls":[{{"call":"forfeit","names":[{many}]}}]}}"#)), "calls[0].names");
+    }
+
+    #[test]
+    fn reads_a_first_name_and_lists_of_files() {
+        for body in [r#"{"first_name":"20"}"#, r#"{"first_name":20}"#] {
+            assert_eq!(first_name(body.as_bytes()), Ok(20));
+        }
+        assert_eq!(first_name(br#"{"first_name":"4611686018427387904"}"#), Ok(LAST_NAME));
+        for bad in ["0", r#""0""#, r#""4611686018427387905""#, "9007199254740993", "1.5", r#""x""#, "null", "[]"] {
+            let body = format!(r#"{{"first_name":{bad}}}"#);
+            assert_eq!(first_name(body.as_bytes()).err().map(|it| it.field).as_deref(), Some("first_name"), "{bad}");
+        }
+        assert_eq!(garbage(br#"{"files":["7","8"]}"#), Ok(vec![7, 8]));
+        let field = |body: &str| garbage(body.as_bytes()).err().map(|it| it.field).unwrap_or_default();
+        assert_eq!(field("{}"), "files");
+        assert_eq!(field(r#"{"files":[7]}"#), "files[0]");
+        assert_eq!(field(&format!(r#"{{"files":[{}]}}"#, vec![r#""7""#; MOST_GARBAGE + 1].join(","))), "files");
     }
 
     #[test]
@@ -233,7 +341,13 @@ mod tests {
     fn reads_jobs() {
         let body = br#"{"name":"orders","settings":{"interval":1000,"retained":2},"shape":[2,1]}"#;
         let settings = settings_of([1000, 0, 1, 600_000, 0, 2], false);
-        assert_eq!(new_job(body), Ok(NewJob { name: "orders".to_string(), settings, shape: vec![2, 1] }));
+        let wanted = |names| Ok(NewJob { name: "orders".to_string(), settings, shape: vec![2, 1], names });
+        assert_eq!(new_job(body), wanted(None));
+        let with =
+            |names: &str| String::from_utf8_lossy(body).replace("{\"name\"", &format!("{{\"names\":{names},\"name\""));
+        assert_eq!(new_job(with("false").as_bytes()), wanted(Some(false)));
+        assert_eq!(new_job(with("true").as_bytes()), wanted(Some(true)));
+        assert_eq!(new_job(with("1").as_bytes()).err().map(|invalid| invalid.field).as_deref(), Some("names"));
         let wrong = |body: &str| new_job(body.as_bytes()).err().map(|invalid| invalid.field).unwrap_or_default();
         assert_eq!(wrong(r#"{"name":"../x","settings":{"interval":1000},"shape":[1]}"#), "name");
         assert_eq!(wrong(r#"{"name":"x","settings":{},"shape":[1]}"#), "settings.interval");

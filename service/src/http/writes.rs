@@ -5,7 +5,7 @@ use super::reply::{bad_field, body, error, invalid, json_reply, refusal, with_he
 use super::{gate, no_job, units, wire, App};
 use crate::auth::Caller;
 use crate::model::{settings_json, sha256, Call};
-use crate::writer::{CallsDone, Created, Delete, Deletion, Key, Message};
+use crate::writer::{CallsDone, Created, Delete, Deletion, Key, Message, Names};
 use hyper::body::HttpBody;
 use hyper::header::{HeaderMap, LOCATION};
 use hyper::{Body, Request};
@@ -23,17 +23,25 @@ const STOP_BODIES: Duration = Duration::from_secs(5);
 
 pub async fn new_job(app: &App, caller: &Caller, request: Request<Body>) -> Result<Reply, Box<Reply>> {
     let (bytes, _room) = read_body(app, request).await?;
-    let wire::NewJob { name, settings, shape } = wire::new_job(&bytes).map_err(|why| invalid(&why))?;
+    let wire::NewJob { name, settings, shape, names } = wire::new_job(&bytes).map_err(|why| invalid(&why))?;
     if !caller.may_see(&name) {
         return Err(gate::not_for(&name).into());
     }
-    let told = json!({"name": name, "settings": settings_json(&settings), "shape": shape});
-    let place = format!("/v1/jobs/{name}");
-    let created = app.ask(|reply| Message::Create { name, settings, shape, reply }).await?;
+    let mut told = json!({"name": name, "settings": settings_json(&settings), "shape": shape});
+    let (place, by_default) = (format!("/v1/jobs/{name}"), app.names);
+    let names = Names { wanted: names, by_default };
+    let created = app.ask(|reply| Message::Create { name, settings, shape, names, reply }).await?;
     Ok(match created {
-        Created::New => with_header(json_reply(201, &told), LOCATION, &place),
-        Created::Same => json_reply(200, &told),
+        Created::New { names } => {
+            told["names"] = json!(names);
+            with_header(json_reply(201, &told), LOCATION, &place)
+        }
+        Created::Same { names } => {
+            told["names"] = json!(names);
+            json_reply(200, &told)
+        }
         Created::Other => bad_name_taken(),
+        Created::OtherNames { names } => other_names(names),
         Created::NotOpened(why) => error(507, &format!("the job was not opened: {why}")),
     })
 }
@@ -41,6 +49,15 @@ pub async fn new_job(app: &App, caller: &Caller, request: Request<Body>) -> Resu
 fn bad_name_taken() -> Reply {
     let why = "name is that of a job with other settings or another shape";
     refusal(409, json!({"error": why, "field": "name"}))
+}
+
+fn other_names(has: bool) -> Reply {
+    let why = if has {
+        "names: the job gives out names, so it can't be opened without"
+    } else {
+        "names: the job gives out none; POST /v1/jobs/JOB/fence makes it do so, between the end of all its tasks and their restart"
+    };
+    refusal(409, json!({"error": why, "field": "names"}))
 }
 
 /// Deletes a job with its log and its history.
@@ -70,15 +87,17 @@ pub async fn calls(app: &App, job: String, request: Request<Body>) -> Result<Rep
     let mut reply = match done {
         CallsDone::Made(outcomes) => body(200, app.board.answers(&outcomes)),
         CallsDone::Known(answers) => body(200, answers),
-        CallsDone::KeyUsed => {
-            refusal(422, json!({"error": "Idempotency-Key was used with another body", "field": "Idempotency-Key"}))
-        }
+        CallsDone::KeyUsed => key_used(),
         CallsDone::NoJob => no_job(&at),
     };
     if let Some(did) = did {
         reply.extensions_mut().insert(did);
     }
     Ok(reply)
+}
+
+pub(super) fn key_used() -> Reply {
+    refusal(422, json!({"error": "Idempotency-Key was used with another body", "field": "Idempotency-Key"}))
 }
 
 fn key_is_missing(call: &Call) -> Reply {
@@ -89,7 +108,7 @@ fn key_is_missing(call: &Call) -> Reply {
 }
 
 /// The request's key: 1 to 255 visible characters of ASCII.
-fn key_name(headers: &HeaderMap) -> Result<Option<String>, Box<Reply>> {
+pub(super) fn key_name(headers: &HeaderMap) -> Result<Option<String>, Box<Reply>> {
     let Some(value) = headers.get(KEY) else {
         return Ok(None);
     };
@@ -100,7 +119,10 @@ fn key_name(headers: &HeaderMap) -> Result<Option<String>, Box<Reply>> {
 }
 
 /// The whole body, within its limits of bytes and time, and its room, which is reserved until the request is answered.
-async fn read_body(app: &App, request: Request<Body>) -> Result<(Vec<u8>, OwnedSemaphorePermit), Box<Reply>> {
+pub(super) async fn read_body(
+    app: &App,
+    request: Request<Body>,
+) -> Result<(Vec<u8>, OwnedSemaphorePermit), Box<Reply>> {
     let most = app.limits.body_bytes;
     // a body that does not tell its length gets room as it comes
     let length = request.body().size_hint().upper().and_then(|length| usize::try_from(length).ok());

@@ -18,6 +18,8 @@ pub struct Gauges {
     image_bytes: IntGaugeVec,
     since_image: IntGaugeVec,
     history: IntGaugeVec,
+    term: IntGaugeVec,
+    next_name: IntGaugeVec,
 }
 
 impl Gauges {
@@ -62,12 +64,39 @@ impl Gauges {
                 "The place in the job's log up to which the history has read.",
                 &["job_name"],
             )?,
+            term: gauge(
+                "relkvanu_term",
+                "The term of the job's tasks, which each restore and cancel ends; none if it gives out no names.",
+                &["job_name"],
+            )?,
+            next_name: gauge(
+                "relkvanu_next_name",
+                "The next name that the job gives out; none if it gives out no names.",
+                &["job_name"],
+            )?,
         })
     }
 
+    /// Those of whole numbers.
+    fn whole(&self) -> [&IntGaugeVec; 10] {
+        let Gauges {
+            mode,
+            files,
+            pending,
+            log_calls,
+            kept_calls,
+            image_bytes,
+            since_image,
+            history,
+            term,
+            next_name,
+            ..
+        } = self;
+        [mode, files, pending, log_calls, kept_calls, image_bytes, since_image, history, term, next_name]
+    }
+
     pub fn register(&self, registry: &Registry) -> Result<(), prometheus::Error> {
-        let Gauges { mode, files, pending, log_calls, kept_calls, image_bytes, since_image, history, .. } = self;
-        for gauge in [mode, files, pending, log_calls, kept_calls, image_bytes, since_image, history] {
+        for gauge in self.whole() {
             registry.register(Box::new(gauge.clone()))?;
         }
         let Gauges { interval, timeout, completed, opened, image_at, .. } = self;
@@ -95,6 +124,10 @@ impl Gauges {
         set(&self.files, &[name, "taken"], job.files.taken);
         set(&self.pending, &[name, "checkpoint"], job.pending_checkpoints as u64);
         set(&self.pending, &[name, "savepoint"], job.pending_savepoints as u64);
+        if let Some(now) = job.term {
+            set(&self.term, &[name], now.term);
+            set(&self.next_name, &[name], now.next_name);
+        }
         self.set_log(job, name);
     }
 
@@ -105,8 +138,7 @@ impl Gauges {
 
     /// A job was deleted.
     pub fn forget(&self, job: &str) {
-        let Gauges { mode, files, pending, log_calls, kept_calls, image_bytes, since_image, history, .. } = self;
-        for gauge in [mode, files, pending, log_calls, kept_calls, image_bytes, since_image, history] {
+        for gauge in self.whole() {
             forget(gauge, job);
         }
         let Gauges { interval, timeout, completed, opened, image_at, .. } = self;

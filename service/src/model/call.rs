@@ -60,13 +60,14 @@ impl Target {
     }
 }
 
-/// A call, without the moment that the writer gives it.
+/// A call, without the moment that the writer gives it. A term of 0 is none.
 #[derive(Clone, Debug, PartialEq, Eq)]
 pub enum Call {
     Tick,
     Savepoint,
     /// `bytes` are those of each fresh file, or none. The log's line does not have them.
     Ack {
+        term: u64,
         id: u64,
         subtask: Subtask,
         fresh: Vec<u64>,
@@ -74,6 +75,7 @@ pub enum Call {
         bytes: Vec<u64>,
     },
     Decline {
+        term: u64,
         id: u64,
         subtask: Subtask,
     },
@@ -94,10 +96,24 @@ pub enum Call {
     Undeleted {
         file: u64,
     },
+    /// From here on the job gives out names, from this one on.
+    Fence {
+        first_name: u64,
+    },
+    /// A task of this term reserves so many names.
+    Reserve {
+        term: u64,
+        count: u64,
+    },
+    /// A task of this term gives up names.
+    Forfeit {
+        term: u64,
+        names: Vec<u64>,
+    },
 }
 
 impl Call {
-    /// The first word of the call's line, and the `call` of a request.
+    /// The first word of the call's line, after its term, and the `call` of a request.
     pub fn name(&self) -> &'static str {
         match self {
             Call::Tick => "tick",
@@ -110,6 +126,9 @@ impl Call {
             Call::Take { .. } => "take",
             Call::Deleted { .. } => "deleted",
             Call::Undeleted { .. } => "undeleted",
+            Call::Fence { .. } => "fence",
+            Call::Reserve { .. } => "reserve",
+            Call::Forfeit { .. } => "forfeit",
         }
     }
 

@@ -2,15 +2,17 @@
 use super::call::Call;
 use super::live::Live;
 use super::outcome::Reply;
-use relkvanu::{Choice, FileCounts, Mode, Refusal, Said, Settings};
+use relkvanu::{Answer, Choice, Fenced, FileCounts, Garbage, Mode, Refusal, RunningTerm, Said, Settings};
 use std::ops::{Deref, DerefMut};
 use thiserror::Error;
 
-/// Why a call changed nothing. The text is the name of a refusal.
+/// Why a call changed nothing. The text is the name of a refusal, or of what the term or the names refuse it for.
 #[derive(Clone, Copy, Debug, PartialEq, Eq, Error)]
 pub enum Fault {
     #[error("{}", .0.name())]
     Refused(Refusal),
+    #[error("{}", .0.name())]
+    Fenced(Fenced),
     /// What was given is not of the form, or not within the limits, that the library takes.
     #[error("{0:?}")]
     Unfit(relkvanu::Fault),
@@ -26,6 +28,7 @@ impl Fault {
     pub fn file(self) -> Option<u64> {
         match self {
             Fault::Refused(refusal) => refusal.file(),
+            Fault::Fenced(why) => why.file(),
             Fault::Unfit(_) | Fault::NoCall | Fault::Memory => None,
         }
     }
@@ -37,6 +40,10 @@ impl Fault {
 pub struct NoJob(relkvanu::Fault);
 
 impl NoJob {
+    pub fn no_memory() -> NoJob {
+        NoJob(relkvanu::Fault::Memory)
+    }
+
     /// Whether memory ran out. A later try may have more.
     pub fn is_memory(self) -> bool {
         self.0 == relkvanu::Fault::Memory
@@ -72,20 +79,37 @@ impl Engine {
         self.0.waiting_file(usize::try_from(place).ok()?)
     }
 
+    /// The term that runs and the next name, if the job gives out names.
+    pub fn term(&self) -> Option<RunningTerm> {
+        self.0.term().ok()
+    }
+
+    /// Those of these files that may be deleted, and those whose names were never given out.
+    pub fn garbage(&self, files: &[u64]) -> Result<Garbage, Fault> {
+        self.0.garbage(files).map_err(fault)
+    }
+
     /// Makes a call at the moment `now`.
     pub fn make(&mut self, call: &Call, now: u64) -> Result<Reply, Fault> {
         let core = &mut self.0;
         let made = match call {
             Call::Tick => core.tick(now),
             Call::Savepoint => core.savepoint(now),
-            Call::Ack { id, subtask, fresh, reused, .. } => core.ack(now, *id, subtask.into(), fresh, reused),
-            Call::Decline { id, subtask } => core.decline(now, *id, subtask.into()),
+            Call::Ack { term: 0, id, subtask, fresh, reused, .. } => core.ack(now, *id, subtask.into(), fresh, reused),
+            Call::Ack { term, id, subtask, fresh, reused, .. } => {
+                core.ack_in(*term, now, *id, subtask.into(), fresh, reused)
+            }
+            Call::Decline { term: 0, id, subtask } => core.decline(now, *id, subtask.into()),
+            Call::Decline { term, id, subtask } => core.decline_in(*term, now, *id, subtask.into()),
             Call::Dispose { id } => core.dispose(*id),
             Call::Restore { target, shape } => core.restore(now, target.savepoint(), shape.as_deref()),
             Call::Cancel => core.cancel(now),
             Call::Take { most } => return self.take(*most),
             Call::Deleted { file } => core.deleted(*file),
             Call::Undeleted { file } => core.undeleted(*file),
+            Call::Fence { first_name } => core.fence(*first_name).map(|()| Answer::Named),
+            Call::Reserve { term, count } => core.reserve(*term, *count).map(|names| Answer::Reserved(names.start)),
+            Call::Forfeit { term, names } => core.forfeit(*term, names).map(|()| Answer::Forfeited),
         };
         made.map(Reply::Answered).map_err(fault)
     }
@@ -138,7 +162,7 @@ impl Engine {
     /// How many uses a file has; `None` if memory ran out.
     pub fn uses(&self, file: u64) -> Option<u64> {
         match self.0.count(file) {
-            Ok(relkvanu::Answer::Counted { uses, .. }) => Some(uses),
+            Ok(Answer::Counted { uses, .. }) => Some(uses),
             _ => None,
         }
     }
@@ -202,6 +226,7 @@ fn fault(fault: relkvanu::Fault) -> Fault {
     match fault {
         relkvanu::Fault::Memory => Fault::Memory,
         relkvanu::Fault::Refused(refusal) => Fault::Refused(refusal),
+        relkvanu::Fault::Fenced(why) => Fault::Fenced(why),
         other => Fault::Unfit(other),
     }
 }

@@ -35,6 +35,7 @@ impl Event {
             Answer::Cancelled { .. } => Some(Event::Cancelled),
             Answer::AckPending { .. } | Answer::AckLate { .. } | Answer::DeclineLate => None,
             Answer::Deleted(_) | Answer::Undeleted(_) | Answer::Counted { .. } => None,
+            Answer::Named | Answer::Reserved(_) | Answer::Forfeited => None,
             _ => None,
         }
     }
@@ -76,7 +77,7 @@ mod tests {
     use rusqlite::Connection;
 
     /// Lines with their answers, and the records that they end, as docs/RULES.md says; the event that each is, by docs/SERVICE.md.
-    const CALLS: [(&str, &str, Option<&str>, Option<&str>); 26] = [
+    const CALLS: [(&str, &str, Option<&str>, Option<&str>); 33] = [
         ("tick 9", "tick expired 0 triggered 1", None, Some("triggered")),
         ("tick 9", "tick expired 2 triggered 3", Some("1 2"), Some("triggered")),
         ("tick 9", "tick expired 0 held interval", None, None),
@@ -103,6 +104,13 @@ mod tests {
         ("take 3", "take 7 8 9", None, None),
         ("deleted 7", "deleted 7", None, None),
         ("undeleted 7", "undeleted 7", None, None),
+        ("fence 20", "term 1", None, None),
+        ("reserve 3 1000", "reserved 20", None, None),
+        ("forfeit 3 20", "forfeited", None, None),
+        ("in 3 ack 9 1 0.0 +20", "ack pending 2", None, None),
+        ("in 3 ack 9 1 0.0 +20", "ack completed 1 2", Some("3"), Some("completed")),
+        ("in 3 decline 9 1 0.0", "decline aborted 0", Some("1"), Some("declined")),
+        ("in 3 decline 9 1 0.0", "decline late", None, None),
     ];
 
     #[test]

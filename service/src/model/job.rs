@@ -1,10 +1,11 @@
 //! One job: its coordinator, its place in the log, and when the timer has to tick it.
+use super::bases::Bases;
 use super::call::Call;
 use super::engine::{Engine, Fault, Lendable, NoJob};
 use super::image::Image;
 use super::kept::Kept;
 use super::live::{ended, Live};
-use super::outcome::{Outcome, Reply};
+use super::outcome::{Beside, Outcome, Reply};
 use super::settings::pending_limit;
 use super::sizes::{FileBytes, SizeChange, Sizes, Use};
 use relkvanu::{Answer, Choice, Kind, Live as LiveRecord, Mode, Settings};
@@ -69,6 +70,8 @@ pub struct Job {
     pub last_completed: Option<u64>,
     /// The last call that is an event for engines.
     pub last_event: u64,
+    /// What a restore would have begun from.
+    pub bases: Bases,
     /// What the database has of the log, if this process leads.
     pub kept: Kept,
     /// The bytes of files, if this process leads.
@@ -84,7 +87,8 @@ impl Job {
         let (shape, at, kept) = (opening.shape.clone(), opening.started, Kept::default());
         let (live, sizes) = (Live::new(), Sizes::default());
         let (seq, last_completed, last_event, is_deleted) = (0, None, 0, false);
-        Ok(Job { opening, shape, seq, at, last_completed, last_event, kept, sizes, is_deleted, engine, live })
+        let bases = Bases::from(seq, Choice::Fresh);
+        Ok(Job { opening, shape, seq, at, last_completed, last_event, bases, kept, sizes, is_deleted, engine, live })
     }
 
     /// Goes on from an image.
@@ -94,6 +98,7 @@ impl Job {
         self.shape.clone_from(&image.shape);
         (self.seq, self.at) = (image.seq, image.at);
         (self.last_completed, self.last_event) = (image.last_completed, image.last_event);
+        self.bases = Bases::from(image.seq, self.engine.choice());
         Ok(())
     }
 
@@ -142,7 +147,7 @@ impl Job {
             Err(fault) => return (fault.into(), None),
         };
         if reply.changed_nothing() {
-            return (Outcome::Made { seq: None, reply }, None);
+            return (Outcome::Made { seq: None, reply, beside: Beside::Nothing }, None);
         }
         let (record, ended) = self.take_in(call, now, &reply);
         let sizes = self.resize(call, &reply, waiting);
@@ -158,7 +163,8 @@ impl Job {
             ended,
             waiting: self.engine.counts().waiting.saturating_sub(waiting),
         };
-        (Outcome::Made { seq: Some(self.seq), reply }, Some(Logged { entry, sizes }))
+        let beside = self.beside(call);
+        (Outcome::Made { seq: Some(self.seq), reply, beside }, Some(Logged { entry, sizes }))
     }
 
     /// What a call changed of the sizes, before which so many files were waiting.
@@ -197,10 +203,19 @@ impl Job {
             Err(fault) => return fault.into(),
         };
         if reply.changed_nothing() {
-            return Outcome::Made { seq: None, reply };
+            return Outcome::Made { seq: None, reply, beside: Beside::Nothing };
         }
         self.take_in(call, now, &reply);
-        Outcome::Made { seq: Some(self.seq), reply }
+        Outcome::Made { seq: Some(self.seq), reply, beside: Beside::Nothing }
+    }
+
+    /// What the answer of a call that was made tells beside its text: whoever restarts the tasks learns the term here.
+    fn beside(&self, call: &Call) -> Beside {
+        match (call, self.engine.term()) {
+            (Call::Reserve { count, .. }, _) => Beside::Names(*count),
+            (Call::Restore { .. } | Call::Cancel | Call::Fence { .. }, Some(now)) => Beside::Term(now.term),
+            _ => Beside::Nothing,
+        }
     }
 
     /// Notes the answer of a call. Returns the record that the call is about, and those that it ended.
@@ -243,6 +258,9 @@ impl Job {
         if reply.is_event() {
             self.last_event = self.seq;
         }
+        if matches!(reply, Reply::Answered(answer) if changes_choice(answer)) {
+            self.bases.note(self.seq, self.engine.choice());
+        }
     }
 
     /// The moment at which the timer has to tick: a checkpoint is due and may be triggered, or a record expires.
@@ -280,6 +298,11 @@ fn record_of(call: &Call, reply: &Reply) -> Option<u64> {
     }
 }
 
+/// Whether a call with this answer may change what a restore would begin from.
+fn changes_choice(answer: &Answer) -> bool {
+    matches!(answer, Answer::AckCompleted { .. } | Answer::Restored { .. } | Answer::Cancelled { .. })
+}
+
 /// The kind of the record that a call added, if it did nothing else to the records.
 fn added(answer: &Answer) -> Option<Kind> {
     match answer {
@@ -295,6 +318,7 @@ fn leaves_records(answer: &Answer) -> bool {
     match answer {
         A::HeldInterval { expired } | A::HeldAtOnce { expired } | A::HeldPause { expired } => *expired == 0,
         A::AckPending { .. } | A::AckLate { .. } | A::DeclineLate | A::Deleted(_) | A::Undeleted(_) => true,
+        A::Named | A::Reserved(_) | A::Forfeited => true,
         _ => false,
     }
 }

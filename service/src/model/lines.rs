@@ -1,13 +1,14 @@
-//! Script lines of calls (docs/SCRIPT.md), which the log has and `ckpt_job` runs. The library writes them, reads them, and makes
-//! their calls again.
+//! Lines of calls, which the log has: those of a script (docs/SCRIPT.md), which `ckpt_job` runs, and those with terms and names
+//! (docs/LOGS.md), which `ckpt_log` runs. The library writes them, reads them, and makes their calls again.
 use super::call::{Call, Target};
 use relkvanu::Fault;
 use std::alloc::Layout;
+use std::borrow::Cow;
 use std::thread;
 use std::time::Duration;
 
 impl Call {
-    /// The script line of this call at the moment `now`. The files of an acknowledgement ascend in it.
+    /// The line of this call at the moment `now`. The files of an acknowledgement ascend in it.
     pub fn line(&self, now: u64) -> Result<String, Fault> {
         self.of_library(now).line()
     }
@@ -18,10 +19,14 @@ impl Call {
         match self {
             Call::Tick => C::Tick { now },
             Call::Savepoint => C::Savepoint { now },
-            Call::Ack { id, subtask, fresh, reused, .. } => {
+            Call::Ack { term: 0, id, subtask, fresh, reused, .. } => {
                 C::Ack { now, id: *id, subtask: subtask.into(), fresh, reused }
             }
-            Call::Decline { id, subtask } => C::Decline { now, id: *id, subtask: subtask.into() },
+            Call::Ack { term, id, subtask, fresh, reused, .. } => {
+                C::AckIn { term: *term, now, id: *id, subtask: subtask.into(), fresh, reused }
+            }
+            Call::Decline { term: 0, id, subtask } => C::Decline { now, id: *id, subtask: subtask.into() },
+            Call::Decline { term, id, subtask } => C::DeclineIn { term: *term, now, id: *id, subtask: subtask.into() },
             Call::Dispose { id } => C::Dispose { id: *id },
             Call::Restore { target, shape } => {
                 C::Restore { now, savepoint: target.savepoint(), shape: shape.as_deref() }
@@ -30,8 +35,21 @@ impl Call {
             Call::Take { most } => C::Take { most: *most },
             Call::Deleted { file } => C::Deleted { file: *file },
             Call::Undeleted { file } => C::Undeleted { file: *file },
+            Call::Fence { first_name } => C::Fence { first_name: *first_name },
+            Call::Reserve { term, count } => C::Reserve { term: *term, count: *count },
+            Call::Forfeit { term, names } => C::Forfeit { term: *term, names },
         }
     }
+}
+
+/// A line with `*` in place of its term, for whoever must not learn it there.
+pub fn without_term(line: &str) -> Cow<'_, str> {
+    let (word, rest) = line.split_once(' ').unwrap_or((line, ""));
+    if !matches!(word, "in" | "reserve" | "forfeit") {
+        return Cow::Borrowed(line);
+    }
+    let rest = rest.split_once(' ').map(|(_, rest)| format!(" {rest}")).unwrap_or_default();
+    Cow::Owned(format!("{word} *{rest}"))
 }
 
 /// How often a line is read again for which the library had no memory, and how long after the time before.
@@ -59,11 +77,10 @@ fn changing(said: relkvanu::Call<'_>) -> Option<(u64, Call)> {
     Some(match said {
         C::Tick { now } => (now, Call::Tick),
         C::Savepoint { now } => (now, Call::Savepoint),
-        C::Ack { now, id, subtask, fresh, reused } => {
-            let (fresh, reused) = (fresh.to_vec(), reused.to_vec());
-            (now, Call::Ack { id, subtask: subtask.into(), fresh, reused, bytes: vec![] })
-        }
-        C::Decline { now, id, subtask } => (now, Call::Decline { id, subtask: subtask.into() }),
+        C::Ack { now, id, subtask, fresh, reused } => (now, ack(0, id, subtask, fresh, reused)),
+        C::AckIn { term, now, id, subtask, fresh, reused } => (now, ack(term, id, subtask, fresh, reused)),
+        C::Decline { now, id, subtask } => (now, Call::Decline { term: 0, id, subtask: subtask.into() }),
+        C::DeclineIn { term, now, id, subtask } => (now, Call::Decline { term, id, subtask: subtask.into() }),
         C::Dispose { id } => (0, Call::Dispose { id }),
         C::Restore { now, savepoint, shape } => {
             let target = savepoint.map_or(Target::Latest, |id| Target::Savepoint(id.get()));
@@ -73,8 +90,16 @@ fn changing(said: relkvanu::Call<'_>) -> Option<(u64, Call)> {
         C::Take { most } => (0, Call::Take { most }),
         C::Deleted { file } => (0, Call::Deleted { file }),
         C::Undeleted { file } => (0, Call::Undeleted { file }),
+        C::Fence { first_name } => (0, Call::Fence { first_name }),
+        C::Reserve { term, count } => (0, Call::Reserve { term, count }),
+        C::Forfeit { term, names } => (0, Call::Forfeit { term, names: names.to_vec() }),
         C::Show { .. } | C::Count { .. } => return None,
     })
+}
+
+fn ack(term: u64, id: u64, subtask: (u16, u16), fresh: &[u64], reused: &[u64]) -> Call {
+    let (fresh, reused) = (fresh.to_vec(), reused.to_vec());
+    Call::Ack { term, id, subtask: subtask.into(), fresh, reused, bytes: vec![] }
 }
 
 #[cfg(test)]
@@ -90,11 +115,21 @@ mod tests {
             (Call::Tick, "tick 1234"),
             (Call::Savepoint, "savepoint 1234"),
             (
-                Call::Ack { id: 12, subtask: SUBTASK, fresh: vec![31, u64::MAX], reused: vec![11], bytes: vec![] },
+                Call::Ack {
+                    term: 0,
+                    id: 12,
+                    subtask: SUBTASK,
+                    fresh: vec![31, u64::MAX],
+                    reused: vec![11],
+                    bytes: vec![],
+                },
                 "ack 1234 12 1.7 +31 +18446744073709551615 =11",
             ),
-            (Call::Ack { id: 12, subtask: SUBTASK, fresh: vec![], reused: vec![], bytes: vec![] }, "ack 1234 12 1.7"),
-            (Call::Decline { id: 3, subtask: SUBTASK }, "decline 1234 3 1.7"),
+            (
+                Call::Ack { term: 0, id: 12, subtask: SUBTASK, fresh: vec![], reused: vec![], bytes: vec![] },
+                "ack 1234 12 1.7",
+            ),
+            (Call::Decline { term: 0, id: 3, subtask: SUBTASK }, "decline 1234 3 1.7"),
             (Call::Restore { target: Target::Latest, shape: None }, "restore 1234 latest"),
             (Call::Restore { target: Target::Savepoint(4), shape: Some(vec![2, 1]) }, "restore 1234 4 2 1"),
             (Call::Cancel, "cancel 1234"),
@@ -102,6 +137,15 @@ mod tests {
             (Call::Take { most: 64 }, "take 64"),
             (Call::Deleted { file: 9 }, "deleted 9"),
             (Call::Undeleted { file: 9 }, "undeleted 9"),
+            (Call::Fence { first_name: 20 }, "fence 20"),
+            (Call::Reserve { term: 3, count: 1000 }, "reserve 3 1000"),
+            (Call::Forfeit { term: 3, names: vec![24, 26] }, "forfeit 3 24 26"),
+            (Call::Forfeit { term: 3, names: vec![] }, "forfeit 3"),
+            (
+                Call::Ack { term: 3, id: 12, subtask: SUBTASK, fresh: vec![31], reused: vec![11], bytes: vec![] },
+                "in 3 ack 1234 12 1.7 +31 =11",
+            ),
+            (Call::Decline { term: 3, id: 12, subtask: SUBTASK }, "in 3 decline 1234 12 1.7"),
         ]
     }
 
@@ -114,7 +158,8 @@ mod tests {
 
     #[test]
     fn files_ascend_in_a_line() {
-        let call = Call::Ack { id: 1, subtask: SUBTASK, fresh: vec![31, 11], reused: vec![9, 8], bytes: vec![] };
+        let call =
+            Call::Ack { term: 0, id: 1, subtask: SUBTASK, fresh: vec![31, 11], reused: vec![9, 8], bytes: vec![] };
         assert_eq!(call.line(5).as_deref(), Ok("ack 5 1 1.7 +11 +31 =8 =9"));
     }
 
@@ -129,8 +174,25 @@ mod tests {
     #[test]
     fn refuses_other_lines() {
         let faulty = ["tick", "tick x", "ack 1 2", "ack 1 2 0", "restore 5 late", "restore 5 0", "take"];
-        for line in faulty.into_iter().chain(["", "# tick 5", "show 1", "count 1", "start 5"]) {
+        let none = ["", "# tick 5", "show 1", "count 1", "start 5", "in 3 tick 5", "in 3", "reserve 3", "fence"];
+        for line in faulty.into_iter().chain(none) {
             assert_eq!(parse_line(line), None, "{line}");
+        }
+    }
+
+    #[test]
+    fn a_term_can_be_left_out() {
+        for (line, told) in [
+            ("in 3 ack 5 1 0.0 +20", "in * ack 5 1 0.0 +20"),
+            ("in 3 decline 5 1 0.0", "in * decline 5 1 0.0"),
+            ("reserve 3 1000", "reserve * 1000"),
+            ("forfeit 3 20 21", "forfeit * 20 21"),
+            ("forfeit 3", "forfeit *"),
+            ("ack 5 1 0.0 +20", "ack 5 1 0.0 +20"),
+            ("fence 20", "fence 20"),
+            ("restore 5 latest", "restore 5 latest"),
+        ] {
+            assert_eq!(without_term(line), told);
         }
     }
 }

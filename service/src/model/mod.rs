@@ -1,4 +1,5 @@
 //! Jobs and their calls: the decisions of the proved coordinator, in the words of the log and of the API.
+mod bases;
 mod call;
 mod clock;
 mod engine;
@@ -15,6 +16,7 @@ mod sizes;
 mod starts;
 mod summary;
 
+pub use bases::Bases;
 pub use call::{Call, Subtask, Target};
 pub use clock::{check as check_clock, millis, shown, wall, Clock, FarAhead, Moment};
 pub use engine::{Engine, Fault, NoJob};
@@ -22,10 +24,10 @@ pub use event::{kind, Event};
 pub use image::{sha256, Contents, Image, ImagePart, SavedRecord};
 pub use job::{Entry, Job, Logged, Opening};
 pub use kept::{Cut, Keeping, Kept, KeptImage, CALL_BYTES};
-pub use lines::parse_line;
+pub use lines::{parse_line, without_term};
 pub use outcome::{Outcome, Reply};
 pub use parts::parts;
-pub use relkvanu::{Answer, Choice, FileCounts, Kind, Live as LiveRecord, Mode, Settings};
+pub use relkvanu::{Answer, Choice, FileCounts, Garbage, Kind, Live as LiveRecord, Mode, RunningTerm, Settings};
 pub use settings::{check_shape, config_line, parse_config, settings_json, settings_of, shape_words, FIELDS};
 pub use sizes::{parse_sizes, sizes_text, AckBytes, Bytes, FileBytes};
 pub use starts::{length_in, lengths_text};

@@ -18,8 +18,8 @@ pub enum Reply {
 #[derive(Clone, Debug, PartialEq, Eq)]
 pub enum Outcome {
     /// The call was made. `seq` is its place in the log; a take that finds no file has none.
-    Made { seq: Option<u64>, reply: Reply },
-    /// The coordinator refused the call: nothing changed.
+    Made { seq: Option<u64>, reply: Reply, beside: Beside },
+    /// The coordinator refused the call, or the term or the names did: nothing changed.
     Refused(Fault),
     /// Memory ran out: nothing changed.
     NoMemory,
@@ -27,8 +27,19 @@ pub enum Outcome {
     NotMade,
 }
 
+/// What an answer tells beside the text that the log has of it.
+#[derive(Clone, Copy, Debug, Default, PartialEq, Eq)]
+pub enum Beside {
+    #[default]
+    Nothing,
+    /// The term that began with the call.
+    Term(u64),
+    /// How many names were reserved.
+    Names(u64),
+}
+
 impl Reply {
-    /// The text of docs/SCRIPT.md.
+    /// The text of docs/SCRIPT.md and docs/LOGS.md.
     pub fn text(&self) -> String {
         match self {
             Reply::Answered(answer) => answer.to_string(),
@@ -97,6 +108,9 @@ fn answer_json(answer: Answer) -> Value {
         Answer::Deleted(file) => json!({"deleted": file.to_string()}),
         Answer::Undeleted(file) => json!({"undeleted": file.to_string()}),
         Answer::Counted { file, uses } => json!({"counted": file.to_string(), "uses": uses}),
+        Answer::Named => json!({"fence": "named"}),
+        Answer::Reserved(first) => json!({"reserve": "reserved", "first": first.to_string()}),
+        Answer::Forfeited => json!({"forfeit": "forfeited"}),
         other => json!({"unknown": other.to_string()}), // of a library that is newer than this program
     }
 }
@@ -113,26 +127,35 @@ impl From<Fault> for Outcome {
 impl Outcome {
     pub fn json(&self) -> Value {
         match self {
-            Outcome::Made { seq, reply } => {
+            Outcome::Made { seq, reply, beside } => {
                 let mut told = reply.json();
-                if let (Some(seq), Some(object)) = (seq, told.as_object_mut()) {
-                    object.insert("seq".to_string(), json!(seq));
+                if let Some(seq) = seq {
+                    told["seq"] = json!(seq);
+                }
+                match beside {
+                    Beside::Nothing => {}
+                    Beside::Term(term) => told["term"] = json!(term),
+                    Beside::Names(count) => told["count"] = json!(count),
                 }
                 told
             }
-            Outcome::Refused(fault) => match fault.file() {
-                Some(file) => json!({"refused": fault.to_string(), "file": file.to_string()}),
-                None => json!({"refused": fault.to_string()}),
-            },
+            Outcome::Refused(fault) => {
+                let mut told = json!({ self.word(): fault.to_string() });
+                if let Some(file) = fault.file() {
+                    told["file"] = json!(file.to_string());
+                }
+                told
+            }
             Outcome::NoMemory => json!({"no_memory": true}),
             Outcome::NotMade => json!({"not_made": true}),
         }
     }
 
-    /// The word under which the metrics count it.
+    /// The word under which the metrics count it, and that of a refusal in the API.
     pub fn word(&self) -> &'static str {
         match self {
             Outcome::Made { .. } => "made",
+            Outcome::Refused(Fault::Fenced(_)) => "fenced",
             Outcome::Refused(_) => "refused",
             Outcome::NoMemory => "no_memory",
             Outcome::NotMade => "not_made",

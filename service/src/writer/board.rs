@@ -1,12 +1,12 @@
 //! The board: what the threads know of each other.
 use super::lag::Lag;
 use super::lease::Lease;
-use crate::model::{Answer, Job, Moment, Outcome, Reply};
+use crate::model::{Answer, Bases, Choice, Job, Moment, Outcome, Reply};
 use serde_json::Value;
 use std::collections::HashMap;
 use std::fmt::Write;
 use std::sync::atomic::{AtomicBool, AtomicU64, Ordering};
-use std::sync::{OnceLock, PoisonError, RwLock, RwLockReadGuard};
+use std::sync::{Mutex, OnceLock, PoisonError, RwLock, RwLockReadGuard};
 use std::time::{Duration, Instant};
 use tokio::sync::watch;
 
@@ -35,6 +35,7 @@ struct Watched {
     /// How far the history has read.
     read: AtomicU64,
     lag: Lag,
+    bases: Mutex<Bases>,
     last_event: watch::Sender<u64>,
 }
 
@@ -153,6 +154,11 @@ impl Board {
             watched.length.store(job.seq, Ordering::SeqCst);
             watched.first.store(job.kept.first(), Ordering::SeqCst);
             watched.lag.note(job.seq, watched.read.load(Ordering::SeqCst));
+            let mut bases = watched.bases.lock().unwrap_or_else(PoisonError::into_inner);
+            if bases.changed() != job.bases.changed() {
+                bases.clone_from(&job.bases);
+            }
+            drop(bases);
             watched.last_event.send_if_modified(|last| std::mem::replace(last, job.last_event) != job.last_event);
             return;
         }
@@ -162,6 +168,7 @@ impl Board {
             first: AtomicU64::new(job.kept.first()),
             read: AtomicU64::new(0),
             lag: Lag::default(),
+            bases: Mutex::new(job.bases.clone()),
             last_event: watch::channel(job.last_event).0,
         };
         watched.lag.note(job.seq, 0);
@@ -210,6 +217,13 @@ impl Board {
     /// How far the history has read a job's log.
     pub fn history(&self, job: &str) -> u64 {
         self.read().get(job).map_or(0, |watched| watched.read.load(Ordering::SeqCst))
+    }
+
+    /// What a restore would have begun from before a call of a job; `None` if that is not known.
+    pub fn base(&self, job: &str, seq: u64) -> Option<Choice> {
+        let jobs = self.read();
+        let bases = jobs.get(job)?.bases.lock().unwrap_or_else(PoisonError::into_inner);
+        bases.before(seq)
     }
 
     /// The place of a job's last event, as it changes.

@@ -108,6 +108,13 @@ impl Jobs {
         self.jobs.last().map_or(0, |job| job.opening.number)
     }
 
+    /// Forgets the job that was opened last, as if it had not been.
+    pub fn unopen(&mut self) {
+        if let Some(job) = self.jobs.pop() {
+            self.places.remove(&job.opening.name);
+        }
+    }
+
     /// Opens a job, and returns its place.
     pub fn open(&mut self, opening: Opening) -> Result<usize, NoJob> {
         let place = self.jobs.len();

@@ -33,7 +33,8 @@ fn needs(message: &Message) -> Option<&String> {
         Message::Calls { job, .. } | Message::Create { name: job, .. } => Some(job),
         Message::Delete(delete) => Some(&delete.job),
         Message::Read(read, _) => match read {
-            Read::Record { job, .. } | Read::File { job, .. } | Read::Taken(job) => Some(job),
+            Read::Record { job, .. } | Read::File { job, .. } | Read::Garbage { job, .. } => Some(job),
+            Read::Taken(job) | Read::Term(job) => Some(job),
             Read::Jobs | Read::Job(_) => None,
         },
         Message::Keep(..) | Message::Returned(_) | Message::Imaged(_) | Message::Stop => None,

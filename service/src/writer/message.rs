@@ -2,7 +2,7 @@
 use super::delete::Delete;
 use super::imager::{Imaged, Returned};
 use super::state::{JobState, RecordState};
-use crate::model::{Call, FileCounts, NoJob, Outcome, PastRecord, Settings, SummaryPart};
+use crate::model::{Call, Fault, FileCounts, Garbage, NoJob, Outcome, PastRecord, RunningTerm, Settings, SummaryPart};
 use thiserror::Error;
 use tokio::sync::oneshot;
 
@@ -24,6 +24,7 @@ pub enum Message {
         name: String,
         settings: Settings,
         shape: Vec<u64>,
+        names: Names,
         reply: oneshot::Sender<Created>,
     },
     Read(Read, oneshot::Sender<ReadDone>),
@@ -80,13 +81,28 @@ pub enum CallsDone {
     NoJob,
 }
 
+/// Whether a job gives out names: what its creation wants, and what a new one has if that says nothing.
+#[derive(Clone, Copy, Debug)]
+pub struct Names {
+    pub wanted: Option<bool>,
+    pub by_default: bool,
+}
+
 #[derive(Debug)]
 pub enum Created {
-    New,
+    New {
+        names: bool,
+    },
     /// A job of this name, settings and shape was there.
-    Same,
+    Same {
+        names: bool,
+    },
     /// A job of this name has other settings or another shape.
     Other,
+    /// A job of this name, settings and shape gives out names, or none, and the other was wanted.
+    OtherNames {
+        names: bool,
+    },
     NotOpened(NoJob),
 }
 
@@ -104,6 +120,13 @@ pub enum Read {
     },
     /// The files that were taken and not reported.
     Taken(String),
+    /// The term that runs.
+    Term(String),
+    /// Which of these files may be deleted.
+    Garbage {
+        job: String,
+        files: Vec<u64>,
+    },
 }
 
 #[derive(Debug)]
@@ -120,5 +143,8 @@ pub enum ReadDone {
     },
     /// Ascending; `None` if memory ran out.
     Taken(Option<Vec<u64>>),
+    /// `None` if the job gives out no names.
+    Term(Option<RunningTerm>),
+    Garbage(Result<Garbage, Fault>),
     NoJob,
 }

@@ -24,7 +24,7 @@ pub use delete::Delete;
 pub use imager::Imager;
 pub use jobs::Jobs;
 pub use lease::Lease;
-pub use message::{CallsDone, Created, Deletion, ForKeeping, Key, Message, Read, ReadDone};
+pub use message::{CallsDone, Created, Deletion, ForKeeping, Key, Message, Names, Read, ReadDone};
 pub use queue::{queue, Inbox, Messages, NotSent};
 pub use replay::StartError;
 pub use state::{JobState, RecordState};
@@ -234,8 +234,8 @@ impl Writer {
             Message::Read(read, reply) => round.reads.push((read, reply)),
             Message::Keep(given, reply) => round.given.push((given, reply)),
             Message::Delete(delete) => round.deletions.push(delete),
-            Message::Create { name, settings, shape, reply } => {
-                let created = round.create(&mut self.jobs, &name, settings, shape, self.clock.now());
+            Message::Create { name, settings, shape, names, reply } => {
+                let created = round.create(&mut self.jobs, &name, settings, shape, names, self.clock.now());
                 round.created.push((created, reply));
             }
             Message::Calls { job, calls, key, reply } => {

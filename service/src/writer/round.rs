@@ -2,11 +2,14 @@
 use super::delete::Delete;
 use super::jobs::Jobs;
 use super::keeper::Upkeep;
-use super::message::{CallsDone, Created, ForKeeping, Key, Read, ReadDone};
-use crate::model::{Opening, Settings};
+use super::message::{CallsDone, Created, ForKeeping, Key, Names, Read, ReadDone};
+use crate::model::{Call, NoJob, Opening, Settings};
 use crate::store::{Group, Keyed};
 use std::collections::{BTreeSet, HashMap};
 use tokio::sync::oneshot::Sender;
+
+/// The first name that a new job gives out.
+const FIRST_NAME: u64 = 1;
 
 #[derive(Default)]
 pub struct Round {
@@ -40,19 +43,42 @@ impl Round {
     }
 
     /// Opens a job of this name, unless there is one.
-    pub fn create(&mut self, jobs: &mut Jobs, name: &str, settings: Settings, shape: Vec<u64>, now: u64) -> Created {
+    pub fn create(
+        &mut self,
+        jobs: &mut Jobs,
+        name: &str,
+        settings: Settings,
+        shape: Vec<u64>,
+        names: Names,
+        now: u64,
+    ) -> Created {
         if let Some(place) = jobs.place(name) {
-            let opening = &jobs.at(place).opening;
-            return if opening.settings == settings && opening.shape == shape { Created::Same } else { Created::Other };
+            let job = jobs.at(place);
+            let (is_alike, has) =
+                (job.opening.settings == settings && job.opening.shape == shape, job.engine().term().is_some());
+            return match names.wanted {
+                _ if !is_alike => Created::Other,
+                Some(wanted) if wanted != has => Created::OtherNames { names: has },
+                _ => Created::Same { names: has },
+            };
         }
+        let names = names.wanted.unwrap_or(names.by_default);
         let opening = Opening { number: jobs.next_number(), name: name.to_string(), settings, shape, started: now };
-        match jobs.open(opening.clone()) {
-            Ok(place) => {
-                self.group.jobs.push(opening);
-                self.touched.insert(place);
-                Created::New
-            }
-            Err(why) => Created::NotOpened(why),
+        let place = match jobs.open(opening.clone()) {
+            Ok(place) => place,
+            Err(why) => return Created::NotOpened(why),
+        };
+        if names {
+            // its first call, so the log says that it gives out names
+            let (_, logged) = jobs.at(place).call(&Call::Fence { first_name: FIRST_NAME }, now);
+            let Some(logged) = logged else {
+                jobs.unopen();
+                return Created::NotOpened(NoJob::no_memory());
+            };
+            self.group.log(logged);
         }
+        self.group.jobs.push(opening);
+        self.touched.insert(place);
+        Created::New { names }
     }
 }

@@ -1,7 +1,7 @@
 //! The state of a job, as reads return it between two commits.
 use super::jobs::Jobs;
 use super::message::{Read, ReadDone};
-use crate::model::{Bytes, Choice, FileCounts, Job, KeptImage, Kind, LiveRecord, Mode, Opening};
+use crate::model::{Bytes, Choice, FileCounts, Job, KeptImage, Kind, LiveRecord, Mode, Opening, RunningTerm};
 
 #[derive(Clone, Debug)]
 pub struct JobState {
@@ -26,6 +26,8 @@ pub struct JobState {
     pub pending_savepoints: usize,
     /// The live records in rising number, each with how many subtasks are missing.
     pub live: Vec<(LiveRecord, u64)>,
+    /// `None` if the job gives out no names.
+    pub term: Option<RunningTerm>,
 }
 
 #[derive(Debug)]
@@ -45,6 +47,8 @@ pub fn read(jobs: &mut Jobs, read: Read, now: u64, lent: Option<&JobState>) -> R
         Read::Job(name) => of(jobs, &name, |job| ReadDone::Job(Box::new(state(job)))),
         Read::Record { job, id } => of(jobs, &job, |job| ReadDone::Record(record(job, id))),
         Read::Taken(name) => of(jobs, &name, |job| ReadDone::Taken(job.engine().taken())),
+        Read::Term(name) => of(jobs, &name, |job| ReadDone::Term(job.engine().term())),
+        Read::Garbage { job, files } => of(jobs, &job, |job| ReadDone::Garbage(job.engine().garbage(&files))),
         Read::File { job, file } => of(jobs, &job, |job| ReadDone::File {
             uses: job.engine().uses(file),
             bytes: job.sizes.bytes_of(file),
@@ -72,7 +76,7 @@ pub fn state(job: &mut Job, now: u64) -> JobState {
     let engine = job.engine();
     let live = records.iter().map(|record| (*record, engine.missing(record.id).unwrap_or(0))).collect();
     let (mode, due, oldest_expiry) = (engine.mode(), engine.due(), engine.oldest_expiry());
-    let (choice, files) = (engine.choice(), engine.counts());
+    let (choice, files, term) = (engine.choice(), engine.counts(), engine.term());
     JobState {
         opening: job.opening.clone(),
         shape: job.shape.clone(),
@@ -91,5 +95,6 @@ pub fn state(job: &mut Job, now: u64) -> JobState {
         pending_checkpoints: checkpoints,
         pending_savepoints: savepoints,
         live,
+        term,
     }
 }

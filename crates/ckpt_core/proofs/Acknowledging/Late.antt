@@ -1,28 +1,11 @@
 -- What an acknowledgement does that comes after its record has ended.
-use Rattle.std.proofs.Common.{◌≡◌, ℕ, ◌≤◌, ◌<◌, max, true, false, not, ◌||◌, List, ◌++◌, length, sym, ap, subst, ◌∙◌, arith, None}
-use Rattle.std.specs.Prelude.{count_by}
-use Rattle.std.specs.List.{filter}
-use Rattle.std.proofs.lemmas.Bool.{not-true, or_parts, lt-ltb}
-use Rattle.std.proofs.lemmas.List.Sums.{length-filter}
-use Rattle.ckpt_ids.specs.declared.call.Call.TheVariants.{Ack}
-use Rattle.ckpt_ids.specs.declared.reply.Answer.TheVariants.{Done}
+use Rattle.ckpt_core.proofs.Names.{◌≡◌, ℕ, ◌≤◌, ◌<◌, max, true, false, not, ◌||◌, List, ◌++◌, length, sym, ap, subst, ◌∙◌, arith, None, count_by, filter, not-true, or_parts, lt-ltb, length-filter}
+use Rattle.ckpt_core.proofs.Names.{Ack, Done, SubtaskId, is_present, IsIn-from_filter, filter-same, AreDistinct-left, AreDistinct-filter, IsIn-from_test, Moments, Parts, may_want_memory, answer_wants}
+use Rattle.ckpt_core.proofs.Names.{Answers, AreSound, AreTied, IsAccepted, is_known_in, state_of, present_in, pending_of, State, Stepped, ack, step, IsAcceptedAck, accepted_ack, ack_step}
+use Rattle.ckpt_core.proofs.Names.{distinct-from_test, AreDistinct, common_steps}
 use Rattle.ckpt_ids.specs.declared.reply.Reply.TheVariants as reply
-use Rattle.ckpt_ids.specs.declared.subtask.SubtaskId.{SubtaskId}
-use Rattle.ckpt_ids.specs.Records.{is_present}
-use Rattle.ckpt_ids.proofs.OrderedLemmas.{IsIn-from_filter, filter-same, AreDistinct-left, AreDistinct-filter, IsIn-from_test}
 use Rattle.ckpt_outbox.specs.Queues as queues
-use Rattle.ckpt_rules.specs.Moments.{Moments}
-use Rattle.ckpt_core.specs.declared.parts.Parts.{Parts}
-use Rattle.ckpt_model.specs.Memory.{may_want_memory, answer_wants}
-use Rattle.ckpt_core.specs.Inside.Parts.{Answers, AreSound, AreTied, IsAccepted, is_known_in, state_of}
-use Rattle.ckpt_model.specs.Reads.{present_in}
-use Rattle.ckpt_model.specs.Refusals.{pending_of}
-use Rattle.ckpt_model.specs.State.{State, is_known}
-use Rattle.ckpt_model.specs.Steps.{Stepped, ack, step}
-use Rattle.ckpt_model.proofs.Answering.Accepted.{IsAcceptedAck, accepted_ack}
-use Rattle.ckpt_model.proofs.Answering.StepCases.{ack_step}
-use Rattle.ckpt_model.proofs.Records.Released.{distinct-from_test}
-use Rattle.ckpt_ids.specs.Ordered.{AreDistinct}
+use Rattle.ckpt_model.specs.State.{is_known}
 
 -- the unknown files
 abbrev pub unknown_in : Parts → List ℕ → List ℕ
@@ -39,25 +22,18 @@ unknown_same p now fresh tied = filter-same (λ f. not (is_known (state_of p) f)
 late_step : (p : Parts) (now id : ℕ) (subtask : SubtaskId) (fresh reused : List ℕ) → AreTied p → IsAccepted p (Ack now id subtask fresh reused) → pending_of (state_of p).records id ≡ None →
     step (state_of p) (Ack now id subtask fresh reused) ≡ (record (state_of p) { latest = max now p.clock.latest; waiting = p.outbox.waiting ++ unknown_in p fresh }, Done (reply.AckLate (length (unknown_in p fresh))))
 unfolding state_of ack
-late_step p now id subtask fresh reused tied accepted ended =
-    let m : State = record (state_of p) { latest = max now p.clock.latest } in
-    ack_step (state_of p) now id subtask fresh reused None accepted ended
-    ∙ ap (λ files. (record m { waiting = m.waiting ++ files }, Done (reply.AckLate (length files)))) (unknown_same p now fresh tied)
+late_step p now id subtask fresh reused tied accepted ended = grind (arith, common_steps, ack_step, unknown_same)
 
 pub late_wants : (p : Parts) (now id : ℕ) (subtask : SubtaskId) (fresh reused : List ℕ) → AreTied p → IsAccepted p (Ack now id subtask fresh reused) → pending_of (state_of p).records id ≡ None → 0 < length (unknown_in p fresh) →
     may_want_memory (state_of p) (Ack now id subtask fresh reused) ≡ true
-late_wants p now id subtask fresh reused tied accepted ended some =
-    ap (λ (s : Stepped). answer_wants (Ack now id subtask fresh reused) s.1) (late_step p now id subtask fresh reused tied accepted ended) ∙ lt-ltb 0 (length (unknown_in p fresh)) some
+late_wants p now id subtask fresh reused tied accepted ended some = grind (arith, common_steps, late_step, lt-ltb)
 
 pub unknown_counted : (p : Parts) (fresh : List ℕ) → 0 < count_by (λ f. not (is_known_in p f)) fresh → 0 < length (unknown_in p fresh)
 unknown_counted p fresh h = omega (arith, length-filter (λ f. not (is_known_in p f)) fresh)
 
 -- they can be put
 pub unknown_distinct : (p : Parts) (now id : ℕ) (subtask : SubtaskId) (fresh reused files : List ℕ) → IsAccepted p (Ack now id subtask fresh reused) → files ≡ unknown_in p fresh → AreDistinct files
-unknown_distinct p now id subtask fresh reused files accepted is =
-    let a : IsAcceptedAck (state_of p) now id subtask fresh reused = accepted_ack (state_of p) now id subtask fresh reused accepted in
-    let P : List ℕ → Type 0 = λ fs. AreDistinct fs in
-    subst P (sym is) (AreDistinct-filter (λ f. not (is_known_in p f)) fresh (AreDistinct-left fresh reused (distinct-from_test (fresh ++ reused) a.once)))
+unknown_distinct p now id subtask fresh reused files accepted is = grind (arith, common_steps, AreDistinct-filter, AreDistinct-left, accepted_ack, distinct-from_test)
 
 pub unknown_new : (p : Parts) (fresh files : List ℕ) → files ≡ unknown_in p fresh → (f : ℕ) → queues.is_in f files ≡ true → queues.is_known p.outbox f ≡ false
 unknown_new p fresh files is f h =

@@ -1,21 +1,11 @@
 -- What an acknowledgement and a completion do to the records in rising number, and to their uses.
-use Rattle.std.proofs.Common.{◌≡◌, ℕ, Bool, true, false, cond, eqb, List, ◌++◌, map, refl, sym, ap, subst, ◌∙◌, ◌⊎◌, inl, inr, ⊎_elim}
-use Rattle.std.specs.List.{filter, flat_map}
-use Rattle.std.proofs.lemmas.List.{map-append}
-use Rattle.std.proofs.lemmas.Bool.{cases_Bool, both_ways, eqb-true, eqb-false, eq-eqb, ne_eqb, and_parts}
-use Rattle.ckpt_ids.specs.declared.ack.Acked.{Acked}
-use Rattle.ckpt_ids.specs.declared.subtask.SubtaskId.{SubtaskId}
-use Rattle.ckpt_ids.specs.Acknowledged.{put_ack, acknowledges_before}
-use Rattle.ckpt_ids.specs.Ordered.{IsIn, IsInOrder, in_order, in_order_once}
-use Rattle.ckpt_ids.specs.Records.{Record, Use, Holder, Subtask, Pin, use_before, uses, uses_of, acknowledged}
-use Rattle.ckpt_ids.proofs.OrderedLemmas.{IsIn-append_cases, IsIn-append_left, IsIn-append_right, IsIn-map, IsIn-from_map, IsIn-flat_map, IsIn-from_flat_map, IsIn-filter, IsIn-from_filter, IsInOrder-filter, IsInOrder-in_order_once, IsIn-in_order_once, IsIn-from_in_order_once, IsIn-put, IsIn-put_itself, IsIn-put_cases, same_from_members}
-use Rattle.ckpt_ids.proofs.OrderLemmas.{uses_in_order}
-use Rattle.ckpt_model.specs.Soundness.{id_before}
-use Rattle.ckpt_model.specs.Steps.{replaced}
-use Rattle.ckpt_core.specs.Inside.Grouped.{is_pin, pins, pins_of, with_pins, grouped, records_of}
-use Rattle.ckpt_model.proofs.Records.Counts.{map_same, map_itself}
+use Rattle.ckpt_core.proofs.Names.{◌≡◌, ℕ, Bool, true, false, cond, eqb, List, ◌++◌, map, refl, sym, ap, subst, ◌∙◌, ◌⊎◌, inl, inr, ⊎_elim, filter, flat_map, map-append, cases_Bool, both_ways}
+use Rattle.ckpt_core.proofs.Names.{eqb-true, eqb-false, eq-eqb, ne_eqb, and_parts, Acked, SubtaskId, put_ack, acknowledges_before, IsIn, IsInOrder, in_order, in_order_once, Record, Use, Holder}
+use Rattle.ckpt_core.proofs.Names.{Subtask, Pin, use_before, uses, uses_of, acknowledged, IsIn-append_cases, IsIn-append_left, IsIn-append_right, IsIn-map, IsIn-from_map, IsIn-flat_map}
+use Rattle.ckpt_core.proofs.Names.{IsIn-from_flat_map, IsIn-filter, IsIn-from_filter, IsInOrder-filter, IsInOrder-in_order_once, IsIn-in_order_once, IsIn-from_in_order_once, IsIn-put, IsIn-put_itself}
+use Rattle.ckpt_core.proofs.Names.{IsIn-put_cases, same_from_members, uses_in_order, id_before, replaced, is_pin, pins, pins_of, with_pins, grouped, records_of, map_same, map_itself, map-map}
+use Rattle.ckpt_core.proofs.Names.{common_steps, arith}
 use Rattle.ckpt_core.proofs.Records.Grouped.{in_order-map}
-use Rattle.std.proofs.lemmas.Simd.{map-map}
 use Rattle.ckpt_core.proofs.Using.Order.{holds, from_holds}
 
 -- uses of a subtask more leave the pins
@@ -44,9 +34,7 @@ abbrev pub with_instead : Record → Record → Record
 with_instead r old = cond (eqb old.id r.id) r old
 
 pub id-with_instead : (r old : Record) → (with_instead r old).id ≡ old.id
-id-with_instead r old =
-    let P : Bool → Type 0 = λ b. (cond b r old).id ≡ old.id in
-    ⊎_elim (λ (e : eqb old.id r.id ≡ true). subst P (sym e) (sym (eqb-true old.id r.id e))) (λ (e : eqb old.id r.id ≡ false). subst P (sym e) refl) (cases_Bool (eqb old.id r.id))
+id-with_instead r old = grind (arith, common_steps)
 
 pub with_instead-other : (r old : Record) → (old.id ≡ r.id → ⊥) → with_instead r old ≡ old
 with_instead-other r old ne = ap (λ b. cond b r old) (ne_eqb old.id r.id ne)
@@ -55,9 +43,7 @@ pub with_instead-same : (r old : Record) → old.id ≡ r.id → with_instead r 
 with_instead-same r old e = ap (λ b. cond b r old) (eq-eqb old.id r.id e)
 
 pinned_instead : (us : List Use) (r s : Record) → with_pins us (with_instead r s) ≡ with_instead (with_pins us r) (with_pins us s)
-pinned_instead us r s =
-    let P : Bool → Type 0 = λ b. with_pins us (cond b r s) ≡ cond b (with_pins us r) (with_pins us s) in
-    ⊎_elim (λ (e : eqb s.id r.id ≡ true). subst P (sym e) refl) (λ (e : eqb s.id r.id ≡ false). subst P (sym e) refl) (cases_Bool (eqb s.id r.id))
+pinned_instead us r s = grind (arith, common_steps)
 
 -- an acknowledgement of the pending record with the number of r: r is that record with it
 pub ack_groups : (us added : List Use) (pending checkpoints savepoints : List Record) (r : Record) → IsInOrder use_before us → ((u : Use) → IsIn u added → is_pin u.holder ≡ false) → ((s : Record) → IsIn s (checkpoints ++ savepoints) → s.id ≡ r.id → ⊥) →
@@ -81,25 +67,13 @@ ack_groups us added pending checkpoints savepoints r order no_pin apart =
 -- the uses after it
 
 pub replaced_members : (rs : List Record) (r z : Record) → IsIn z (replaced rs r) → (z ≡ r) ⊎ (IsIn z rs × (z.id ≡ r.id → ⊥))
-replaced_members rs r z h =
-    let p = IsIn-from_map (with_instead r) z rs h in
-    let Goal : Type 0 = (z ≡ r) ⊎ (IsIn z rs × (z.id ≡ r.id → ⊥)) in
-    let here : eqb p.0.id r.id ≡ true → Goal = λ (e : eqb p.0.id r.id ≡ true). inl (p.2 ∙ ap (λ b. cond b r p.0) e) in
-    let other : eqb p.0.id r.id ≡ false → Goal = λ (e : eqb p.0.id r.id ≡ false).
-    let same : z ≡ p.0 = p.2 ∙ ap (λ b. cond b r p.0) e in
-    let P : Record → Type 0 = λ w. IsIn w rs in
-    inr (subst P (sym same) p.1, λ q. eqb-false p.0.id r.id e (ap (λ w. w.id) (sym same) ∙ q)) in
-    ⊎_elim here other (cases_Bool (eqb p.0.id r.id))
+replaced_members rs r z h = grind (arith, common_steps, IsIn-from_map, cases_Bool, eqb-false)
 
 pub in_replaced : (rs : List Record) (r old : Record) → IsIn old rs → old.id ≡ r.id → IsIn r (replaced rs r)
-in_replaced rs r old h e =
-    let P : Record → Type 0 = λ w. IsIn w (replaced rs r) in
-    subst P (with_instead-same r old e) (IsIn-map (with_instead r) old rs h)
+in_replaced rs r old h e = grind (arith, common_steps, IsIn-map, with_instead-same)
 
 pub still_in_replaced : (rs : List Record) (r old : Record) → IsIn old rs → (old.id ≡ r.id → ⊥) → IsIn old (replaced rs r)
-still_in_replaced rs r old h ne =
-    let P : Record → Type 0 = λ w. IsIn w (replaced rs r) in
-    subst P (with_instead-other r old ne) (IsIn-map (with_instead r) old rs h)
+still_in_replaced rs r old h ne = grind (arith, common_steps, IsIn-map, with_instead-other)
 
 -- the uses of a record with one acknowledgement more
 acked_use : (r : Record) (a : Acked) (u : Use) → IsIn u (uses_of (record r { acks = put_ack a r.acks })) → IsIn u (holds r.id (Subtask a.subtask) a.files) ⊎ IsIn u (uses_of r)
@@ -132,11 +106,7 @@ use_when_acked r a u h =
 
 -- files that are the same numbers, in another order
 same_holds : (id : ℕ) (h : Holder) (xs ys : List ℕ) (u : Use) → ((f : ℕ) → IsIn f xs → IsIn f ys) → IsIn u (holds id h xs) → IsIn u (holds id h ys)
-same_holds id h xs ys u same k =
-    let make : ℕ → Use = λ f. record { id = id; holder = h; file = f } in
-    let p = IsIn-from_map make u xs k in
-    let P : Use → Type 0 = λ w. IsIn w (holds id h ys) in
-    subst P (sym p.2) (IsIn-map make p.0 ys (same p.0 p.1))
+same_holds id h xs ys u same k = grind (arith, common_steps, IsIn-from_map, IsIn-map, holds)
 
 pub ack_uses : (rs : List Record) (r : Record) (s : SubtaskId) (named files : List ℕ) → IsIn r rs → ((q : Record) → IsIn q rs → q.id ≡ r.id → q ≡ r) →
     ((f : ℕ) → IsIn f named → IsIn f files) → ((f : ℕ) → IsIn f files → IsIn f named) →

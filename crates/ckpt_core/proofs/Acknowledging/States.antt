@@ -1,50 +1,21 @@
 -- What an accepted acknowledgement of a pending record makes of the parts.
-use Rattle.std.proofs.Common.{◌≡◌, ℕ, ◌+◌, ◌-◌, ◌≤◌, ◌<◌, max, Bool, true, false, cond, ltb, eqb, List, ◌++◌, map, length, refl, sym, ap, subst, ◌∙◌, ⊎_elim, arith, Some}
-use Rattle.std.specs.Prelude.{find}
-use Rattle.std.specs.Vec.{vec_capacity}
-use Rattle.std.proofs.lemmas.Bool.{cases_Bool, both_ways, eqb-true, ne_eqb, eq-eqb}
-use Rattle.std.proofs.lemmas.List.{length-map}
-use Rattle.ckpt_ids.specs.declared.call.Call.{Call}
-use Rattle.ckpt_ids.specs.declared.call.Call.TheVariants.{Ack}
-use Rattle.ckpt_ids.specs.declared.reply.Answer.TheVariants.{Done}
+use Rattle.ckpt_core.proofs.Names.{◌≡◌, ℕ, ◌+◌, ◌-◌, ◌≤◌, ◌<◌, max, Bool, true, false, cond, ltb, eqb, List, ◌++◌, map, length, refl, sym, ap, subst, ◌∙◌, ⊎_elim, arith, Some, find, vec_capacity}
+use Rattle.ckpt_core.proofs.Names.{cases_Bool, both_ways, eqb-true, ne_eqb, eq-eqb, length-map, Call, Ack, Done, SubtaskId, ascending, IsIn, IsInOrder, in_order_once, Record, Use, Subtask, is_present}
+use Rattle.ckpt_core.proofs.Names.{missing, use_before, uses, uses_of, acknowledged, IsIn-append_cases, IsIn-append_left, IsIn-map, IsIn-in_order, IsIn-from_in_order, IsInOrder-map}
+use Rattle.ckpt_core.proofs.Names.{IsIn-in_order_once, IsIn-from_in_order_once, uses_in_order, IsPending, missing-with_ack, triples, IsStored, Parts, IsMissing, with_pins, grouped, records_of}
+use Rattle.ckpt_core.proofs.Names.{may_want_memory, answer_wants, Answers, AreSound, AreTied, IsAccepted, Stays, records_in, state_of, present_in, acked, refusal, IsSound, id_before, State, Stepped}
+use Rattle.ckpt_core.proofs.Names.{ack, acknowledged_in, completed_with, replaced, step, with_records, accepted_ack, ack_step, IsAcknowledged, IsIn-from_find, map_same, same_record, IsAcking}
+use Rattle.ckpt_core.proofs.Names.{with_ack, with_ack_is, acking, taken_in, common_steps}
 use Rattle.ckpt_ids.specs.declared.reply.Reply.TheVariants as reply
-use Rattle.ckpt_ids.specs.declared.subtask.SubtaskId.{SubtaskId}
-use Rattle.ckpt_ids.specs.Ascending.{ascending}
-use Rattle.ckpt_ids.specs.Ordered.{IsIn, IsInOrder, in_order_once}
-use Rattle.ckpt_ids.specs.Records.{Record, Use, Subtask, is_present, missing, use_before, uses, uses_of, acknowledged}
-use Rattle.ckpt_ids.proofs.OrderedLemmas.{IsIn-append_cases, IsIn-append_left, IsIn-map, IsIn-in_order, IsIn-from_in_order, IsInOrder-map, IsIn-in_order_once, IsIn-from_in_order_once}
-use Rattle.ckpt_ids.proofs.OrderLemmas.{uses_in_order}
-use Rattle.ckpt_pending.specs.Acknowledging.{IsPending}
-use Rattle.ckpt_pending.proofs.PendingLemmas.{missing-with_ack}
-use Rattle.ckpt_registry.specs.Uses.{triples}
-use Rattle.ckpt_store.specs.Storing.{IsStored}
-use Rattle.ckpt_core.specs.declared.parts.Parts.{Parts}
-use Rattle.ckpt_core.specs.Inside.Completing.{IsMissing}
-use Rattle.ckpt_core.specs.Inside.Grouped.{with_pins, grouped, records_of}
-use Rattle.ckpt_model.specs.Memory.{may_want_memory, answer_wants}
-use Rattle.ckpt_core.specs.Inside.Parts.{Answers, AreSound, AreTied, IsAccepted, Stays, records_in, state_of}
-use Rattle.ckpt_model.specs.Reads.{present_in}
-use Rattle.ckpt_core.specs.Inside.PendingRecords.{acked}
-use Rattle.ckpt_model.specs.Refusals.{refusal}
-use Rattle.ckpt_model.specs.Soundness.{IsSound, id_before}
-use Rattle.ckpt_model.specs.State.{State}
-use Rattle.ckpt_model.specs.Steps.{Stepped, ack, acknowledged_in, completed_with, replaced, step, with_records}
-use Rattle.ckpt_model.proofs.Answering.Accepted.{accepted_ack}
-use Rattle.ckpt_model.proofs.Answering.StepCases.{ack_step}
 use Rattle.ckpt_core.proofs.Acknowledging.Moves.{ack_groups, ack_uses, no_pin-holds, with_instead, id-with_instead, replaced_members}
-use Rattle.ckpt_model.proofs.Records.Acknowledged.{IsAcknowledged}
 use Rattle.ckpt_core.proofs.Acknowledging.Takes.{found_record}
 use Rattle.ckpt_core.proofs.Acknowledging.Uses.{present_more}
-use Rattle.ckpt_model.proofs.Records.Counts.{IsIn-from_find, map_same}
 use Rattle.ckpt_core.proofs.Ending.Drops.{apart_in}
 use Rattle.ckpt_core.proofs.Records.Grouped.{apart_between}
 use Rattle.ckpt_core.proofs.Ending.HandOut.{present-from_use}
 use Rattle.ckpt_core.proofs.Records.Lookups.{has_number}
 use Rattle.ckpt_core.proofs.Records.Pending.{find-from_IsIn}
-use Rattle.ckpt_model.proofs.Records.Replacing.{same_record}
-use Rattle.ckpt_model.proofs.Soundness.Acks.{IsAcking, with_ack, with_ack_is, acking}
 use Rattle.ckpt_core.proofs.Using.Order.{from_holds, all_uses_in_order, record_in_order, record_uses_in_order, uses-in_order}
-use Rattle.ckpt_core.specs.Inside.Moving.{taken_in}
 
 -- the parts with other room
 
@@ -71,14 +42,7 @@ pub roomier_state : {p q : Parts} → IsRoomier p q → state_of q ≡ state_of 
 roomier_state {p} {q} r = ap state_of r.is ∙ roomy_state p r.spare r.places
 
 pub roomier_sound : {p q : Parts} → IsRoomier p q → AreSound p → AreSound q
-roomier_sound {p} {q} r sound =
-    let P : Parts → Type 0 = λ x. AreSound x in
-    let Q : State → Type 0 = λ m. IsSound m in
-    subst P (sym r.is) (record {
-      tied = record { uses_are = sound.tied.uses_are; retained = sound.tied.retained; tolerable = sound.tied.tolerable; spare = r.room; room = sound.tied.room };
-      sound = subst Q (sym (roomy_state p r.spare r.places)) sound.sound;
-      none_ended = sound.none_ended;
-    })
+roomier_sound {p} {q} r sound = grind (arith, common_steps, roomy_state)
 
 pub roomier_stays : {p q : Parts} → IsRoomier p q → AreSound p → Stays p q
 roomier_stays {p} {q} r sound = let s : AreSound q = roomier_sound r sound in record { state_is = roomier_state r; tied = s.tied; none_ended = s.none_ended }
@@ -185,16 +149,7 @@ taken_present {p} {now} {id} {s} {fresh} {reused} {r} t =
     present_more p.registry (taken_in p now id s fresh reused).registry fresh (taken_kept p.registry (triples id (Subtask s) (fresh ++ reused))) (taken_new p.registry id s fresh reused present)
 
 pub taken_tied : {p : Parts} {now id : ℕ} {s : SubtaskId} {fresh reused : List ℕ} {r : Record} → IsTaking p now id s fresh reused r → present_in p.registry + length fresh ≤ p.outbox.spare → AreTied (taken_in p now id s fresh reused)
-taken_tied {p} {now} {id} {s} {fresh} {reused} {r} t room =
-    let a : Record = with_ack (with_pins p.registry r) s fresh reused in
-    let old : length (records_in p) ≤ vec_capacity p.ended = t.sound.tied.room in
-    record {
-      uses_are = taken_uses t ∙ ap uses (sym (taken_records t));
-      retained = t.sound.tied.retained;
-      tolerable = t.sound.tied.tolerable;
-      spare = omega (arith, taken_present t, room);
-      room = omega (arith, ap length (taken_records t), length-map (records_in p) (with_instead a), old);
-    }
+taken_tied {p} {now} {id} {s} {fresh} {reused} {r} t room = grind (arith, common_steps, length-map, taken_present, taken_records, taken_uses, with_ack, with_instead)
 
 -- the state after it
 abbrev pub moved : Parts → ℕ → State
@@ -213,20 +168,15 @@ one_less {p} {now} {id} {s} {fresh} {reused} {r} t =
 pub taken_step : {p : Parts} {now id : ℕ} {s : SubtaskId} {fresh reused : List ℕ} {r : Record} → IsTaking p now id s fresh reused r →
     step (state_of p) (Ack now id s fresh reused) ≡ acknowledged_in (moved p now) (with_ack (with_pins p.registry r) s fresh reused)
 unfolding state_of ack
-taken_step {p} {now} {id} {s} {fresh} {reused} {r} t =
-    ack_step (state_of p) now id s fresh reused (Some (with_pins p.registry r)) t.accepted (found_record p id r t.sound.sound t.pending t.stored t.found)
+taken_step {p} {now} {id} {s} {fresh} {reused} {r} t = grind (arith, common_steps, ack_step, found_record)
 
 still_waiting : (m : State) (a : Record) → (missing a ≡ 0 → ⊥) → acknowledged_in m a ≡ (with_records m (replaced m.records a), Done (reply.AckPending (missing a)))
 unfolding acknowledged_in
-still_waiting m a some =
-    let done : Record = record a { done = true } in
-    ap (λ b. cond b (completed_with (with_records m (replaced m.records done)) done) (with_records m (replaced m.records a), Done (reply.AckPending (missing a)))) (ne_eqb (missing a) 0 some)
+still_waiting m a some = grind (arith, common_steps)
 
 pub now_complete : (m : State) (a : Record) → missing a ≡ 0 → acknowledged_in m a ≡ completed_with (with_records m (replaced m.records (record a { done = true }))) (record a { done = true })
 unfolding acknowledged_in
-now_complete m a none =
-    let done : Record = record a { done = true } in
-    ap (λ b. cond b (completed_with (with_records m (replaced m.records done)) done) (with_records m (replaced m.records a), Done (reply.AckPending (missing a)))) (eq-eqb (missing a) 0 none)
+now_complete m a none = grind (arith, common_steps)
 
 waiting_step : {p : Parts} {now id : ℕ} {s : SubtaskId} {fresh reused : List ℕ} {r : Record} (n : ℕ) → IsTaking p now id s fresh reused r → missing r ≡ n → 1 < n →
     step (state_of p) (Ack now id s fresh reused) ≡ (state_of (taken_in p now id s fresh reused), Done (reply.AckPending (n - 1)))

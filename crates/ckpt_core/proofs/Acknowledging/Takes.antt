@@ -1,37 +1,13 @@
 -- What an accepted acknowledgement of a pending record may rely on.
-use Rattle.std.proofs.Common.{◌≡◌, ℕ, zero, suc, ◌+◌, ◌-◌, ◌*◌, ◌^◌, ◌<◌, ◌≤◌, Bool, true, false, cond, eqb, ltb, List, [], ◌∷◌, ◌++◌, length, refl, sym, ap, subst, ◌∙◌, ⊎_elim, arith, Option, Some, None}
-use Rattle.std.specs.Prelude.{find}
-use Rattle.std.specs.Option.{option_map, IsSome}
-use Rattle.std.specs.List.{flat_map}
-use Rattle.std.proofs.lemmas.Bool.{cases_Bool, eqb-true, or_parts}
-use Rattle.ckpt_ids.specs.declared.ack.Acked.{Acked}
-use Rattle.ckpt_ids.specs.declared.call.Call.TheVariants.{Ack}
-use Rattle.ckpt_ids.specs.declared.subtask.SubtaskId.{SubtaskId}
-use Rattle.ckpt_ids.specs.Ordered.{IsIn, IsInOrder}
-use Rattle.ckpt_ids.specs.Places.{LiesAt}
-use Rattle.ckpt_ids.specs.Records.{Record, Use, Subtask, Pin, count, is_present, uses, uses_of, has_acknowledged, acknowledged}
-use Rattle.ckpt_ids.specs.Shapes.{is_subtask}
-use Rattle.ckpt_ids.proofs.OrderedLemmas.{IsIn-append_cases, IsIn-from_flat_map, IsInOrder-map}
-use Rattle.ckpt_pending.specs.Acknowledging.{IsPending}
-use Rattle.ckpt_registry.specs.Uses.{IsEachOnce, HasNoUse}
-use Rattle.ckpt_store.specs.Storing.{IsStored, id_of}
-use Rattle.ckpt_core.specs.declared.parts.Parts.{Parts}
-use Rattle.ckpt_core.specs.Inside.Grouped.{with_pins}
-use Rattle.ckpt_core.specs.Inside.Parts.{AreSound, IsAccepted, records_in, state_of}
-use Rattle.ckpt_core.specs.Inside.PendingRecords.{acked}
-use Rattle.ckpt_model.specs.Refusals.{pending_of}
-use Rattle.ckpt_model.specs.Soundness.{IsSound, id_before}
-use Rattle.ckpt_model.specs.State.{in_outbox}
-use Rattle.ckpt_model.proofs.Answering.Accepted.{IsAcceptedAck, accepted_ack}
-use Rattle.ckpt_model.proofs.Records.Acknowledged.{new_subtask}
-use Rattle.ckpt_model.proofs.Records.Counts.{IsIn-from_find, find_agree}
+use Rattle.ckpt_core.proofs.Names.{◌≡◌, ℕ, zero, suc, ◌+◌, ◌-◌, ◌*◌, ◌^◌, ◌<◌, ◌≤◌, Bool, true, false, cond, eqb, ltb, List, [], ◌∷◌, ◌++◌, length, refl, sym, ap, subst, ◌∙◌, ⊎_elim, arith, Option}
+use Rattle.ckpt_core.proofs.Names.{Some, None, find, option_map, IsSome, flat_map, cases_Bool, eqb-true, or_parts, Acked, Ack, SubtaskId, IsIn, IsInOrder, LiesAt, Record, Use, Subtask, Pin, count}
+use Rattle.ckpt_core.proofs.Names.{is_present, uses, uses_of, has_acknowledged, acknowledged, is_subtask, IsIn-append_cases, IsIn-from_flat_map, IsInOrder-map, IsPending, IsEachOnce, HasNoUse}
+use Rattle.ckpt_core.proofs.Names.{IsStored, id_of, Parts, with_pins, AreSound, IsAccepted, records_in, state_of, acked, pending_of, IsSound, id_before, in_outbox, IsAcceptedAck, accepted_ack}
+use Rattle.ckpt_core.proofs.Names.{new_subtask, IsIn-from_find, find_agree, same_record, IsAcking, acking, has_its_own, common_steps}
 use Rattle.ckpt_core.proofs.Ending.Drops.{apart_in, groups_of}
 use Rattle.ckpt_core.proofs.Records.Lookups.{has_number, pending_of-groups, find-map}
-use Rattle.ckpt_model.proofs.Records.Replacing.{same_record}
-use Rattle.ckpt_model.proofs.Soundness.Acks.{IsAcking, acking}
 use Rattle.ckpt_core.proofs.Triggering.TriggerParts.{live_records}
 use Rattle.ckpt_core.proofs.Using.Order.{holds, from_holds, use_of_record}
-use Rattle.ckpt_model.proofs.Reordering.ExchangeLemmas.{has_its_own}
 use Rattle.ckpt_core.proofs.Using.CountBound.{count-records}
 
 -- the record of this number, with its pins
@@ -113,9 +89,7 @@ can_take p now id subtask fresh reused r sound accepted pending stored e =
 -- the record after it
 
 ack_id : (id : ℕ) (s : SubtaskId) (files : List ℕ) (r : Record) → (cond (has_number id r) (acknowledged r s files) r).id ≡ r.id
-ack_id id s files r =
-    let P : Bool → Type 0 = λ b. (cond b (acknowledged r s files) r).id ≡ r.id in
-    ⊎_elim (λ (e : has_number id r ≡ true). subst P (sym e) refl) (λ (e : has_number id r ≡ false). subst P (sym e) refl) (cases_Bool (has_number id r))
+ack_id id s files r = grind (arith, common_steps)
 
 pub found_acked : (id : ℕ) (s : SubtaskId) (files : List ℕ) (r : Record) (rs : List Record) → find (has_number id) rs ≡ Some r → find (has_number id) (acked id s files rs) ≡ Some (acknowledged r s files)
 found_acked id s files r rs e =
@@ -128,10 +102,7 @@ found_acked id s files r rs e =
 pub lies_acked : (id : ℕ) (s : SubtaskId) (files : List ℕ) (rs : List Record) (place : ℕ) → LiesAt id_of id rs place → LiesAt id_of id (acked id s files rs) place
 lies_acked id s files [] place h = let within : place < 0 = h.0 in absurd (omega arith)
 lies_acked id s files (r ∷ rs) zero h = (omega arith, λ d. ack_id id s files r ∙ h.1 r)
-lies_acked id s files (r ∷ rs) (suc place) h =
-    let within : suc place < length (r ∷ rs) = h.0 in
-    let later : LiesAt id_of id (acked id s files rs) place = lies_acked id s files rs place (omega arith, λ d. h.1 d) in
-    (omega (arith, later.0), λ d. later.1 d)
+lies_acked id s files (r ∷ rs) (suc place) h = grind (arith, common_steps, lies_acked id s files rs place)
 
 pub lies_in_new : (id : ℕ) (s : SubtaskId) (files : List ℕ) (rs new : List Record) (place : ℕ) → LiesAt id_of id rs place → new ≡ acked id s files rs → LiesAt id_of id new place
 lies_in_new id s files rs new place h is = subst (λ (qs : List Record). LiesAt id_of id qs place) (sym is) (lies_acked id s files rs place h)

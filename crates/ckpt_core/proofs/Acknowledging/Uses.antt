@@ -1,28 +1,15 @@
 -- If one of the records has an acknowledgement more, their uses are in order; and how many files they name.
-use Rattle.std.proofs.Common.{◌≡◌, ℕ, suc, ◌+◌, ◌≤◌, Bool, true, false, not, ◌&&◌, cond, ltb, eqb, List, [], ◌∷◌, map, length, refl, sym, ap, subst, ◌∙◌, ⊎_elim, arith}
-use Rattle.std.specs.List.{filter}
-use Rattle.std.proofs.lemmas.Bool.{cases_Bool, ltb-true, eqb-true, not-true, and_from, and_parts}
-use Rattle.std.proofs.lemmas.List.Sums.{length-filter, count_by-le-length}
-use Rattle.std.proofs.lemmas.List.Filters.{length-filter_both}
-use Rattle.ckpt_ids.specs.Ascending.{ascending_set}
-use Rattle.ckpt_ids.specs.Ordered.{IsIn, put_once}
-use Rattle.ckpt_ids.specs.Records.{Use, count, is_present}
-use Rattle.ckpt_ids.proofs.AscendingLemmas.{numbers_in_order}
-use Rattle.ckpt_ids.proofs.OrderedLemmas.{IsIn-map, IsIn-from_map, IsIn-filter, IsIn-from_filter, IsInOrder-filter, IsInOrder-in_order_once, IsIn-in_order_once, IsIn-from_in_order_once, same_from_members}
-use Rattle.ckpt_model.specs.Reads.{present_in}
+use Rattle.ckpt_core.proofs.Names.{◌≡◌, ℕ, suc, ◌+◌, ◌≤◌, Bool, true, false, not, ◌&&◌, cond, ltb, eqb, List, [], ◌∷◌, map, length, refl, sym, ap, subst, ◌∙◌, ⊎_elim, arith, filter, cases_Bool}
+use Rattle.ckpt_core.proofs.Names.{ltb-true, eqb-true, not-true, and_from, and_parts, length-filter, count_by-le-length, length-filter_both, ascending_set, IsIn, put_once, Use, count, is_present}
+use Rattle.ckpt_core.proofs.Names.{numbers_in_order, IsIn-map, IsIn-from_map, IsIn-filter, IsIn-from_filter, IsInOrder-filter, IsInOrder-in_order_once, IsIn-in_order_once, IsIn-from_in_order_once}
+use Rattle.ckpt_core.proofs.Names.{same_from_members, present_in, IsIn-from_counted, common_steps}
 use Rattle.ckpt_core.proofs.Ending.HandOut.{present-from_use}
-use Rattle.ckpt_ids.proofs.CountLemmas.{IsIn-from_counted}
 
 -- how many files are in use after an acknowledgement
 
 length-put_once : (x : ℕ) (xs : List ℕ) → length (put_once ltb x xs) ≤ suc (length xs)
 length-put_once x [] = omega arith
-length-put_once x (y ∷ xs) =
-    let P : Bool → Type 0 = λ b. length (cond b (y ∷ put_once ltb x xs) (cond (ltb x y) (x ∷ y ∷ xs) (y ∷ xs))) ≤ suc (length (y ∷ xs)) in
-    let Q : Bool → Type 0 = λ b. length (cond b (x ∷ y ∷ xs) (y ∷ xs)) ≤ suc (length (y ∷ xs)) in
-    let rest : length (put_once ltb x xs) ≤ suc (length xs) = length-put_once x xs in
-    let here : Q (ltb x y) = ⊎_elim (λ (e : ltb x y ≡ true). subst Q (sym e) (omega arith)) (λ (e : ltb x y ≡ false). subst Q (sym e) (omega arith)) (cases_Bool (ltb x y)) in
-    ⊎_elim (λ (e : ltb y x ≡ true). subst P (sym e) (omega arith)) (λ (e : ltb y x ≡ false). subst P (sym e) here) (cases_Bool (ltb y x))
+length-put_once x (y ∷ xs) = grind (arith, common_steps, length-put_once x xs)
 
 length-ascending_set : (xs : List ℕ) → length (ascending_set xs) ≤ length xs
 length-ascending_set [] = omega arith
@@ -41,9 +28,7 @@ use_there : (f : ℕ) (us : List Use) → IsIn f (files_in us) → (u : Use) × 
 use_there f us h = IsIn-from_map file_of f us (IsIn-from_in_order_once ltb f (map file_of us) h)
 
 use_from_present : (f : ℕ) (us : List Use) → is_present us f ≡ true → (u : Use) × IsIn u us × (f ≡ u.file)
-use_from_present f us h =
-    let q = IsIn-from_counted (λ (u : Use). eqb u.file f) us (ltb-true 0 (count us f) h) in
-    (q.0, q.1, sym (eqb-true q.0.file f q.2))
+use_from_present f us h = grind (arith, common_steps, IsIn-from_counted, eqb-true, ltb-true)
 
 -- each file of the uses after was in use before, or is one of the fresh
 pub present_more : (before after : List Use) (fresh : List ℕ) → ((u : Use) → IsIn u before → IsIn u after) → ((u : Use) → IsIn u after → is_present before u.file ≡ false → IsIn u.file fresh) → present_in after ≤ present_in before + length fresh

@@ -1,39 +1,15 @@
 -- The parts after an accepted call, and that only calls that may take memory run out of it.
-use Rattle.std.proofs.Common.{◌≡◌, ℕ, Bool, true, List, refl, sym, ap, subst, ◌∙◌, Option, Some, None}
-use Rattle.std.specs.Prelude.{Result, Ok, Err, IfOk, OnErr}
-use Rattle.ckpt_ids.specs.declared.call.Call.{Call}
-use Rattle.ckpt_ids.specs.declared.call.Call.TheVariants.{Savepoint, Restore, Take, Show}
-use Rattle.ckpt_ids.specs.declared.call.Target.{Target}
-use Rattle.ckpt_ids.specs.declared.reply.Reply.{Reply}
-use Rattle.ckpt_ids.specs.Records.{Record}
-use Rattle.ckpt_core.specs.declared.parts.Parts.{Parts}
-use Rattle.ckpt_model.specs.Memory.{answer_wants, may_want_memory}
-use Rattle.ckpt_core.specs.Inside.Parts.{AreSound, Answers, Stays, state_of}
-use Rattle.ckpt_model.specs.Refusals.{moment_of, no_record, refusal}
-use Rattle.ckpt_model.specs.Soundness.{IsCall, IsSound}
-use Rattle.ckpt_model.specs.State.{State, record_of}
-use Rattle.ckpt_model.specs.Steps.{Stepped, at_moment, effect, restore, show, take_files}
-use Rattle.ckpt_model.proofs.Soundness.Calls.{step_keeps}
-use Rattle.ckpt_model.proofs.Answering.StepCases.{step_accepted}
-use Rattle.ckpt_model.proofs.Answering.RefusalRows.{first_row-none}
+use Rattle.ckpt_core.proofs.Names.{◌≡◌, ℕ, Bool, true, List, refl, sym, ap, subst, ◌∙◌, Option, Some, None, Result, Ok, Err, IfOk, OnErr, Call, Savepoint, Restore, Take, Show, Target, Reply, Record}
+use Rattle.ckpt_core.proofs.Names.{Parts, answer_wants, may_want_memory, AreSound, Answers, Stays, state_of, moment_of, no_record, refusal, IsCall, IsSound, State, record_of, Stepped, at_moment}
+use Rattle.ckpt_core.proofs.Names.{effect, restore, show, take_files, step_keeps, step_accepted, first_row-none, common_steps, arith}
 
 -- after a call
 
 pub sound_answered : (old new : Parts) (call : Call) (reply : Reply) → IsCall call → AreSound old → Answers old new call reply → AreSound new
-sound_answered old new call reply c s a =
-    let P : Stepped → Type 0 = λ stepped. IsSound stepped.0 in
-    record {
-      tied = a.tied;
-      sound = subst P a.step_is (step_keeps (state_of old) call c s.sound);
-      none_ended = a.none_ended;
-    }
+sound_answered old new call reply c s a = grind (arith, common_steps, step_keeps)
 
 pub sound_unchanged : (old new : Parts) → AreSound old → Stays old new → AreSound new
-sound_unchanged old new s a = record {
-  tied = a.tied;
-  sound = subst IsSound (sym a.state_is) s.sound;
-  none_ended = a.none_ended;
-}
+sound_unchanged old new s a = grind (arith, common_steps)
 
 -- whether it was answered or not
 pub sound_after : {E : Type 0} (old new : Parts) (call : Call) (result : Result Reply E) → IsCall call → AreSound old → IfOk result (Answers old new call) → OnErr result (Stays old new) → AreSound new
@@ -44,9 +20,7 @@ sound_after old new call (Err error) c s a h = sound_unchanged old new s h
 
 -- so its answer determines whether it may take memory
 wants_as_effect : (m : State) (call : Call) → refusal m call ≡ None → may_want_memory m call ≡ answer_wants call (effect (at_moment m (moment_of call)) call).1
-wants_as_effect m call e =
-    let wanted : Stepped → Bool = λ stepped. answer_wants call stepped.1 in
-    ap wanted (step_accepted m call e)
+wants_as_effect m call e = grind (arith, common_steps, step_accepted)
 
 pub savepoint_wants : (m : State) (now : ℕ) → refusal m (Savepoint now) ≡ None → may_want_memory m (Savepoint now) ≡ true
 unfolding effect
@@ -77,6 +51,4 @@ show_wants m id e = wants_as_effect m (Show id) e ∙ shown id (record_of m id) 
 pub wants_here : {A E : Type 0} (result : Result A E) (m : State) (call same : Call) → call ≡ same → refusal m call ≡ None → (refusal m same ≡ None → may_want_memory m same ≡ true) →
     OnErr result (may_want_memory m call ≡ true)
 wants_here (Ok reply) m call same e accepted h = tt
-wants_here (Err error) m call same e accepted h =
-    let P : Call → Type 0 = λ k. refusal m k ≡ None → may_want_memory m k ≡ true in
-    subst P (sym e) h accepted
+wants_here (Err error) m call same e accepted h = grind (arith, common_steps)

@@ -1,80 +1,39 @@
 -- Calls that read, and those that move a file in the outbox.
-use Rattle.std.proofs.Common.{◌≡◌, ℕ, List, [], ◌∷◌, ◌++◌, take, refl, sym, ap, ◌∙◌, arith, Option, Some, None}
+use Rattle.ckpt_core.proofs.Names.{◌≡◌, ℕ, List, [], ◌∷◌, ◌++◌, take, refl, sym, ap, ◌∙◌, arith, Option, Some, None, find, IsSome, option_map, option_or, Metadata, NoSuchRecord, Done, IsInOrder}
+use Rattle.ckpt_core.proofs.Names.{Record, count, metadata_of, Queues, Parts, with_pins, grouped, Answers, AreTied, AreSound, IsAccepted, records_in, state_of, refusal, no_record, id_before, State}
+use Rattle.ckpt_core.proofs.Names.{record_of, Stepped, effect, take_files, show, step_accepted, row_last, common_steps}
 use Rattle.std.specs.Prelude as prelude
-use Rattle.std.specs.Prelude.{find, IsSome}
-use Rattle.std.specs.Option.{option_map, option_or}
-use Rattle.ckpt_ids.specs.declared.ack.Metadata.{Metadata}
 use Rattle.ckpt_ids.specs.declared.call.Call.TheVariants as call
 use Rattle.ckpt_ids.specs.declared.reply.Reply.TheVariants as reply
-use Rattle.ckpt_ids.specs.declared.reply.Refusal.TheVariants.{NoSuchRecord}
-use Rattle.ckpt_ids.specs.declared.reply.Answer.TheVariants.{Done}
-use Rattle.ckpt_ids.specs.Ordered.{IsInOrder}
-use Rattle.ckpt_ids.specs.Records.{Record, count, metadata_of}
-use Rattle.ckpt_outbox.specs.Queues.{Queues}
 use Rattle.ckpt_store.specs.Storing as storing
-use Rattle.ckpt_core.specs.declared.parts.Parts.{Parts}
-use Rattle.ckpt_core.specs.Inside.Grouped.{with_pins, grouped}
-use Rattle.ckpt_core.specs.Inside.Parts.{Answers, AreTied, AreSound, IsAccepted, records_in, state_of}
-use Rattle.ckpt_model.specs.Refusals.{refusal, no_record}
-use Rattle.ckpt_model.specs.Soundness.{id_before}
-use Rattle.ckpt_model.specs.State.{State, record_of}
-use Rattle.ckpt_model.specs.Steps.{Stepped, effect, take_files, without, show}
+use Rattle.ckpt_model.specs.Steps.{without}
 use Rattle.ckpt_core.proofs.Records.Grouped.{apart-from_in_order}
 use Rattle.ckpt_core.proofs.Records.GroupLookups.{record_of-groups}
 use Rattle.ckpt_core.proofs.Records.Lookups.{has_number}
-use Rattle.ckpt_model.proofs.Answering.StepCases.{step_accepted}
-use Rattle.ckpt_model.proofs.Answering.RefusalRows.{row_last}
 
 -- another outbox with as many places reserved
 tied_with : (p : Parts) (outbox : Queues) → AreTied p → outbox.spare ≡ p.outbox.spare → AreTied (record p { outbox = outbox })
-tied_with p outbox tied e = record {
-  uses_are = tied.uses_are;
-  retained = tied.retained;
-  tolerable = tied.tolerable;
-  spare = omega (arith, tied.spare, e);
-  room = tied.room;
-}
+tied_with p outbox tied e = grind (arith, common_steps)
 
 pub taken_answers : (p : Parts) (most : ℕ) (outbox : Queues) (handed : List ℕ) → AreSound p → IsAccepted p (call.Take most) →
     outbox ≡ record p.outbox { waiting = prelude.drop most p.outbox.waiting; taken = p.outbox.taken ++ take most p.outbox.waiting } → handed ≡ take most p.outbox.waiting →
     Answers p (record p { outbox = outbox }) (call.Take most) (reply.Taken handed)
 unfolding state_of effect take_files
-taken_answers p most outbox handed sound accepted is gives = record {
-  step_is = step_accepted (state_of p) (call.Take most) accepted
-      ∙ ap (λ o. (let x : Stepped = (state_of (record p { outbox = o }), Done (reply.Taken (take most p.outbox.waiting))) in x)) (sym is)
-      ∙ ap (λ fs. (let x : Stepped = (state_of (record p { outbox = outbox }), Done (reply.Taken fs)) in x)) (sym gives);
-  tied = tied_with p outbox sound.tied (ap (λ o. o.spare) is);
-  none_ended = sound.none_ended;
-}
+taken_answers p most outbox handed sound accepted is gives = grind (arith, common_steps, step_accepted, tied_with)
 
 pub deleted_answers : (p : Parts) (file : ℕ) (outbox : Queues) → AreSound p → IsAccepted p (call.Deleted file) → outbox ≡ record p.outbox { taken = without file p.outbox.taken } →
     Answers p (record p { outbox = outbox }) (call.Deleted file) (reply.Deleted file)
 unfolding state_of effect
-deleted_answers p file outbox sound accepted is = record {
-  step_is = step_accepted (state_of p) (call.Deleted file) accepted
-      ∙ ap (λ o. (let x : Stepped = (state_of (record p { outbox = o }), Done (reply.Deleted file)) in x)) (sym is);
-  tied = tied_with p outbox sound.tied (ap (λ o. o.spare) is);
-  none_ended = sound.none_ended;
-}
+deleted_answers p file outbox sound accepted is = grind (arith, common_steps, step_accepted, tied_with)
 
 pub undeleted_answers : (p : Parts) (file : ℕ) (outbox : Queues) → AreSound p → IsAccepted p (call.Undeleted file) → outbox ≡ record p.outbox { waiting = p.outbox.waiting ++ file ∷ []; taken = without file p.outbox.taken } →
     Answers p (record p { outbox = outbox }) (call.Undeleted file) (reply.Undeleted file)
 unfolding state_of effect
-undeleted_answers p file outbox sound accepted is = record {
-  step_is = step_accepted (state_of p) (call.Undeleted file) accepted
-      ∙ ap (λ o. (let x : Stepped = (state_of (record p { outbox = o }), Done (reply.Undeleted file)) in x)) (sym is);
-  tied = tied_with p outbox sound.tied (ap (λ o. o.spare) is);
-  none_ended = sound.none_ended;
-}
+undeleted_answers p file outbox sound accepted is = grind (arith, common_steps, step_accepted, tied_with)
 
 pub counted_answers : (p : Parts) (file n : ℕ) → AreSound p → IsAccepted p (call.Count file) → n ≡ count p.registry file → Answers p p (call.Count file) (reply.Counted file n)
 unfolding state_of effect
-counted_answers p file n sound accepted is = record {
-  step_is = step_accepted (state_of p) (call.Count file) accepted
-      ∙ ap (λ k. (let x : Stepped = (state_of p, Done (reply.Counted file k)) in x)) (ap (λ us. count us file) (sym sound.tied.uses_are) ∙ sym is);
-  tied = sound.tied;
-  none_ended = sound.none_ended;
-}
+counted_answers p file n sound accepted is = grind (arith, common_steps, step_accepted)
 
 -- the metadata of a record
 
@@ -106,8 +65,7 @@ stored_record p id order none = record_there p id order ∙ ap (λ o. option_or 
 
 pub stored_metadata : (p : Parts) (id : ℕ) (r : Record) (metadata : Metadata) → IsInOrder id_before (records_in p) → find (has_number id) p.pending ≡ None → storing.record_of p.store id ≡ Some r → metadata ≡ metadata_of r →
     option_map metadata_of (record_of (state_of p) id) ≡ Some metadata
-stored_metadata p id r metadata order none there is =
-    ap (option_map metadata_of) (stored_record p id order none ∙ there) ∙ ap (λ x. Some x) (sym is)
+stored_metadata p id r metadata order none there is = grind (arith, common_steps, stored_record)
 
 -- a show is refused exactly if there is no such record
 refusal_show : (m : State) (id : ℕ) → refusal m (call.Show id) ≡ no_record (record_of m id)
@@ -115,19 +73,13 @@ unfolding refusal
 refusal_show m id = sym (row_last (no_record (record_of m id)) (None ∷ []) (no_record (record_of m id)) refl refl)
 
 pub show_live : (m : State) (id : ℕ) → IsSome (record_of m id) → refusal m (call.Show id) ≡ None
-show_live m id live =
-    let P : Option Record → Type 0 = λ o. IsSome o → no_record o ≡ None in
-    refusal_show m id ∙ elim (record_of m id) as P [ Some r ↦ (λ h. refl) | None ↦ (λ h. absurd (cc)) ] live
+show_live m id live = grind (arith, common_steps, refusal_show)
 
 pub show_told : (m : State) (id : ℕ) (metadata : Metadata) → Some metadata ≡ option_map metadata_of (record_of m id) → refusal m (call.Show id) ≡ None
-show_told m id metadata is =
-    let P : Option Record → Type 0 = λ o. Some metadata ≡ option_map metadata_of o → no_record o ≡ None in
-    refusal_show m id ∙ elim (record_of m id) as P [ Some r ↦ (λ h. refl) | None ↦ (λ h. absurd (cc)) ] is
+show_told m id metadata is = grind (arith, common_steps, refusal_show)
 
 pub show_absent : (m : State) (id : ℕ) → None ≡ option_map metadata_of (record_of m id) → refusal m (call.Show id) ≡ Some NoSuchRecord
-show_absent m id is =
-    let P : Option Record → Type 0 = λ o. None ≡ option_map metadata_of o → no_record o ≡ Some NoSuchRecord in
-    refusal_show m id ∙ elim (record_of m id) as P [ Some r ↦ (λ h. absurd (cc)) | None ↦ (λ h. refl) ] is
+show_absent m id is = grind (arith, common_steps, refusal_show)
 
 shown : (m : State) (o : Option Record) (metadata : Metadata) → option_map metadata_of o ≡ Some metadata → (let x : Stepped = (m, show o) in x) ≡ (m, Done (reply.Shown metadata))
 shown m (Some r) metadata e = let same : metadata_of r ≡ metadata = cc in ap (λ k. (let x : Stepped = (m, Done (reply.Shown k)) in x)) same
@@ -135,8 +87,4 @@ shown m None metadata e = absurd (cc)
 
 pub shown_answers : (p : Parts) (id : ℕ) (metadata : Metadata) → AreSound p → IsAccepted p (call.Show id) → option_map metadata_of (record_of (state_of p) id) ≡ Some metadata → Answers p p (call.Show id) (reply.Shown metadata)
 unfolding effect
-shown_answers p id metadata sound accepted is = record {
-  step_is = step_accepted (state_of p) (call.Show id) accepted ∙ shown (state_of p) (record_of (state_of p) id) metadata is;
-  tied = sound.tied;
-  none_ended = sound.none_ended;
-}
+shown_answers p id metadata sound accepted is = grind (arith, common_steps, shown, step_accepted)

@@ -1,26 +1,10 @@
 -- What the table of refusals looks up in the records, found in the parts.
-use Rattle.std.proofs.Common.{◌≡◌, ℕ, ◌+◌, false, not, ◌||◌, eqb, List, [], ◌∷◌, length, sym, ap, ◌∙◌, Option, Some, None}
-use Rattle.std.specs.Prelude.{count_by, find, slice_get, IfNone, IfSome}
-use Rattle.std.specs.List.{list_any}
-use Rattle.std.specs.Option.{option_map}
-use Rattle.ckpt_ids.specs.declared.subtask.SubtaskId.{SubtaskId}
-use Rattle.ckpt_ids.specs.declared.reply.Refusal.{Refusal}
-use Rattle.ckpt_ids.specs.declared.reply.Refusal.TheVariants.{NameTaken, FileGone}
-use Rattle.ckpt_ids.specs.Ordered.{IsIn, IsInOrder}
-use Rattle.ckpt_ids.specs.Places.{LiesAt}
-use Rattle.ckpt_ids.specs.Records.{Record, Use, uses, is_present}
-use Rattle.ckpt_pending.specs.Acknowledging.{IsPending}
-use Rattle.ckpt_ids.proofs.PlaceLemmas.{find-none}
-use Rattle.ckpt_store.specs.Storing.{IsStored, has_id, has_savepoint, id_of}
-use Rattle.ckpt_store.proofs.RowLemmas.{find-place}
+use Rattle.ckpt_core.proofs.Names.{◌≡◌, ℕ, ◌+◌, false, not, ◌||◌, eqb, List, [], ◌∷◌, length, sym, ap, ◌∙◌, Option, Some, None, count_by, find, slice_get, IfNone, IfSome, list_any, option_map}
+use Rattle.ckpt_core.proofs.Names.{SubtaskId, Refusal, NameTaken, FileGone, IsIn, IsInOrder, LiesAt, Record, Use, uses, is_present, IsPending, find-none, IsStored, has_id, has_savepoint, id_of}
+use Rattle.ckpt_core.proofs.Names.{find-place, Parts, is_checkpoint, first_some, is_foreign, is_repeat, is_done_savepoint, savepoints, named, pending_of, where_pending, id_before, with_pins, grouped}
+use Rattle.ckpt_core.proofs.Names.{AreSound, AreTied, IsPlaceOf, records_in, state_of, is_known_in, rows_only, common_steps, arith}
 use Rattle.ckpt_outbox.specs.Queues as queues
-use Rattle.ckpt_core.specs.declared.parts.Parts.{Parts}
-use Rattle.ckpt_model.specs.State.{is_checkpoint, is_known}
-use Rattle.ckpt_model.specs.Refusals.{first_some, is_foreign, is_repeat, is_done_savepoint, savepoints, named, pending_of, where_pending}
-use Rattle.ckpt_model.specs.Soundness.{id_before}
-use Rattle.ckpt_core.specs.Inside.Grouped.{with_pins, grouped}
-use Rattle.ckpt_core.specs.Inside.Parts.{AreSound, AreTied, IsPlaceOf, records_in, state_of, is_known_in}
-use Rattle.ckpt_model.proofs.Answering.RefusalRows.{rows_only}
+use Rattle.ckpt_model.specs.State.{is_known}
 use Rattle.ckpt_core.proofs.Records.Grouped.{AreApart, apart-from_in_order}
 use Rattle.ckpt_core.proofs.Records.Lookups.{pending_of-groups}
 use Rattle.ckpt_core.proofs.Records.GroupLookups.{savepoints-groups, done_savepoint-groups}
@@ -32,9 +16,7 @@ apart_of p sound = apart-from_in_order (grouped p.registry p.pending p.store.che
 
 pub pending_of-parts : (p : Parts) (id : ℕ) (o : Option Record) → AreSound p → ((r : Record) → IsIn r p.pending → IsPending r) → IsStored p.store → o ≡ find (λ r. eqb r.id id) p.pending →
     pending_of (records_in p) id ≡ option_map (with_pins p.registry) o
-pending_of-parts p id o sound pending stored e =
-    pending_of-groups id p.registry p.pending p.store.checkpoints p.store.savepoints (apart_of p sound) (groups_of p pending stored)
-    ∙ ap (option_map (with_pins p.registry)) (sym e)
+pending_of-parts p id o sound pending stored e = grind (arith, common_steps, apart_of, groups_of, pending_of-groups)
 
 -- the place of a pending record, as a search for it returns it
 pub place_of-parts : (p : Parts) (id : ℕ) (place : Option ℕ) → AreSound p → ((r : Record) → IsIn r p.pending → IsPending r) → IsStored p.store →
@@ -55,8 +37,7 @@ done_savepoint-parts p id pending stored =
 
 pub savepoints-parts : (p : Parts) → ((r : Record) → IsIn r p.pending → IsPending r) → IsStored p.store → savepoints (state_of p) ≡ count_by (λ r. not (is_checkpoint r)) p.pending + length p.store.savepoints
 unfolding state_of
-savepoints-parts p pending stored =
-    savepoints-groups p.registry p.pending p.store.checkpoints p.store.savepoints (groups_of p pending stored)
+savepoints-parts p pending stored = grind (arith, common_steps, groups_of, savepoints-groups)
 
 -- the rows on the part of a subtask, before rows that do not hold
 abbrev rows_of : Option Record → SubtaskId → Option Refusal → Option Refusal → List (Option Refusal) → List (Option Refusal)
@@ -68,15 +49,8 @@ pub part_rows : (p : Parts) (id : ℕ) (subtask : SubtaskId) (fresh reused : Lis
     first_some rows ≡ None →
     o ≡ first_some (rows_of (pending_of (records_in p) id) subtask (named NameTaken (find (is_known (state_of p)) fresh)) (named FileGone (find (λ f. not (is_present (uses (records_in p)) f)) reused)) rows)
 unfolding state_of
-part_rows p id subtask fresh reused rows r o tied e h none =
-    let by_uses : List Use → Option Refusal = λ us. first_some (is_foreign (Some r) subtask ∷ is_repeat (Some r) subtask ∷ named NameTaken (find (λ f. is_present us f || queues.is_known p.outbox f) fresh) ∷ named FileGone (find (λ f. not (is_present us f)) reused) ∷ []) in
-    let taken : Option Refusal = named NameTaken (find (is_known (state_of p)) fresh) in
-    let gone : Option Refusal = named FileGone (find (λ f. not (is_present (uses (records_in p)) f)) reused) in
-    h ∙ ap by_uses tied.uses_are
-    ∙ ap (λ q. first_some (rows_of q subtask taken gone [])) (sym e)
-    ∙ rows_only (rows_of (pending_of (records_in p) id) subtask taken gone []) rows none
+part_rows p id subtask fresh reused rows r o tied e h none = grind (arith, common_steps)
 
 -- if it is not
 pub no_part_rows : (o : Option Record) (subtask : SubtaskId) (taken gone : Option Refusal) (rows : List (Option Refusal)) → o ≡ None → first_some rows ≡ None → None ≡ first_some (rows_of o subtask taken gone rows)
-no_part_rows o subtask taken gone rows e none =
-    sym none ∙ ap (λ q. first_some (rows_of q subtask taken gone rows)) (sym e)
+no_part_rows o subtask taken gone rows e none = grind (arith, common_steps)

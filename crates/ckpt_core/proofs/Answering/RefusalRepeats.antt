@@ -1,28 +1,16 @@
 -- A file that is named twice, in ascending lists: it is its own neighbour, or is in both lists.
-use Rattle.std.proofs.Common.{◌≡◌, ℕ, zero, suc, ◌+◌, ◌<◌, ◌≤◌, Bool, true, false, not, ◌||◌, ltb, eqb, List, [], ◌∷◌, ◌++◌, length, get_or, refl, sym, ap, subst, ◌∙◌, ⊎_elim, arith, MatchBool, Result, add-one}
-use Rattle.std.specs.List.Sorted.{IsBinarySearchResult}
-use Rattle.std.specs.Ordering.{nat_cmp}
-use Rattle.std.specs.Result.{is_ok}
-use Rattle.std.specs.List.{list_any}
-use Rattle.std.proofs.lemmas.Bool.{both_ways, eq-eqb, ltb-false, or_parts, or_cases, or_left, or_right, true_from_ne_false, false_from_ne_true, ltb-true, lt-ltb}
-use Rattle.ckpt_ids.specs.Ordered.{IsIn, AreDistinct}
-use Rattle.ckpt_ids.specs.Ascending.{IsAscending, IsAscendingSet}
-use Rattle.ckpt_ids.specs.Counting.{times}
-use Rattle.ckpt_ids.proofs.OrderedLemmas.{ComesBefore-at, ComesBefore-from, IsIn-from_list_any, list_any-from_IsIn, AreDistinct-append, AreDistinct-left, AreDistinct-right, AreDistinct-apart, AreDistinct-from_order, IsIn-from_test, test-from_IsIn}
-use Rattle.ckpt_ids.proofs.AscendingLemmas.{ascending_at, numbers_in_order}
-use Rattle.ckpt_ids.proofs.CountLemmas.{times-from_IsIn, IsIn-from_times}
-use Rattle.ckpt_model.specs.Refusals.{has_repeats}
-use Rattle.ckpt_model.proofs.Records.Released.{distinct-from_test}
+use Rattle.ckpt_core.proofs.Names.{◌≡◌, ℕ, zero, suc, ◌+◌, ◌<◌, ◌≤◌, Bool, true, false, not, ◌||◌, ltb, eqb, List, [], ◌∷◌, ◌++◌, length, get_or, refl, sym, ap, subst, ◌∙◌, ⊎_elim, arith, MatchBool}
+use Rattle.ckpt_core.proofs.Names.{Result, add-one, IsBinarySearchResult, nat_cmp, is_ok, list_any, both_ways, eq-eqb, ltb-false, or_parts, or_cases, or_left, or_right, true_from_ne_false}
+use Rattle.ckpt_core.proofs.Names.{false_from_ne_true, ltb-true, lt-ltb, IsIn, AreDistinct, IsAscending, IsAscendingSet, times, ComesBefore-at, ComesBefore-from, IsIn-from_list_any}
+use Rattle.ckpt_core.proofs.Names.{list_any-from_IsIn, AreDistinct-append, AreDistinct-left, AreDistinct-right, AreDistinct-apart, AreDistinct-from_order, IsIn-from_test, test-from_IsIn, ascending_at}
+use Rattle.ckpt_core.proofs.Names.{numbers_in_order, times-from_IsIn, IsIn-from_times, has_repeats, distinct-from_test, times-from_search, common_steps}
 use Rattle.ckpt_core.proofs.Records.GroupLookups.{same_tests}
-use Rattle.ckpt_registry.proofs.PartLemmas.{times-from_search}
 
 -- the test of repeats
 
 pub test-from_distinct : (xs : List ℕ) → AreDistinct xs → has_repeats xs ≡ false
 test-from_distinct [] a = refl
-test-from_distinct (x ∷ xs) a =
-    let first : list_any (λ y. eqb x y) xs ≡ false = false_from_ne_true (list_any (λ y. eqb x y) xs) (λ e. a.0 (IsIn-from_test x xs e)) in
-    ap (λ b. b || has_repeats xs) first ∙ test-from_distinct xs a.1
+test-from_distinct (x ∷ xs) a = grind (arith, common_steps, IsIn-from_test, false_from_ne_true, test-from_distinct xs a.1)
 
 -- if each number is below the next, none is there twice
 set-from_adjacent : (xs : List ℕ) → ((k d : ℕ) → suc k < length xs → true ≡ ltb (get_or xs k d) (get_or xs (suc k) d)) → IsAscendingSet xs
@@ -59,13 +47,7 @@ repeats-from_adjacent xs false a h =
 
 -- what a binary search returns
 pub among-from_search : (xs : List ℕ) (x : ℕ) (r : Result ℕ ℕ) → IsAscending xs → IsBinarySearchResult (λ y. nat_cmp y x) xs r → is_ok r ≡ list_any (λ f. eqb x f) xs
-among-from_search xs x r a h =
-    let counted : Bool = ltb 0 (times x xs) in
-    let among : Bool = list_any (λ f. eqb x f) xs in
-    times-from_search xs x r a h
-    ∙ same_tests counted among
-    (λ (e : counted ≡ true). test-from_IsIn x xs (IsIn-from_times x xs (ltb-true 0 (times x xs) e)))
-    (λ (e : among ≡ true). lt-ltb 0 (times x xs) (times-from_IsIn x xs (IsIn-from_test x xs e)))
+among-from_search xs x r a h = grind (arith, common_steps, IsIn-from_test, IsIn-from_times, lt-ltb, ltb-true, same_tests, test-from_IsIn, times-from_IsIn, times-from_search)
 
 -- two lists
 
@@ -79,26 +61,18 @@ abbrev share : List ℕ → List ℕ → Bool
 share xs ys = list_any (λ f. list_any (λ g. eqb f g) xs) ys
 
 repeats_between : (xs ys : List ℕ) → share xs ys ≡ true → has_repeats (xs ++ ys) ≡ true
-repeats_between xs ys e =
-    let both = IsIn-from_list_any (λ f. list_any (λ g. eqb f g) xs) ys e in
-    true_from_ne_false (has_repeats (xs ++ ys)) (λ f. AreDistinct-apart xs ys (distinct-from_test (xs ++ ys) f) both.0 (IsIn-from_test both.0 xs both.2) both.1)
+repeats_between xs ys e = grind (arith, common_steps, AreDistinct-apart, IsIn-from_list_any, IsIn-from_test, distinct-from_test, true_from_ne_false)
 
 no_repeats : (xs ys : List ℕ) → has_repeats xs ≡ false → has_repeats ys ≡ false → share xs ys ≡ false → has_repeats (xs ++ ys) ≡ false
-no_repeats xs ys a b e =
-    let apart : (x : ℕ) → IsIn x xs → IsIn x ys → ⊥ = λ x h k.
-    both_ways (share xs ys) e (list_any-from_IsIn (λ f. list_any (λ g. eqb f g) xs) x ys k (test-from_IsIn x xs h)) in
-    test-from_distinct (xs ++ ys) (AreDistinct-append xs ys (distinct-from_test xs a) (distinct-from_test ys b) apart)
+no_repeats xs ys a b e = grind (arith, common_steps, AreDistinct-append, both_ways, distinct-from_test, list_any-from_IsIn, test-from_IsIn, test-from_distinct)
 
 -- a file is twice in one list, or in both
 pub repeats_within : (xs ys : List ℕ) (v : Bool) → v ≡ (has_repeats xs || has_repeats ys) → v ≡ true → v ≡ has_repeats (xs ++ ys)
-repeats_within xs ys v is e =
-    e ∙ sym (⊎_elim (repeats_left xs ys) (repeats_right xs ys) (or_cases (has_repeats xs) (has_repeats ys) (sym is ∙ e)))
+repeats_within xs ys v is e = grind (arith, common_steps, or_cases, repeats_left, repeats_right)
 
 pub repeats_across : (xs ys : List ℕ) (v s : Bool) → v ≡ (has_repeats xs || has_repeats ys) → v ≡ false → s ≡ share xs ys → s ≡ has_repeats (xs ++ ys)
 repeats_across xs ys v true is e shared = sym (repeats_between xs ys (sym shared))
-repeats_across xs ys v false is e shared =
-    let each = or_parts (has_repeats xs) (has_repeats ys) (sym is ∙ e) in
-    sym (no_repeats xs ys each.0 each.1 (sym shared))
+repeats_across xs ys v false is e shared = grind (arith, common_steps, no_repeats, or_parts)
 
 -- a test that is made if another failed
 pub or_first : (a b v : Bool) → a ≡ true → v ≡ true → v ≡ (a || b)

@@ -1,21 +1,8 @@
 -- Calls that are not tested before they are made: reports on files, and disposals. The outbox or the store finds their refusals.
-use Rattle.std.proofs.Common.{◌≡◌, ℕ, Bool, true, false, not, eqb, [], ◌∷◌, refl, sym, ap, ◌∙◌, Option, Some, None, Result, Ok, Err}
-use Rattle.std.specs.Prelude.{if◌then◌else◌, IfErr}
-use Rattle.std.specs.List.{list_any}
-use Rattle.ckpt_ids.specs.declared.call.Call.{Call}
-use Rattle.ckpt_ids.specs.declared.call.Call.TheVariants.{Deleted, Dispose, Undeleted}
-use Rattle.ckpt_ids.specs.declared.reply.Reply.{Reply}
-use Rattle.ckpt_ids.specs.declared.reply.Answer.{Answer}
-use Rattle.ckpt_ids.specs.declared.reply.Answer.TheVariants.{Done}
+use Rattle.ckpt_core.proofs.Names.{◌≡◌, ℕ, Bool, true, false, not, eqb, [], ◌∷◌, refl, sym, ap, ◌∙◌, Option, Some, None, Result, Ok, Err, if◌then◌else◌, IfErr, list_any, Call, Deleted, Dispose}
+use Rattle.ckpt_core.proofs.Names.{Undeleted, Reply, Answer, Done, Refusal, InUse, NoSuchSavepoint, NotTaken, CoreFault, Memory, Refused, first_some, is_done_savepoint, is_number, refuse_if, refusal}
+use Rattle.ckpt_core.proofs.Names.{State, Stepped, step, step_refused, common_steps, arith}
 use Rattle.ckpt_ids.specs.declared.reply.Answer.TheVariants as answers
-use Rattle.ckpt_ids.specs.declared.reply.Refusal.{Refusal}
-use Rattle.ckpt_ids.specs.declared.reply.Refusal.TheVariants.{InUse, NoSuchSavepoint, NotTaken}
-use Rattle.ckpt_model.specs.declared.faults.CoreFault.{CoreFault}
-use Rattle.ckpt_model.specs.declared.faults.CoreFault.TheVariants.{Memory, Refused}
-use Rattle.ckpt_model.specs.Refusals.{first_some, is_done_savepoint, is_number, refuse_if, refusal}
-use Rattle.ckpt_model.specs.State.{State}
-use Rattle.ckpt_model.specs.Steps.{Stepped, step}
-use Rattle.ckpt_model.proofs.Answering.StepCases.{step_refused}
 
 -- the rows of a report
 
@@ -51,10 +38,7 @@ taken_if false P never h = absurd (never (h refl))
 -- a call that is done was not refused
 accepted_by : (m n : State) (call : Call) (reply : Reply) (o : Option Refusal) → refusal m call ≡ o → step m call ≡ (n, Done reply) → refusal m call ≡ None
 accepted_by m n call reply None e h = e
-accepted_by m n call reply (Some why) e h =
-    let answer : Stepped → Answer = λ stepped. stepped.1 in
-    let both : answers.Refused why ≡ Done reply = ap answer (sym (step_refused m call why e) ∙ h) in
-    absurd (cc)
+accepted_by m n call reply (Some why) e h = grind (arith, common_steps, step_refused)
 
 pub accepted_done : (m n : State) (call : Call) (reply : Reply) → step m call ≡ (n, Done reply) → refusal m call ≡ None
 accepted_done m n call reply h = accepted_by m n call reply (refusal m call) refl h

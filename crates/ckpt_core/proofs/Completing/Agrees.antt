@@ -1,37 +1,18 @@
 -- What a completed checkpoint supersedes, as the step has it, is what was noted.
-use Rattle.std.proofs.Common.{◌≡◌, ℕ, ◌+◌, ◌≤◌, Bool, true, false, not, ◌&&◌, ◌||◌, ltb, leb, eqb, List, [], ◌∷◌, ◌++◌, map, length, refl, sym, ap, subst, ◌∙◌, inl, ⊎_elim, arith}
-use Rattle.std.specs.Prelude.{count_by}
-use Rattle.std.specs.List.{filter}
-use Rattle.std.proofs.lemmas.Bool.{lt-ltb, and_from, and_left, and_right, not_from_false}
-use Rattle.std.proofs.lemmas.List.{length-append, length-map}
-use Rattle.std.proofs.lemmas.List.Sums.{length-filter}
-use Rattle.std.proofs.Math.Bool.{or-false}
+use Rattle.ckpt_core.proofs.Names.{◌≡◌, ℕ, ◌+◌, ◌≤◌, Bool, true, false, not, ◌&&◌, ◌||◌, ltb, leb, eqb, List, [], ◌∷◌, ◌++◌, map, length, refl, sym, ap, subst, ◌∙◌, inl, ⊎_elim, arith, count_by}
+use Rattle.ckpt_core.proofs.Names.{filter, lt-ltb, and_from, and_left, and_right, not_from_false, length-append, length-map, length-filter, or-false, SubtaskId, IsIn, Record, IsIn-append_cases}
+use Rattle.ckpt_core.proofs.Names.{IsIn-append_left, IsIn-append_right, IsIn-map, IsIn-from_map, IsIn-from_filter, IsIn-in_order, IsIn-from_in_order, IsInOrder-append, AreRising, IsAbove, Parts}
+use Rattle.ckpt_core.proofs.Names.{is_before, earlier, surplus, with_pins, grouped, is_noted, records_in, state_of, id_before, State, is_checkpoint, is_done_checkpoint, is_pending, is_subsumed}
+use Rattle.ckpt_core.proofs.Names.{is_surplus, dropped_by, replaced, superseded, with_records, IsIn-from_find, is_checkpoint-kind, is_savepoint-kind, count_by-none, count_by-same, taken_in, completed}
+use Rattle.ckpt_core.proofs.Names.{with_ack, common_steps}
 use Rattle.ckpt_ids.specs.declared.numbers.Kind.TheVariants as kind
-use Rattle.ckpt_ids.specs.declared.subtask.SubtaskId.{SubtaskId}
-use Rattle.ckpt_ids.specs.Ordered.{IsIn}
-use Rattle.ckpt_ids.specs.Records.{Record}
-use Rattle.ckpt_ids.proofs.OrderedLemmas.{IsIn-append_cases, IsIn-append_left, IsIn-append_right, IsIn-map, IsIn-from_map, IsIn-from_filter, IsIn-in_order, IsIn-from_in_order, IsInOrder-append}
-use Rattle.ckpt_store.specs.Storing.{AreRising, IsAbove}
-use Rattle.ckpt_core.specs.declared.parts.Parts.{Parts}
 use Rattle.ckpt_core.specs.Inside.Completing as completing
-use Rattle.ckpt_core.specs.Inside.Completing.{is_before, earlier, surplus}
-use Rattle.ckpt_core.specs.Inside.Grouped.{with_pins, grouped}
-use Rattle.ckpt_core.specs.Inside.Parts.{is_noted, records_in, state_of}
-use Rattle.ckpt_model.specs.Soundness.{id_before}
-use Rattle.ckpt_model.specs.State.{State, is_checkpoint, is_done_checkpoint, is_pending, is_subsumed, is_surplus}
-use Rattle.ckpt_model.specs.Steps.{dropped_by, replaced, superseded, with_records}
 use Rattle.ckpt_core.proofs.Acknowledging.Moves.{replaced_members, still_in_replaced}
 use Rattle.ckpt_core.proofs.Acknowledging.States.{IsTaking, moved, taken_records}
 use Rattle.ckpt_core.proofs.Completing.Lists.{IsFinishing, is_past, later_in, noted_pending, noted_row, noted_savepoint, others, past_count, past_is_surplus}
 use Rattle.ckpt_core.proofs.Completing.Moves.{count_completed}
 use Rattle.ckpt_core.proofs.Completing.Taken.{taken_there, taken_apart, taken_groups, checkpoint_ending, ending_completes}
-use Rattle.ckpt_model.proofs.Records.Counts.{IsIn-from_find}
-use Rattle.ckpt_model.proofs.Records.Lists.{is_checkpoint-kind, is_savepoint-kind}
 use Rattle.ckpt_core.proofs.Records.Lookups.{AreGroups, has_number}
-use Rattle.ckpt_ids.proofs.CountLemmas.{count_by-none, count_by-same}
-use Rattle.ckpt_core.specs.Inside.Moving.{taken_in}
-use Rattle.ckpt_model.proofs.Soundness.Completions.{completed}
-use Rattle.ckpt_model.proofs.Soundness.Acks.{with_ack}
 
 -- the tests of the step on one record
 
@@ -54,23 +35,13 @@ no_surplus : (m : State) (x : Record) → is_done_checkpoint x ≡ false → is_
 no_surplus m x e = ap (λ b. b && leb m.opening.config.retained (later_done m x)) e
 
 superseded_pending : (m : State) (c x : Record) → is_checkpoint c ≡ true → x.done ≡ false → superseded m c x ≡ is_before c.id x
-superseded_pending m c x e pending =
-    superseded_where m c x e
-    ∙ ap (λ b. is_subsumed c.id x || b) (no_surplus m x (and_left x.done (is_checkpoint x) pending))
-    ∙ or-false (is_subsumed c.id x)
-    ∙ pending_subsumed c.id x pending
+superseded_pending m c x e pending = grind (arith, common_steps)
 
 superseded_checkpoint : (m : State) (c x : Record) → is_checkpoint c ≡ true → x.done ≡ true → is_checkpoint x ≡ true → superseded m c x ≡ leb m.opening.config.retained (later_done m x)
-superseded_checkpoint m c x e done checkpoint =
-    superseded_where m c x e
-    ∙ ap (λ b. b || is_surplus m x) (done_not_subsumed c.id x done)
-    ∙ done_surplus m x (and_from x.done (is_checkpoint x) done checkpoint)
+superseded_checkpoint m c x e done checkpoint = grind (arith, common_steps)
 
 superseded_savepoint : (m : State) (c x : Record) → is_checkpoint c ≡ true → x.done ≡ true → is_checkpoint x ≡ false → superseded m c x ≡ false
-superseded_savepoint m c x e done savepoint =
-    superseded_where m c x e
-    ∙ ap (λ b. b || is_surplus m x) (done_not_subsumed c.id x done)
-    ∙ no_surplus m x (and_right x.done (is_checkpoint x) savepoint)
+superseded_savepoint m c x e done savepoint = grind (arith, common_steps)
 
 -- all completed checkpoints, the last one last
 abbrev pub row_of : Parts → Record → List Record

@@ -1,27 +1,12 @@
 -- The answer of a completion is that of the step.
-use Rattle.std.proofs.Common.{◌≡◌, ℕ, ◌+◌, ◌-◌, ◌≤◌, Bool, false, not, ◌&&◌, ◌||◌, List, [], ◌++◌, length, refl, sym, ap, subst, ◌∙◌, arith}
-use Rattle.std.specs.Vec.{vec_capacity}
-use Rattle.std.proofs.lemmas.List.{length-map}
-use Rattle.std.proofs.lemmas.List.Sums.{length-filter, count_by-le-length}
-use Rattle.ckpt_ids.specs.declared.call.Call.TheVariants.{Ack}
-use Rattle.ckpt_ids.specs.declared.numbers.Kind.{Kind}
+use Rattle.ckpt_core.proofs.Names.{◌≡◌, ℕ, ◌+◌, ◌-◌, ◌≤◌, Bool, false, not, ◌&&◌, ◌||◌, List, [], ◌++◌, length, refl, sym, ap, subst, ◌∙◌, arith, vec_capacity, length-map, length-filter}
+use Rattle.ckpt_core.proofs.Names.{count_by-le-length, Ack, Kind, Done, Reply, SubtaskId, IsIn, put, Record, Use, missing, released, uses, IsIn-from_filter, filter-all, filter-same, after_end}
+use Rattle.ckpt_core.proofs.Names.{is_ended, by_id, retained_of, Parts, records_of, Answers, AreTied, is_noted, records_in, state_of, present_in, State, is_checkpoint, is_subsumed, is_surplus}
+use Rattle.ckpt_core.proofs.Names.{cleared, dropped_by, replaced, step, superseded, is_savepoint-kind, count_by-none, with_pins, checkpoint_completed, savepoint_completed, taken_in, completed}
+use Rattle.ckpt_core.proofs.Names.{with_ack}
 use Rattle.ckpt_ids.specs.declared.numbers.Kind.TheVariants as kind
-use Rattle.ckpt_ids.specs.declared.reply.Answer.TheVariants.{Done}
-use Rattle.ckpt_ids.specs.declared.reply.Reply.{Reply}
 use Rattle.ckpt_ids.specs.declared.reply.Reply.TheVariants as reply
-use Rattle.ckpt_ids.specs.declared.subtask.SubtaskId.{SubtaskId}
-use Rattle.ckpt_ids.specs.Ordered.{IsIn, put}
-use Rattle.ckpt_ids.specs.Records.{Record, Use, missing, released, uses}
-use Rattle.ckpt_ids.proofs.OrderedLemmas.{IsIn-from_filter, filter-all, filter-same}
-use Rattle.ckpt_registry.specs.Uses.{after_end, is_ended}
-use Rattle.ckpt_store.specs.Storing.{by_id, retained_of}
-use Rattle.ckpt_core.specs.declared.parts.Parts.{Parts}
 use Rattle.ckpt_core.specs.Inside.Completing as completing
-use Rattle.ckpt_core.specs.Inside.Grouped.{records_of}
-use Rattle.ckpt_core.specs.Inside.Parts.{Answers, AreTied, is_noted, records_in, state_of}
-use Rattle.ckpt_model.specs.Reads.{present_in}
-use Rattle.ckpt_model.specs.State.{State, is_checkpoint, is_subsumed, is_surplus}
-use Rattle.ckpt_model.specs.Steps.{cleared, dropped_by, replaced, step, superseded}
 use Rattle.ckpt_core.proofs.Acknowledging.Moves.{with_instead}
 use Rattle.ckpt_core.proofs.Acknowledging.States.{IsRoomier, IsTaking, moved, now_complete, one_less, roomier_state, taken_step, taken_tied}
 use Rattle.ckpt_core.proofs.Completing.Agrees.{completing_in, finishing, gone_by, row_of, row_rises, superseded_is, superseded_count}
@@ -30,12 +15,6 @@ use Rattle.ckpt_core.proofs.Completing.Lists.{IsFinishing, is_past, noted_row, n
 use Rattle.ckpt_core.proofs.Completing.Moves.{IsEnding, completed_is, kept_records, left_groups, left_records, left_uses, released_files}
 use Rattle.ckpt_core.proofs.Completing.Taken.{checkpoint_ending, ending_completes, savepoint_ending}
 use Rattle.ckpt_core.proofs.Ending.Drops.{present_after, stays, staying}
-use Rattle.ckpt_model.proofs.Records.Lists.{is_savepoint-kind}
-use Rattle.ckpt_ids.proofs.CountLemmas.{count_by-none}
-use Rattle.ckpt_core.specs.Inside.Grouped.{with_pins}
-use Rattle.ckpt_core.specs.Inside.Moving.{checkpoint_completed, savepoint_completed, taken_in}
-use Rattle.ckpt_model.proofs.Soundness.Completions.{completed}
-use Rattle.ckpt_model.proofs.Soundness.Acks.{with_ack}
 
 -- the step, if the records of these numbers are dropped
 last_step : {p : Parts} {now id : ℕ} {s : SubtaskId} {fresh reused : List ℕ} {r : Record} {more_checkpoints more_savepoints : List Record} → IsTaking p now id s fresh reused r → missing r ≡ 1 →

@@ -1,30 +1,10 @@
 -- What the completion of a record may rely on.
-use Rattle.std.proofs.Common.{◌≡◌, ℕ, ◌+◌, ◌<◌, ◌≤◌, ◌^◌, max, Bool, true, false, not, eqb, List, [], ◌++◌, length, refl, sym, ap, subst, ◌∙◌, ⊎_elim, arith, Some}
-use Rattle.std.specs.Prelude.{find}
-use Rattle.std.specs.Vec.{vec_capacity}
-use Rattle.std.proofs.lemmas.Bool.{eqb-true, eq-eqb, ltb-true, or_parts, not_from_true, false_from_ne_true}
-use Rattle.std.proofs.lemmas.List.{length-map}
-use Rattle.std.proofs.lemmas.List.Sums.{length-filter}
-use Rattle.ckpt_ids.specs.declared.call.Call.TheVariants.{Ack}
+use Rattle.ckpt_core.proofs.Names.{◌≡◌, ℕ, ◌+◌, ◌<◌, ◌≤◌, ◌^◌, max, Bool, true, false, not, eqb, List, [], ◌++◌, length, refl, sym, ap, subst, ◌∙◌, ⊎_elim, arith, Some, find, vec_capacity, eqb-true}
+use Rattle.ckpt_core.proofs.Names.{eq-eqb, ltb-true, or_parts, not_from_true, false_from_ne_true, length-map, length-filter, Ack, SubtaskId, ascending, IsIn, IsInOrder, Record, Use, Subtask, count}
+use Rattle.ckpt_core.proofs.Names.{is_present, missing, uses, IsIn-append_cases, IsIn-append_right, IsIn-from_list_any, IsIn-from_in_order_once, is_known, IsPending, triples, Stored, IsAbove}
+use Rattle.ckpt_core.proofs.Names.{IsStored, has_id, has_savepoint, LiesAt, id_of, Parts, IsMissing, with_pins, AreSound, AreTied, IsAccepted, records_in, state_of, present_in, id_before, in_outbox}
+use Rattle.ckpt_core.proofs.Names.{IsAcking, with_ack, IsIn-from_counted, taken_in, completed, common_steps}
 use Rattle.ckpt_ids.specs.declared.numbers.Kind.TheVariants as kind
-use Rattle.ckpt_ids.specs.declared.subtask.SubtaskId.{SubtaskId}
-use Rattle.ckpt_ids.specs.Ascending.{ascending}
-use Rattle.ckpt_ids.specs.Ordered.{IsIn, IsInOrder}
-use Rattle.ckpt_ids.specs.Records.{Record, Use, Subtask, count, is_present, missing, uses}
-use Rattle.ckpt_ids.proofs.OrderedLemmas.{IsIn-append_cases, IsIn-append_right, IsIn-from_list_any, IsIn-from_in_order_once}
-use Rattle.ckpt_outbox.specs.Queues.{is_known}
-use Rattle.ckpt_pending.specs.Acknowledging.{IsPending}
-use Rattle.ckpt_registry.specs.Uses.{triples}
-use Rattle.ckpt_store.specs.Storing.{Stored, IsAbove, IsStored, has_id, has_savepoint}
-use Rattle.ckpt_ids.specs.Places.{LiesAt}
-use Rattle.ckpt_store.specs.Storing.{id_of}
-use Rattle.ckpt_core.specs.declared.parts.Parts.{Parts}
-use Rattle.ckpt_core.specs.Inside.Completing.{IsMissing}
-use Rattle.ckpt_core.specs.Inside.Grouped.{with_pins}
-use Rattle.ckpt_core.specs.Inside.Parts.{AreSound, AreTied, IsAccepted, records_in, state_of}
-use Rattle.ckpt_model.specs.Reads.{present_in}
-use Rattle.ckpt_model.specs.Soundness.{id_before}
-use Rattle.ckpt_model.specs.State.{in_outbox}
 use Rattle.ckpt_core.proofs.Acknowledging.Moves.{with_instead}
 use Rattle.ckpt_core.proofs.Acknowledging.States.{IsRoomier, IsTaking, its_number, room_made, taking_from, one_less, taken_records, taken_tied, taking}
 use Rattle.ckpt_core.proofs.Acknowledging.Takes.{acked_in_order, lies_acked, found_acked}
@@ -34,12 +14,8 @@ use Rattle.ckpt_core.proofs.Completing.Taken.{taken_there, not_done_number}
 use Rattle.ckpt_core.proofs.Ending.Drops.{none_known}
 use Rattle.ckpt_core.proofs.Ending.HandOut.{present-from_use}
 use Rattle.ckpt_core.proofs.Records.Lookups.{has_number, length-records_of}
-use Rattle.ckpt_model.proofs.Soundness.Acks.{IsAcking, with_ack}
 use Rattle.ckpt_core.proofs.Triggering.TriggerParts.{live_records}
 use Rattle.ckpt_core.proofs.Using.Order.{from_holds}
-use Rattle.ckpt_ids.proofs.CountLemmas.{IsIn-from_counted}
-use Rattle.ckpt_core.specs.Inside.Moving.{taken_in}
-use Rattle.ckpt_model.proofs.Soundness.Completions.{completed}
 
 -- the parts without the pending record
 abbrev pub taken_out : Parts → ℕ → ℕ → SubtaskId → List ℕ → List ℕ → Record → Parts
@@ -73,14 +49,7 @@ none_missing {p} {now} {id} {s} {fresh} {reused} {r} then t last is =
 
 pub is_last : {p : Parts} {now id : ℕ} {s : SubtaskId} {fresh reused : List ℕ} {r : Record} (then after : Parts) (done : Record) → IsTaking p now id s fresh reused r → missing r ≡ 1 → present_in p.registry + length fresh ≤ p.outbox.spare → 1 ≤ p.store.spare → then ≡ taken_in p now id s fresh reused →
     ((q : Record) → find (has_number id) then.pending ≡ Some q → done ≡ record q { done = true }) → after ≡ record then { pending = others id then.pending } → IsLast p after now id s fresh reused r done
-is_last {p} {now} {id} {s} {fresh} {reused} {r} then after done t last room place is finished out = record {
-  taking = t;
-  last = last;
-  room = room;
-  place = place;
-  is = out ∙ ap (λ (x : Parts). record x { pending = others id x.pending }) is ∙ ap (λ i. record (taken_in p now id s fresh reused) { pending = others i (taken_in p now id s fresh reused).pending }) (sym (its_number t));
-  done_is = finished (with_ack r s fresh reused) (ap (λ x. find (has_number id) x.pending) is ∙ found_acked id s (ascending (fresh ++ reused)) r p.pending t.found);
-}
+is_last {p} {now} {id} {s} {fresh} {reused} {r} then after done t last room place is finished out = grind (arith, common_steps, found_acked, has_number, its_number, others, taking, with_ack)
 
 -- nothing in use is in the outbox
 taken_unknown : {p : Parts} {now id : ℕ} {s : SubtaskId} {fresh reused : List ℕ} {r : Record} → IsTaking p now id s fresh reused r → (f : ℕ) → is_present (taken_in p now id s fresh reused).registry f ≡ true → is_known p.outbox f ≡ false
@@ -105,15 +74,10 @@ taken_unknown {p} {now} {id} {s} {fresh} {reused} {r} t f h =
 
 -- there are few records
 taken_few : {p : Parts} {now id : ℕ} {s : SubtaskId} {fresh reused : List ℕ} {r : Record} → IsTaking p now id s fresh reused r → length (records_in (taken_in p now id s fresh reused)) ≤ 2064
-taken_few {p} {now} {id} {s} {fresh} {reused} {r} t =
-    omega (arith, ap length (taken_records t), length-map (records_in p) (with_instead (with_ack (with_pins p.registry r) s fresh reused)), live_records p t.sound.sound)
+taken_few {p} {now} {id} {s} {fresh} {reused} {r} t = grind (arith, common_steps, length-map, live_records, taken_records, with_ack, with_instead)
 
 fewer_pending : {p : Parts} {now id : ℕ} {s : SubtaskId} {fresh reused : List ℕ} {r : Record} → IsTaking p now id s fresh reused r → length (others r.id (taken_in p now id s fresh reused).pending) + 1 ≤ length (records_in (taken_in p now id s fresh reused))
-fewer_pending {p} {now} {id} {s} {fresh} {reused} {r} t =
-    let after : Parts = taken_in p now id s fresh reused in
-    let a : Record = with_ack r s fresh reused in
-    let other : Record → Bool = λ q. not (eqb q.id r.id) in
-    omega (arith, length-filter other after.pending, fewer other a after.pending (taken_there t) (not_from_true (eqb r.id r.id) (eq-eqb r.id r.id refl)), length-records_of after.registry after.pending p.store.checkpoints p.store.savepoints)
+fewer_pending {p} {now} {id} {s} {fresh} {reused} {r} t = grind (arith, common_steps, eq-eqb, fewer, length-filter, length-records_of, not_from_true, taken_there, with_ack)
 
 -- what is required of both
 pub record CanComplete (then : Parts) : Type 0 where
@@ -161,14 +125,7 @@ last_new {p} {then} {now} {id} {s} {fresh} {reused} {r} {done} l =
 
 -- room was made in the outbox, then in the store
 pub made_place : (p q : Parts) (more : ℕ) (store : Stored) → q ≡ record p { outbox = record p.outbox { spare = max (present_in p.registry + more) p.outbox.spare } } → store ≡ record q.store { spare = store.spare } → IsRoomier p (record q { store = store })
-made_place p q more store made kept = record {
-  spare = max (present_in p.registry + more) p.outbox.spare;
-  places = store.spare;
-  is =
-      ap (λ x. record q { store = x }) kept
-      ∙ ap (λ (x : Parts). record x { store = record x.store { spare = store.spare } }) made;
-  room = omega arith;
-}
+made_place p q more store made kept = grind (arith, common_steps)
 
 -- all that the calls left
 pub last_made : {id : ℕ} (p q then after : Parts) (done : Record) (now : ℕ) (s : SubtaskId) (fresh reused : List ℕ) (more : ℕ) (store : Stored) → AreSound p → IsAccepted p (Ack now id s fresh reused) → (w : IsMissing p.pending id 1) → more ≡ length fresh →

@@ -1,21 +1,12 @@
 -- What a completion does to the records in rising number, and to their uses: the record goes from the pending
 -- ones to the done ones, its pins end, and some others go.
-use Rattle.std.proofs.Common.{◌≡◌, ℕ, Bool, true, false, not, ◌&&◌, cond, eqb, List, [], ◌∷◌, ◌++◌, map, refl, sym, ap, subst, ◌∙◌, ◌⊎◌, inl, inr, ⊎_elim, Some}
-use Rattle.std.specs.List.{filter, flat_map}
-use Rattle.std.proofs.lemmas.List.Elements.{filter-append}
-use Rattle.std.proofs.lemmas.Bool.{cases_Bool, eqb-true, eqb-false, eq-eqb, ne_eqb, and_parts, and_from, and_left, and_right, not-true, not_from_false, not_from_true}
-use Rattle.ckpt_ids.specs.declared.ack.Acked.{Acked}
-use Rattle.ckpt_ids.specs.Ordered.{IsIn, in_order}
-use Rattle.ckpt_ids.specs.Records.{Record, Use, Subtask, Pin, uses, uses_of}
-use Rattle.ckpt_ids.proofs.OrderedLemmas.{IsIn-append_cases, IsIn-append_left, IsIn-append_right, IsIn-map, IsIn-from_map, IsIn-from_flat_map, IsIn-filter, IsIn-from_filter, filter-all, filter-same, filter-none, filter-filter}
-use Rattle.ckpt_model.specs.Soundness.{id_before}
-use Rattle.ckpt_model.specs.State.{unpinned}
-use Rattle.ckpt_model.specs.Steps.{replaced}
-use Rattle.ckpt_core.specs.Inside.Grouped.{is_pin, pins, with_pins, grouped, records_of}
-use Rattle.ckpt_model.proofs.Records.Counts.{map_same}
+use Rattle.ckpt_core.proofs.Names.{◌≡◌, ℕ, Bool, true, false, not, ◌&&◌, cond, eqb, List, [], ◌∷◌, ◌++◌, map, refl, sym, ap, subst, ◌∙◌, ◌⊎◌, inl, inr, ⊎_elim, Some, filter, flat_map, filter-append}
+use Rattle.ckpt_core.proofs.Names.{cases_Bool, eqb-true, eqb-false, eq-eqb, ne_eqb, and_parts, and_from, and_left, and_right, not-true, not_from_false, not_from_true, Acked, IsIn, in_order, Record}
+use Rattle.ckpt_core.proofs.Names.{Use, Subtask, Pin, uses, uses_of, IsIn-append_cases, IsIn-append_left, IsIn-append_right, IsIn-map, IsIn-from_map, IsIn-from_flat_map, IsIn-filter, IsIn-from_filter}
+use Rattle.ckpt_core.proofs.Names.{filter-all, filter-same, filter-none, filter-filter, id_before, unpinned, replaced, is_pin, pins, with_pins, grouped, records_of, map_same, map-map, common_steps}
+use Rattle.ckpt_core.proofs.Names.{arith}
 use Rattle.ckpt_core.proofs.Records.Grouped.{AreApart, in_order-filter, in_order-map, in_order_same, apart-filter, apart-map, apart-append, apart_left, apart_between}
 use Rattle.ckpt_core.proofs.Records.GroupMoves.{filter-map, with_pins_kept}
-use Rattle.std.proofs.lemmas.Simd.{map-map}
 use Rattle.ckpt_core.proofs.Acknowledging.Moves.{with_instead, id-with_instead, with_instead-other, with_instead-same, replaced_members, in_replaced, still_in_replaced}
 use Rattle.ckpt_core.proofs.Using.Order.{holds, from_holds, use_of_record, uses-filter}
 
@@ -153,12 +144,7 @@ and_swap false false = refl
 
 pub finish_uses : (keep : ℕ → Bool) (rs : List Record) (d : Record) → ((q : Record) → IsIn q rs → q.id ≡ d.id → q.acks ≡ d.acks) → d.pins ≡ [] →
     filter (still_used keep d.id) (uses rs) ≡ uses (filter (λ s. keep s.id) (replaced rs d))
-finish_uses keep rs d acks none =
-    let np : Use → Bool = λ u. not (pins d.id u) in
-    filter-same (still_used keep d.id) (λ u. np u && keep u.id) (uses rs) (λ u h. and_swap (keep u.id) (np u))
-    ∙ sym (filter-filter (λ u. keep u.id) np (uses rs))
-    ∙ ap (filter (λ u. keep u.id)) (sym (replaced_uses rs d acks none))
-    ∙ sym (uses-filter keep (replaced rs d))
+finish_uses keep rs d acks none = grind (arith, common_steps, and_swap, filter-filter, filter-same, replaced_uses, uses-filter)
 
 -- as a step says it: first the record is done, then its pins end and the others go
 

@@ -1,26 +1,15 @@
 -- Which numbers the completion of a checkpoint notes: those of the pending checkpoints before it, and that of the first
 -- completed one if there are now too many.
-use Rattle.std.proofs.Common.{◌≡◌, ℕ, ◌+◌, ◌<◌, ◌≤◌, Bool, true, false, not, ◌||◌, cond, ltb, leb, eqb, List, [], ◌∷◌, ◌++◌, map, length, drop, refl, sym, ap, ◌∙◌, inl, inr, ⊎_elim, arith, Some, None}
-use Rattle.std.specs.Prelude.{count_by}
-use Rattle.std.specs.List.{filter}
-use Rattle.std.proofs.lemmas.Bool.{cases_Bool, both_ways, ltb-true, lt-ltb, le-ltb, ltb-false, lt-leb, le-leb, eqb-true, eq-eqb, ne_eqb, and_parts, or_left, not_from_false, false_from_ne_true}
-use Rattle.std.proofs.lemmas.List.Folds.{list_any-append}
-use Rattle.std.proofs.lemmas.List.Sums.{count_by-le-length}
-use Rattle.std.proofs.Math.Bool.{or-false}
-use Rattle.ckpt_ids.specs.Ordered.{IsIn, ComesBefore}
-use Rattle.ckpt_ids.specs.Records.{Record, Use}
-use Rattle.ckpt_ids.proofs.OrderedLemmas.{IsIn-append_cases, IsIn-append_left, IsIn-append_right, IsIn-map, IsIn-filter, IsIn-from_filter, ComesBefore-at, filter-all}
-use Rattle.ckpt_store.specs.Storing.{Stored, AreRising, IsAbove, lowest, past_retained, retained_of}
-use Rattle.ckpt_core.specs.Inside.Completing.{number_in, surplus, earlier, superseded, is_before}
-use Rattle.ckpt_core.specs.Inside.Grouped.{with_pins, grouped}
-use Rattle.ckpt_core.specs.Inside.Parts.{is_noted}
-use Rattle.ckpt_model.specs.Soundness.{id_before}
-use Rattle.ckpt_model.specs.State.{is_checkpoint}
-use Rattle.ckpt_model.proofs.Records.Counts.{count_by_at_most_more}
+use Rattle.ckpt_core.proofs.Names.{◌≡◌, ℕ, ◌+◌, ◌<◌, ◌≤◌, Bool, true, false, not, ◌||◌, cond, ltb, leb, eqb, List, [], ◌∷◌, ◌++◌, map, length, refl, sym, ap, ◌∙◌, inl, inr, ⊎_elim, arith, Some, None}
+use Rattle.ckpt_core.proofs.Names.{count_by, filter, cases_Bool, both_ways, ltb-true, lt-ltb, le-ltb, ltb-false, lt-leb, le-leb, eqb-true, eq-eqb, ne_eqb, and_parts, or_left, not_from_false}
+use Rattle.ckpt_core.proofs.Names.{false_from_ne_true, list_any-append, count_by-le-length, or-false, IsIn, ComesBefore, Record, Use, IsIn-append_cases, IsIn-append_left, IsIn-append_right, IsIn-map}
+use Rattle.ckpt_core.proofs.Names.{IsIn-filter, IsIn-from_filter, ComesBefore-at, filter-all, Stored, AreRising, IsAbove, lowest, past_retained, retained_of, number_in, surplus, earlier, is_before}
+use Rattle.ckpt_core.proofs.Names.{with_pins, grouped, is_noted, id_before, is_checkpoint, count_by_at_most_more, count_by_yes, count_by_no, count_by-none, count_by-all, common_steps}
+use Rattle.std.proofs.Common.{drop}
+use Rattle.ckpt_core.specs.Inside.Completing.{superseded}
 use Rattle.ckpt_core.proofs.Ending.Drops.{noted-from_IsIn, IsIn-from_noted}
 use Rattle.ckpt_core.proofs.Records.Grouped.{AreApart, apart_left, apart_right, apart_between}
 use Rattle.ckpt_core.proofs.Records.Lookups.{one_of_number}
-use Rattle.ckpt_ids.proofs.CountLemmas.{count_by_yes, count_by_no, count_by-none, count_by-all}
 
 -- a row of records in rising number
 
@@ -95,12 +84,7 @@ past_is_surplus n (y ∷ row) x order few some (inr h) =
 -- it is one of those that were there before the last
 pub past_in_front : (n : ℕ) (row : List Record) (d x : Record) → 1 ≤ n → is_past n (row ++ d ∷ []) x ≡ true → (y : Record) × IsIn y row × (x.id ≡ y.id)
 past_in_front n [] d x some h = absurd (both_ways (is_past n (d ∷ []) x) (none_past n (d ∷ []) x (le-ltb n 1 some)) h)
-past_in_front n (y ∷ row) d x some h =
-    let all : List Record = row ++ d ∷ [] in
-    ⊎_elim
-    (λ (e : ltb n (length (y ∷ all)) ≡ true). (y, inl refl, eqb-true x.id y.id (sym (or-false (eqb x.id y.id)) ∙ sym (past_where n y all x e) ∙ h)))
-    (λ (e : ltb n (length (y ∷ all)) ≡ false). absurd (both_ways (is_past n (y ∷ all) x) (none_past n (y ∷ all) x e) h))
-    (cases_Bool (ltb n (length (y ∷ all))))
+past_in_front n (y ∷ row) d x some h = grind (arith, common_steps)
 
 -- how many are past
 pub past_count : (n : ℕ) (row : List Record) → AreRising row → count_by (is_past n row) row ≡ length (number_in (past_retained n row))
@@ -141,10 +125,7 @@ pub record IsFinishing (us : List Use) (pending : List Record) (store : Stored) 
   pub some : 1 ≤ store.retained
 
 in_earlier : (id : ℕ) (pending : List Record) (x : Record) → is_noted (earlier id (others id pending)) x ≡ true → (y : Record) × IsIn y pending × (is_before id y ≡ true) × (x.id ≡ y.id)
-in_earlier id pending x h =
-    let q = IsIn-from_noted x (filter (is_before id) (others id pending)) h in
-    let k = IsIn-from_filter (is_before id) q.0 (others id pending) q.1 in
-    (q.0, (IsIn-from_filter (λ r. not (eqb r.id id)) q.0 pending k.0).0, k.1, q.2)
+in_earlier id pending x h = grind (arith, common_steps, IsIn-from_filter, IsIn-from_noted)
 
 before_number : (id : ℕ) (y : Record) → is_before id y ≡ true → y.id < id
 before_number id y h = ltb-true y.id id (and_parts (is_checkpoint y) (ltb y.id id) h).1
@@ -166,14 +147,7 @@ earlier_is us id pending done x apart h =
 
 -- of the pending ones, those before it
 pub noted_pending : {us : List Use} {pending : List Record} {store : Stored} {r d : Record} → IsFinishing us pending store r d → (x : Record) → IsIn x pending → is_noted (superseded (others d.id pending) store d) x ≡ is_before d.id x
-noted_pending {us} {pending} {store} {r} {d} f x h =
-    let row : List Record = store.checkpoints ++ d ∷ [] in
-    let done : List Record = store.checkpoints ++ store.savepoints in
-    let first : Bool = is_noted (earlier d.id (others d.id pending)) x in
-    let not_past : is_past store.retained row x ≡ false = false_from_ne_true (is_past store.retained row x) (λ (k : is_past store.retained row x ≡ true).
-    let y = past_in_front store.retained store.checkpoints d x f.some k in
-    apart_between (map (with_pins us) pending) done f.apart (with_pins us x) y.0 (IsIn-map (with_pins us) x pending h) (IsIn-append_left y.0 store.checkpoints store.savepoints y.1) y.2) in
-    noted_parts (others d.id pending) store d x ∙ ap (λ b. first || b) not_past ∙ or-false first ∙ earlier_is us d.id pending done x f.apart h
+noted_pending {us} {pending} {store} {r} {d} f x h = grind (arith, common_steps, IsIn-append_left, IsIn-map, apart_between, earlier_is, false_from_ne_true, noted_parts, or-false, past_in_front)
 
 -- of the completed ones, the first if there are too many
 pub noted_row : {us : List Use} {pending : List Record} {store : Stored} {r d : Record} → IsFinishing us pending store r d → (x : Record) → IsIn x (store.checkpoints ++ d ∷ []) → is_noted (superseded (others d.id pending) store d) x ≡ is_past store.retained (store.checkpoints ++ d ∷ []) x

@@ -1,22 +1,11 @@
 -- What a completion makes of the records, of their uses, and of how many there are.
-use Rattle.std.proofs.Common.{◌≡◌, ℕ, ◌+◌, Bool, true, false, not, ◌&&◌, ◌||◌, cond, eqb, List, [], ◌∷◌, ◌++◌, map, length, refl, sym, ap, subst, ◌∙◌, ◌⊎◌, ⊎_elim, Some}
-use Rattle.std.specs.Prelude.{count_by}
-use Rattle.std.specs.List.{filter}
-use Rattle.std.proofs.lemmas.Bool.{cases_Bool}
-use Rattle.ckpt_ids.specs.declared.reply.Answer.TheVariants.{Done}
+use Rattle.ckpt_core.proofs.Names.{◌≡◌, ℕ, ◌+◌, Bool, true, false, not, ◌&&◌, ◌||◌, cond, eqb, List, [], ◌∷◌, ◌++◌, map, length, refl, sym, ap, subst, ◌∙◌, ◌⊎◌, ⊎_elim, Some, count_by, filter}
+use Rattle.ckpt_core.proofs.Names.{cases_Bool, Done, IsIn, Record, Use, released, uses, uses_of, IsIn-append_left, IsIn-map, IsIn-from_in_order, filter-all, filter-same, after_end, is_ended, is_owned}
+use Rattle.ckpt_core.proofs.Names.{pins, with_pins, grouped, records_of, is_noted, id_before, State, drop, kept, released_by, unpinned, cleared, completed_with, dropped_by, replaced, superseded}
+use Rattle.ckpt_core.proofs.Names.{count_by-map, count_by-same, common_steps, arith}
 use Rattle.ckpt_ids.specs.declared.reply.Reply.TheVariants as reply
-use Rattle.ckpt_ids.specs.Ordered.{IsIn}
-use Rattle.ckpt_ids.specs.Records.{Record, Use, released, uses, uses_of}
-use Rattle.ckpt_ids.proofs.OrderedLemmas.{IsIn-append_left, IsIn-map, IsIn-from_in_order, filter-all, filter-same}
-use Rattle.ckpt_registry.specs.Uses.{after_end, is_ended, is_owned}
-use Rattle.ckpt_core.specs.Inside.Grouped.{pins, with_pins, grouped, records_of}
-use Rattle.ckpt_core.specs.Inside.Parts.{is_noted}
-use Rattle.ckpt_model.specs.Soundness.{id_before}
-use Rattle.ckpt_model.specs.State.{State, drop, kept, released_by, unpinned}
-use Rattle.ckpt_model.specs.Steps.{cleared, completed_with, dropped_by, replaced, superseded}
 use Rattle.ckpt_core.proofs.Acknowledging.Moves.{with_instead}
 use Rattle.ckpt_core.proofs.Completing.Lists.{others}
-use Rattle.ckpt_ids.proofs.CountLemmas.{count_by-map, count_by-same}
 use Rattle.ckpt_core.proofs.Ending.Drops.{stays, staying}
 use Rattle.ckpt_core.proofs.Completing.Finish.{finish_groups, finish_uses, ended_records, still_used}
 use Rattle.ckpt_core.proofs.Records.Grouped.{AreApart}
@@ -96,12 +85,7 @@ kept_records {us} {pending} {checkpoints} {savepoints} {more_checkpoints} {more_
 
 uses_instead : (rs : List Record) (a rd : Record) → a.id ≡ rd.id → uses_of rd ≡ uses_of a → uses (replaced rs rd) ≡ uses (replaced rs a)
 uses_instead [] a rd same e = refl
-uses_instead (x ∷ rs) a rd same e =
-    let P : Bool → Type 0 = λ b. uses_of (cond b rd x) ≡ uses_of (cond b a x) in
-    let first : uses_of (with_instead rd x) ≡ uses_of (with_instead a x) =
-    ⊎_elim (λ (t : eqb x.id rd.id ≡ true). subst P (sym t) e) (λ (t : eqb x.id rd.id ≡ false). subst P (sym t) refl) (cases_Bool (eqb x.id rd.id))
-    ∙ ap (λ i. uses_of (cond (eqb x.id i) a x)) (sym same) in
-    ap (λ us. us ++ uses (replaced rs rd)) first ∙ ap (λ us. uses_of (with_instead a x) ++ us) (uses_instead rs a rd same e)
+uses_instead (x ∷ rs) a rd same e = grind (arith, common_steps, uses_instead rs a rd same e)
 
 pub released_files : {us : List Use} {pending checkpoints savepoints more_checkpoints more_savepoints rs : List Record} {r d a rd : Record} → IsCompleting us pending checkpoints savepoints more_checkpoints more_savepoints rs r d a rd →
     (dropped : Record → Bool) (gone : List ℕ) → ((s : Record) → IsIn s (replaced rs rd) → dropped s ≡ is_noted gone s) →
@@ -135,8 +119,4 @@ count_completed {us} {pending} {checkpoints} {savepoints} {more_checkpoints} {mo
 pub completed_is : (m : State) (rd : Record) (left : List Record) (files : List ℕ) (n : ℕ) → kept (superseded m rd) (Some rd.id) m.records ≡ left → released_by m (superseded m rd) (Some rd.id) ≡ files → dropped_by m (superseded m rd) ≡ n →
     completed_with m rd ≡ (cleared (record m { records = left; waiting = m.waiting ++ files }) rd, Done (reply.AckCompleted n (length files)))
 unfolding completed_with drop
-completed_is m rd left files n is_left is_files is_n =
-    let was : List ℕ = released_by m (superseded m rd) (Some rd.id) in
-    ap (λ rs. (cleared (record m { records = rs; waiting = m.waiting ++ was }) rd, Done (reply.AckCompleted (dropped_by m (superseded m rd)) (length was)))) is_left
-    ∙ ap (λ fs. (cleared (record m { records = left; waiting = m.waiting ++ fs }) rd, Done (reply.AckCompleted (dropped_by m (superseded m rd)) (length fs)))) is_files
-    ∙ ap (λ k. (cleared (record m { records = left; waiting = m.waiting ++ files }) rd, Done (reply.AckCompleted k (length files)))) is_n
+completed_is m rd left files n is_left is_files is_n = grind (arith, common_steps)

@@ -1,15 +1,8 @@
 -- What the completion of a checkpoint makes of the parts, step by step.
-use Rattle.std.proofs.Common.{◌≡◌, ℕ, ◌+◌, ◌≤◌, Bool, List, [], ◌∷◌, ◌++◌, length, sym, ap, ◌∙◌, arith, Some, None}
-use Rattle.std.specs.List.{filter}
-use Rattle.std.proofs.lemmas.List.{length-append, length-map}
-use Rattle.std.proofs.lemmas.List.Sums.{length-filter, count_by-le-length}
-use Rattle.ckpt_ids.specs.Records.{Record}
-use Rattle.ckpt_rules.specs.FailureCount.{FailureCount}
-use Rattle.ckpt_rules.specs.Moments.{Moments}
-use Rattle.ckpt_store.specs.Storing.{Stored, past_retained}
-use Rattle.ckpt_core.specs.declared.parts.Parts.{Parts}
-use Rattle.ckpt_core.specs.Inside.Completing.{number_in, surplus, superseded, earlier, is_before}
-use Rattle.ckpt_core.specs.Inside.Moving.{with_checkpoint, handed_after, paused, left_pending, checkpoint_completed}
+use Rattle.ckpt_core.proofs.Names.{◌≡◌, ℕ, ◌+◌, ◌≤◌, Bool, List, [], ◌∷◌, ◌++◌, length, sym, ap, ◌∙◌, arith, Some, None, filter, length-append, length-map, length-filter, count_by-le-length, Record}
+use Rattle.ckpt_core.proofs.Names.{FailureCount, Moments, Stored, past_retained, Parts, number_in, surplus, earlier, is_before, with_checkpoint, handed_after, paused, left_pending}
+use Rattle.ckpt_core.proofs.Names.{checkpoint_completed, common_steps}
+use Rattle.ckpt_core.specs.Inside.Completing.{superseded}
 
 pub checkpoint_parts : (p k h : Parts) (done : Record) (gone : List ℕ) (pending : List Record) (failures : FailureCount) (clock : Moments) →
     k ≡ with_checkpoint p done k → k.ended.items ≡ gone → pending ≡ left_pending k.ended.items p.pending →
@@ -35,9 +28,7 @@ few_surplus : (store : Stored) (done : Record) → length (surplus store done) �
 few_surplus store done = elim (past_retained store.retained (store.checkpoints ++ done ∷ [])) as (λ o. length (number_in o) ≤ 1) [ None ↦ omega arith | Some id ↦ omega arith ]
 
 pub few_earlier : (id : ℕ) (pending : List Record) → length (earlier id pending) ≤ length pending
-few_earlier id pending =
-    let before : Record → Bool = λ r. is_before id r in
-    omega (arith, length-map (filter before pending) (λ r. r.id), length-filter before pending, count_by-le-length before pending)
+few_earlier id pending = grind (arith, common_steps, count_by-le-length, length-filter, length-map)
 
 pub few_superseded : (pending : List Record) (store : Stored) (done : Record) → length (superseded pending store done) ≤ length pending + 1
 few_superseded pending store done = omega (arith, few_surplus store done, few_earlier done.id pending, length-append (earlier done.id pending) (surplus store done))

@@ -1,27 +1,14 @@
 -- A pending record that was given its last acknowledgement completes.
-use Rattle.std.proofs.Common.{◌≡◌, ℕ, Bool, true, false, cond, List, [], ◌∷◌, ◌++◌, map, refl, sym, ap, subst, ◌∙◌, inl, inr, ⊎_elim}
-use Rattle.std.proofs.lemmas.Bool.{cases_Bool}
-use Rattle.ckpt_ids.specs.declared.subtask.SubtaskId.{SubtaskId}
-use Rattle.ckpt_ids.specs.Ascending.{ascending}
-use Rattle.ckpt_ids.specs.Ordered.{IsIn, IsInOrder, put}
-use Rattle.ckpt_ids.specs.Records.{Record, uses}
-use Rattle.ckpt_ids.proofs.OrderedLemmas.{IsIn-append_cases, IsIn-append_left, IsIn-append_right, IsIn-map, IsIn-put, IsIn-put_itself, IsIn-put_cases}
-use Rattle.ckpt_store.specs.Storing.{by_id}
-use Rattle.ckpt_core.specs.declared.parts.Parts.{Parts}
-use Rattle.ckpt_core.specs.Inside.Grouped.{with_pins, grouped}
-use Rattle.ckpt_core.specs.Inside.Parts.{records_in, state_of}
-use Rattle.ckpt_model.specs.Soundness.{id_before}
+use Rattle.ckpt_core.proofs.Names.{◌≡◌, ℕ, Bool, true, false, cond, List, [], ◌∷◌, ◌++◌, map, refl, sym, ap, subst, ◌∙◌, inl, inr, ⊎_elim, cases_Bool, SubtaskId, ascending, IsIn, IsInOrder, put}
+use Rattle.ckpt_core.proofs.Names.{Record, uses, IsIn-append_cases, IsIn-append_left, IsIn-append_right, IsIn-map, IsIn-put, IsIn-put_itself, IsIn-put_cases, by_id, Parts, with_pins, grouped}
+use Rattle.ckpt_core.proofs.Names.{records_in, state_of, id_before, IsIn-from_find, with_ack, taken_in, completed, common_steps, arith}
 use Rattle.ckpt_core.proofs.Acknowledging.Moves.{replaced_members}
 use Rattle.ckpt_core.proofs.Acknowledging.States.{IsTaking, acked_replaced, replaced_in_order, taken_records, taken_uses}
 use Rattle.ckpt_core.proofs.Acknowledging.Takes.{found_acked}
 use Rattle.ckpt_core.proofs.Completing.Moves.{IsCompleting, IsEnding}
-use Rattle.ckpt_model.proofs.Records.Counts.{IsIn-from_find}
 use Rattle.ckpt_core.proofs.Ending.Drops.{groups_of}
 use Rattle.ckpt_core.proofs.Records.Grouped.{AreApart, IsNew, apart-append, apart-from_in_order, apart_between, apart_left, apart_right}
 use Rattle.ckpt_core.proofs.Records.Lookups.{AreGroups, has_number}
-use Rattle.ckpt_model.proofs.Soundness.Acks.{with_ack}
-use Rattle.ckpt_core.specs.Inside.Moving.{taken_in}
-use Rattle.ckpt_model.proofs.Soundness.Completions.{completed}
 
 pub taken_there : {p : Parts} {now id : ℕ} {s : SubtaskId} {fresh reused : List ℕ} {r : Record} → IsTaking p now id s fresh reused r → IsIn (with_ack r s fresh reused) (taken_in p now id s fresh reused).pending
 taken_there {p} {now} {id} {s} {fresh} {reused} {r} t =
@@ -30,11 +17,7 @@ taken_there {p} {now} {id} {s} {fresh} {reused} {r} t =
 pub taken_apart : {p : Parts} {now id : ℕ} {s : SubtaskId} {fresh reused : List ℕ} {r : Record} → IsTaking p now id s fresh reused r →
     AreApart (grouped (taken_in p now id s fresh reused).registry (taken_in p now id s fresh reused).pending p.store.checkpoints p.store.savepoints)
 unfolding state_of
-taken_apart {p} {now} {id} {s} {fresh} {reused} {r} t =
-    let after : Parts = taken_in p now id s fresh reused in
-    let P : List Record → Type 0 = λ rs. IsInOrder id_before rs in
-    apart-from_in_order (grouped after.registry after.pending p.store.checkpoints p.store.savepoints)
-    (subst P (sym (taken_records t)) (replaced_in_order (records_in p) (with_ack (with_pins p.registry r) s fresh reused) t.sound.sound.records.in_order))
+taken_apart {p} {now} {id} {s} {fresh} {reused} {r} t = grind (arith, common_steps, apart-from_in_order, replaced_in_order, taken_records, with_ack)
 
 pub taken_groups : {p : Parts} {now id : ℕ} {s : SubtaskId} {fresh reused : List ℕ} {r : Record} → IsTaking p now id s fresh reused r → AreGroups (taken_in p now id s fresh reused).pending p.store.checkpoints p.store.savepoints
 taken_groups {p} {now} {id} {s} {fresh} {reused} {r} t =

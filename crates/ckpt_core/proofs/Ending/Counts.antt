@@ -1,18 +1,10 @@
 -- How many records a cancelled job drops: few enough for 32 bits.
-use Rattle.std.proofs.Common.{◌≡◌, ℕ, ◌+◌, ◌≤◌, Bool, true, false, not, ◌&&◌, ◌||◌, cond, ltb, List, length, refl, sym, ap, ◌∙◌, ⊎_elim, arith}
-use Rattle.std.specs.Prelude.{count_by}
-use Rattle.std.proofs.lemmas.Bool.{cases_Bool, and_right, and_from, or_right, not_from_true, not_from_false}
-use Rattle.ckpt_ids.specs.Records.{Record}
-use Rattle.ckpt_store.specs.Storing.{IsStored}
-use Rattle.ckpt_core.specs.declared.parts.Parts.{Parts}
-use Rattle.ckpt_core.specs.Inside.Parts.{AreSound, records_in, state_of}
-use Rattle.ckpt_model.specs.State.{is_pending, is_checkpoint, is_done_checkpoint}
-use Rattle.ckpt_model.specs.Steps.{cancelled, dropped_by}
+use Rattle.ckpt_core.proofs.Names.{◌≡◌, ℕ, ◌+◌, ◌≤◌, Bool, true, false, not, ◌&&◌, ◌||◌, cond, ltb, List, length, refl, sym, ap, ◌∙◌, ⊎_elim, arith, count_by, cases_Bool, and_right, and_from}
+use Rattle.ckpt_core.proofs.Names.{or_right, not_from_true, not_from_false, Record, IsStored, Parts, AreSound, records_in, state_of, is_pending, is_checkpoint, is_done_checkpoint, cancelled}
+use Rattle.ckpt_core.proofs.Names.{dropped_by, is_checkpoint-kind, is_savepoint-kind, count_by-none, count_by-same, count_by-all}
 use Rattle.ckpt_core.proofs.Records.GroupLookups.{pending_checkpoints-groups, savepoints-groups}
-use Rattle.ckpt_model.proofs.Records.Lists.{is_checkpoint-kind, is_savepoint-kind}
 use Rattle.ckpt_core.proofs.Records.Lookups.{AreGroups, count_by-records_of}
 use Rattle.ckpt_core.proofs.Records.Pending.{count_by-others}
-use Rattle.ckpt_ids.proofs.CountLemmas.{count_by-none, count_by-same, count_by-all}
 
 limit_to : (pause at_once : ℕ) → at_once ≤ 64 → cond (ltb 0 pause) 1 at_once ≤ 64
 limit_to pause at_once h = ⊎_elim (λ (e : ltb 0 pause ≡ true). rw e (omega arith)) (λ (e : ltb 0 pause ≡ false). rw e h) (cases_Bool (ltb 0 pause))

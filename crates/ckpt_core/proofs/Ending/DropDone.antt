@@ -1,25 +1,10 @@
 -- Drops of done records: of all checkpoints beside the pending records, and of one savepoint.
-use Rattle.std.proofs.Common.{◌≡◌, ℕ, ◌-◌, ◌≤◌, true, false, not, ◌||◌, eqb, List, [], ◌∷◌, ◌++◌, map, length, refl, sym, ap, ◌∙◌, ⊎_elim, arith, Option, Some, None, rules}
-use Rattle.std.specs.Prelude.{find, IsSome}
-use Rattle.std.specs.List.{filter}
-use Rattle.std.specs.Vec.{vec_capacity}
-use Rattle.std.specs.declared.vec.Vec.{Vec}
-use Rattle.std.specs.declared.alloc.Global.{Global}
-use Rattle.std.proofs.lemmas.Bool.{cases_Bool, eqb-true, ne_eqb, or_left, or_right, and_from, and_right, not_from_true, not_from_false, false_from_ne_true}
-use Rattle.std.proofs.lemmas.List.{map-append}
-use Rattle.ckpt_ids.specs.Ordered.{IsIn}
-use Rattle.ckpt_ids.specs.Records.{Record, released}
-use Rattle.ckpt_ids.proofs.OrderedLemmas.{IsIn-append_left, IsIn-append_right, IsIn-append_cases, IsIn-map, IsIn-from_map, IsIn-from_in_order, IsIn-from_list_any, filter-all, filter-same, filter-none}
-use Rattle.ckpt_registry.specs.Uses.{without}
-use Rattle.ckpt_store.specs.Storing.{has_savepoint, has_id}
-use Rattle.ckpt_core.specs.declared.parts.Parts.{Parts}
-use Rattle.ckpt_core.specs.Inside.Grouped.{with_pins, grouped}
-use Rattle.ckpt_core.specs.Inside.Parts.{AreTied, Drops, is_noted, records_in, state_of}
-use Rattle.ckpt_model.specs.Soundness.{IsSound, id_before}
-use Rattle.ckpt_model.specs.State.{is_pending, is_checkpoint, is_done_checkpoint}
-use Rattle.ckpt_model.proofs.Records.Counts.{IsIn-from_find}
+use Rattle.ckpt_core.proofs.Names.{◌≡◌, ℕ, ◌-◌, ◌≤◌, true, false, not, ◌||◌, eqb, List, [], ◌∷◌, ◌++◌, map, length, refl, sym, ap, ◌∙◌, ⊎_elim, arith, Option, Some, None, rules, find, IsSome, filter}
+use Rattle.ckpt_core.proofs.Names.{vec_capacity, Vec, Global, cases_Bool, eqb-true, ne_eqb, or_left, or_right, and_from, and_right, not_from_true, not_from_false, false_from_ne_true, map-append, IsIn}
+use Rattle.ckpt_core.proofs.Names.{Record, released, IsIn-append_left, IsIn-append_right, IsIn-append_cases, IsIn-map, IsIn-from_map, IsIn-from_in_order, IsIn-from_list_any, filter-all, filter-same}
+use Rattle.ckpt_core.proofs.Names.{filter-none, without, has_savepoint, has_id, Parts, with_pins, grouped, AreTied, Drops, is_noted, records_in, state_of, IsSound, id_before, is_pending}
+use Rattle.ckpt_core.proofs.Names.{is_checkpoint, is_done_checkpoint, IsIn-from_find, is_checkpoint-kind, is_savepoint-kind}
 use Rattle.ckpt_core.proofs.Records.Grouped.{AreApart, apart_between, apart_right}
-use Rattle.ckpt_model.proofs.Records.Lists.{is_checkpoint-kind, is_savepoint-kind}
 use Rattle.ckpt_core.proofs.Records.Lookups.{AreGroups}
 use Rattle.ckpt_core.proofs.Ending.Drops.{left, staying, stays, numbers, apart_in, noted-from_IsIn, IsIn-from_noted, drops_from, drops_same, staying_done}
 

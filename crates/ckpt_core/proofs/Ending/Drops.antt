@@ -1,32 +1,14 @@
 -- What a drop by number does to the parts, and to the state that they stand for.
-use Rattle.std.proofs.Common.{◌≡◌, ℕ, ◌+◌, ◌-◌, ◌≤◌, Bool, true, false, not, ltb, eqb, List, [], ◌++◌, map, length, refl, sym, ap, subst, ◌∙◌, ⊎_elim, arith, None}
-use Rattle.std.specs.List.{filter, list_any}
-use Rattle.std.specs.Vec.{vec_capacity}
-use Rattle.std.specs.declared.vec.Vec.{Vec}
-use Rattle.std.specs.declared.alloc.Global.{Global}
-use Rattle.std.proofs.lemmas.Bool.{cases_Bool, both_ways, eqb-true, eq-eqb, lt-ltb, ltb-true, not_from_true, not_from_false, false_from_ne_true}
-use Rattle.std.proofs.lemmas.List.Filters.{length-filter_both}
-use Rattle.ckpt_ids.specs.Ascending.{ascending_set}
-use Rattle.ckpt_ids.specs.Ordered.{IsIn}
-use Rattle.ckpt_ids.specs.Records.{Record, Use, uses, count, is_present, released}
-use Rattle.ckpt_ids.proofs.AscendingLemmas.{numbers_in_order}
-use Rattle.ckpt_ids.proofs.OrderedLemmas.{IsIn-append_left, IsIn-append_right, IsIn-append_cases, IsIn-map, IsIn-from_map, IsIn-filter, IsIn-from_filter, IsInOrder-filter, IsInOrder-in_order_once, IsIn-in_order_once, IsIn-from_in_order_once, IsIn-from_in_order, same_from_members, list_any-from_IsIn, IsIn-from_list_any, filter-all, filter-same}
-use Rattle.ckpt_outbox.specs.Queues.{is_known}
-use Rattle.ckpt_pending.specs.Acknowledging.{IsPending}
-use Rattle.ckpt_registry.specs.Uses.{without}
-use Rattle.ckpt_store.specs.Storing.{IsStored}
-use Rattle.ckpt_core.specs.declared.parts.Parts.{Parts}
-use Rattle.ckpt_core.specs.Inside.Grouped.{with_pins, grouped}
-use Rattle.ckpt_core.specs.Inside.Parts.{AreTied, AreSound, Drops, is_noted, records_in, state_of}
-use Rattle.ckpt_model.specs.Reads.{present_in}
-use Rattle.ckpt_model.specs.Soundness.{IsSound, id_before}
-use Rattle.ckpt_model.specs.State.{State, drop, kept, released_by, unpinned, is_pending}
-use Rattle.ckpt_model.proofs.Records.Counts.{map_itself}
+use Rattle.ckpt_core.proofs.Names.{◌≡◌, ℕ, ◌+◌, ◌-◌, ◌≤◌, Bool, true, false, not, ltb, eqb, List, [], ◌++◌, map, length, refl, sym, ap, subst, ◌∙◌, ⊎_elim, arith, None, filter, list_any, vec_capacity}
+use Rattle.ckpt_core.proofs.Names.{Vec, Global, cases_Bool, both_ways, eqb-true, eq-eqb, lt-ltb, ltb-true, not_from_true, not_from_false, false_from_ne_true, length-filter_both, ascending_set, IsIn}
+use Rattle.ckpt_core.proofs.Names.{Record, Use, uses, count, is_present, released, numbers_in_order, IsIn-append_left, IsIn-append_right, IsIn-append_cases, IsIn-map, IsIn-from_map, IsIn-filter}
+use Rattle.ckpt_core.proofs.Names.{IsIn-from_filter, IsInOrder-filter, IsInOrder-in_order_once, IsIn-in_order_once, IsIn-from_in_order_once, IsIn-from_in_order, same_from_members, list_any-from_IsIn}
+use Rattle.ckpt_core.proofs.Names.{IsIn-from_list_any, filter-all, filter-same, is_known, IsPending, without, IsStored, Parts, with_pins, grouped, AreTied, AreSound, Drops, is_noted, records_in}
+use Rattle.ckpt_core.proofs.Names.{state_of, present_in, IsSound, id_before, State, drop, kept, released_by, unpinned, is_pending, map_itself, counted-from_IsIn, IsIn-from_counted, common_steps}
 use Rattle.ckpt_core.proofs.Records.Grouped.{AreApart, apart-from_in_order, apart_between}
 use Rattle.ckpt_core.proofs.Records.GroupMoves.{drop_groups}
 use Rattle.ckpt_core.proofs.Records.Lookups.{AreGroups, length-records_of, done_in}
 use Rattle.ckpt_core.proofs.Using.Order.{uses-filter}
-use Rattle.ckpt_ids.proofs.CountLemmas.{counted-from_IsIn, IsIn-from_counted}
 
 -- what is present after and what is released were both present before
 
@@ -131,13 +113,10 @@ left_drops p ids spare ended tied apart none room =
 
 pub drop_same : (m : State) (a b : Record → Bool) → ((r : Record) → IsIn r m.records → a r ≡ b r) → drop m a None ≡ drop m b None
 unfolding drop
-drop_same m a b agree =
-    let same : kept a None m.records ≡ kept b None m.records = ap (map (unpinned None)) (filter-same (λ r. not (a r)) (λ r. not (b r)) m.records (λ r h. ap not (agree r h))) in
-    ap (λ rs. record m { records = rs; waiting = m.waiting ++ released (uses m.records) (uses rs) }) same
+drop_same m a b agree = grind (arith, common_steps, filter-same)
 
 released_same : (m : State) (a b : Record → Bool) → ((r : Record) → IsIn r m.records → a r ≡ b r) → released_by m a None ≡ released_by m b None
-released_same m a b agree =
-    ap (λ rs. released (uses m.records) (uses rs)) (ap (map (unpinned None)) (filter-same (λ r. not (a r)) (λ r. not (b r)) m.records (λ r h. ap not (agree r h))))
+released_same m a b agree = grind (arith, common_steps, filter-same)
 
 pub drops_same : (old new : Parts) (a b : Record → Bool) (n : ℕ) → ((r : Record) → IsIn r (records_in old) → a r ≡ b r) → Drops old new a n → Drops old new b n
 unfolding state_of
@@ -152,12 +131,7 @@ drops_same old new a b n agree d =
 -- nothing that is in use is in the outbox
 pub none_known : (p : Parts) → AreTied p → IsSound (state_of p) → (f : ℕ) → is_present p.registry f ≡ true → is_known p.outbox f ≡ false
 unfolding state_of
-none_known p tied sound f h =
-    let used : is_present (uses (records_in p)) f ≡ true = ap (λ us. is_present us f) (sym tied.uses_are) ∙ h in
-    ⊎_elim
-    (λ (e : is_known p.outbox f ≡ true). absurd (both_ways (is_present (uses (records_in p)) f) (sound.unused f e) used))
-    (λ (e : is_known p.outbox f ≡ false). e)
-    (cases_Bool (is_known p.outbox f))
+none_known p tied sound f h = grind (arith, common_steps)
 
 -- the parts after: by name
 pub drops_from : (p q : Parts) (ids : List ℕ) (spare n : ℕ) → AreTied p → AreApart (grouped p.registry p.pending p.store.checkpoints p.store.savepoints) → q ≡ left p ids spare q.ended → q.ended.items ≡ [] → vec_capacity q.ended ≡ vec_capacity p.ended →
@@ -193,10 +167,7 @@ pub noted-from_IsIn : (r s : Record) (rs : List Record) → IsIn s rs → r.id �
 noted-from_IsIn r s rs h e = list_any-from_IsIn (λ i. eqb r.id i) s.id (numbers rs) (IsIn-map (λ (q : Record). q.id) s rs h) (eq-eqb r.id s.id e)
 
 pub IsIn-from_noted : (r : Record) (rs : List Record) → is_noted (numbers rs) r ≡ true → (s : Record) × IsIn s rs × (r.id ≡ s.id)
-IsIn-from_noted r rs h =
-    let q = IsIn-from_list_any (λ i. eqb r.id i) (numbers rs) h in
-    let s = IsIn-from_map (λ (w : Record). w.id) q.0 rs q.1 in
-    (s.0, s.1, eqb-true r.id q.0 q.2 ∙ s.2)
+IsIn-from_noted r rs h = grind (arith, common_steps, IsIn-from_list_any, IsIn-from_map, eqb-true)
 
 -- no done record has the number of a pending one
 pub done_not_noted : (p : Parts) → IsSound (state_of p) → (r : Record) → IsIn r (p.store.checkpoints ++ p.store.savepoints) → is_noted (numbers p.pending) r ≡ false
@@ -219,17 +190,10 @@ noted_are_pending p sound groups r h =
 
 -- numbers that are noted in the room for them do not change the state
 pub noted_tied : (p : Parts) (ended : Vec ℕ Global) → AreTied p → vec_capacity ended ≡ vec_capacity p.ended → AreTied (record p { ended = ended })
-noted_tied p ended tied capacity = record {
-  uses_are = tied.uses_are;
-  retained = tied.retained;
-  tolerable = tied.tolerable;
-  spare = tied.spare;
-  room = omega (arith, tied.room, capacity);
-}
+noted_tied p ended tied capacity = grind (arith, common_steps)
 
 pub room_to_note : (p : Parts) (n : ℕ) → AreSound p → n ≤ length p.pending + (length p.store.checkpoints + length p.store.savepoints) → length p.ended.items + n ≤ vec_capacity p.ended
-room_to_note p n sound few =
-    omega (arith, ap length sound.none_ended, sound.tied.room, length-records_of p.registry p.pending p.store.checkpoints p.store.savepoints, few)
+room_to_note p n sound few = grind (arith, common_steps, length-records_of)
 
 -- if the numbers of all pending records were noted
 pub pending_dropped : (p q : Parts) (ended : Vec ℕ Global) (n : ℕ) → IsSound (state_of p) → AreGroups p.pending p.store.checkpoints p.store.savepoints → ended.items ≡ numbers p.pending →

@@ -1,23 +1,11 @@
 -- Released files can be put into the outbox. It has reserved room for all files in use. No file is there twice, and the outbox knows none.
-use Rattle.std.proofs.Common.{◌≡◌, ℕ, ◌≤◌, Bool, true, false, not, eqb, List, [], map, length, ltb, refl, sym, ap, subst, ◌∙◌, arith}
-use Rattle.std.proofs.lemmas.Bool.{lt-ltb, eq-eqb}
-use Rattle.std.proofs.lemmas.List.Sums.{length-filter, count_by-le-length}
-use Rattle.ckpt_ids.specs.Ordered.{IsIn, AreDistinct}
-use Rattle.ckpt_ids.specs.Ascending.{ascending_set}
-use Rattle.ckpt_ids.specs.Records.{Use, count, is_present, released}
-use Rattle.ckpt_outbox.specs.Queues.{Queues, is_in, is_known}
-use Rattle.ckpt_model.specs.Reads.{present_in}
-use Rattle.ckpt_model.proofs.Records.Released.{ascending-released, before-from_released}
-use Rattle.ckpt_ids.proofs.CountLemmas.{counted-from_IsIn}
-use Rattle.ckpt_ids.proofs.OrderedLemmas.{AreDistinct-from_order, IsIn-from_in_order_once, IsIn-from_map, filter-none, IsIn-from_test}
-use Rattle.ckpt_ids.proofs.AscendingLemmas.{numbers_in_order}
+use Rattle.ckpt_core.proofs.Names.{◌≡◌, ℕ, ◌≤◌, Bool, true, false, not, eqb, List, [], map, length, ltb, refl, sym, ap, subst, ◌∙◌, arith, lt-ltb, eq-eqb, length-filter, count_by-le-length, IsIn}
+use Rattle.ckpt_core.proofs.Names.{AreDistinct, ascending_set, Use, count, is_present, released, Queues, is_in, is_known, present_in, ascending-released, before-from_released, counted-from_IsIn}
+use Rattle.ckpt_core.proofs.Names.{AreDistinct-from_order, IsIn-from_in_order_once, IsIn-from_map, filter-none, IsIn-from_test, numbers_in_order, common_steps}
 
 -- there are at most as many released files as files that were present
 pub released_room : (before after : List Use) (room : ℕ) → present_in before ≤ room → length (released before after) ≤ room
-released_room before after room h =
-    let fs = ascending_set (map (λ (u : Use). u.file) before) in
-    let gone : ℕ → Bool = λ f. not (is_present after f) in
-    omega (arith, length-filter gone fs, count_by-le-length gone fs)
+released_room before after room h = grind (arith, common_steps, count_by-le-length, length-filter)
 
 -- each is there once
 pub released_once : (before after : List Use) → AreDistinct (released before after)
@@ -43,14 +31,7 @@ pub record CanBePut (files : List ℕ) (q : Queues) : Type 0 where
   pub unknown : (f : ℕ) → is_in f files ≡ true → is_known q f ≡ false
 
 pub can_be_put : (before after : List Use) (q : Queues) (files : List ℕ) → files ≡ released before after → present_in before ≤ q.spare → ((f : ℕ) → is_present before f ≡ true → is_known q f ≡ false) → CanBePut files q
-can_be_put before after q files is room unknown =
-    let P : List ℕ → Type 0 = λ fs. CanBePut fs q in
-    let released_can : P (released before after) = record {
-      room = released_room before after q.spare room;
-      distinct = released_once before after;
-      unknown = released_unknown before after q unknown;
-    } in
-    subst P (sym is) released_can
+can_be_put before after q files is room unknown = grind (arith, common_steps, released_once, released_room, released_unknown)
 
 -- if all uses stay, no file is released
 pub nothing_released : (us : List Use) → released us us ≡ []

@@ -1,45 +1,19 @@
 -- What the parts become when records end by a call, and the step of the state that this is.
-use Rattle.std.proofs.Common.{◌≡◌, ℕ, ◌+◌, ◌<◌, ◌≤◌, max, Bool, true, false, not, ltb, eqb, List, [], ◌++◌, map, length, refl, sym, ap, subst, ◌∙◌, ⊎_elim, arith, Some, None}
-use Rattle.std.specs.Prelude.{find, IsTrue, ◌↔◌}
-use denote.Enum.Bare.{sameb}
-use Rattle.std.specs.Option.{option_map}
-use Rattle.std.proofs.lemmas.Bool.{cases_Bool, both_ways, cond-true, cond-false, false_from_ne_true, lt-ltb, ltb-true}
-use Rattle.ckpt_ids.specs.declared.subtask.SubtaskId.{SubtaskId}
-use Rattle.ckpt_ids.specs.contracts.numbers.Kind.{the_type}
-use Rattle.ckpt_ids.specs.declared.numbers.Kind.{Kind}
+use Rattle.ckpt_core.proofs.Names.{◌≡◌, ℕ, ◌+◌, ◌<◌, ◌≤◌, max, Bool, true, false, not, ltb, eqb, List, [], ◌++◌, map, length, refl, sym, ap, subst, ◌∙◌, ⊎_elim, arith, Some, None, find, IsTrue, ◌↔◌}
+use Rattle.ckpt_core.proofs.Names.{sameb, option_map, cases_Bool, both_ways, cond-true, cond-false, false_from_ne_true, lt-ltb, ltb-true, SubtaskId, the_type, Kind, Call, Target, Choice, Reply, Done}
+use Rattle.ckpt_core.proofs.Names.{IsIn, IsInOrder, Record, IsIn-append_left, IsIn-map, IsIn-in_order, FailureCount, Moments, gap, IsStored, Stored, Mode, Running, Failed, Cancelled, Parts, with_pins}
+use Rattle.ckpt_core.proofs.Names.{grouped, Answers, AreTied, AreSound, Drops, IsAccepted, records_in, state_of, refusal, pending_of, is_done_savepoint, IsSound, id_before, State, choice_of}
+use Rattle.ckpt_core.proofs.Names.{choice_from, last_checkpoint, drop, kept, released_by, unpinned, is_pending, Stepped, effect, failures_with, fails_the_job, decline, decline_pending, dispose}
+use Rattle.ckpt_core.proofs.Names.{dropping, failed_over, restarted, restore, rolled_back, with_base, cancel, cancelled, dropped_by, IsIn-from_find, in_order-changed, step_accepted, common_steps}
 use Rattle.ckpt_ids.specs.declared.numbers.Kind.TheVariants as kind
-use Rattle.ckpt_ids.specs.declared.call.Call.{Call}
 use Rattle.ckpt_ids.specs.declared.call.Call.TheVariants as call
-use Rattle.ckpt_ids.specs.declared.call.Target.{Target}
 use Rattle.ckpt_ids.specs.declared.call.Target.TheVariants as target
-use Rattle.ckpt_ids.specs.declared.reply.Choice.{Choice}
-use Rattle.ckpt_ids.specs.declared.reply.Reply.{Reply}
 use Rattle.ckpt_ids.specs.declared.reply.Reply.TheVariants as reply
-use Rattle.ckpt_ids.specs.declared.reply.Answer.TheVariants.{Done}
-use Rattle.ckpt_ids.specs.Ordered.{IsIn, IsInOrder}
-use Rattle.ckpt_ids.specs.Records.{Record}
-use Rattle.ckpt_ids.proofs.OrderedLemmas.{IsIn-append_left, IsIn-map, IsIn-in_order}
-use Rattle.ckpt_rules.specs.FailureCount.{FailureCount}
-use Rattle.ckpt_rules.specs.Moments.{Moments}
-use Rattle.ckpt_rules.specs.Trigger.{gap}
 use Rattle.ckpt_store.specs.Storing as storing
-use Rattle.ckpt_store.specs.Storing.{IsStored, Stored}
-use Rattle.ckpt_model.specs.declared.mode.Mode.{Mode}
-use Rattle.ckpt_model.specs.declared.mode.Mode.TheVariants.{Running, Failed, Cancelled}
-use Rattle.ckpt_core.specs.declared.parts.Parts.{Parts}
-use Rattle.ckpt_core.specs.Inside.Grouped.{with_pins, grouped}
-use Rattle.ckpt_core.specs.Inside.Parts.{Answers, AreTied, AreSound, Drops, IsAccepted, records_in, state_of}
-use Rattle.ckpt_model.specs.Refusals.{refusal, pending_of, is_done_savepoint}
-use Rattle.ckpt_model.specs.Soundness.{IsSound, id_before}
-use Rattle.ckpt_model.specs.State.{State, choice_of, choice_from, last_checkpoint, drop, kept, released_by, unpinned, is_pending}
-use Rattle.ckpt_model.specs.Steps.{Stepped, effect, failures_with, fails_the_job, decline, decline_pending, dispose, dropping, failed_over, restarted, restore, rolled_back, with_base, cancel, cancelled, dropped_by}
-use Rattle.ckpt_model.proofs.Records.Counts.{IsIn-from_find}
 use Rattle.ckpt_core.proofs.Ending.Drops.{apart_in}
 use Rattle.ckpt_core.proofs.Records.Grouped.{apart-from_in_order}
 use Rattle.ckpt_core.proofs.Records.GroupLookups.{last_id-greatest, last_checkpoint-groups}
 use Rattle.ckpt_core.proofs.Records.Lookups.{AreGroups, has_number, pending_of-groups}
-use Rattle.ckpt_model.proofs.Records.Lists.{in_order-changed}
-use Rattle.ckpt_model.proofs.Answering.StepCases.{step_accepted}
 
 -- a state and a number, by what they are equal to
 pub answered : (say : ℕ → Reply) (s t : State) (k n : ℕ) → t ≡ s → n ≡ k → (let x : Stepped = (s, Done (say k)) in x) ≡ (t, Done (say n))
@@ -49,12 +23,7 @@ answered say s t k n e f = ap (λ x. (let y : Stepped = (x, Done (say k)) in y))
 
 pub disposed_answers : (p q : Parts) (id n : ℕ) → IsAccepted p (call.Dispose id) → Drops p q (λ r. eqb r.id id) n → Answers p q (call.Dispose id) (reply.Disposed n)
 unfolding effect dispose dropping
-disposed_answers p q id n accepted d = record {
-  step_is = step_accepted (state_of p) (call.Dispose id) accepted
-      ∙ answered reply.Disposed (drop (state_of p) (λ r. eqb r.id id) None) (state_of q) (length (released_by (state_of p) (λ r. eqb r.id id) None)) n d.state_is d.count_is;
-  tied = d.tied;
-  none_ended = d.none_ended;
-}
+disposed_answers p q id n accepted d = grind (arith, common_steps, answered, step_accepted)
 
 -- a subtask declines
 
@@ -78,8 +47,7 @@ aborted m r stays = cond-false (fails_the_job m r) _ _ stays
 
 -- the record of a number that is pending
 pub pending_there : (p : Parts) (id : ℕ) (r : Record) → IsSound (state_of p) → AreGroups p.pending p.store.checkpoints p.store.savepoints → find (has_number id) p.pending ≡ Some r → pending_of (records_in p) id ≡ Some (with_pins p.registry r)
-pending_there p id r sound groups e =
-    pending_of-groups id p.registry p.pending p.store.checkpoints p.store.savepoints (apart_in p sound) groups ∙ ap (option_map (with_pins p.registry)) e
+pending_there p id r sound groups e = grind (arith, common_steps, apart_in, pending_of-groups)
 
 failed_not_running : Failed ≡ Running → ⊥
 failed_not_running e = cc
@@ -105,13 +73,7 @@ abbrev pub declined : Parts → ℕ → FailureCount → Parts
 declined q now failures = record q { clock = record q.clock { latest = max now q.clock.latest }; failures = failures }
 
 declined_tied : (p q : Parts) (now : ℕ) (failures : FailureCount) → AreTied p → AreTied q → q.opened.config.tolerable ≡ p.opened.config.tolerable → failures.tolerable ≡ p.failures.tolerable → AreTied (declined q now failures)
-declined_tied p q now failures before tied same e = record {
-  uses_are = tied.uses_are;
-  retained = tied.retained;
-  tolerable = e ∙ before.tolerable ∙ sym same;
-  spare = tied.spare;
-  room = tied.room;
-}
+declined_tied p q now failures before tied same e = grind (arith, common_steps)
 
 pub failed_answers : (p q : Parts) (now id : ℕ) (subtask : SubtaskId) (r : Record) (failures : FailureCount) (n : ℕ) → AreTied p → IsAccepted p (call.Decline now id subtask) →
     pending_of (records_in p) id ≡ Some r → failures ≡ record p.failures { number = failures_with (state_of p) r } → fails_the_job (state_of p) r ≡ true →
@@ -152,12 +114,7 @@ aborted_answers p q now id subtask r failures n before accepted there its count 
 
 pub declined_as : (p x q : Parts) (now : ℕ) (clock : Moments) (failures f : FailureCount) (call : Call) (r s : Reply) → x ≡ q → clock ≡ record x.clock { latest = max now x.clock.latest } → failures ≡ f → r ≡ s →
     Answers p (declined q now f) call s → Answers p (record x { clock = clock; failures = failures }) call r
-declined_as p x q now clock failures f call r s is ticks counts says answers =
-    let same : record x { clock = clock; failures = failures } ≡ declined q now f =
-    ap (λ k. record x { clock = k; failures = failures }) ticks ∙ ap (declined x now) counts ∙ ap (λ y. declined y now f) is in
-    let P : Parts → Type 0 = λ y. Answers p y call s in
-    let Q : Reply → Type 0 = λ t. Answers p (record x { clock = clock; failures = failures }) call t in
-    subst Q (sym says) (subst P (sym same) answers)
+declined_as p x q now clock failures f call r s is ticks counts says answers = grind (arith, common_steps)
 
 -- tests
 
@@ -167,18 +124,13 @@ kind_test kind.Savepoint = refl
 
 -- what `Failures::add` returns
 pub are_too_many : (b : Bool) (t n : ℕ) → IsTrue b ↔ (t < n) → b ≡ ltb t n
-are_too_many b t n says =
-    ⊎_elim (λ (h : ltb t n ≡ true). says.1 (ltb-true t n h) ∙ sym h) (λ (h : ltb t n ≡ false). false_from_ne_true b (λ e. both_ways (ltb t n) h (lt-ltb t n (says.0 e))) ∙ sym h) (cases_Bool (ltb t n))
+are_too_many b t n says = grind (arith, common_steps)
 
 -- the choice
 
 pub choice_is : (p : Parts) → IsInOrder id_before (records_in p) → AreGroups p.pending p.store.checkpoints p.store.savepoints → IsStored p.store → storing.choice_of p.store ≡ choice_of (state_of p)
 unfolding state_of choice_of
-choice_is p order groups stored =
-    let last : last_checkpoint (records_in p) ≡ storing.greatest p.store.checkpoints =
-    last_checkpoint-groups p.registry p.pending p.store.checkpoints p.store.savepoints (apart-from_in_order (grouped p.registry p.pending p.store.checkpoints p.store.savepoints) order) groups stored.checkpoints_rise
-    ∙ last_id-greatest p.store.checkpoints in
-    sym (ap (λ o. choice_from o p.store.base) last)
+choice_is p order groups stored = grind (arith, common_steps, apart-from_in_order, last_checkpoint-groups, last_id-greatest)
 
 -- rolling back
 
@@ -188,10 +140,7 @@ with_base_records m (target.Savepoint id) = refl
 
 pub rolled_back_in_order : (p q : Parts) (t : Target) → IsSound (state_of p) → state_of q ≡ with_base (drop (state_of p) (rolled_back t) None) t → IsInOrder id_before (records_in q)
 unfolding state_of drop
-rolled_back_in_order p q t sound is =
-    let same : records_in q ≡ kept (rolled_back t) None (records_in p) = ap (λ s. s.records) is ∙ with_base_records (drop (state_of p) (rolled_back t) None) t in
-    let P : List Record → Type 0 = IsInOrder id_before in
-    subst P (sym same) (in_order-changed (unpinned None) (λ r. not (rolled_back t r)) (records_in p) (λ r. refl) sound.records.in_order)
+rolled_back_in_order p q t sound is = grind (arith, common_steps, in_order-changed, with_base_records)
 
 -- a state with a base that is there
 pub based_is_sound : (m : State) (id : ℕ) → IsSound m → is_done_savepoint m id ≡ true → IsSound (record m { base = Some id })
@@ -261,15 +210,7 @@ reshaped m (target.Savepoint id) shape = refl
 pub reshaped_answers : (p q : Parts) (now : ℕ) (t : Target) (shape : List ℕ) (r : Reply) → IsAccepted p (call.Restore now t (Some shape)) → Answers p q (call.Restore now t None) r →
     Answers p (record q { reshaped = Some shape }) (call.Restore now t (Some shape)) r
 unfolding state_of effect
-reshaped_answers p q now t shape r accepted a =
-    let m : State = state_of p in
-    let n : State = record m { latest = max now m.latest } in
-    let e : restore n t None ≡ (state_of q, Done r) = sym (step_accepted m (call.Restore now t None) (same_refusal m now t shape accepted)) ∙ a.step_is in
-    record {
-      step_is = step_accepted m (call.Restore now t (Some shape)) accepted ∙ reshaped n t shape ∙ ap (λ (x : Stepped). (let y : Stepped = (record x.0 { shape = shape }, x.1) in y)) e;
-      tied = record { uses_are = a.tied.uses_are; retained = a.tied.retained; tolerable = a.tied.tolerable; spare = a.tied.spare; room = a.tied.room };
-      none_ended = a.none_ended;
-    }
+reshaped_answers p q now t shape r accepted a = grind (arith, common_steps, reshaped, same_refusal, step_accepted)
 
 -- cancelling
 
@@ -320,21 +261,14 @@ based_count p id n store gone based is = is ∙ ap (λ s. length (released_by (s
 
 pub restarted_clock : (now moment : ℕ) (q : Parts) (seen clock : Moments) → moment ≡ max now q.clock.latest → seen ≡ record q.clock { latest = max now q.clock.latest } →
     clock ≡ record { latest = seen.latest; due = moment + gap q.opened.config; completed = None } → clock ≡ record { latest = max now q.clock.latest; due = max now q.clock.latest + gap q.opened.config; completed = None }
-restarted_clock now moment q seen clock at sees restarts =
-    restarts
-    ∙ ap (λ (s : Moments). (let x : Moments = record { latest = s.latest; due = moment + gap q.opened.config; completed = None } in x)) sees
-    ∙ ap (λ k. (let x : Moments = record { latest = max now q.clock.latest; due = k + gap q.opened.config; completed = None } in x)) at
+restarted_clock now moment q seen clock at sees restarts = grind (arith, common_steps)
 
 pub restored_answers : (p q : Parts) (now : ℕ) (t : Target) (clock : Moments) (failures : FailureCount) (from : Choice) (n : ℕ) → IsAccepted p (call.Restore now t None) →
     state_of q ≡ with_base (drop (state_of p) (rolled_back t) None) t → n ≡ length (released_by (state_of p) (rolled_back t) None) → AreTied q → q.ended.items ≡ [] →
     clock ≡ record { latest = max now q.clock.latest; due = max now q.clock.latest + gap q.opened.config; completed = None } → failures ≡ record q.failures { number = 0 } →
     from ≡ choice_of (state_of (record q { clock = clock; failures = failures; mode = Running })) →
     Answers p (record q { clock = clock; failures = failures; mode = Running }) (call.Restore now t None) (reply.Restored from n)
-restored_answers p q now t clock failures from n accepted is released tied none ticks counts chosen =
-    let same : record q { clock = clock; failures = failures; mode = Running } ≡ begun q now =
-    ap (λ k. record q { clock = k; failures = failures; mode = Running }) ticks ∙ ap (λ f. record (begun q now) { failures = f }) counts in
-    let P : Parts → Type 0 = λ x. Answers p x (call.Restore now t None) (reply.Restored from n) in
-    subst P (sym same) (begun_answers p q now t from n accepted is released tied none (chosen ∙ ap (λ x. choice_of (state_of x)) same))
+restored_answers p q now t clock failures from n accepted is released tied none ticks counts chosen = grind (arith, common_steps, begun_answers)
 
 pub cancelled_answers : (p q : Parts) (now k n : ℕ) (clock : Moments) (store : Stored) → IsAccepted p (call.Cancel now) → Drops p q (cancelled (state_of p)) n → k ≡ dropped_by (state_of p) (cancelled (state_of p)) →
     clock ≡ record q.clock { latest = max now q.clock.latest } → store ≡ record q.store { base = None } →

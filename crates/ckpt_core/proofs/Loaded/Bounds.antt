@@ -1,18 +1,10 @@
 -- What a list of sound records bounds: how many they are, and how often they use a file.
-use Rattle.std.proofs.Common.{ℕ, ◌*◌, ◌<◌, ◌≤◌, List, length, arith}
-use Rattle.ckpt_ids.specs.Configuration.{IsWithinLimits}
-use Rattle.ckpt_ids.specs.Records.{Record, uses, count}
-use Rattle.ckpt_rules.specs.Trigger.{limit}
-use Rattle.ckpt_model.specs.State.{Opening}
-use Rattle.ckpt_model.specs.Soundness.{AreSoundRecords}
+use Rattle.ckpt_core.proofs.Names.{ℕ, ◌*◌, ◌<◌, ◌≤◌, List, length, arith, IsWithinLimits, Record, uses, count, limit, Opening, AreSoundRecords, common_steps}
 use Rattle.ckpt_core.proofs.Triggering.TriggerParts.{three_kinds, limit_bound}
 use Rattle.ckpt_core.proofs.Using.CountBound.{count-records}
 
 pub few_records : {o : Opening} {next : ℕ} (rs : List Record) → IsWithinLimits o.config → AreSoundRecords o next rs → length rs ≤ 2064
-few_records {o} {next} rs config s =
-    let kinds = three_kinds rs in
-    let held : limit o.config ≤ 64 = limit_bound o.config config in
-    omega (arith, s.retained, s.at_once, s.savepoints_to, config.retained_to)
+few_records {o} {next} rs config s = grind (arith, common_steps, limit_bound, three_kinds)
 
 pub few_uses : {o : Opening} {next : ℕ} (rs : List Record) → IsWithinLimits o.config → AreSoundRecords o next rs → (f : ℕ) → count (uses rs) f < 4294967295
 few_uses rs config s f =

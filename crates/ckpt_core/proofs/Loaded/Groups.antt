@@ -1,26 +1,11 @@
 -- A pending record that comes with acknowledgements and pins, and is newer than all others.
-use Rattle.std.proofs.Common.{◌≡◌, ℕ, ◌+◌, ◌<◌, ◌≤◌, ◌^◌, ◌-◌, false, ◌||◌, eqb, ltb, drop, List, [], ◌∷◌, ◌++◌, length, map, refl, sym, ap, subst, ◌∙◌, inl, inr, ⊎_elim, arith}
-use Rattle.std.specs.List.{list_any}
-use Rattle.std.proofs.lemmas.List.{append-nil, append_assoc, length-append, map-append}
-use Rattle.std.proofs.lemmas.List.Concat.{flat_map-append}
-use Rattle.std.proofs.lemmas.Bool.{ne_eqb, and_left, and_right, cond-false, le-ltb}
-use Rattle.ckpt_ids.specs.declared.ack.Acked.{Acked}
-use Rattle.ckpt_ids.specs.Ordered.{IsIn, in_order, put}
-use Rattle.ckpt_ids.specs.Records.{Record, Use, Pin, count, same_holder, uses, uses_of}
-use Rattle.ckpt_ids.specs.Ascending.{ascending}
-use Rattle.ckpt_ids.proofs.OrderedLemmas.{IsIn-append_left, IsIn-append_right, IsIn-append_cases, IsIn-map, IsIn-in_order, IsIn-from_flat_map}
-use Rattle.std.specs.Vec.{vec_capacity}
-use Rattle.ckpt_rules.specs.FailureCount.{FailureCount}
-use Rattle.ckpt_store.specs.Storing.{Stored, retained_of}
-use Rattle.ckpt_core.specs.declared.parts.Opened.{Opened}
-use Rattle.ckpt_core.specs.declared.parts.Parts.{Parts}
-use Rattle.ckpt_core.specs.Inside.Parts.{AreTied, records_in}
-use Rattle.ckpt_model.specs.Reads.{present_in}
-use Rattle.ckpt_model.specs.Soundness.{id_before}
-use Rattle.ckpt_core.specs.Inside.Grouped.{is_pin, pins, pins_of, with_pins, grouped, records_of}
-use Rattle.ckpt_core.specs.Inside.Loading.{uses_of_acks, uses_held}
+use Rattle.ckpt_core.proofs.Names.{◌≡◌, ℕ, ◌+◌, ◌<◌, ◌≤◌, ◌^◌, ◌-◌, false, ◌||◌, eqb, ltb, List, [], ◌∷◌, ◌++◌, length, map, refl, sym, ap, subst, ◌∙◌, inl, inr, ⊎_elim, arith, list_any, append-nil}
+use Rattle.ckpt_core.proofs.Names.{append_assoc, length-append, map-append, flat_map-append, ne_eqb, and_left, and_right, cond-false, le-ltb, Acked, IsIn, in_order, put, Record, Use, Pin, count}
+use Rattle.ckpt_core.proofs.Names.{same_holder, uses, uses_of, ascending, IsIn-append_left, IsIn-append_right, IsIn-append_cases, IsIn-map, IsIn-in_order, IsIn-from_flat_map, vec_capacity}
+use Rattle.ckpt_core.proofs.Names.{FailureCount, Stored, retained_of, Opened, Parts, AreTied, records_in, present_in, id_before, is_pin, pins, pins_of, with_pins, grouped, records_of, uses_of_acks}
+use Rattle.ckpt_core.proofs.Names.{uses_held, map_same, common_steps}
+use Rattle.std.proofs.Common.{drop}
 use Rattle.ckpt_core.proofs.Loaded.Uses.{id_of_acks}
-use Rattle.ckpt_model.proofs.Records.Counts.{map_same}
 use Rattle.ckpt_core.proofs.Records.Grouped.{in_order-newest, put_last}
 use Rattle.ckpt_core.proofs.Records.GroupMoves.{pins_of-append, pins_of-none, pins_of-holds}
 use Rattle.ckpt_core.proofs.Using.Order.{from_holds, holds, use_of_record}
@@ -38,13 +23,7 @@ no_pins id acks u h = and_right (eqb u.id id) (is_pin u.holder) (ap (λ k. same_
 
 -- what such a record pins
 own_pins : (us : List Use) (id : ℕ) (acks : List Acked) (files : List ℕ) → ((u : Use) → IsIn u us → u.id < id) → pins_of (us ++ uses_held id acks files) id ≡ files
-own_pins us id acks files older =
-    let not_its : (u : Use) → IsIn u us → pins id u ≡ false = λ u h. and_left (eqb u.id id) (is_pin u.holder) (ne_eqb u.id id (λ e. let lt : u.id < id = older u h in omega arith)) in
-    pins_of-append us (uses_held id acks files) id
-    ∙ ap (λ fs. fs ++ pins_of (uses_held id acks files) id) (pins_of-none us id not_its)
-    ∙ pins_of-append (uses_of_acks id acks) (holds id Pin files) id
-    ∙ ap (λ fs. fs ++ pins_of (holds id Pin files) id) (pins_of-none (uses_of_acks id acks) id (no_pins id acks))
-    ∙ pins_of-holds id files
+own_pins us id acks files older = grind (arith, common_steps, and_left, holds, ne_eqb, no_pins, pins_of-append, pins_of-holds, pins_of-none)
 
 -- the others pin what they pinned
 others_keep : (us : List Use) (pending rest : List Record) (id : ℕ) (acks : List Acked) (files : List ℕ) → ((r : Record) → IsIn r (map (with_pins us) pending ++ rest) → r.id < id) → map (with_pins (us ++ uses_held id acks files)) pending ≡ map (with_pins us) pending
@@ -105,10 +84,7 @@ older_registered p made id its_id room tied newest same u h =
 
 -- what is registered is what the record holds
 pub held_is : (us : List Use) (x : Record) (id : ℕ) (acks : List Acked) (files : List ℕ) → id ≡ x.id → acks ≡ x.acks → files ≡ x.pins → us ++ uses_held id acks files ≡ us ++ uses_held x.id x.acks x.pins
-held_is us x id acks files its_id its_acks its_pins =
-    ap (λ i. us ++ uses_held i acks files) its_id
-    ∙ ap (λ a. us ++ uses_held x.id a files) its_acks
-    ∙ ap (λ fs. us ++ uses_held x.id x.acks fs) its_pins
+held_is us x id acks files its_id its_acks its_pins = grind (arith, common_steps)
 
 -- a done record pins nothing
 pub none_pinned : (x : Record) (files none : List ℕ) → files ≡ ascending none → none ≡ [] → x.pins ≡ [] → files ≡ x.pins
@@ -193,9 +169,7 @@ tied-checkpoint {p} {q} {x} tied newest m =
 
 -- none is dropped if there is room for one more
 pub none_surplus : (n : ℕ) (rs : List Record) (x : Record) → length rs < n → retained_of n (rs ++ x ∷ []) ≡ rs ++ x ∷ []
-none_surplus n rs x fewer =
-    let longer : length (rs ++ x ∷ []) ≡ length rs + 1 = length-append rs (x ∷ []) in
-    cond-false (ltb n (length (rs ++ x ∷ []))) (drop 1 (rs ++ x ∷ [])) (rs ++ x ∷ []) (le-ltb n (length (rs ++ x ∷ [])) (omega arith))
+none_surplus n rs x fewer = grind (arith, common_steps)
 
 -- a done savepoint that is newer than all others
 pub loaded_savepoint : (us : List Use) (pending checkpoints savepoints : List Record) (x : Record) (acks : List Acked) (files : List ℕ) → ((r : Record) → IsIn r (grouped us pending checkpoints savepoints) → r.id < x.id) →

@@ -1,26 +1,15 @@
 -- When a list of sound records stays sound with one more, and that a prefix of sound records is sound.
-use Rattle.std.proofs.Common.{◌≡◌, ℕ, ◌<◌, ◌≤◌, ◌^◌, Bool, true, false, not, List, [], ◌∷◌, ◌++◌, refl, sym, subst, inl, inr, ⊎_elim, arith}
-use Rattle.std.specs.Prelude.{count_by}
-use Rattle.std.proofs.lemmas.Bool.{cases_Bool, cases_lt, both_ways, and_parts, not-true, ltb-true, lt-ltb}
-use Rattle.ckpt_ids.specs.Ordered.{IsIn, ComesBefore, IsInOrder}
-use Rattle.ckpt_ids.specs.Records.{Record}
-use Rattle.ckpt_ids.proofs.CountLemmas.{count_by-append, count_by_no, count_by_yes, counted-from_IsIn, IsIn-from_counted}
-use Rattle.ckpt_ids.proofs.OrderedLemmas.{ComesBefore-at, IsIn-append_left, IsIn-append_right, IsIn-append_cases, IsInOrder-append, only_one}
-use Rattle.ckpt_rules.specs.Trigger.{limit}
-use Rattle.ckpt_model.specs.State.{Opening, is_checkpoint, is_pending, is_done_checkpoint}
-use Rattle.ckpt_model.specs.Soundness.{IsRecord, id_before, AreSoundRecords, is_pending_checkpoint}
-use Rattle.ckpt_core.specs.Inside.SoundRecords.{Joins}
+use Rattle.ckpt_core.proofs.Names.{◌≡◌, ℕ, ◌<◌, ◌≤◌, ◌^◌, Bool, true, false, not, List, [], ◌∷◌, ◌++◌, refl, sym, subst, inl, inr, ⊎_elim, arith, count_by, cases_Bool, cases_lt, both_ways, and_parts}
+use Rattle.ckpt_core.proofs.Names.{not-true, ltb-true, lt-ltb, IsIn, ComesBefore, IsInOrder, Record, count_by-append, count_by_no, count_by_yes, counted-from_IsIn, IsIn-from_counted, ComesBefore-at}
+use Rattle.ckpt_core.proofs.Names.{IsIn-append_left, IsIn-append_right, IsIn-append_cases, IsInOrder-append, only_one, limit, Opening, is_checkpoint, is_pending, is_done_checkpoint, IsRecord}
+use Rattle.ckpt_core.proofs.Names.{id_before, AreSoundRecords, is_pending_checkpoint, Joins, common_steps}
 
 with_last : (P : Record → Type 0) (rs : List Record) (r : Record) → ((x : Record) → IsIn x rs → P x) → P r → (x : Record) → IsIn x (rs ++ r ∷ []) → P x
 with_last P rs r old last x h =
     ⊎_elim (λ (k : IsIn x rs). old x k) (λ (k : IsIn x (r ∷ [])). subst P (sym (only_one x r k)) last) (IsIn-append_cases x rs (r ∷ []) h)
 
 at_most : (p : Record → Bool) (rs : List Record) (r : Record) (n : ℕ) → count_by p rs ≤ n → (p r ≡ true → count_by p rs < n) → count_by p (rs ++ r ∷ []) ≤ n
-at_most p rs r n le lt =
-    ⊎_elim
-    (λ (e : p r ≡ true). omega (arith, lt e, count_by-append p rs (r ∷ []), count_by_yes p r [] e))
-    (λ (e : p r ≡ false). omega (arith, le, count_by-append p rs (r ∷ []), count_by_no p r [] e))
-    (cases_Bool (p r))
+at_most p rs r n le lt = grind (arith, common_steps)
 
 -- nothing is pending and done
 not_both : (r : Record) → is_pending_checkpoint r ≡ true → is_done_checkpoint r ≡ true → ⊥

@@ -1,29 +1,9 @@
 -- A record that is loaded: what is tested of it, and the state that has it.
-use Rattle.std.proofs.Common.{◌≡◌, ℕ, ◌<◌, Bool, true, false, not, ◌&&◌, leb, List, length, refl, sym, ap, subst, ◌∙◌, arith, Option, Some, None}
-use Rattle.std.specs.Prelude.{count_by, find}
-use Rattle.std.specs.Option.{is_some, option_map}
-use Rattle.std.proofs.lemmas.Bool.{both_ways, and_left, and_right, leb-false}
-use Rattle.ckpt_ids.specs.Ordered.{IsIn}
-use Rattle.ckpt_ids.specs.Records.{Record, Use, missing}
-use Rattle.ckpt_ids.proofs.CountLemmas.{count_by-none, count_by-all}
-use Rattle.ckpt_pending.proofs.FullLemmas.{missing_from_full}
-use Rattle.ckpt_pending.specs.Acknowledging.{IsPending, pending_record}
-use Rattle.ckpt_rules.specs.Trigger.{limit}
-use Rattle.ckpt_model.specs.declared.image.Saved.{Saved}
-use Rattle.ckpt_core.specs.declared.parts.Parts.{Parts}
-use Rattle.ckpt_model.specs.declared.reads.Live.{Live}
-use Rattle.ckpt_model.specs.Images.{record_in}
-use Rattle.ckpt_core.specs.Inside.Grouped.{records_of}
-use Rattle.ckpt_core.specs.Inside.Loading.{IsMade}
-use Rattle.ckpt_core.specs.Inside.Moving.{with_done}
-use Rattle.ckpt_core.specs.Inside.Parts.{records_in, state_of}
-use Rattle.ckpt_core.specs.Inside.SoundRecords.{HasRoom, NamesEachOnce}
-use Rattle.ckpt_model.specs.Soundness.{is_pending_checkpoint, IsRecord}
-use Rattle.ckpt_model.specs.Reads.{live_of}
-use Rattle.ckpt_model.specs.State.{Opening, is_checkpoint, is_done_checkpoint, is_pending}
+use Rattle.ckpt_core.proofs.Names.{◌≡◌, ℕ, ◌<◌, Bool, true, false, not, ◌&&◌, leb, List, length, refl, sym, ap, subst, ◌∙◌, arith, Option, Some, None, count_by, find, is_some, option_map, both_ways}
+use Rattle.ckpt_core.proofs.Names.{and_left, and_right, leb-false, IsIn, Record, Use, missing, count_by-none, count_by-all, missing_from_full, IsPending, pending_record, limit, Saved, Parts, Live}
+use Rattle.ckpt_core.proofs.Names.{record_in, records_of, IsMade, with_done, records_in, state_of, HasRoom, NamesEachOnce, is_pending_checkpoint, IsRecord, live_of, Opening, is_checkpoint}
+use Rattle.ckpt_core.proofs.Names.{is_done_checkpoint, is_pending, IsIn-from_find, fails-from_find, is_checkpoint-kind, is_savepoint-kind, common_steps}
 use Rattle.ckpt_core.proofs.Reading.Live.{is_from}
-use Rattle.ckpt_model.proofs.Records.Counts.{IsIn-from_find, fails-from_find}
-use Rattle.ckpt_model.proofs.Records.Lists.{is_checkpoint-kind, is_savepoint-kind}
 use Rattle.ckpt_core.proofs.Records.Lookups.{AreGroups, count_by-records_of}
 
 -- its number
@@ -92,43 +72,22 @@ unfolding state_of
 state_pending p q rs rest e = ap state_of rest ∙ ap (λ xs. record (state_of p) { records = xs }) (ap records_in (sym rest) ∙ e)
 
 pub pending_same : (s : Saved) (x : Record) → IsMade x s → s.metadata.done ≡ false → record x { pins = s.pins } ≡ record_in s
-pending_same s x made not_done =
-    let m = s.metadata in
-    ap (λ (r : Record). record r { pins = s.pins }) made
-    ∙ ap (λ b. record { id = m.id; kind = m.kind; done = b; shape = m.shape; started = m.started; acks = m.acks; pins = s.pins }) (sym not_done)
+pending_same s x made not_done = grind (arith, common_steps)
 
 -- a record that lacks an acknowledgement is not full
 pub not_full : (s : Saved) (made : Record) → IsMade made s → 0 < missing made → s.metadata.done ≡ true → IsRecord (record_in s) → ⊥
-not_full s made e lacks is_done ir =
-    let none : missing (record_in s) ≡ 0 = missing_from_full (record_in s) (ir.full is_done) in
-    let same : missing made ≡ missing (record_in s) = ap missing e in
-    omega arith
+not_full s made e lacks is_done ir = grind (arith, common_steps, missing_from_full)
 
 -- the limits on how many there are
 
 pub room_savepoint : (o : Opening) (rs : List Record) (r : Record) → is_checkpoint r ≡ false → count_by (λ s. not (is_checkpoint s)) rs < 1000 → HasRoom o rs r
-room_savepoint o rs r its fewer = record {
-  retained = λ yes. absurd (both_ways (is_done_checkpoint r) (and_right r.done (is_checkpoint r) its) yes);
-  at_once = λ yes. absurd (both_ways (is_pending_checkpoint r) (and_right (is_pending r) (is_checkpoint r) its) yes);
-  savepoints = λ yes. fewer;
-  newer = λ yes. absurd (both_ways (is_done_checkpoint r) (and_right r.done (is_checkpoint r) its) yes);
-}
+room_savepoint o rs r its fewer = grind (arith, common_steps)
 
 pub room_done : (o : Opening) (rs : List Record) (r : Record) → is_checkpoint r ≡ true → r.done ≡ true → count_by is_pending_checkpoint rs ≡ 0 → count_by is_done_checkpoint rs < o.config.retained → HasRoom o rs r
-room_done o rs r its is_done none fewer = record {
-  retained = λ yes. fewer;
-  at_once = λ yes. absurd (both_ways (is_pending_checkpoint r) (and_left (is_pending r) (is_checkpoint r) (ap not is_done)) yes);
-  savepoints = λ yes. absurd (both_ways (not (is_checkpoint r)) (ap not its) yes);
-  newer = λ yes. none;
-}
+room_done o rs r its is_done none fewer = grind (arith, common_steps)
 
 pub room_pending : (o : Opening) (rs : List Record) (r : Record) → is_checkpoint r ≡ true → r.done ≡ false → count_by is_pending_checkpoint rs < limit o.config → HasRoom o rs r
-room_pending o rs r its not_done fewer = record {
-  retained = λ yes. absurd (both_ways (is_done_checkpoint r) (and_left r.done (is_checkpoint r) not_done) yes);
-  at_once = λ yes. fewer;
-  savepoints = λ yes. absurd (both_ways (not (is_checkpoint r)) (ap not its) yes);
-  newer = λ yes. absurd (both_ways (is_done_checkpoint r) (and_left r.done (is_checkpoint r) not_done) yes);
-}
+room_pending o rs r its not_done fewer = grind (arith, common_steps)
 
 pub some_live : (o : Option Live) → is_some o ≡ true → (l : Live) × (o ≡ Some l)
 some_live None e = absurd (cc)

@@ -1,30 +1,13 @@
 -- A coordinator that is made from an image, step by step: what the state says about the parts, and which states are possible.
-use Rattle.std.proofs.Common.{◌≡◌, ◌≢◌, ℕ, ◌+◌, ◌-◌, ◌<◌, Bool, true, ◌||◌, List, [], ◌∷◌, ◌++◌, length, map, take, drop, get_or, refl, sym, ap, subst, ◌∙◌, inl, ⊎_elim, Option, Some, arith}
-use Rattle.std.proofs.lemmas.Bool.{both_ways}
-use Rattle.std.proofs.lemmas.List.{append_assoc, length-append, take-append-drop, take_more}
-use Rattle.ckpt_ids.specs.Configuration.{IsWithinLimits}
-use Rattle.ckpt_ids.specs.Ordered.{AreDistinct, IsIn}
-use Rattle.ckpt_ids.specs.Records.{Record, Use, is_present, uses}
-use Rattle.ckpt_ids.specs.Shapes.{IsShape}
-use Rattle.ckpt_ids.proofs.OrderedLemmas.{AreDistinct-apart, AreDistinct-left, AreDistinct-right, IsIn-append_cases, IsIn-append_left, IsIn-append_right, IsIn-from_in_order, IsIn-in_order, IsIn-map, IsIn-from_test}
-use Rattle.ckpt_outbox.specs.Queues.{Queues, is_in}
-use Rattle.ckpt_pending.specs.Acknowledging.{IsPending}
-use Rattle.ckpt_store.specs.Storing.{IsStored, Stored}
-use Rattle.ckpt_model.specs.declared.mode.Mode.TheVariants.{Running}
-use Rattle.ckpt_core.specs.declared.parts.Parts.{Parts}
-use Rattle.ckpt_model.specs.declared.image.Saved.{Saved}
-use Rattle.ckpt_model.specs.Images.{CanHold, HasSoundNumbers, record_in, state_in}
-use Rattle.ckpt_core.specs.Inside.Grouped.{grouped, with_pins}
-use Rattle.ckpt_core.specs.Inside.Loading.{AreFilesApart, emptied, with_more_waiting}
-use Rattle.ckpt_core.specs.Inside.Parts.{opening_of, records_in, state_of}
-use Rattle.ckpt_core.specs.Inside.SoundRecords.{Joins}
-use Rattle.ckpt_model.specs.Soundness.{AreSoundRecords, id_before}
-use Rattle.ckpt_model.specs.Refusals.{is_done_savepoint}
-use Rattle.ckpt_model.specs.State.{Opening, State}
-use Rattle.ckpt_model.specs.declared.image.Image.{Image}
+use Rattle.ckpt_core.proofs.Names.{◌≡◌, ◌≢◌, ℕ, ◌+◌, ◌-◌, ◌<◌, Bool, true, ◌||◌, List, [], ◌∷◌, ◌++◌, length, map, take, get_or, refl, sym, ap, subst, ◌∙◌, inl, ⊎_elim, Option, Some, arith, both_ways}
+use Rattle.ckpt_core.proofs.Names.{append_assoc, length-append, take-append-drop, take_more, IsWithinLimits, AreDistinct, IsIn, Record, Use, is_present, uses, IsShape, AreDistinct-apart}
+use Rattle.ckpt_core.proofs.Names.{AreDistinct-left, AreDistinct-right, IsIn-append_cases, IsIn-append_left, IsIn-append_right, IsIn-from_in_order, IsIn-in_order, IsIn-map, IsIn-from_test, Queues}
+use Rattle.ckpt_core.proofs.Names.{is_in, IsPending, IsStored, Stored, Running, Parts, Saved, CanHold, HasSoundNumbers, record_in, state_in, grouped, with_pins, AreFilesApart, emptied}
+use Rattle.ckpt_core.proofs.Names.{with_more_waiting, opening_of, records_in, state_of, Joins, AreSoundRecords, id_before, is_done_savepoint, Opening, State, Image, outbox_of, sound_from}
+use Rattle.ckpt_core.proofs.Names.{common_steps}
+use Rattle.std.proofs.Common.{drop}
 use Rattle.ckpt_core.proofs.Ending.Drops.{groups_of}
 use Rattle.ckpt_core.proofs.Loaded.Joining.{joins_from_sound, sound_front}
-use Rattle.ckpt_model.proofs.Records.Lists.{outbox_of, sound_from}
 use Rattle.ckpt_core.proofs.Records.Lookups.{done_in}
 
 -- what the parts have of the state that they stand for
@@ -39,15 +22,7 @@ pub record IsTold (p : Parts) (m : State) : Type 0 where
 
 pub told : (p : Parts) (m : State) → state_of p ≡ m → IsTold p m
 unfolding state_of
-told p m e = record {
-  opening = ap (λ (s : State). s.opening) e;
-  mode = ap (λ (s : State). s.mode) e;
-  next = ap (λ (s : State). s.next) e;
-  base = ap (λ (s : State). s.base) e;
-  records = ap (λ (s : State). s.records) e;
-  waiting = ap (λ (s : State). s.waiting) e;
-  taken = ap (λ (s : State). s.taken) e;
-}
+told p m e = grind (arith, common_steps)
 
 -- of parts that differ in the records alone
 pub record IsBeside (p q : Parts) (rs : List Record) : Type 0 where
@@ -58,37 +33,20 @@ pub record IsBeside (p q : Parts) (rs : List Record) : Type 0 where
 
 pub beside : (p q : Parts) (rs : List Record) → state_of q ≡ record (state_of p) { records = rs } → IsBeside p q rs
 unfolding state_of
-beside p q rs e = record {
-  opening = ap (λ (s : State). s.opening) e;
-  next = ap (λ (s : State). s.next) e;
-  base = ap (λ (s : State). s.base) e;
-  records = ap (λ (s : State). s.records) e;
-}
+beside p q rs e = grind (arith, common_steps)
 
 pub beside_itself : (p : Parts) (rs : List Record) → records_in p ≡ rs → state_of p ≡ record (state_of p) { records = rs }
 unfolding state_of
 beside_itself p rs e = ap (λ xs. record (state_of p) { records = xs }) e
 
 pub sound_beside : {p q : Parts} {rs : List Record} → IsBeside p q rs → AreSoundRecords (opening_of p.opened) p.next rs → AreSoundRecords (opening_of q.opened) q.next (records_in q)
-sound_beside {p} {q} {rs} b s =
-    let A : Opening → Type 0 = λ o. AreSoundRecords o p.next rs in
-    let B : ℕ → Type 0 = λ n. AreSoundRecords (opening_of q.opened) n rs in
-    let C : List Record → Type 0 = λ xs. AreSoundRecords (opening_of q.opened) q.next xs in
-    subst C (sym b.records) (subst B (sym b.next) (subst A (sym b.opening) s))
+sound_beside {p} {q} {rs} b s = grind (arith, common_steps)
 
 pub joins_beside : {p q : Parts} {rs : List Record} (r : Record) → IsBeside p q rs → Joins (opening_of q.opened) q.next (records_in q) r → Joins (opening_of p.opened) p.next rs r
-joins_beside {p} {q} {rs} r b j =
-    let A : Opening → Type 0 = λ o. Joins o p.next rs r in
-    let B : ℕ → Type 0 = λ n. Joins (opening_of q.opened) n rs r in
-    let C : List Record → Type 0 = λ xs. Joins (opening_of q.opened) q.next xs r in
-    subst A b.opening (subst B b.next (subst C b.records j))
+joins_beside {p} {q} {rs} r b j = grind (arith, common_steps)
 
 pub joins_before : {p q : Parts} {rs : List Record} (r : Record) → IsBeside p q rs → Joins (opening_of p.opened) p.next rs r → Joins (opening_of q.opened) q.next (records_in q) r
-joins_before {p} {q} {rs} r b j =
-    let A : Opening → Type 0 = λ o. Joins o p.next rs r in
-    let B : ℕ → Type 0 = λ n. Joins (opening_of q.opened) n rs r in
-    let C : List Record → Type 0 = λ xs. Joins (opening_of q.opened) q.next xs r in
-    subst C (sym b.records) (subst B (sym b.next) (subst A (sym b.opening) j))
+joins_before {p} {q} {rs} r b j = grind (arith, common_steps)
 
 -- one record more
 pub more_beside : (p q n : Parts) (rs : List Record) (r : Record) → state_of q ≡ record (state_of p) { records = rs } → state_of n ≡ record (state_of q) { records = records_in q ++ r ∷ [] } → state_of n ≡ record (state_of p) { records = rs ++ r ∷ [] }
@@ -123,13 +81,7 @@ no_records_sound o next = record {
 
 pub can_hold_from : (m : State) → HasSoundNumbers m → IsWithinLimits m.opening.config → IsShape m.opening.shape → IsShape m.shape → AreSoundRecords m.opening m.next m.records → ((id : ℕ) → m.base ≡ Some id → is_done_savepoint m id ≡ true)
     → (m.mode ≢ Running → (r : Record) → IsIn r m.records → r.done ≡ true) → AreFilesApart (uses m.records) (m.waiting ++ m.taken) → CanHold m
-can_hold_from m n config first_shape shape records base idle files = record {
-  can_open = record { config = config; shape = first_shape; start = n.start; first_from = n.first; first_to = n.first_to };
-  sound = sound_from m
-      (record { config = config; shape = shape; latest = n.moments.latest_to; first = n.first; next_from = n.next_from; next_to = n.next_to; base = base; idle = idle; failures = n.failures })
-      records (record { unused = files.unused; apart = files.apart });
-  clock = n.moments;
-}
+can_hold_from m n config first_shape shape records base idle files = grind (arith, common_steps, sound_from)
 
 pub files_held : {m : State} → CanHold m → AreFilesApart (uses m.records) (m.waiting ++ m.taken)
 files_held h = let o = outbox_of h.sound in record { unused = o.unused; apart = o.apart }
@@ -210,19 +162,11 @@ known_twice us waiting files taken i f within at known a =
 
 -- one file more waits
 pub one_more_waits : (p q : Parts) (xs next : List ℕ) (f : ℕ) (o : Queues) → q ≡ with_more_waiting p xs → o ≡ record q.outbox { waiting = q.outbox.waiting ++ f ∷ []; spare = q.outbox.spare - 1 } → next ≡ xs ++ f ∷ [] → record q { outbox = o } ≡ with_more_waiting p next
-one_more_waits p q xs next f o e put is =
-    let longer : length (xs ++ f ∷ []) ≡ length xs + 1 = length-append xs (f ∷ []) in
-    let less : (p.outbox.spare - length xs) - 1 ≡ p.outbox.spare - length (xs ++ f ∷ []) = omega arith in
-    ap (λ (w : Queues). record q { outbox = w }) put
-    ∙ ap (λ (r : Parts). record r { outbox = record r.outbox { waiting = r.outbox.waiting ++ f ∷ []; spare = r.outbox.spare - 1 } }) e
-    ∙ ap (λ (w : List ℕ). record p { outbox = record p.outbox { waiting = w; spare = (p.outbox.spare - length xs) - 1 } }) (append_assoc p.outbox.waiting xs (f ∷ []))
-    ∙ ap (λ (n : ℕ). record p { outbox = record p.outbox { waiting = p.outbox.waiting ++ (xs ++ f ∷ []); spare = n } }) less
-    ∙ ap (with_more_waiting p) (sym is)
+one_more_waits p q xs next f o e put is = grind (arith, common_steps)
 
 pub state_files : (p q : Parts) (o : Queues) (waiting taken : List ℕ) → q ≡ record p { outbox = o } → o.waiting ≡ waiting → o.taken ≡ taken → state_of q ≡ record (state_of p) { waiting = waiting; taken = taken }
 unfolding state_of
-state_files p q o waiting taken e a b =
-    ap state_of e ∙ ap (λ (xs : List ℕ). record (state_of p) { waiting = xs; taken = o.taken }) a ∙ ap (λ (xs : List ℕ). record (state_of p) { waiting = waiting; taken = xs }) b
+state_files p q o waiting taken e a b = grind (arith, common_steps)
 
 -- the state, step by step, for the image of m
 

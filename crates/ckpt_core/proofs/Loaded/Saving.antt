@@ -1,33 +1,15 @@
 -- What is saved of a live record is that record.
-use Rattle.std.proofs.Common.{rules, ◌≡◌, ℕ, zero, suc, ◌+◌, ◌≤◌, true, false, eqb, List, [], ◌∷◌, ◌++◌, map, take, add-one, arith, sym, ap, ◌∙◌, ⊎_elim, Option, Some, None}
-use Rattle.std.specs.Prelude.{count_by, find, slice_get, IsSome}
-use Rattle.std.specs.Option.{option_map}
-use Rattle.std.proofs.lemmas.Bool.{both_ways, eq-eqb, leb-true}
-use Rattle.std.proofs.lemmas.List.{take_all}
-use Rattle.ckpt_ids.specs.declared.ack.Metadata.{Metadata}
-use Rattle.ckpt_ids.specs.Ordered.{IsIn, IsInOrder}
-use Rattle.ckpt_ids.specs.Records.{Record, metadata_of}
-use Rattle.ckpt_ids.proofs.OrderedLemmas.{IsIn-append_cases, IsIn-from_in_order, IsIn-from_map}
-use Rattle.ckpt_pending.specs.Acknowledging.{IsPending}
-use Rattle.ckpt_registry.specs.Uses.{pins_by}
-use Rattle.ckpt_store.specs.Storing.{IsStored}
-use Rattle.ckpt_core.specs.declared.parts.Parts.{Parts}
-use Rattle.ckpt_model.specs.declared.reads.Live.{Live}
-use Rattle.ckpt_core.specs.Inside.Grouped.{grouped, with_pins}
-use Rattle.ckpt_core.specs.Inside.Parts.{AreSound, records_in, state_of}
-use Rattle.ckpt_model.specs.Reads.{live_of}
-use Rattle.ckpt_model.specs.Soundness.{id_before}
-use Rattle.ckpt_model.specs.State.{record_of}
+use Rattle.ckpt_core.proofs.Names.{rules, ◌≡◌, ℕ, zero, suc, ◌+◌, ◌≤◌, true, false, eqb, List, [], ◌∷◌, ◌++◌, map, take, add-one, arith, sym, ap, ◌∙◌, ⊎_elim, Option, Some, None, count_by, find}
+use Rattle.ckpt_core.proofs.Names.{slice_get, IsSome, option_map, both_ways, eq-eqb, leb-true, take_all, Metadata, IsIn, IsInOrder, Record, metadata_of, IsIn-append_cases, IsIn-from_in_order}
+use Rattle.ckpt_core.proofs.Names.{IsIn-from_map, IsPending, pins_by, IsStored, Parts, Live, grouped, with_pins, AreSound, records_in, state_of, live_of, id_before, record_of, IsIn-from_find}
+use Rattle.ckpt_core.proofs.Names.{common_steps}
 use Rattle.ckpt_core.proofs.Ending.Drops.{groups_of}
 use Rattle.ckpt_core.proofs.Reading.Live.{found_at, is_below, is_from, none_of, one_more, past, some_of}
-use Rattle.ckpt_model.proofs.Records.Counts.{IsIn-from_find}
 use Rattle.ckpt_core.proofs.Records.Pending.{find-from_IsIn}
 use Rattle.ckpt_core.proofs.Records.Lookups.{done_in}
 
 some_metadata : (r : Record) (m : Metadata) (o : Option Record) → o ≡ Some r → option_map metadata_of o ≡ Some m → m ≡ metadata_of r
-some_metadata r m o e f =
-    let g : ◌≡◌ {A = Option Metadata} (Some (metadata_of r)) (Some m) = sym (ap (option_map metadata_of) e) ∙ f in
-    cc
+some_metadata r m o e f = grind (arith, common_steps)
 
 -- the pins of a pending record are what the registry has for it
 pub pins_registered : (p : Parts) (r : Record) → ((q : Record) → IsIn q p.pending → IsPending q) → IsStored p.store → IsIn r (records_in p) → r.done ≡ false → pins_by r.id p.registry ≡ r.pins
@@ -56,10 +38,7 @@ none_pinned p r sound h is_done = (sound.sound.records.each r h).unpinned is_don
 
 -- what is saved so is the record
 pub saved_record : (r : Record) (m : Metadata) (o : Option Record) (pins : List ℕ) → o ≡ Some r → option_map metadata_of o ≡ Some m → pins ≡ r.pins → record { id = m.id; kind = m.kind; done = m.done; shape = m.shape; started = m.started; acks = m.acks; pins = pins } ≡ r
-saved_record r m o pins e f same =
-    let its : m ≡ metadata_of r = some_metadata r m o e f in
-    ap (λ (x : Metadata). record { id = x.id; kind = x.kind; done = x.done; shape = x.shape; started = x.started; acks = x.acks; pins = pins }) its
-    ∙ ap (λ fs. record r { pins = fs }) same
+saved_record r m o pins e f same = grind (arith, common_steps)
 
 -- the walk over the live records
 

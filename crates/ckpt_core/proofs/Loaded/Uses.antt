@@ -1,19 +1,11 @@
 -- The uses of a record that is newer than all that have some, added one acknowledgement after the other.
-use Rattle.std.proofs.Common.{◌≡◌, ℕ, ◌<◌, ◌≤◌, true, false, eqb, List, [], ◌∷◌, ◌++◌, take, drop, refl, sym, ap, subst, ◌∙◌, inl, inr, ⊎_elim, arith}
-use Rattle.std.proofs.lemmas.List.{append-nil, append_assoc, take-append-drop}
-use Rattle.std.proofs.lemmas.List.Concat.{flat_map-append}
-use Rattle.std.proofs.lemmas.Bool.{both_ways}
-use Rattle.ckpt_ids.specs.declared.ack.Acked.{Acked}
+use Rattle.ckpt_core.proofs.Names.{◌≡◌, ℕ, ◌<◌, ◌≤◌, true, false, eqb, List, [], ◌∷◌, ◌++◌, take, refl, sym, ap, subst, ◌∙◌, inl, inr, ⊎_elim, arith, append-nil, append_assoc, take-append-drop}
+use Rattle.ckpt_core.proofs.Names.{flat_map-append, both_ways, Acked, AreInSubtaskOrder, acknowledges_before, IsAscendingSet, IsIn, ComesBefore, IsInOrder, in_order_once, Record, Use, Subtask, Pin}
+use Rattle.ckpt_core.proofs.Names.{count, use_before, count_by-append, subtasks_in_order, ComesBefore-at, IsIn-append_left, IsIn-append_cases, IsIn-from_flat_map, IsInOrder-append, HasNoUse}
+use Rattle.ckpt_core.proofs.Names.{uses_of_acks, uses_held, common_steps}
+use Rattle.std.proofs.Common.{drop}
 use Rattle.ckpt_ids.specs.declared.numbers.Kind.TheVariants as kind
-use Rattle.ckpt_ids.specs.Acknowledged.{AreInSubtaskOrder, acknowledges_before, is_before}
-use Rattle.ckpt_ids.specs.Ascending.{IsAscendingSet}
-use Rattle.ckpt_ids.specs.Ordered.{IsIn, ComesBefore, IsInOrder, in_order_once}
-use Rattle.ckpt_ids.specs.Records.{Record, Use, Subtask, Pin, count, use_before}
-use Rattle.ckpt_ids.proofs.CountLemmas.{count_by-append}
-use Rattle.ckpt_ids.proofs.OrderLemmas.{subtasks_in_order}
-use Rattle.ckpt_ids.proofs.OrderedLemmas.{ComesBefore-at, IsIn-append_left, IsIn-append_cases, IsIn-from_flat_map, IsInOrder-append}
-use Rattle.ckpt_registry.specs.Uses.{HasNoUse}
-use Rattle.ckpt_core.specs.Inside.Loading.{uses_of_acks, uses_held}
+use Rattle.ckpt_ids.specs.Acknowledged.{is_before}
 use Rattle.ckpt_core.proofs.Using.Order.{earlier_record, from_holds, holds, in_order_once-itself, record_uses_in_order}
 
 -- an acknowledgement that came before is of another subtask
@@ -30,10 +22,7 @@ before_in (x ∷ before) a b order (inr h) = before_in before a b order.1 h
 
 -- such uses are of this record
 pub id_of_acks : (id : ℕ) (acks : List Acked) (u : Use) → IsIn u (uses_of_acks id acks) → (a : Acked) × IsIn a acks × (u.id ≡ id) × (u.holder ≡ Subtask a.subtask)
-id_of_acks id acks u h =
-    let q = IsIn-from_flat_map (λ a. holds id (Subtask a.subtask) a.files) u acks h in
-    let k = from_holds id (Subtask q.0.subtask) q.0.files u q.2 in
-    (q.0, q.1, k.0, k.1)
+id_of_acks id acks u h = grind (arith, common_steps, IsIn-from_flat_map, from_holds, holds)
 
 -- the subtask has no use yet
 pub subtask_unused : (old : List Use) (id : ℕ) (before : List Acked) (a : Acked) → ((u : Use) → IsIn u old → u.id < id) → AreInSubtaskOrder (before ++ a ∷ []) → HasNoUse (old ++ uses_of_acks id before) id (Subtask a.subtask)
@@ -92,9 +81,7 @@ pins_registered old id acks pins order newest acks_order files set =
 
 -- what is counted so far is at most what is counted in the end
 pub count_so_far : (f : ℕ) (old before more pins : List Use) → count (old ++ before) f ≤ count (old ++ ((before ++ more) ++ pins)) f
-count_so_far f old before more pins =
-    let its : Use → _ = λ (u : Use). eqb u.file f in
-    omega (arith, count_by-append its old before, count_by-append its old ((before ++ more) ++ pins), count_by-append its (before ++ more) pins, count_by-append its before more)
+count_so_far f old before more pins = grind (arith, common_steps)
 
 -- a prefix of acknowledgements in order
 pub front_in_order : (xs ys : List Acked) → AreInSubtaskOrder (xs ++ ys) → AreInSubtaskOrder xs

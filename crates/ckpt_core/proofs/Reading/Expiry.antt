@@ -1,19 +1,8 @@
 -- When the first pending record expires: from the least moment at which one started, and the timeout.
-use Rattle.std.proofs.Common.{◌≡◌, ℕ, ◌+◌, ◌<◌, ◌≤◌, ◌^◌, Bool, true, false, ◌&&◌, leb, List, ◌++◌, map, refl, sym, ap, ◌∙◌, ⊎_elim, arith, Option, Some, None}
-use Rattle.std.specs.List.{list_any}
-use Rattle.std.specs.Option.{option_map}
-use Rattle.std.proofs.lemmas.Bool.{both_ways, leb-true, le-leb, and_parts, and_from, not_from_false, not_from_true}
-use Rattle.ckpt_ids.specs.Ordered.{IsIn}
-use Rattle.ckpt_ids.specs.Records.{Record, Use}
-use Rattle.ckpt_ids.proofs.OrderedLemmas.{IsIn-append_left, IsIn-append_cases, IsIn-map, IsIn-from_map, IsIn-in_order, IsIn-from_in_order, IsIn-from_list_any, list_any-from_IsIn}
-use Rattle.ckpt_pending.specs.Acknowledging.{IsPending}
-use Rattle.ckpt_store.specs.Storing.{IsStored}
-use Rattle.ckpt_core.specs.declared.parts.Parts.{Parts}
-use Rattle.ckpt_core.specs.Inside.Grouped.{with_pins, grouped}
-use Rattle.ckpt_core.specs.Inside.Parts.{records_in, state_of}
-use Rattle.ckpt_model.specs.Reads.{IsNextExpiry, has_come}
-use Rattle.ckpt_model.specs.Soundness.{IsSound, id_before}
-use Rattle.ckpt_model.specs.State.{is_pending}
+use Rattle.ckpt_core.proofs.Names.{◌≡◌, ℕ, ◌+◌, ◌<◌, ◌≤◌, ◌^◌, Bool, true, false, ◌&&◌, leb, List, ◌++◌, map, refl, sym, ap, ◌∙◌, ⊎_elim, arith, Option, Some, None, list_any, option_map, both_ways}
+use Rattle.ckpt_core.proofs.Names.{leb-true, le-leb, and_parts, and_from, not_from_false, not_from_true, IsIn, Record, Use, IsIn-append_left, IsIn-append_cases, IsIn-map, IsIn-from_map, IsIn-in_order}
+use Rattle.ckpt_core.proofs.Names.{IsIn-from_in_order, IsIn-from_list_any, list_any-from_IsIn, IsPending, IsStored, Parts, with_pins, grouped, records_in, state_of, IsNextExpiry, has_come, IsSound}
+use Rattle.ckpt_core.proofs.Names.{id_before, is_pending, common_steps}
 use Rattle.ckpt_core.proofs.Ending.Drops.{groups_of}
 use Rattle.ckpt_core.proofs.Records.GroupLookups.{same_tests}
 use Rattle.ckpt_core.proofs.Records.Lookups.{AreGroups, done_in}
@@ -35,10 +24,7 @@ least_in : (xs : List Record) (s : ℕ) → TellsLeast xs (Some s) → (x : Reco
 least_in xs s told = let q = IsIn-from_list_any (λ (r : Record). leb r.started s) xs (told s ∙ le-leb s s (omega arith)) in (q.0, q.1, leb-true q.0.started s q.2)
 
 pending_there : (p : Parts) (x : Record) → IsIn x p.pending → IsIn (with_pins p.registry x) (records_in p)
-pending_there p x h =
-    let us : List Use = p.registry in
-    IsIn-in_order id_before (with_pins us x) (grouped us p.pending p.store.checkpoints p.store.savepoints)
-    (IsIn-append_left (with_pins us x) (map (with_pins us) p.pending) (p.store.checkpoints ++ p.store.savepoints) (IsIn-map (with_pins us) x p.pending h))
+pending_there p x h = grind (arith, common_steps, IsIn-append_left, IsIn-in_order, IsIn-map)
 
 -- it is below all moments, so the timeout can be added
 pub started_bound : (p : Parts) (s : ℕ) → IsSound (state_of p) → TellsLeast p.pending (Some s) → s < 2 ^ 62

@@ -1,22 +1,9 @@
 -- The live records by place: each is the first from the number after the one before.
-use Rattle.std.proofs.Common.{◌≡◌, ℕ, zero, suc, ◌+◌, ◌<◌, ◌≤◌, ◌^◌, Bool, true, false, cond, ltb, leb, List, [], ◌∷◌, ◌++◌, map, length, refl, sym, ap, subst, ◌∙◌, ⊎_elim, arith, Option, Some, None}
-use Rattle.std.specs.Prelude.{count_by, find, slice_get}
-use Rattle.std.specs.Option.{option_map}
-use Rattle.std.proofs.lemmas.Bool.{cases_Bool, both_ways, cond_both, ltb-true, ltb-false, leb-true, leb-false, lt-ltb, le-ltb}
-use Rattle.std.proofs.lemmas.Option.{slice_get_past}
-use Rattle.ckpt_ids.specs.Ordered.{IsIn, IsInOrder, in_order}
-use Rattle.ckpt_ids.specs.Records.{Record, Use}
-use Rattle.ckpt_ids.proofs.CountLemmas.{count_by_yes, count_by_no, count_by-none}
-use Rattle.ckpt_ids.proofs.OrderedLemmas.{ComesBefore-at, IsIn-append_left, IsIn-append_right, IsIn-append_cases, IsIn-map, IsIn-from_map, IsIn-in_order, IsIn-from_in_order, list_any-none}
-use Rattle.ckpt_ids.proofs.PlaceLemmas.{find-none}
-use Rattle.ckpt_model.specs.declared.reads.Live.{Live}
-use Rattle.ckpt_core.specs.declared.parts.Parts.{Parts}
-use Rattle.ckpt_core.specs.Inside.Grouped.{with_pins, grouped}
-use Rattle.ckpt_core.specs.Inside.Parts.{AreSound, records_in, state_of}
-use Rattle.ckpt_model.specs.Reads.{live_of, sooner}
-use Rattle.ckpt_model.specs.Soundness.{IsSound, id_before}
-use Rattle.ckpt_model.proofs.Records.Counts.{IsIn-from_find, fails-from_find}
-use Rattle.ckpt_model.proofs.Records.Replacing.{same_record}
+use Rattle.ckpt_core.proofs.Names.{◌≡◌, ℕ, zero, suc, ◌+◌, ◌<◌, ◌≤◌, ◌^◌, Bool, true, false, cond, ltb, leb, List, [], ◌∷◌, ◌++◌, map, length, refl, sym, ap, subst, ◌∙◌, ⊎_elim, arith, Option, Some}
+use Rattle.ckpt_core.proofs.Names.{None, count_by, find, slice_get, option_map, cases_Bool, both_ways, cond_both, ltb-true, ltb-false, leb-true, leb-false, lt-ltb, le-ltb, slice_get_past, IsIn}
+use Rattle.ckpt_core.proofs.Names.{IsInOrder, in_order, Record, Use, count_by_yes, count_by_no, count_by-none, ComesBefore-at, IsIn-append_left, IsIn-append_right, IsIn-append_cases, IsIn-map}
+use Rattle.ckpt_core.proofs.Names.{IsIn-from_map, IsIn-in_order, IsIn-from_in_order, list_any-none, find-none, Live, Parts, with_pins, grouped, AreSound, records_in, state_of, live_of, sooner}
+use Rattle.ckpt_core.proofs.Names.{IsSound, id_before, IsIn-from_find, fails-from_find, same_record, common_steps}
 
 -- whether the number is at least this one
 abbrev pub is_from : ℕ → Record → Bool
@@ -129,16 +116,7 @@ all_from n x xs order low y h = let above : x.id < y.id = ltb-true x.id y.id (Co
 -- the first record from a number on comes right after those below it
 pub found_at : (n : ℕ) (xs : List Record) → IsInOrder id_before xs → find (is_from n) xs ≡ slice_get xs (count_by (is_below n) xs)
 found_at n [] order = refl
-found_at n (x ∷ xs) order =
-    let P : Bool → Type 0 = λ b. cond b (Some x) (find (is_from n) xs) ≡ slice_get (x ∷ xs) (count_by (is_below n) (x ∷ xs)) in
-    let here : is_from n x ≡ true → P (is_from n x) = λ (e : is_from n x ≡ true).
-    let low : n ≤ x.id = leb-true n x.id e in
-    let none : count_by (is_below n) (x ∷ xs) ≡ 0 = count_by-none (is_below n) (x ∷ xs) (λ y h. le-ltb y.id n (⊎_elim (λ (k : y ≡ x). let its : y.id ≡ x.id = ap (λ q. q.id) k in let l : n ≤ y.id = omega arith in l) (λ (k : IsIn y xs). all_from n x xs order low y k) h)) in
-    subst P (sym e) (ap (slice_get (x ∷ xs)) (sym none)) in
-    let later : is_from n x ≡ false → P (is_from n x) = λ (e : is_from n x ≡ false).
-    let below : is_below n x ≡ true = lt-ltb x.id n (leb-false n x.id e) in
-    subst P (sym e) (found_at n xs order.1 ∙ ap (slice_get (x ∷ xs)) (sym (count_by_yes (is_below n) x xs below))) in
-    ⊎_elim here later (cases_Bool (is_from n x))
+found_at n (x ∷ xs) order = grind (arith, common_steps, all_from, cases_Bool, count_by-none, count_by_yes, le-ltb, leb-false, leb-true, lt-ltb, found_at n xs order.1)
 
 -- one more is below the number after it
 pub one_more : (n : ℕ) (r : Record) (xs : List Record) → IsInOrder id_before xs → find (is_from n) xs ≡ Some r → count_by (is_below (r.id + 1)) xs ≡ count_by (is_below n) xs + 1
@@ -194,10 +172,7 @@ some_of live None e = absurd (cc)
 some_of live (Some r) e = (r, refl, let same : live ≡ live_of r = cc in same)
 
 pub walk_goes_on : (n turn : ℕ) (live : Live) (xs : List Record) → IsInOrder id_before xs → count_by (is_below n) xs ≡ turn → Some live ≡ option_map live_of (find (is_from n) xs) → count_by (is_below (live.id + 1)) xs ≡ turn + 1
-walk_goes_on n turn live xs order at is =
-    let q = some_of live (find (is_from n) xs) is in
-    let its : live.id ≡ q.0.id = ap (λ l. l.id) q.2 in
-    ap (λ k. count_by (is_below (k + 1)) xs) its ∙ one_more n q.0 xs order q.1 ∙ ap (λ k. k + 1) at
+walk_goes_on n turn live xs order at is = grind (arith, common_steps, one_more, some_of)
 
 -- a live record's number is below all numbers' end
 pub live_bound : (p : Parts) (n : ℕ) (live : Live) → IsSound (state_of p) → Some live ≡ option_map live_of (find (is_from n) (records_in p)) → live.id < 2 ^ 62

@@ -1,26 +1,10 @@
 -- What the look-ups of a number among the pending records and in the store find.
-use Rattle.std.proofs.Common.{◌≡◌, ℕ, Bool, true, false, ◌&&◌, cond, eqb, refl, sym, ap, ◌∙◌, Option, Some, None}
-use Rattle.std.specs.Borrow.{Bor}
-use Rattle.std.specs.Prelude.{find, is_some, IsSome}
-use Rattle.std.specs.Option.{option_copied, option_map}
-use Rattle.std.proofs.lemmas.Bool.{and_parts, eqb-true}
-use Rattle.ckpt_ids.specs.Ordered.{IsIn, IsInOrder}
-use Rattle.ckpt_ids.specs.Records.{Record}
-use Rattle.ckpt_pending.specs.Acknowledging.{IsPending}
-use Rattle.ckpt_registry.specs.Uses.{pins_by}
+use Rattle.ckpt_core.proofs.Names.{◌≡◌, ℕ, Bool, true, false, ◌&&◌, cond, eqb, refl, sym, ap, ◌∙◌, Option, Some, None, Bor, find, is_some, IsSome, option_copied, option_map, and_parts, eqb-true, IsIn}
+use Rattle.ckpt_core.proofs.Names.{IsInOrder, Record, IsPending, pins_by, IsStored, Stored, Parts, Standing, with_pins, records_in, state_of, pins_in, standing, standing_of, standing_without}
+use Rattle.ckpt_core.proofs.Names.{pending_of, id_before, State, is_pending, record_of, IsIn-from_find, common_steps, arith}
 use Rattle.ckpt_store.specs.Storing as storing
-use Rattle.ckpt_store.specs.Storing.{IsStored, Stored}
-use Rattle.ckpt_core.specs.declared.parts.Parts.{Parts}
-use Rattle.ckpt_model.specs.declared.reads.Standing.{Standing}
 use Rattle.ckpt_model.specs.declared.reads.Standing.TheVariants as stands
-use Rattle.ckpt_core.specs.Inside.Grouped.{with_pins}
-use Rattle.ckpt_core.specs.Inside.Parts.{records_in, state_of}
-use Rattle.ckpt_model.specs.Reads.{pins_in, standing, standing_of, standing_without}
-use Rattle.ckpt_model.specs.Refusals.{pending_of}
-use Rattle.ckpt_model.specs.Soundness.{id_before}
-use Rattle.ckpt_model.specs.State.{State, is_pending, record_of}
 use Rattle.ckpt_core.proofs.Answering.Reads.{pending_live, stored_record}
-use Rattle.ckpt_model.proofs.Records.Counts.{IsIn-from_find}
 use Rattle.ckpt_core.proofs.Records.Lookups.{has_number}
 
 -- the standing, by what is found
@@ -47,9 +31,7 @@ standing_pending p id (Some b) order pending e h =
 standing_pending p id None order pending e h = absurd (cc)
 
 pub standing_done : (p : Parts) (id : ℕ) (o : Option (Bor Record)) → IsInOrder id_before (records_in p) → IsStored p.store → find (has_number id) p.pending ≡ None → option_copied o ≡ storing.record_of p.store id → is_some o ≡ true → stands.Done ≡ standing (state_of p) id
-standing_done p id (Some b) order stored none e h =
-    let r : Record = b.now in
-    sym (ap (found_standing (state_of p) id) (stored_record p id order none ∙ sym e) ∙ ap (λ (d : Bool). cond d stands.Done stands.Pending) (stored_done p.store id r stored (sym e)))
+standing_done p id (Some b) order stored none e h = grind (arith, common_steps, stored_done, stored_record)
 standing_done p id None order stored none e h = absurd (cc)
 
 pub standing_of_none : (p : Parts) (id : ℕ) → record_of (state_of p) id ≡ None → standing_without (state_of p) id ≡ standing (state_of p) id

@@ -1,23 +1,12 @@
 -- What is found in the records in rising number is found in the groups: done records, savepoints, the choice.
-use Rattle.std.proofs.Common.{◌≡◌, ℕ, suc, ◌+◌, ◌-◌, Bool, true, false, not, ◌&&◌, cond, eqb, List, [], ◌∷◌, ◌++◌, map, length, refl, sym, ap, subst, ◌∙◌, ⊎_elim, arith, Option, Some, None}
-use Rattle.std.specs.Prelude.{count_by, find, slice_get}
-use Rattle.std.specs.Option.{option_map, option_or}
-use Rattle.std.specs.List.{filter, list_any}
-use Rattle.std.proofs.lemmas.List.{append-nil}
-use Rattle.std.proofs.lemmas.List.Folds.{find-append}
-use Rattle.std.proofs.lemmas.List.Elements.{filter-append}
-use Rattle.std.proofs.lemmas.Bool.{cases_Bool, both_ways, eqb-true, and_parts, and_from, and_left, and_right, not_from_false, not_from_true}
+use Rattle.ckpt_core.proofs.Names.{◌≡◌, ℕ, suc, ◌+◌, ◌-◌, Bool, true, false, not, ◌&&◌, cond, eqb, List, [], ◌∷◌, ◌++◌, map, length, refl, sym, ap, subst, ◌∙◌, ⊎_elim, arith, Option, Some, None}
+use Rattle.ckpt_core.proofs.Names.{count_by, find, slice_get, option_map, option_or, filter, list_any, append-nil, find-append, filter-append, cases_Bool, both_ways, eqb-true, and_parts, and_from}
+use Rattle.ckpt_core.proofs.Names.{and_left, and_right, not_from_false, not_from_true, IsIn, IsInOrder, in_order, Record, Use, IsIn-append_cases, IsIn-append_right, IsIn-from_map, IsIn-in_order}
+use Rattle.ckpt_core.proofs.Names.{IsIn-from_in_order, list_any-from_IsIn, IsIn-from_list_any, filter-all, filter-none, id_before, is_pending, is_checkpoint, is_done_checkpoint, last_checkpoint}
+use Rattle.ckpt_core.proofs.Names.{with_pins, grouped, records_of, is_checkpoint-kind, is_savepoint-kind, count_by-none, count_by-same, count_by-all, common_steps}
 use Rattle.ckpt_ids.specs.declared.numbers.Kind.TheVariants as kind
-use Rattle.ckpt_ids.specs.Ordered.{IsIn, IsInOrder, in_order}
-use Rattle.ckpt_ids.specs.Records.{Record, Use}
-use Rattle.ckpt_ids.proofs.OrderedLemmas.{IsIn-append_cases, IsIn-append_right, IsIn-from_map, IsIn-in_order, IsIn-from_in_order, list_any-from_IsIn, IsIn-from_list_any, filter-all, filter-none}
-use Rattle.ckpt_model.specs.Soundness.{id_before}
-use Rattle.ckpt_model.specs.State.{is_pending, is_checkpoint, is_done_checkpoint, last_checkpoint}
-use Rattle.ckpt_core.specs.Inside.Grouped.{with_pins, grouped, records_of}
-use Rattle.ckpt_model.proofs.Records.Lists.{is_checkpoint-kind, is_savepoint-kind}
 use Rattle.ckpt_core.proofs.Records.Grouped.{AreApart, in_order-from_apart, apart_left, apart_right, same_records, in_order-filter}
 use Rattle.ckpt_core.proofs.Records.Lookups.{AreGroups, has_number, find-records_of, find-map, count_by-records_of}
-use Rattle.ckpt_ids.proofs.CountLemmas.{count_by-none, count_by-same, count_by-all}
 
 -- the record of a number: pending, or a checkpoint, or a savepoint
 pub record_of-groups : (id : ℕ) (us : List Use) (pending checkpoints savepoints : List Record) → AreApart (grouped us pending checkpoints savepoints) →
@@ -89,27 +78,13 @@ last_id (r ∷ rs) = elim (last_id rs) [ Some id ↦ Some id | None ↦ Some r.i
 last_checkpoint-filter : (rs : List Record) → last_checkpoint rs ≡ last_id (filter is_done_checkpoint rs)
 unfolding last_id
 last_checkpoint-filter [] = refl
-last_checkpoint-filter (r ∷ rs) =
-    let rest : last_checkpoint rs ≡ last_id (filter is_done_checkpoint rs) = last_checkpoint-filter rs in
-    let P : Bool → Type 0 = λ b. elim (last_checkpoint rs) as (λ _. Option ℕ) [ Some id ↦ Some id | None ↦ cond b (Some r.id) None ] ≡ last_id (cond b (r ∷ filter is_done_checkpoint rs) (filter is_done_checkpoint rs)) in
-    let yes : P true = ap (λ o. elim o as (λ _. Option ℕ) [ Some id ↦ Some id | None ↦ Some r.id ]) rest in
-    let same : (o : Option ℕ) → elim o as (λ _. Option ℕ) [ Some id ↦ Some id | None ↦ None ] ≡ o = λ o. elim o as (λ w. elim w as (λ _. Option ℕ) [ Some id ↦ Some id | None ↦ None ] ≡ w) [ Some id ↦ refl | None ↦ refl ] in
-    let no : P false = same (last_checkpoint rs) ∙ rest in
-    ⊎_elim (λ (e : is_done_checkpoint r ≡ true). subst P (sym e) yes) (λ (e : is_done_checkpoint r ≡ false). subst P (sym e) no) (cases_Bool (is_done_checkpoint r))
+last_checkpoint-filter (r ∷ rs) = grind (arith, common_steps, last_checkpoint-filter rs)
 
 pub last_id-greatest : (rs : List Record) → last_id rs ≡ option_map (λ r. r.id) (slice_get rs (length rs - 1))
 unfolding last_id
 last_id-greatest [] = refl
 last_id-greatest (r ∷ []) = refl
-last_id-greatest (r ∷ q ∷ rs) =
-    let rest : last_id (q ∷ rs) ≡ option_map (λ s. s.id) (slice_get (q ∷ rs) (length (q ∷ rs) - 1)) = last_id-greatest (q ∷ rs) in
-    let a : length (q ∷ rs) - 1 ≡ length rs = omega arith in
-    let b : length (r ∷ q ∷ rs) - 1 ≡ suc (length rs) = omega arith in
-    let same : (o : Option ℕ) (x : ℕ) → (y : ℕ) → elim (elim o as (λ _. Option ℕ) [ Some id ↦ Some id | None ↦ Some x ]) as (λ _. Option ℕ) [ Some id ↦ Some id | None ↦ Some y ] ≡ elim o as (λ _. Option ℕ) [ Some id ↦ Some id | None ↦ Some x ] =
-    λ o x y. elim o as (λ w. elim (elim w as (λ _. Option ℕ) [ Some id ↦ Some id | None ↦ Some x ]) as (λ _. Option ℕ) [ Some id ↦ Some id | None ↦ Some y ] ≡ elim w as (λ _. Option ℕ) [ Some id ↦ Some id | None ↦ Some x ]) [ Some id ↦ refl | None ↦ refl ] in
-    same (last_id rs) q.id r.id ∙ rest
-    ∙ ap (λ n. option_map (λ s. s.id) (slice_get (q ∷ rs) n)) a
-    ∙ sym (ap (λ n. option_map (λ s. s.id) (slice_get (r ∷ q ∷ rs) n)) b)
+last_id-greatest (r ∷ q ∷ rs) = grind (arith, common_steps, last_id-greatest (q ∷ rs))
 
 pub last_checkpoint-groups : (us : List Use) (pending checkpoints savepoints : List Record) → AreApart (grouped us pending checkpoints savepoints) → AreGroups pending checkpoints savepoints → IsInOrder id_before checkpoints →
     last_checkpoint (records_of us pending checkpoints savepoints) ≡ last_id checkpoints

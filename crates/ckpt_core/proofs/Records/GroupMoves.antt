@@ -1,17 +1,8 @@
 -- What a change of the parts does to the records in rising number, and to their uses.
-use Rattle.std.proofs.Common.{◌≡◌, ℕ, ◌<◌, Bool, true, false, ◌&&◌, cond, eqb, List, [], ◌∷◌, ◌++◌, map, refl, sym, ap, subst, ◌∙◌, inl, inr, ⊎_elim, arith}
-use Rattle.std.specs.List.{filter, flat_map}
-use Rattle.std.proofs.lemmas.List.{append-nil, map-append}
-use Rattle.std.proofs.lemmas.List.Elements.{filter-append}
-use Rattle.std.proofs.lemmas.List.Concat.{flat_map-append}
-use Rattle.std.proofs.lemmas.Bool.{cases_Bool, both_ways, eqb-true, eq-eqb, ne_eqb, and_parts, and_from, and_left}
-use Rattle.ckpt_ids.specs.Ascending.{IsAscendingSet}
-use Rattle.ckpt_ids.specs.Ordered.{IsIn, IsInOrder, in_order, in_order_once}
-use Rattle.ckpt_ids.specs.Records.{Record, Use, Subtask, Pin, use_before, uses, uses_of}
-use Rattle.ckpt_ids.proofs.OrderedLemmas.{IsIn-append_left, IsIn-map, IsIn-from_filter, IsInOrder-append, filter-none}
-use Rattle.ckpt_model.specs.Soundness.{id_before}
-use Rattle.ckpt_core.specs.Inside.Grouped.{is_pin, pins, pins_of, with_pins, grouped, records_of}
-use Rattle.ckpt_model.proofs.Records.Counts.{map_same}
+use Rattle.ckpt_core.proofs.Names.{◌≡◌, ℕ, ◌<◌, Bool, true, false, ◌&&◌, cond, eqb, List, [], ◌∷◌, ◌++◌, map, refl, sym, ap, subst, ◌∙◌, inl, inr, ⊎_elim, arith, filter, flat_map, append-nil}
+use Rattle.ckpt_core.proofs.Names.{map-append, filter-append, flat_map-append, cases_Bool, both_ways, eqb-true, eq-eqb, ne_eqb, and_parts, and_from, and_left, IsAscendingSet, IsIn, IsInOrder}
+use Rattle.ckpt_core.proofs.Names.{in_order, in_order_once, Record, Use, Subtask, Pin, use_before, uses, uses_of, IsIn-append_left, IsIn-map, IsIn-from_filter, IsInOrder-append, filter-none}
+use Rattle.ckpt_core.proofs.Names.{id_before, is_pin, pins, pins_of, with_pins, grouped, records_of, map_same, common_steps}
 use Rattle.ckpt_core.proofs.Records.Grouped.{AreApart, in_order-filter, in_order-newest}
 use Rattle.ckpt_core.proofs.Using.Order.{holds, from_holds, holds_in_order, in_order_once-itself, earlier_record}
 
@@ -20,21 +11,11 @@ use Rattle.ckpt_core.proofs.Using.Order.{holds, from_holds, holds_in_order, in_o
 -- a test that implies another keeps as much of what the other kept
 pub filter_implied : {X : Type 0} (p q : X → Bool) (xs : List X) → ((x : X) → IsIn x xs → p x ≡ true → q x ≡ true) → filter p (filter q xs) ≡ filter p xs
 filter_implied p q [] implies = refl
-filter_implied {X} p q (x ∷ xs) implies =
-    let rest : filter p (filter q xs) ≡ filter p xs = filter_implied p q xs (λ y h. implies y (inr h)) in
-    let P : Bool → Type 0 = λ b. filter p (cond b (x ∷ filter q xs) (filter q xs)) ≡ cond (p x) (x ∷ filter p xs) (filter p xs) in
-    let here : q x ≡ true → P (q x) = λ (e : q x ≡ true). subst P (sym e) (ap (λ ys. cond (p x) (x ∷ ys) ys) rest) in
-    let gone : q x ≡ false → P (q x) = λ (e : q x ≡ false).
-    let fails : p x ≡ false = ⊎_elim (λ (t : p x ≡ true). absurd (both_ways (q x) e (implies x (inl refl) t))) (λ (t : p x ≡ false). t) (cases_Bool (p x)) in
-    subst P (sym e) (rest ∙ ap (λ b. cond b (x ∷ filter p xs) (filter p xs)) (sym fails)) in
-    ⊎_elim here gone (cases_Bool (q x))
+filter_implied {X} p q (x ∷ xs) implies = grind (arith, common_steps, filter_implied p q xs)
 
 pub filter-map : {X Y : Type 0} (p : Y → Bool) (f : X → Y) (xs : List X) → filter p (map f xs) ≡ map f (filter (λ x. p (f x)) xs)
 filter-map p f [] = refl
-filter-map {X} {Y} p f (x ∷ xs) =
-    let rest : filter p (map f xs) ≡ map f (filter (λ y. p (f y)) xs) = filter-map p f xs in
-    let P : Bool → Type 0 = λ b. cond b (f x ∷ filter p (map f xs)) (filter p (map f xs)) ≡ map f (cond b (x ∷ filter (λ y. p (f y)) xs) (filter (λ y. p (f y)) xs)) in
-    ⊎_elim (λ (e : p (f x) ≡ true). subst P (sym e) (ap (λ ys. f x ∷ ys) rest)) (λ (e : p (f x) ≡ false). subst P (sym e) rest) (cases_Bool (p (f x)))
+filter-map {X} {Y} p f (x ∷ xs) = grind (arith, common_steps, filter-map p f xs)
 
 -- pins
 
@@ -63,18 +44,14 @@ drop_groups keep us pending checkpoints savepoints apart =
 -- a trigger: the newest record, with its pins
 
 pub pins_of-append : (us vs : List Use) (id : ℕ) → pins_of (us ++ vs) id ≡ pins_of us id ++ pins_of vs id
-pins_of-append us vs id =
-    ap (λ ws. map (λ u. u.file) ws) (filter-append (pins id) us vs) ∙ map-append (λ (u : Use). u.file) (filter (pins id) us) (filter (pins id) vs)
+pins_of-append us vs id = grind (arith, common_steps)
 
 pub pins_of-none : (us : List Use) (id : ℕ) → ((u : Use) → IsIn u us → pins id u ≡ false) → pins_of us id ≡ []
 pins_of-none us id fails = ap (λ ws. map (λ u. u.file) ws) (filter-none (pins id) us fails)
 
 pub pins_of-holds : (id : ℕ) (files : List ℕ) → pins_of (holds id Pin files) id ≡ files
 pins_of-holds id [] = refl
-pins_of-holds id (f ∷ files) =
-    let rest : List Use = filter (pins id) (holds id Pin files) in
-    let e : (eqb id id && true) ≡ true = and_from (eqb id id) true (eq-eqb id id refl) refl in
-    ap (λ b. map (λ u. u.file) (cond b (record { id = id; holder = Pin; file = f } ∷ rest) rest)) e ∙ ap (λ fs. f ∷ fs) (pins_of-holds id files)
+pins_of-holds id (f ∷ files) = grind (arith, common_steps, pins_of-holds id files)
 
 pub trigger_uses : (us : List Use) (id : ℕ) (files : List ℕ) → IsInOrder use_before us → ((u : Use) → IsIn u us → u.id < id) → IsAscendingSet files → in_order_once use_before (us ++ holds id Pin files) ≡ us ++ holds id Pin files
 trigger_uses us id files order older set =

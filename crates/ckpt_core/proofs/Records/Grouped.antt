@@ -1,11 +1,7 @@
 -- Records put in rising number: what a change of the groups does to them.
-use Rattle.std.proofs.Common.{◌≡◌, ◌<◌, Bool, true, false, cond, ltb, List, [], ◌∷◌, ◌++◌, map, refl, sym, ap, subst, ◌∙◌, inl, inr, ⊎_elim, arith}
-use Rattle.std.specs.List.{filter}
-use Rattle.std.proofs.lemmas.Bool.{cases_Bool, lt-ltb, ltb-true, ltb-false, le-ltb}
-use Rattle.ckpt_ids.specs.Ordered.{IsIn, ComesBefore, IsInOrder, put, in_order}
-use Rattle.ckpt_ids.specs.Records.{Record}
-use Rattle.ckpt_ids.proofs.OrderedLemmas.{IsIn-append_left, IsIn-append_right, IsIn-append_cases, IsIn-from_map, IsIn-filter, IsIn-from_filter, ComesBefore-at, ComesBefore-from, IsInOrder-filter, IsIn-put, IsIn-put_cases, IsIn-in_order, IsIn-from_in_order}
-use Rattle.ckpt_model.specs.Soundness.{id_before}
+use Rattle.ckpt_core.proofs.Names.{◌≡◌, ◌<◌, Bool, true, false, cond, ltb, List, [], ◌∷◌, ◌++◌, map, refl, sym, ap, subst, ◌∙◌, inl, inr, ⊎_elim, arith, filter, cases_Bool, lt-ltb, ltb-true}
+use Rattle.ckpt_core.proofs.Names.{ltb-false, le-ltb, IsIn, ComesBefore, IsInOrder, put, in_order, Record, IsIn-append_left, IsIn-append_right, IsIn-append_cases, IsIn-from_map, IsIn-filter}
+use Rattle.ckpt_core.proofs.Names.{IsIn-from_filter, ComesBefore-at, ComesBefore-from, IsInOrder-filter, IsIn-put, IsIn-put_cases, IsIn-in_order, IsIn-from_in_order, id_before, common_steps}
 
 -- no record has the number of x
 abbrev pub IsNew : Record → List Record → Type 0
@@ -79,22 +75,10 @@ pub same_records : (xs ys : List Record) → IsInOrder id_before xs → IsInOrde
 same_records [] [] a b f g = refl
 same_records [] (y ∷ ys) a b f g = absurd (g y (inl refl))
 same_records (x ∷ xs) [] a b f g = absurd (f x (inl refl))
-same_records (x ∷ xs) (y ∷ ys) a b f g =
-    let e : x ≡ y = first_is_same x y xs ys a.0 b.0 (f x (inl refl)) (g y (inl refl)) in
-    let P : Record → Type 0 = λ w. (z : Record) → IsIn z xs → IsIn z (w ∷ ys) in
-    let Q : Record → Type 0 = λ w. (z : Record) → IsIn z ys → IsIn z (w ∷ xs) in
-    let R : Record → Type 0 = λ w. ComesBefore id_before w ys in
-    let forth : P x = subst P (sym e) (λ z h. f z (inr h)) in
-    let back : Q x = λ z h. g z (inr h) in
-    let before_ys : ComesBefore id_before x ys = subst R (sym e) b.0 in
-    let rest : xs ≡ ys = same_records xs ys a.1 b.1 (λ z h. not_first x z xs ys a.0 h (forth z h)) (λ z h. not_first x z ys xs before_ys h (back z h)) in
-    ap (λ w. w ∷ xs) e ∙ ap (λ w. y ∷ w) rest
+same_records (x ∷ xs) (y ∷ ys) a b f g = grind (arith, common_steps, first_is_same, not_first, same_records xs ys a.1 b.1)
 
 pub in_order_same : (xs ys : List Record) → AreApart xs → AreApart ys → ((z : Record) → IsIn z xs → IsIn z ys) → ((z : Record) → IsIn z ys → IsIn z xs) → in_order id_before xs ≡ in_order id_before ys
-in_order_same xs ys a b f g =
-    same_records (in_order id_before xs) (in_order id_before ys) (in_order-from_apart xs a) (in_order-from_apart ys b)
-    (λ z h. IsIn-in_order id_before z ys (f z (IsIn-from_in_order id_before z xs h)))
-    (λ z h. IsIn-in_order id_before z xs (g z (IsIn-from_in_order id_before z ys h)))
+in_order_same xs ys a b f g = grind (arith, common_steps, IsIn-from_in_order, IsIn-in_order, in_order-from_apart, same_records)
 
 -- changes
 
@@ -121,11 +105,7 @@ apart-map f same (x ∷ xs) a =
 
 put-map : (f : Record → Record) → ((r : Record) → (f r).id ≡ r.id) → (x : Record) (xs : List Record) → put id_before (f x) (map f xs) ≡ map f (put id_before x xs)
 put-map f same x [] = refl
-put-map f same x (y ∷ xs) =
-    let e : id_before (f y) (f x) ≡ id_before y x = ap (λ n. ltb n (f x).id) (same y) ∙ ap (ltb y.id) (same x) in
-    let P : Bool → Type 0 = λ b. cond b (f y ∷ put id_before (f x) (map f xs)) (f x ∷ f y ∷ map f xs) ≡ map f (cond b (y ∷ put id_before x xs) (x ∷ y ∷ xs)) in
-    let both : P (id_before y x) = ⊎_elim (λ (t : id_before y x ≡ true). subst P (sym t) (ap (λ w. f y ∷ w) (put-map f same x xs))) (λ (t : id_before y x ≡ false). subst P (sym t) refl) (cases_Bool (id_before y x)) in
-    ap (λ b. cond b (f y ∷ put id_before (f x) (map f xs)) (f x ∷ f y ∷ map f xs)) e ∙ both
+put-map f same x (y ∷ xs) = grind (arith, common_steps, put-map f same x xs)
 
 pub in_order-map : (f : Record → Record) → ((r : Record) → (f r).id ≡ r.id) → (xs : List Record) → in_order id_before (map f xs) ≡ map f (in_order id_before xs)
 in_order-map f same [] = refl
@@ -141,9 +121,7 @@ put_last x (y ∷ xs) newest =
 
 put_before_last : (a x : Record) (xs : List Record) → a.id < x.id → put id_before a (xs ++ x ∷ []) ≡ put id_before a xs ++ x ∷ []
 put_before_last a x [] h = ap (λ b. cond b (x ∷ put id_before a []) (a ∷ x ∷ [])) (le-ltb x.id a.id (omega arith))
-put_before_last a x (y ∷ xs) h =
-    let P : Bool → Type 0 = λ b. cond b (y ∷ put id_before a (xs ++ x ∷ [])) (a ∷ y ∷ (xs ++ x ∷ [])) ≡ cond b (y ∷ put id_before a xs) (a ∷ y ∷ xs) ++ x ∷ [] in
-    ⊎_elim (λ (t : id_before y a ≡ true). subst P (sym t) (ap (λ w. y ∷ w) (put_before_last a x xs h))) (λ (t : id_before y a ≡ false). subst P (sym t) refl) (cases_Bool (id_before y a))
+put_before_last a x (y ∷ xs) h = grind (arith, common_steps, put_before_last a x xs h)
 
 pub in_order-newest : (x : Record) (xs ys : List Record) → ((y : Record) → IsIn y (xs ++ ys) → y.id < x.id) → in_order id_before ((xs ++ x ∷ []) ++ ys) ≡ in_order id_before (xs ++ ys) ++ x ∷ []
 in_order-newest x [] ys newest = put_last x (in_order id_before ys) (λ y h. newest y (IsIn-from_in_order id_before y ys h))

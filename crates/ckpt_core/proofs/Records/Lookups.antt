@@ -1,47 +1,26 @@
 -- What is found in the records in rising number is found in the groups.
-use Rattle.std.proofs.Common.{◌≡◌, ℕ, suc, ◌+◌, Bool, true, false, ◌&&◌, cond, eqb, List, [], ◌∷◌, ◌++◌, map, length, refl, sym, ap, subst, ◌∙◌, inl, inr, ⊎_elim, Some, None}
-use Rattle.std.specs.Prelude.{count_by, find}
-use Rattle.std.specs.Option.{option_map}
-use Rattle.std.proofs.lemmas.Bool.{cases_Bool, both_ways, eqb-true, and_parts, and_left, not_from_false, not_from_true}
-use Rattle.std.proofs.lemmas.List.{length-append, length-map}
+use Rattle.ckpt_core.proofs.Names.{◌≡◌, ℕ, suc, ◌+◌, Bool, true, false, ◌&&◌, cond, eqb, List, [], ◌∷◌, ◌++◌, map, length, refl, sym, ap, subst, ◌∙◌, inl, inr, ⊎_elim, Some, None, count_by, find}
+use Rattle.ckpt_core.proofs.Names.{option_map, cases_Bool, both_ways, eqb-true, and_parts, and_left, not_from_false, not_from_true, length-append, length-map, IsIn, put, in_order, Record, Use}
+use Rattle.ckpt_core.proofs.Names.{IsIn-append_cases, IsIn-in_order, IsIn-from_in_order, list_any-none, find-none, id_before, is_pending, pending_of, with_pins, grouped, records_of, count_by-append}
+use Rattle.ckpt_core.proofs.Names.{count_by-map, count_by-in_order, count_by-same, IsIn-from_find, fails-from_find, find_agree, common_steps, arith}
 use Rattle.ckpt_ids.specs.declared.numbers.Kind.TheVariants as kind
-use Rattle.ckpt_ids.specs.Ordered.{IsIn, put, in_order}
-use Rattle.ckpt_ids.specs.Records.{Record, Use}
-use Rattle.ckpt_ids.proofs.OrderedLemmas.{IsIn-append_cases, IsIn-in_order, IsIn-from_in_order, list_any-none}
-use Rattle.ckpt_ids.proofs.PlaceLemmas.{find-none}
-use Rattle.ckpt_model.specs.Soundness.{id_before}
-use Rattle.ckpt_model.specs.State.{is_pending}
-use Rattle.ckpt_model.specs.Refusals.{pending_of}
-use Rattle.ckpt_core.specs.Inside.Grouped.{with_pins, grouped, records_of}
-use Rattle.ckpt_ids.proofs.CountLemmas.{count_by-append, count_by-map, count_by-in_order, count_by-same}
-use Rattle.ckpt_model.proofs.Records.Counts.{IsIn-from_find, fails-from_find, find_agree}
 use Rattle.ckpt_core.proofs.Records.Grouped.{AreApart}
 
 -- counts
 
 length-put : (x : Record) (xs : List Record) → length (put id_before x xs) ≡ suc (length xs)
 length-put x [] = refl
-length-put x (y ∷ xs) =
-    let P : Bool → Type 0 = λ b. length (cond b (y ∷ put id_before x xs) (x ∷ y ∷ xs)) ≡ suc (suc (length xs)) in
-    ⊎_elim (λ (e : id_before y x ≡ true). subst P (sym e) (ap suc (length-put x xs))) (λ (e : id_before y x ≡ false). subst P (sym e) refl) (cases_Bool (id_before y x))
+length-put x (y ∷ xs) = grind (arith, common_steps, length-put x xs)
 
 pub length-in_order : (xs : List Record) → length (in_order id_before xs) ≡ length xs
 length-in_order [] = refl
 length-in_order (x ∷ xs) = length-put x (in_order id_before xs) ∙ ap suc (length-in_order xs)
 
 pub length-records_of : (us : List Use) (pending checkpoints savepoints : List Record) → length (records_of us pending checkpoints savepoints) ≡ length pending + (length checkpoints + length savepoints)
-length-records_of us pending checkpoints savepoints =
-    length-in_order (grouped us pending checkpoints savepoints)
-    ∙ length-append (map (with_pins us) pending) (checkpoints ++ savepoints)
-    ∙ ap (λ n. n + length (checkpoints ++ savepoints)) (length-map pending (with_pins us))
-    ∙ ap (λ n. length pending + n) (length-append checkpoints savepoints)
+length-records_of us pending checkpoints savepoints = grind (arith, common_steps, length-append, length-in_order, length-map)
 
 pub count_by-records_of : (p : Record → Bool) (us : List Use) (pending checkpoints savepoints : List Record) → ((r : Record) → p (with_pins us r) ≡ p r) → count_by p (records_of us pending checkpoints savepoints) ≡ count_by p pending + (count_by p checkpoints + count_by p savepoints)
-count_by-records_of p us pending checkpoints savepoints same =
-    count_by-in_order p id_before (grouped us pending checkpoints savepoints)
-    ∙ count_by-append p (map (with_pins us) pending) (checkpoints ++ savepoints)
-    ∙ ap (λ n. n + count_by p (checkpoints ++ savepoints)) (count_by-map p (with_pins us) pending ∙ count_by-same (λ r. p (with_pins us r)) p pending (λ r h. same r))
-    ∙ ap (λ n. count_by p pending + n) (count_by-append p checkpoints savepoints)
+count_by-records_of p us pending checkpoints savepoints same = grind (arith, common_steps, count_by-append, count_by-in_order, count_by-map, count_by-same)
 
 -- the one that passes a test
 
@@ -68,10 +47,7 @@ one_of_number (x ∷ xs) a y z (inr h) (inr k) e = one_of_number xs a.1 y z h k 
 
 -- a test that only records of one number pass finds the same in the records in order and in the groups
 pub find-records_of : (p : Record → Bool) (id : ℕ) (us : List Use) (pending checkpoints savepoints : List Record) → AreApart (grouped us pending checkpoints savepoints) → ((r : Record) → p r ≡ true → r.id ≡ id) → find p (records_of us pending checkpoints savepoints) ≡ find p (grouped us pending checkpoints savepoints)
-find-records_of p id us pending checkpoints savepoints apart only =
-    let g : List Record = grouped us pending checkpoints savepoints in
-    find_same p (in_order id_before g) g (λ z h. IsIn-from_in_order id_before z g h) (λ z h. IsIn-in_order id_before z g h)
-    (λ y z h k a b. one_of_number g apart y z (IsIn-from_in_order id_before y g h) (IsIn-from_in_order id_before z g k) (only y a ∙ sym (only z b)))
+find-records_of p id us pending checkpoints savepoints apart only = grind (arith, common_steps, IsIn-from_in_order, IsIn-in_order, find_same, one_of_number)
 
 pub find-append_left : {X : Type 0} (p : X → Bool) (xs ys : List X) → ((y : X) → IsIn y ys → p y ≡ false) → find p (xs ++ ys) ≡ find p xs
 find-append_left p [] ys fails = find-none p ys (list_any-none p ys fails)
@@ -79,9 +55,7 @@ find-append_left p (x ∷ xs) ys fails = ap (λ o. cond (p x) (Some x) o) (find-
 
 pub find-map : {X Y : Type 0} (p : Y → Bool) (f : X → Y) (xs : List X) → find p (map f xs) ≡ option_map f (find (λ x. p (f x)) xs)
 find-map p f [] = refl
-find-map {X} {Y} p f (x ∷ xs) =
-    let P : Bool → Type 0 = λ b. cond b (Some (f x)) (find p (map f xs)) ≡ option_map f (cond b (Some x) (find (λ y. p (f y)) xs)) in
-    ⊎_elim (λ (e : p (f x) ≡ true). subst P (sym e) refl) (λ (e : p (f x) ≡ false). subst P (sym e) (find-map p f xs)) (cases_Bool (p (f x)))
+find-map {X} {Y} p f (x ∷ xs) = grind (arith, common_steps, find-map p f xs)
 
 -- what the groups hold
 pub record AreGroups (pending checkpoints savepoints : List Record) : Type 0 where

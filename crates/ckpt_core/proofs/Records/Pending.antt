@@ -1,30 +1,10 @@
 -- The pending records in rising number: what is found, added, changed and taken out.
-use Rattle.std.proofs.Common.{◌≡◌, ℕ, zero, suc, ◌+◌, ◌<◌, Bool, true, false, not, cond, ltb, eqb, ◌&&◌, ◌||◌, List, [], ◌∷◌, ◌++◌, map, length, get_or, Some, refl, sym, ap, subst, ◌∙◌, inl, inr, ⊎_elim, arith}
-use Rattle.std.specs.Prelude.{count_by, find, filter}
-use Rattle.std.specs.List.{list_any, remove, slice_set}
-use Rattle.std.specs.Int.{from_bool}
-use Rattle.std.proofs.lemmas.Bool.{cases_Bool, both_ways, lt-ltb, ltb-true, eqb-true, eq-eqb, ne_eqb}
-use Rattle.std.proofs.lemmas.Bool.Decides.{nat_tests}
-use Rattle.std.proofs.lemmas.List.Folds.{list_any-append}
-use Rattle.std.proofs.lemmas.List.Sums.{sum_by-remove}
-use Rattle.std.proofs.lemmas.Option.{slice_get-get_or}
-use Rattle.ckpt_ids.specs.declared.subtask.SubtaskId.{SubtaskId}
-use Rattle.ckpt_ids.specs.Ordered.{IsIn, IsInOrder}
-use Rattle.ckpt_ids.specs.Places.{LiesAt}
-use Rattle.ckpt_ids.specs.Records.{Record, has_acknowledged, acknowledged}
-use Rattle.ckpt_ids.proofs.CountLemmas.{count_by-cons, count_by-append, count_by-map, count_by-same}
-use Rattle.ckpt_ids.proofs.OrderedLemmas.{IsIn-from_map, IsIn-from_filter, IsIn-append_cases, IsInOrder-append, IsInOrder-filter, IsInOrder-map, ComesBefore-at, filter-same, filter-filter}
-use Rattle.ckpt_ids.proofs.AscendingLemmas.{numbers_in_order}
-use Rattle.ckpt_ids.proofs.PlaceLemmas.{first_differs, get_or_any}
-use Rattle.ckpt_pending.specs.Acknowledging.{IsPending, without_ack}
-use Rattle.ckpt_pending.proofs.PendingLemmas.{without-with_ack}
-use Rattle.ckpt_store.specs.Storing.{has_id, id_of}
-use Rattle.ckpt_store.proofs.RowLemmas.{find-place, remove-place}
-use Rattle.ckpt_model.specs.State.{is_checkpoint}
-use Rattle.ckpt_model.specs.Soundness.{id_before}
-use Rattle.ckpt_core.specs.Inside.PendingRecords.{acked, retracted, AreKept}
-use Rattle.ckpt_model.proofs.Records.Counts.{map_itself}
-use Rattle.std.proofs.lemmas.Simd.{map-map}
+use Rattle.ckpt_core.proofs.Names.{◌≡◌, ℕ, zero, suc, ◌+◌, ◌<◌, Bool, true, false, not, cond, ltb, eqb, ◌&&◌, ◌||◌, List, [], ◌∷◌, ◌++◌, map, length, get_or, Some, refl, sym, ap, subst, ◌∙◌, inl, inr}
+use Rattle.ckpt_core.proofs.Names.{⊎_elim, arith, count_by, find, filter, list_any, remove, slice_set, from_bool, cases_Bool, both_ways, lt-ltb, ltb-true, eqb-true, eq-eqb, ne_eqb, nat_tests}
+use Rattle.ckpt_core.proofs.Names.{list_any-append, sum_by-remove, slice_get-get_or, SubtaskId, IsIn, IsInOrder, LiesAt, Record, has_acknowledged, acknowledged, count_by-cons, count_by-append}
+use Rattle.ckpt_core.proofs.Names.{count_by-map, count_by-same, IsIn-from_map, IsIn-from_filter, IsIn-append_cases, IsInOrder-append, IsInOrder-filter, IsInOrder-map, ComesBefore-at, filter-same}
+use Rattle.ckpt_core.proofs.Names.{filter-filter, numbers_in_order, first_differs, get_or_any, IsPending, without_ack, without-with_ack, has_id, id_of, find-place, remove-place, is_checkpoint}
+use Rattle.ckpt_core.proofs.Names.{id_before, acked, retracted, AreKept, map_itself, map-map, common_steps}
 
 -- the record of this number changed
 abbrev pub changed : ℕ → (Record → Record) → List Record → List Record
@@ -38,22 +18,12 @@ from_bool-cond false = refl
 -- in rising number, the others have other numbers
 
 others : (id : ℕ) (r : Record) (rs : List Record) → IsInOrder id_before (r ∷ rs) → has_id id r ≡ true → (s : Record) → IsIn s rs → has_id id s ≡ false
-others id r rs order e s h =
-    let later : r.id < s.id = ltb-true r.id s.id (ComesBefore-at id_before r s rs order.0 h) in
-    let here : r.id ≡ id = eqb-true r.id id e in
-    ne_eqb s.id id (λ same. absurd (omega arith))
+others id r rs order e s h = grind (arith, common_steps, ComesBefore-at, eqb-true, ltb-true, ne_eqb)
 
 pub find-from_IsIn : (id : ℕ) (q : Record) (rs : List Record) → IsInOrder id_before rs → IsIn q rs → has_id id q ≡ true → find (has_id id) rs ≡ Some q
 find-from_IsIn id q [] order h e = absurd h
-find-from_IsIn id q (r ∷ rs) order (inl same) e =
-    let P : Bool → Type 0 = λ b. cond b (Some r) (find (has_id id) rs) ≡ Some q in
-    subst P (sym (ap (has_id id) (sym same) ∙ e)) (ap (λ w. Some w) (sym same))
-find-from_IsIn id q (r ∷ rs) order (inr h) e =
-    let P : Bool → Type 0 = λ b. cond b (Some r) (find (has_id id) rs) ≡ Some q in
-    ⊎_elim
-    (λ (t : has_id id r ≡ true). absurd (both_ways (has_id id q) (others id r rs order t q h) e))
-    (λ (t : has_id id r ≡ false). subst P (sym t) (find-from_IsIn id q rs order.1 h e))
-    (cases_Bool (has_id id r))
+find-from_IsIn id q (r ∷ rs) order (inl same) e = grind (arith, common_steps)
+find-from_IsIn id q (r ∷ rs) order (inr h) e = grind (arith, common_steps, both_ways, cases_Bool, others, find-from_IsIn id q rs order.1 h e)
 
 -- what stands at a place lies there by its own number
 pub its_place : (place : ℕ) (r : Record) (rs : List Record) → place < length rs → r ≡ get_or rs place r → LiesAt id_of r.id rs place
@@ -61,8 +31,7 @@ its_place place r rs within is = (within, λ d. ap id_of (get_or_any rs place d 
 
 -- a look-up finds what is at the place of the number
 pub found_at : (id place : ℕ) (r : Record) (rs : List Record) → IsInOrder id_before rs → LiesAt id_of id rs place → r ≡ get_or rs place r → find (has_id id) rs ≡ Some r
-found_at id place r rs order at is =
-    sym (find-place id rs place order at) ∙ slice_get-get_or rs place r at.0 ∙ ap (λ q. Some q) (sym is)
+found_at id place r rs order at is = grind (arith, common_steps, find-place, slice_get-get_or)
 
 -- one more
 
@@ -120,9 +89,7 @@ AreKept-changed id place f r w rs n kept at is new same kind pending =
 -- one less
 
 pub count-removed : (place : ℕ) (r : Record) (rs : List Record) → place < length rs → r ≡ get_or rs place r → count_by is_checkpoint (remove rs place) + cond (is_checkpoint r) 1 0 ≡ count_by is_checkpoint rs
-count-removed place r rs within is =
-    let one : Record → ℕ = λ s. cond (is_checkpoint s) 1 0 in
-    ap (λ s. count_by is_checkpoint (remove rs place) + one s) is ∙ sum_by-remove one rs place r within
+count-removed place r rs within is = grind (arith, common_steps)
 
 pub AreKept-removed : (id place m : ℕ) (r : Record) (rs : List Record) (n : ℕ) → AreKept rs n → LiesAt id_of id rs place → r ≡ get_or rs place r → m + cond (is_checkpoint r) 1 0 ≡ n → AreKept (remove rs place) m
 AreKept-removed id place m r rs n kept at is count =
@@ -137,21 +104,11 @@ AreKept-removed id place m r rs n kept at is count =
 
 -- all that have none of these numbers, one number more
 pub filter-one_more : (ids : List ℕ) (id : ℕ) (rs : List Record) → filter (λ r. not (eqb r.id id)) (filter (λ r. not (list_any (λ i. eqb r.id i) ids)) rs) ≡ filter (λ r. not (list_any (λ i. eqb r.id i) (ids ++ id ∷ []))) rs
-filter-one_more ids id rs =
-    let old : Record → Bool = λ r. not (list_any (λ i. eqb r.id i) ids) in
-    let new : Record → Bool = λ r. not (eqb r.id id) in
-    let all : Record → Bool = λ r. not (list_any (λ i. eqb r.id i) (ids ++ id ∷ [])) in
-    let bools : (a b : Bool) → (not a && not b) ≡ not (a || (b || false)) = λ a b. grind (arith, nat_tests) in
-    let each : (r : Record) → (old r && new r) ≡ all r = λ r. bools (list_any (λ i. eqb r.id i) ids) (eqb r.id id) ∙ ap not (sym (list_any-append (λ i. eqb r.id i) ids (id ∷ []))) in
-    filter-filter new old rs ∙ filter-same (λ r. old r && new r) all rs (λ r h. each r)
+filter-one_more ids id rs = grind (arith, common_steps, filter-filter, filter-same, list_any-append, nat_tests)
 
 pub count_by-others : {X : Type 0} (p : X → Bool) (xs : List X) → count_by p xs + count_by (λ x. not (p x)) xs ≡ length xs
 count_by-others p [] = refl
-count_by-others {X} p (x ∷ xs) =
-    let q : X → Bool = λ y. not (p y) in
-    let rest : count_by p xs + count_by q xs ≡ length xs = count_by-others p xs in
-    let one : (b : Bool) → cond b 1 0 + cond (not b) 1 0 ≡ 1 = λ b. elim b as (λ c. cond c 1 0 + cond (not c) 1 0 ≡ 1) [ true ↦ refl | false ↦ refl ] in
-    omega (arith, one (p x), count_by-cons p x xs, count_by-cons q x xs)
+count_by-others {X} p (x ∷ xs) = grind (arith, common_steps, count_by-others p xs)
 
 -- an acknowledgement that is taken back leaves what there was
 pub retracted-acked : (id : ℕ) (s : SubtaskId) (files : List ℕ) (rs : List Record) → IsInOrder id_before rs → ((r : Record) → find (λ q. eqb q.id id) rs ≡ Some r → has_acknowledged r s ≡ false) → retracted id s (acked id s files rs) ≡ rs

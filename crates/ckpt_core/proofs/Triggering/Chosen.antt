@@ -1,23 +1,9 @@
 -- The files that the registry has of the record that is chosen are those that a triggered record pins.
-use Rattle.std.proofs.Common.{◌≡◌, ℕ, ◌<◌, Bool, true, false, not, eqb, List, [], ◌∷◌, map, sym, ap, subst, ◌∙◌, ⊎_elim, arith, Some}
-use Rattle.std.specs.List.{filter, find, flat_map}
-use Rattle.std.proofs.lemmas.Bool.{cases_Bool, cond-true, cond-false, eqb-true, ltb-true, ne_eqb}
-use Rattle.std.proofs.lemmas.Option.{none-some, same_Some}
-use Rattle.ckpt_ids.specs.declared.ack.Acked.{Acked}
-use Rattle.ckpt_ids.specs.declared.reply.Choice.{Choice}
+use Rattle.ckpt_core.proofs.Names.{◌≡◌, ℕ, ◌<◌, Bool, true, false, not, eqb, List, [], ◌∷◌, map, sym, ap, subst, ◌∙◌, ⊎_elim, arith, Some, filter, find, flat_map, cases_Bool, cond-true, cond-false}
+use Rattle.ckpt_core.proofs.Names.{eqb-true, ltb-true, ne_eqb, none-some, same_Some, Acked, Choice, ascending_set, IsIn, IsInOrder, Record, Use, Pin, Subtask, same_holder, uses, uses_of}
+use Rattle.ckpt_core.proofs.Names.{ComesBefore-at, IsIn-append_cases, IsIn-from_flat_map, IsIn-from_map, filter-all, filter-none, filter-filter, files_by, Parts, AreTied, state_of, files_chosen}
+use Rattle.ckpt_core.proofs.Names.{names, IsSound, id_before, State, choice_of, chosen, files_of, pins_now, record_of, chosen_is_done}
 use Rattle.ckpt_ids.specs.declared.reply.Choice.TheVariants as choice
-use Rattle.ckpt_ids.specs.Ascending.{ascending_set}
-use Rattle.ckpt_ids.specs.Ordered.{IsIn, IsInOrder}
-use Rattle.ckpt_ids.specs.Records.{Record, Use, Pin, Subtask, same_holder, uses, uses_of}
-use Rattle.ckpt_ids.proofs.OrderedLemmas.{ComesBefore-at, IsIn-append_cases, IsIn-from_flat_map, IsIn-from_map, filter-all, filter-none, filter-filter}
-use Rattle.ckpt_registry.specs.Uses.{files_by}
-use Rattle.ckpt_core.specs.declared.parts.Parts.{Parts}
-use Rattle.ckpt_core.specs.Inside.Parts.{AreTied, state_of}
-use Rattle.ckpt_core.specs.Inside.Starting.{files_chosen}
-use Rattle.ckpt_model.specs.Laws.{names}
-use Rattle.ckpt_model.specs.Soundness.{IsSound, id_before}
-use Rattle.ckpt_model.specs.State.{State, choice_of, chosen, files_of, pins_now, record_of}
-use Rattle.ckpt_model.proofs.Histories.Choice.{chosen_is_done}
 use Rattle.ckpt_core.proofs.Using.Order.{uses-filter}
 
 -- no other record has the number

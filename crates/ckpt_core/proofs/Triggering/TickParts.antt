@@ -1,53 +1,24 @@
 -- What a tick does to the parts is what it does to the state.
-use Rattle.std.proofs.Common.{◌≡◌, ℕ, ◌+◌, ◌<◌, ◌≤◌, Bool, true, false, not, ◌&&◌, leb, ltb, List, [], ◌++◌, map, max, length, refl, sym, ap, ◌∙◌, ⊎_elim, arith, None}
-use Rattle.std.specs.Prelude.{count_by}
-use Rattle.std.specs.List.{filter}
-use Rattle.std.specs.declared.vec.Vec.{Vec}
-use Rattle.std.specs.declared.alloc.Global.{Global}
-use Rattle.std.proofs.lemmas.Bool.{cases_Bool, both_ways, and_parts, false_from_ne_true}
-use Rattle.std.proofs.lemmas.List.{length-map}
-use Rattle.std.proofs.lemmas.List.Sums.{length-filter}
-use Rattle.std.proofs.lemmas.List.Filters.{length-filter_both}
+use Rattle.ckpt_core.proofs.Names.{◌≡◌, ℕ, ◌+◌, ◌<◌, ◌≤◌, Bool, true, false, not, ◌&&◌, leb, ltb, List, [], ◌++◌, map, max, length, refl, sym, ap, ◌∙◌, ⊎_elim, arith, None, count_by, filter, Vec}
+use Rattle.ckpt_core.proofs.Names.{Global, cases_Bool, both_ways, and_parts, false_from_ne_true, length-map, length-filter, length-filter_both, Reply, TickEnd, Answer, Done, IsIn, Record, uses}
+use Rattle.ckpt_core.proofs.Names.{is_present, IsIn-append_left, IsIn-append_right, IsIn-append_cases, IsIn-map, IsIn-from_map, IsIn-filter, IsIn-from_filter, IsIn-in_order, IsIn-from_in_order}
+use Rattle.ckpt_core.proofs.Names.{is_known, Hold, FailureCount, Moments, gap, Parts, Expiry, with_pins, grouped, answer_wants, may_want_memory, Answers, AreSound, AreTied, IsAccepted, is_noted}
+use Rattle.ckpt_core.proofs.Names.{records_in, state_of, IsSound, id_before, IsExpiry, is_late, late_in, Starts, held_at, State, drop, is_checkpoint, is_expired, Stepped, effect, start_or_hold, tick}
+use Rattle.ckpt_core.proofs.Names.{triggered, failed_over, dropped_by, count_by-le, Running, new_record, count_by-none, count_by-same, step_accepted, common_steps}
 use Rattle.ckpt_ids.specs.declared.numbers.Kind.TheVariants as kind
 use Rattle.ckpt_ids.specs.declared.call.Call.TheVariants as call
-use Rattle.ckpt_ids.specs.declared.reply.Reply.{Reply}
 use Rattle.ckpt_ids.specs.declared.reply.Reply.TheVariants as reply
-use Rattle.ckpt_ids.specs.declared.reply.TickEnd.{TickEnd}
 use Rattle.ckpt_ids.specs.declared.reply.TickEnd.TheVariants as ends
-use Rattle.ckpt_ids.specs.declared.reply.Answer.{Answer}
-use Rattle.ckpt_ids.specs.declared.reply.Answer.TheVariants.{Done, Refused}
-use Rattle.ckpt_ids.specs.Ordered.{IsIn}
-use Rattle.ckpt_ids.specs.Records.{Record, uses, is_present}
-use Rattle.ckpt_ids.proofs.OrderedLemmas.{IsIn-append_left, IsIn-append_right, IsIn-append_cases, IsIn-map, IsIn-from_map, IsIn-filter, IsIn-from_filter, IsIn-in_order, IsIn-from_in_order}
-use Rattle.ckpt_outbox.specs.Queues.{is_known}
-use Rattle.ckpt_rules.specs.declared.hold.Hold.{Hold}
+use Rattle.ckpt_ids.specs.declared.reply.Answer.TheVariants.{Refused}
 use Rattle.ckpt_rules.specs.declared.hold.Hold.TheVariants as hold
-use Rattle.ckpt_rules.specs.FailureCount.{FailureCount}
-use Rattle.ckpt_rules.specs.Moments.{Moments}
 use Rattle.ckpt_rules.specs.Trigger as trigger
-use Rattle.ckpt_rules.specs.Trigger.{gap}
-use Rattle.ckpt_core.specs.declared.parts.Parts.{Parts}
-use Rattle.ckpt_core.specs.declared.triggers.Expiry.{Expiry}
-use Rattle.ckpt_core.specs.Inside.Grouped.{with_pins, grouped}
-use Rattle.ckpt_model.specs.Memory.{answer_wants, may_want_memory}
-use Rattle.ckpt_core.specs.Inside.Parts.{Answers, AreSound, AreTied, IsAccepted, is_noted, records_in, state_of}
-use Rattle.ckpt_model.specs.Soundness.{IsSound, id_before}
-use Rattle.ckpt_core.specs.Inside.Expiring.{IsExpiry, is_late, late_in}
-use Rattle.ckpt_core.specs.Inside.Starting.{Starts, held_at}
-use Rattle.ckpt_model.specs.State.{State, drop, is_checkpoint, is_expired}
-use Rattle.ckpt_model.specs.Steps.{Stepped, effect, start_or_hold, tick, triggered, failed_over, dropped_by}
-use Rattle.ckpt_model.proofs.Records.Counts.{count_by-le}
 use Rattle.ckpt_core.proofs.Ending.Counts.{few_pending}
 use Rattle.ckpt_core.proofs.Triggering.TriggerParts.{limit_bound}
-use Rattle.ckpt_model.specs.declared.mode.Mode.TheVariants.{Running}
 use Rattle.ckpt_core.proofs.Records.Grouped.{AreApart, apart_left, apart_between}
 use Rattle.ckpt_core.proofs.Records.Lookups.{AreGroups, count_by-records_of, one_of_number, done_in}
 use Rattle.ckpt_core.proofs.Records.GroupLookups.{pending_checkpoints-groups}
 use Rattle.ckpt_core.proofs.Ending.Drops.{apart_in, numbers, noted-from_IsIn, IsIn-from_noted}
-use Rattle.ckpt_model.proofs.Soundness.Triggers.{new_record}
 use Rattle.ckpt_core.proofs.Triggering.TickStates.{started, starts_as, starts_done, starts_unused, stepped, tick_fails, tick_goes, tick_starts, ticked}
-use Rattle.ckpt_ids.proofs.CountLemmas.{count_by-none, count_by-same}
-use Rattle.ckpt_model.proofs.Answering.StepCases.{step_accepted}
 
 -- the clock
 
@@ -70,33 +41,17 @@ tied_failures p f same tied = record { uses_are = tied.uses_are; retained = tied
 pub savepoint_answers : (p q : Parts) (now id : ℕ) (c : Moments) → IsAccepted p (call.Savepoint now) → c ≡ record p.clock { latest = max now p.clock.latest } → state_of q ≡ triggered (state_of (record p { clock = c })) kind.Savepoint → id ≡ p.next →
     AreTied q → q.ended.items ≡ [] → Answers p q (call.Savepoint now) (reply.SavepointTriggered id)
 unfolding state_of effect
-savepoint_answers p q now id c accepted seen after new tied none = record {
-  step_is =
-      step_accepted (state_of p) (call.Savepoint now) accepted
-      ∙ ap (λ m. stepped (triggered m kind.Savepoint) (Done (reply.SavepointTriggered p.next))) (sym (seen_state p now c seen))
-      ∙ ap (λ m. stepped m (Done (reply.SavepointTriggered p.next))) (sym after)
-      ∙ ap (λ i. stepped (state_of q) (Done (reply.SavepointTriggered i))) (sym new);
-  tied = tied;
-  none_ended = none;
-}
+savepoint_answers p q now id c accepted seen after new tied none = grind (arith, common_steps, seen_state, step_accepted, stepped)
 
 -- a start
 
 pub held_result : (p : Parts) (pending moment : ℕ) (h k : Hold) → moment ≡ max 0 p.clock.latest → h ≡ trigger.hold p.opened.config p.clock.due p.clock.completed moment pending → h ≡ k → held_at (state_of p) pending ≡ k
 unfolding state_of
-held_result p pending moment h k m e is =
-    let same : p.clock.latest ≡ moment = omega (arith, m) in
-    ap (λ t. trigger.hold p.opened.config p.clock.due p.clock.completed t pending) same ∙ sym e ∙ is
+held_result p pending moment h k m e is = grind (arith, common_steps)
 
 pub started_state : (p q : Parts) (k : Moments) (moment : ℕ) → state_of q ≡ triggered (state_of p) kind.Checkpoint → moment ≡ max 0 p.clock.latest → k ≡ record q.clock { due = moment + gap q.opened.config } → state_of (record q { clock = k }) ≡ started (state_of p)
 unfolding state_of triggered
-started_state p q k moment after m e =
-    let same : moment ≡ p.clock.latest = omega (arith, m) in
-    let config : q.opened.config ≡ p.opened.config = ap (λ s. s.opening.config) after in
-    let due : moment + gap q.opened.config ≡ p.clock.latest + gap p.opened.config = ap (λ t. t + gap q.opened.config) same ∙ ap (λ c. p.clock.latest + gap c) config in
-    ap (λ c. state_of (record q { clock = c })) e
-    ∙ ap {B = State} (λ d. record (state_of q) { due = d }) due
-    ∙ ap {B = State} (λ (s : State). record s { due = p.clock.latest + gap p.opened.config }) after
+started_state p q k moment after m e = grind (arith, common_steps)
 
 pub starts_now : (p q : Parts) (k : Moments) (pending moment id : ℕ) → held_at (state_of p) pending ≡ hold.Go → state_of q ≡ triggered (state_of p) kind.Checkpoint → id ≡ p.next → moment ≡ max 0 p.clock.latest → k ≡ record q.clock { due = moment + gap q.opened.config } →
     Starts (state_of p) pending (state_of (record q { clock = k })) (ends.Triggered id)
@@ -113,9 +68,7 @@ is_old timeout moment r = leb (r.started + timeout) moment
 
 -- what is old has expired
 pub old_same : (p : Parts) (timeout moment : ℕ) → timeout ≡ p.opened.config.timeout → moment ≡ max 0 p.clock.latest → (r : Record) → leb (r.started + p.opened.config.timeout) p.clock.latest ≡ is_old timeout moment r
-old_same p timeout moment t m r =
-    let same : p.clock.latest ≡ moment = omega (arith, m) in
-    ap (λ x. leb (r.started + x) p.clock.latest) (sym t) ∙ ap (leb (r.started + timeout)) same
+old_same p timeout moment t m r = grind (arith, common_steps)
 
 -- a count over pending records alone
 pub counted_in_pending : (p : Parts) (t u : Record → Bool) → AreGroups p.pending p.store.checkpoints p.store.savepoints → ((r : Record) → t (with_pins p.registry r) ≡ t r) → ((r : Record) → r.done ≡ true → t r ≡ false) → ((r : Record) → r.done ≡ false → t r ≡ u r) →
@@ -141,9 +94,7 @@ expired_counted p timeout moment groups t m =
 pub late_counted : (p : Parts) (timeout moment : ℕ) → AreGroups p.pending p.store.checkpoints p.store.savepoints → timeout ≡ p.opened.config.timeout → moment ≡ max 0 p.clock.latest →
     count_by (is_late (state_of p)) (records_in p) ≡ count_by (λ r. is_old timeout moment r && is_checkpoint r) p.pending
 unfolding state_of
-late_counted p timeout moment groups t m =
-    counted_in_pending p (is_late (state_of p)) (λ r. is_old timeout moment r && is_checkpoint r) groups (λ r. refl) (λ r d. ap (λ b. (not b && leb (r.started + p.opened.config.timeout) p.clock.latest) && is_checkpoint r) d)
-    (λ r d. ap (λ b. (not b && leb (r.started + p.opened.config.timeout) p.clock.latest) && is_checkpoint r) d ∙ ap (λ b. b && is_checkpoint r) (old_same p timeout moment t m r))
+late_counted p timeout moment groups t m = grind (arith, common_steps, counted_in_pending, old_same, started)
 
 -- two pending records with one number are one
 one_pending : (p : Parts) → IsSound (state_of p) → (t : Record → Bool) → ((r : Record) → t (with_pins p.registry r) ≡ t r) → (r s : Record) → IsIn r p.pending → IsIn s p.pending → r.id ≡ s.id → t r ≡ t s
@@ -218,11 +169,7 @@ done_not_dropped p q ids pending end agree groups starts r h =
 
 pub tick_answers : (p q : Parts) (now : ℕ) (c : Moments) (r : Reply) → IsAccepted p (call.Tick now) → c ≡ record p.clock { latest = max now p.clock.latest } → tick (state_of (record p { clock = c })) ≡ stepped (state_of q) (Done r) → AreTied q → q.ended.items ≡ [] → Answers p q (call.Tick now) r
 unfolding state_of effect
-tick_answers p q now c r accepted seen after tied none = record {
-  step_is = step_accepted (state_of p) (call.Tick now) accepted ∙ ap tick (sym (seen_state p now c seen)) ∙ after;
-  tied = tied;
-  none_ended = none;
-}
+tick_answers p q now c r accepted seen after tied none = grind (arith, common_steps, seen_state, step_accepted)
 
 pub tick_wants_memory : (p : Parts) (now : ℕ) (c : Moments) → IsAccepted p (call.Tick now) → c ≡ record p.clock { latest = max now p.clock.latest } → answer_wants (call.Tick 0) (tick (state_of (record p { clock = c }))).1 ≡ true → may_want_memory (state_of p) (call.Tick now) ≡ true
 unfolding state_of effect
@@ -239,13 +186,11 @@ tick_wants_memory p now c accepted seen wants =
 -- the expiry
 
 pub late_at_most : (p : Parts) (timeout moment late : ℕ) → late ≡ count_by (λ r. is_old timeout moment r && is_checkpoint r) p.pending → late ≤ count_by is_checkpoint p.pending
-late_at_most p timeout moment late e =
-    omega (arith, e, count_by-le (λ r. is_old timeout moment r && is_checkpoint r) is_checkpoint p.pending (λ r h k. (and_parts (is_old timeout moment r) (is_checkpoint r) k).1))
+late_at_most p timeout moment late e = grind (arith, common_steps, and_parts, count_by-le)
 
 pub few_checkpoints : (p : Parts) → AreSound p → AreGroups p.pending p.store.checkpoints p.store.savepoints → count_by is_checkpoint p.pending ≤ 64
 unfolding state_of
-few_checkpoints p sound groups =
-    omega (arith, pending_checkpoints-groups p.registry p.pending p.store.checkpoints p.store.savepoints groups, sound.sound.records.at_once, limit_bound p.opened.config sound.sound.config)
+few_checkpoints p sound groups = grind (arith, common_steps, limit_bound, pending_checkpoints-groups)
 
 pub few_expired : (p : Parts) (q : Record → Bool) → AreSound p → AreGroups p.pending p.store.checkpoints p.store.savepoints → length (filter q p.pending) ≤ 1064
 few_expired p q sound groups =
@@ -278,9 +223,7 @@ number_is p e is = ap (λ (x : FailureCount). x.number) is.failures
 -- too many checkpoints were late
 pub expiry_fails : (p f : Parts) (ended : Vec ℕ Global) (e : Expiry) → IsExpiry p e → e.intolerable ≡ true → state_of f ≡ failed_over (state_of (record p { ended = ended })) → tick (state_of p) ≡ stepped (state_of (record f { failures = e.failures })) (ticked e.expired ends.Failed)
 unfolding state_of
-expiry_fails p f ended e is many after =
-    tick_fails (state_of p) e.failures.number e.expired (number_is p e is) is.expired (sym is.intolerable ∙ many)
-    ∙ ap {B = Stepped} (λ (s : State). stepped (record s { failures = e.failures.number }) (ticked e.expired ends.Failed)) (sym after)
+expiry_fails p f ended e is many after = grind (arith, common_steps, number_is, stepped, tick_fails, ticked)
 
 -- what is left goes on
 expiry_leaves : (p : Parts) (e : Expiry) → IsExpiry p e → e.intolerable ≡ false → tick (state_of p) ≡ start_or_hold (drop (record (state_of p) { failures = e.failures.number }) (is_expired (state_of p) p.clock.latest) None) e.expired (held_at (state_of p) e.left)

@@ -1,37 +1,15 @@
 -- What a tick does to a state: a checkpoint is started first, and what has expired is dropped after.
-use Rattle.std.proofs.Common.{◌≡◌, ℕ, ◌+◌, ◌<◌, Bool, true, false, not, ◌&&◌, cond, ltb, leb, List, [], ◌∷◌, ◌++◌, map, refl, sym, ap, subst, ◌∙◌, ◌⊎◌, inl, inr, ⊎_elim, arith, None}
-use Rattle.std.specs.Prelude.{count_by}
-use Rattle.std.specs.List.{filter}
-use Rattle.std.proofs.lemmas.Bool.{cases_Bool, both_ways, and_parts, and_right, not_from_false, lt-ltb, false_from_ne_true, and_from}
-use Rattle.std.proofs.lemmas.List.{map-append}
-use Rattle.std.proofs.lemmas.List.Elements.{filter-append}
+use Rattle.ckpt_core.proofs.Names.{◌≡◌, ℕ, ◌+◌, ◌<◌, Bool, true, false, not, ◌&&◌, cond, ltb, leb, List, [], ◌∷◌, ◌++◌, map, refl, sym, ap, subst, ◌∙◌, ◌⊎◌, inl, inr, ⊎_elim, arith, None, count_by}
+use Rattle.ckpt_core.proofs.Names.{filter, cases_Bool, both_ways, and_parts, and_right, not_from_false, lt-ltb, false_from_ne_true, and_from, map-append, filter-append, Ticked, TickEnd, Answer, Done}
+use Rattle.ckpt_core.proofs.Names.{IsIn, IsInOrder, Record, Use, uses, uses_of, is_present, released, numbers_in_order, IsIn-append_left, IsIn-append_right, IsIn-append_cases, IsIn-flat_map}
+use Rattle.ckpt_core.proofs.Names.{IsIn-from_flat_map, IsInOrder-append, same_from_members, filter-all, IsIn-from_test, Hold, gap, State, is_checkpoint, is_pending, is_expired, drop, kept, unpinned}
+use Rattle.ckpt_core.proofs.Names.{pins_now, in_outbox, IsSound, id_before, is_late, late_in, Starts, held_at, Stepped, triggered, start_or_hold, after_expiry, tick, failed_over, pending_checkpoints}
+use Rattle.ckpt_core.proofs.Names.{dropped_by, count_by-filter, count_by-cons, count_by-same, map_itself, IsHeld, Holds, IsHeld-from_present, present-from_IsHeld, Holds-from_use, ascending-released}
+use Rattle.ckpt_core.proofs.Names.{before-from_released, after-from_released, IsIn-released, IsSoundOutbox, new_record, outbox_triggered, held-from_pins, pins_stay, pins_same, common_steps}
 use Rattle.ckpt_ids.specs.declared.numbers.Kind.TheVariants as kind
-use Rattle.ckpt_ids.specs.declared.reply.Reply.TheVariants.{Ticked}
-use Rattle.ckpt_ids.specs.declared.reply.TickEnd.{TickEnd}
 use Rattle.ckpt_ids.specs.declared.reply.TickEnd.TheVariants as ends
-use Rattle.ckpt_ids.specs.declared.reply.Answer.{Answer}
-use Rattle.ckpt_ids.specs.declared.reply.Answer.TheVariants.{Done}
-use Rattle.ckpt_ids.specs.Ordered.{IsIn, IsInOrder}
-use Rattle.ckpt_ids.specs.Records.{Record, Use, uses, uses_of, is_present, released}
-use Rattle.ckpt_ids.proofs.AscendingLemmas.{numbers_in_order}
-use Rattle.ckpt_ids.proofs.OrderedLemmas.{IsIn-append_left, IsIn-append_right, IsIn-append_cases, IsIn-flat_map, IsIn-from_flat_map, IsInOrder-append, same_from_members, filter-all, IsIn-from_test}
-use Rattle.ckpt_rules.specs.declared.hold.Hold.{Hold}
 use Rattle.ckpt_rules.specs.declared.hold.Hold.TheVariants as hold
-use Rattle.ckpt_rules.specs.Trigger.{gap}
-use Rattle.ckpt_model.specs.State.{State, is_checkpoint, is_pending, is_expired, drop, kept, unpinned, pins_now, in_outbox}
-use Rattle.ckpt_model.specs.Soundness.{IsSound, id_before}
-use Rattle.ckpt_core.specs.Inside.Expiring.{is_late, late_in}
-use Rattle.ckpt_core.specs.Inside.Starting.{Starts, held_at}
-use Rattle.ckpt_model.specs.Steps.{Stepped, triggered, start_or_hold, after_expiry, tick, failed_over, pending_checkpoints, dropped_by}
-use Rattle.ckpt_registry.proofs.ListLemmas.{count_by-filter}
-use Rattle.ckpt_ids.proofs.CountLemmas.{count_by-cons, count_by-same}
-use Rattle.ckpt_model.proofs.Records.Counts.{map_itself}
-use Rattle.ckpt_model.proofs.Records.Present.{IsHeld, Holds, IsHeld-from_present, present-from_IsHeld, Holds-from_use}
-use Rattle.ckpt_model.proofs.Records.Released.{ascending-released, before-from_released, after-from_released, IsIn-released}
-use Rattle.ckpt_model.proofs.Records.Lists.{IsSoundOutbox}
-use Rattle.ckpt_model.proofs.Soundness.Triggers.{new_record, outbox_triggered, held-from_pins}
 use Rattle.ckpt_core.proofs.Ending.Drops.{drop_same}
-use Rattle.ckpt_model.proofs.Records.Pins.{pins_stay, pins_same}
 
 -- the records after a trigger and a drop
 
@@ -39,10 +17,7 @@ abbrev keeps : (Record → Bool) → Record → Bool
 keeps dropped r = not (dropped r)
 
 kept-append : (b : Record → Bool) (rs : List Record) (x : Record) → b x ≡ false → kept b None (rs ++ x ∷ []) ≡ kept b None rs ++ x ∷ []
-kept-append b rs x e =
-    let last : filter (keeps b) (x ∷ []) ≡ x ∷ [] = filter-all (keeps b) (x ∷ []) (λ r h. ⊎_elim (λ (k : r ≡ x). ap (keeps b) k ∙ not_from_false (b x) e) (λ k. absurd k) h) in
-    ap (map (unpinned None)) (filter-append (keeps b) rs (x ∷ []) ∙ ap (λ xs. filter (keeps b) rs ++ xs) last)
-    ∙ map-append (unpinned None) (filter (keeps b) rs) (x ∷ [])
+kept-append b rs x e = grind (arith, common_steps)
 
 -- a file that the new record pins is held by what is kept
 pin_kept : (m : State) (b : Record → Bool) (f : ℕ) → IsSound m → ((r : Record) → IsIn r m.records → r.done ≡ true → b r ≡ false) → IsIn f (pins_now m) → IsHeld f (kept b None m.records)
@@ -180,9 +155,7 @@ starts_done m pending after end starts r h d =
 held_then_drop : (m after : State) (failures expired : ℕ) (a b : Record → Bool) (here there : TickEnd) → ((r : Record) → IsIn r m.records → a r ≡ b r) → stepped m (ticked expired here) ≡ stepped after (ticked expired there) →
     stepped (drop (record m { failures = failures }) a None) (ticked expired here) ≡ stepped (record (drop after b None) { failures = failures }) (ticked expired there)
 unfolding drop
-held_then_drop m after failures expired a b here there agree e =
-    ap (λ k. stepped (record k { failures = failures }) (ticked expired here)) (drop_same m a b agree ∙ ap (λ k. drop k b None) (state_first m after (ticked expired here) (ticked expired there) e))
-    ∙ ap (stepped (record (drop after b None) { failures = failures })) (answer_second m after (ticked expired here) (ticked expired there) e)
+held_then_drop m after failures expired a b here there agree e = grind (arith, common_steps, answer_second, drop_same, state_first)
 
 started_then_drop : (m after : State) (failures expired : ℕ) (a b : Record → Bool) (there : TickEnd) → IsSound m → ((r : Record) → IsIn r m.records → a r ≡ b r) → ((r : Record) → IsIn r m.records → r.done ≡ true → b r ≡ false) →
     b (new_record m kind.Checkpoint) ≡ false → stepped (started m) (ticked expired (ends.Triggered m.next)) ≡ stepped after (ticked expired there) →
@@ -199,11 +172,7 @@ started_then_drop m after failures expired a b there s agree spared stays e =
 -- what counts failures does not change a start
 started_counted : (m : State) (failures : ℕ) (a : Record → Bool) → started (drop (record m { failures = failures }) a None) ≡ record (started (drop m a None)) { failures = failures }
 unfolding drop triggered
-started_counted m failures a =
-    let left : List Record = kept a None m.records in
-    let out : List ℕ = released (uses m.records) (uses left) in
-    ap (λ pins. record m { failures = failures; due = m.latest + gap m.opening.config; next = m.next + 1; records = left ++ record (new_record m kind.Checkpoint) { pins = pins } ∷ []; waiting = m.waiting ++ out })
-    (pins_same (drop m a None) (drop (record m { failures = failures }) a None) refl refl (λ id e. refl))
+started_counted m failures a = grind (arith, common_steps, new_record, pins_same)
 
 start_then_drop : (m : State) (h : Hold) (failures expired : ℕ) (a b : Record → Bool) (after : State) (end : TickEnd) → IsSound m → ((r : Record) → IsIn r m.records → a r ≡ b r) → ((r : Record) → IsIn r m.records → r.done ≡ true → b r ≡ false) →
     b (new_record m kind.Checkpoint) ≡ false → start_or_hold m expired h ≡ (after, ticked expired end) → start_or_hold (drop (record m { failures = failures }) a None) expired h ≡ stepped (record (drop after b None) { failures = failures }) (ticked expired end)
@@ -264,17 +233,13 @@ tick_if : (m : State) (b : Bool) → (ltb 0 (late_in m) && ltb m.opening.config.
     tick m ≡ cond b (stepped (failed_over (record m { failures = m.failures + late_in m })) (ticked (dropped_by m (is_expired m m.latest)) ends.Failed))
     (after_expiry (drop (record m { failures = m.failures + late_in m }) (is_expired m m.latest) None) (dropped_by m (is_expired m m.latest)))
 unfolding tick
-tick_if m b e = ap (λ c. cond c (stepped (failed_over (record m { failures = m.failures + late_in m })) (ticked (dropped_by m (is_expired m m.latest)) ends.Failed))
-    (after_expiry (drop (record m { failures = m.failures + late_in m }) (is_expired m m.latest) None) (dropped_by m (is_expired m m.latest)))) e
+tick_if m b e = grind (arith, common_steps)
 
 -- too many have failed
 pub tick_fails : (m : State) (failures expired : ℕ) → failures ≡ m.failures + late_in m → expired ≡ dropped_by m (is_expired m m.latest) → (ltb 0 (late_in m) && ltb m.opening.config.tolerable failures) ≡ true →
     tick m ≡ (record (failed_over m) { failures = failures }, ticked expired ends.Failed)
 unfolding failed_over drop
-tick_fails m failures expired f e many =
-    tick_if m true (ap (λ n. ltb 0 (late_in m) && ltb m.opening.config.tolerable n) (sym f) ∙ many)
-    ∙ ap (λ n. stepped (record (failed_over m) { failures = n }) (ticked (dropped_by m (is_expired m m.latest)) ends.Failed)) (sym f)
-    ∙ ap (λ n. stepped (record (failed_over m) { failures = failures }) (ticked n ends.Failed)) (sym e)
+tick_fails m failures expired f e many = grind (arith, common_steps, tick_if)
 
 -- few have failed
 pub tick_goes : (m : State) (failures expired pending : ℕ) → failures ≡ m.failures + late_in m → expired ≡ dropped_by m (is_expired m m.latest) → pending + late_in m ≡ pending_checkpoints m →

@@ -1,32 +1,13 @@
 -- What a trigger does to the parts is what it does to the state.
-use Rattle.std.proofs.Common.{◌≡◌, ℕ, ◌+◌, ◌<◌, ◌≤◌, Bool, true, false, not, ◌&&◌, cond, ltb, eqb, List, [], ◌∷◌, ◌++◌, map, length, refl, sym, ap, subst, ◌∙◌, ⊎_elim, arith, Option, Some, None, unwrap_or, max}
-use Rattle.std.specs.Prelude.{count_by}
-use Rattle.std.specs.List.{filter}
-use Rattle.std.specs.Vec.{vec_capacity}
+use Rattle.ckpt_core.proofs.Names.{◌≡◌, ℕ, ◌+◌, ◌<◌, ◌≤◌, Bool, true, false, not, ◌&&◌, cond, ltb, eqb, List, [], ◌∷◌, ◌++◌, map, length, refl, sym, ap, subst, ◌∙◌, ⊎_elim, arith, Option, Some, None}
+use Rattle.ckpt_core.proofs.Names.{unwrap_or, max, count_by, filter, vec_capacity, CheckpointId, append-nil, length-append, filter-append, cases_Bool, ne_eqb, eq-eqb, not_from_false, not_from_true}
+use Rattle.ckpt_core.proofs.Names.{Kind, ascending_set, IsIn, IsInOrder, in_order_once, Record, Use, Pin, use_before, uses, uses_of, IsIn-append_cases, IsIn-append_left, IsIn-map, IsIn-from_map}
+use Rattle.ckpt_core.proofs.Names.{IsIn-flat_map, IsIn-from_flat_map, IsIn-in_order, IsIn-in_order_once, IsIn-from_in_order_once, IsInOrder-in_order_once, same_from_members, filter-all, filter-none}
+use Rattle.ckpt_core.proofs.Names.{numbers_in_order, Parts, Configuration, IsWithinLimits, limit, State, is_pending, is_checkpoint, is_done_checkpoint, pins_now, files_of, chosen, choice_of, IsSound}
+use Rattle.ckpt_core.proofs.Names.{id_before, triggered, with_pins, grouped, records_of, state_of, records_in, AreTied, present_in, count_by-cons, ascending-pins, chosen_in, common_steps}
 use Rattle.std.specs.Global.{Vec}
-use Rattle.ckpt_ids.specs.declared.numbers.CheckpointId.{CheckpointId}
-use Rattle.std.proofs.lemmas.List.{append-nil, length-append}
-use Rattle.std.proofs.lemmas.List.Elements.{filter-append}
-use Rattle.std.proofs.lemmas.Bool.{cases_Bool, ne_eqb, eq-eqb, not_from_false, not_from_true}
-use Rattle.ckpt_ids.specs.declared.numbers.Kind.{Kind}
-use Rattle.ckpt_ids.specs.Ascending.{ascending_set}
-use Rattle.ckpt_ids.specs.Ordered.{IsIn, IsInOrder, in_order_once}
-use Rattle.ckpt_ids.specs.Records.{Record, Use, Pin, use_before, uses, uses_of}
-use Rattle.ckpt_ids.proofs.OrderedLemmas.{IsIn-append_cases, IsIn-append_left, IsIn-map, IsIn-from_map, IsIn-flat_map, IsIn-from_flat_map, IsIn-in_order, IsIn-in_order_once, IsIn-from_in_order_once, IsInOrder-in_order_once, same_from_members, filter-all, filter-none}
-use Rattle.ckpt_ids.proofs.AscendingLemmas.{numbers_in_order}
-use Rattle.ckpt_core.specs.declared.parts.Parts.{Parts}
-use Rattle.ckpt_ids.specs.Configuration.{Configuration, IsWithinLimits}
-use Rattle.ckpt_rules.specs.Trigger.{limit}
-use Rattle.ckpt_model.specs.State.{State, is_pending, is_checkpoint, is_done_checkpoint, pins_now, files_of, chosen, choice_of}
-use Rattle.ckpt_model.specs.Soundness.{IsSound, id_before}
-use Rattle.ckpt_model.specs.Steps.{triggered}
-use Rattle.ckpt_core.specs.Inside.Grouped.{with_pins, grouped, records_of}
-use Rattle.ckpt_core.specs.Inside.Parts.{state_of, records_in, AreTied}
-use Rattle.ckpt_model.specs.Reads.{present_in}
-use Rattle.ckpt_ids.proofs.CountLemmas.{count_by-cons}
 use Rattle.ckpt_core.proofs.Using.Order.{holds, from_holds, use_of_record}
 use Rattle.ckpt_core.proofs.Records.GroupMoves.{trigger_groups, trigger_uses, uses_of-triggered}
-use Rattle.ckpt_model.proofs.Soundness.Triggers.{ascending-pins, chosen_in}
 
 -- every use is of a record with an earlier number
 pub older_uses : (p : Parts) → AreTied p → IsSound (state_of p) → (u : Use) → IsIn u p.registry → u.id < p.next
@@ -63,21 +44,11 @@ pin_used m f h =
 
 pub pins_used : (p : Parts) → AreTied p → (f : ℕ) → IsIn f (pins_now (state_of p)) → (u : Use) × IsIn u p.registry × (u.file ≡ f)
 unfolding state_of
-pins_used p tied f h =
-    let q = pin_used (state_of p) f h in
-    let P : List Use → Type 0 = λ us. IsIn q.0 us in
-    (q.0, subst P (sym tied.uses_are) q.1, q.2)
+pins_used p tied f h = grind (arith, common_steps, pin_used)
 
 -- a file more for a file that is there does not make more files
 pub present_same : (us vs : List Use) → ((u : Use) → IsIn u us → IsIn u.file (map (λ v. v.file) vs)) → ((v : Use) → IsIn v vs → IsIn v.file (map (λ u. u.file) us)) → present_in us ≡ present_in vs
-present_same us vs forth back =
-    let file : Use → ℕ = λ u. u.file in
-    let to : (xs ys : List Use) → ((u : Use) → IsIn u xs → IsIn u.file (map file ys)) → (f : ℕ) → IsIn f (ascending_set (map file xs)) → IsIn f (ascending_set (map file ys)) = λ xs ys each f h.
-    let q = IsIn-from_map file f xs (IsIn-from_in_order_once ltb f (map file xs) h) in
-    let P : ℕ → Type 0 = λ g. IsIn g (map file ys) in
-    IsIn-in_order_once numbers_in_order f (map file ys) (subst P (sym q.2) (each q.0 q.1)) in
-    ap length (same_from_members numbers_in_order (ascending_set (map file us)) (ascending_set (map file vs))
-    (IsInOrder-in_order_once numbers_in_order (map file us)) (IsInOrder-in_order_once numbers_in_order (map file vs)) (to us vs forth) (to vs us back))
+present_same us vs forth back = grind (arith, common_steps, IsIn-from_in_order_once, IsIn-from_map, IsIn-in_order_once, IsInOrder-in_order_once, numbers_in_order, same_from_members)
 
 -- the parts after a trigger
 abbrev pub with_record : Parts → List Use → Record → Parts
@@ -148,13 +119,10 @@ one_kind false false = refl
 
 pub three_kinds : (rs : List Record) → count_by (λ r. is_pending r && is_checkpoint r) rs + (count_by is_done_checkpoint rs + count_by (λ r. not (is_checkpoint r)) rs) ≡ length rs
 three_kinds [] = refl
-three_kinds (r ∷ rs) =
-    omega (arith, three_kinds rs, one_kind r.done (is_checkpoint r), count_by-cons (λ q. is_pending q && is_checkpoint q) r rs, count_by-cons is_done_checkpoint r rs, count_by-cons (λ q. not (is_checkpoint q)) r rs)
+three_kinds (r ∷ rs) = grind (arith, common_steps, three_kinds rs,)
 
 pub limit_bound : (c : Configuration) → IsWithinLimits c → limit c ≤ 64
-limit_bound c within =
-    let P : Bool → Type 0 = λ b. cond b 1 c.at_once ≤ 64 in
-    ⊎_elim (λ (e : ltb 0 c.pause ≡ true). subst P (sym e) (omega arith)) (λ (e : ltb 0 c.pause ≡ false). subst P (sym e) within.at_once_to) (cases_Bool (ltb 0 c.pause))
+limit_bound c within = grind (arith, common_steps)
 
 pub live_bound : (m : State) → IsSound m → length m.records ≤ 2064
 live_bound m sound = omega (arith, three_kinds m.records, sound.records.at_once, sound.records.retained, sound.records.savepoints_to, limit_bound m.opening.config sound.config)
@@ -163,10 +131,7 @@ live_bound m sound = omega (arith, three_kinds m.records, sound.records.at_once,
 
 pub triggered_state : (p : Parts) (kind : Kind) (pins : List ℕ) (x : Record) (pending : List Record) (us : List Use) → AreTied p → IsSound (state_of p) → IsInOrder use_before p.registry → pins ≡ pins_now (state_of p) → x ≡ new_record p kind →
     pending ≡ p.pending ++ x ∷ [] → us ≡ in_order_once use_before (p.registry ++ holds p.next Pin pins) → state_of (record p { pending = pending; registry = us; next = p.next + 1 }) ≡ triggered (state_of p) kind
-triggered_state p kind pins x pending us tied sound order pinned new added uses_are =
-    ap (λ ps. state_of (record p { pending = ps; registry = us; next = p.next + 1 })) (added ∙ ap (λ y. p.pending ++ y ∷ []) new)
-    ∙ ap (λ vs. state_of (record p { pending = p.pending ++ new_record p kind ∷ []; registry = vs; next = p.next + 1 })) (uses_are ∙ ap (after_pin p) pinned)
-    ∙ trigger_state p kind tied sound order
+triggered_state p kind pins x pending us tied sound order pinned new added uses_are = grind (arith, common_steps, trigger_state)
 
 pub triggered_tied : (p : Parts) (kind : Kind) (pins : List ℕ) (x : Record) (pending : List Record) (us : List Use) → AreTied p → IsSound (state_of p) → IsInOrder use_before p.registry → pins ≡ pins_now (state_of p) → x ≡ new_record p kind →
     pending ≡ p.pending ++ x ∷ [] → us ≡ in_order_once use_before (p.registry ++ holds p.next Pin pins) → length (records_in p) + 1 ≤ vec_capacity p.ended → AreTied (record p { pending = pending; registry = us; next = p.next + 1 })
@@ -182,16 +147,11 @@ state-ended p ended = refl
 
 -- a record was added and taken out again
 pub undone_state : (p : Parts) (x : Record) (added pending : List Record) (us : List Use) → IsSound (state_of p) → x.id ≡ p.next → added ≡ p.pending ++ x ∷ [] → pending ≡ filter (λ r. not (eqb r.id p.next)) added → us ≡ p.registry → record p { pending = pending; registry = us } ≡ p
-undone_state p x added pending us sound new after removed same =
-    ap (λ ps. record p { pending = ps; registry = us }) (removed ∙ ap (filter (λ r. not (eqb r.id p.next))) after ∙ trigger_undone p sound x new)
-    ∙ ap (λ vs. record p { registry = vs }) same
+undone_state p x added pending us sound new after removed same = grind (arith, common_steps, trigger_undone)
 
 -- the record that a trigger makes
 pub made_record : (p : Parts) (kind : Kind) (shape : List ℕ) (started : ℕ) (x : Record) → x ≡ record { id = p.next; kind = kind; done = false; shape = shape; started = started; acks = []; pins = [] } → shape ≡ unwrap_or p.reshaped p.opened.shape → started ≡ max 0 p.clock.latest → x ≡ new_record p kind
-made_record p kind shape started x e s t =
-    let l : max 0 p.clock.latest ≡ p.clock.latest = omega arith in
-    e ∙ ap (λ w. record { id = p.next; kind = kind; done = false; shape = w; started = started; acks = []; pins = [] }) s
-    ∙ ap (λ w. record { id = p.next; kind = kind; done = false; shape = unwrap_or p.reshaped p.opened.shape; started = w; acks = []; pins = [] }) (t ∙ l)
+made_record p kind shape started x e s t = grind (arith, common_steps)
 
 pub live_records : (p : Parts) → IsSound (state_of p) → length (records_in p) ≤ 2064
 unfolding state_of

@@ -1,35 +1,15 @@
 -- A file's count is at most the number of holders, so far below what a counter holds.
-use Rattle.std.proofs.Common.{◌≡◌, ℕ, suc, ◌*◌, ◌<◌, ◌≤◌, Bool, true, false, ltb, eqb, List, [], ◌∷◌, map, length, refl, sym, ap, subst, ◌∙◌, inl, inr, ⊎_elim, arith}
-use Rattle.std.specs.Prelude.{sum}
-use Rattle.std.specs.List.{flat_map}
-use Rattle.std.proofs.lemmas.List.{length-map}
-use Rattle.std.proofs.lemmas.Bool.{cases_Bool, both_ways, ltb-true, eqb-true}
-use Rattle.ckpt_ids.specs.declared.ack.Acked.{Acked}
-use Rattle.ckpt_ids.specs.declared.subtask.SubtaskId.{SubtaskId}
-use Rattle.ckpt_ids.specs.Acknowledged.{is_before, acknowledges_before}
-use Rattle.ckpt_ids.specs.Ascending.{IsAscendingSet}
-use Rattle.ckpt_ids.specs.Ordered.{IsIn, ComesBefore, IsInOrder, IsStrictOrder}
-use Rattle.ckpt_ids.specs.Records.{Record, Use, Holder, Subtask, Pin, uses, uses_of, count}
-use Rattle.ckpt_ids.specs.Shapes.{subtasks}
-use Rattle.ckpt_ids.proofs.OrderedLemmas.{ComesBefore-at, IsIn-from_map, IsInOrder-map, in_tail}
-use Rattle.ckpt_ids.proofs.OrderLemmas.{subtasks_in_order}
-use Rattle.ckpt_ids.proofs.ShapeLemmas.{length-subtasks_from}
-use Rattle.ckpt_pending.proofs.SubtaskLemmas.{IsInOrder-subtasks, IsIn-subtasks}
-use Rattle.ckpt_core.specs.declared.parts.Parts.{Parts}
-use Rattle.ckpt_core.specs.Inside.Parts.{state_of, AreTied}
-use Rattle.ckpt_model.specs.State.{State}
-use Rattle.ckpt_model.specs.Soundness.{IsSound, IsRecord}
-use Rattle.ckpt_ids.proofs.CountLemmas.{count_by-append, count_by_no}
-use Rattle.ckpt_model.proofs.Records.Counts.{count_by_at_most_more}
+use Rattle.ckpt_core.proofs.Names.{◌≡◌, ℕ, suc, ◌*◌, ◌<◌, ◌≤◌, Bool, true, false, ltb, eqb, List, [], ◌∷◌, map, length, refl, sym, ap, subst, ◌∙◌, inl, inr, ⊎_elim, arith, sum, flat_map, length-map}
+use Rattle.ckpt_core.proofs.Names.{cases_Bool, both_ways, ltb-true, eqb-true, Acked, SubtaskId, acknowledges_before, IsAscendingSet, IsIn, ComesBefore, IsInOrder, IsStrictOrder, Record, Use, Holder}
+use Rattle.ckpt_core.proofs.Names.{Subtask, Pin, uses, uses_of, count, subtasks, ComesBefore-at, IsIn-from_map, IsInOrder-map, in_tail, subtasks_in_order, length-subtasks_from, IsInOrder-subtasks}
+use Rattle.ckpt_core.proofs.Names.{IsIn-subtasks, Parts, state_of, AreTied, State, IsSound, IsRecord, count_by-append, count_by_no, count_by_at_most_more, common_steps}
+use Rattle.ckpt_ids.specs.Acknowledged.{is_before}
 use Rattle.ckpt_core.proofs.Using.Order.{holds}
 use Rattle.ckpt_core.proofs.Triggering.TriggerParts.{live_bound}
 
 -- a list in strict order within another is no longer
 later_members : {X : Type 0} {before : X → X → Bool} (o : IsStrictOrder before) (y x z : X) (xs ys : List X) → ComesBefore before y ys → IsIn x ys → ComesBefore before x xs → IsIn z xs → IsIn z (y ∷ ys) → IsIn z ys
-later_members {X} {before} o y x z xs ys b there a h (inl e) =
-    let yx : before y x ≡ true = ComesBefore-at before y x ys b there in
-    let xz : before x z ≡ true = ComesBefore-at before x z xs a h in
-    absurd (both_ways (before y y) (o.irreflexive y) (o.transitive y x y yx (ap (before x) (sym e) ∙ xz)))
+later_members {X} {before} o y x z xs ys b there a h (inl e) = grind (arith, common_steps, ComesBefore-at, both_ways)
 later_members o y x z xs ys b there a h (inr k) = k
 
 pub length-within : {X : Type 0} {before : X → X → Bool} (o : IsStrictOrder before) (xs ys : List X) → IsInOrder before xs → IsInOrder before ys → ((z : X) → IsIn z xs → IsIn z ys) → length xs ≤ length ys
@@ -51,10 +31,7 @@ length-within {X} {before} o (x ∷ xs) (y ∷ ys) a b within =
 -- a holder names a file once
 count-absent : (id f : ℕ) (h : Holder) (files : List ℕ) → ComesBefore ltb f files → count (holds id h files) f ≡ 0
 count-absent id f h [] c = refl
-count-absent id f h (g ∷ files) c =
-    let lt : f < g = ltb-true f g c.0 in
-    let no : eqb g f ≡ false = ⊎_elim (λ (e : eqb g f ≡ true). absurd (omega (arith, eqb-true g f e))) (λ (e : eqb g f ≡ false). e) (cases_Bool (eqb g f)) in
-    count_by_no (λ u. eqb u.file f) (record { id = id; holder = h; file = g }) (holds id h files) no ∙ count-absent id f h files c.1
+count-absent id f h (g ∷ files) c = grind (arith, common_steps, count-absent id f h files c.1)
 
 count-holder : (id f : ℕ) (h : Holder) (files : List ℕ) → IsAscendingSet files → count (holds id h files) f ≤ 1
 count-holder id f h [] a = omega arith

@@ -1,34 +1,23 @@
 -- The uses of sound records are in strict order, and what a change of the records does to them.
-use Rattle.std.proofs.Common.{◌≡◌, ℕ, ◌<◌, Bool, true, false, ◌&&◌, ◌||◌, cond, ltb, eqb, List, [], ◌∷◌, ◌++◌, map, refl, sym, ap, subst, ◌∙◌, inl, inr, ⊎_elim, arith}
-use Rattle.std.specs.List.{filter, flat_map}
-use Rattle.std.proofs.lemmas.List.Elements.{filter-append}
-use Rattle.std.proofs.lemmas.Bool.{cases_Bool, lt-ltb, ltb-true, eq-eqb, or_left, or_right, and_from}
-use Rattle.ckpt_ids.specs.declared.ack.Acked.{Acked}
-use Rattle.ckpt_ids.specs.Acknowledged.{acknowledges_before, AreInSubtaskOrder}
-use Rattle.ckpt_ids.specs.Ascending.{IsAscendingSet}
-use Rattle.ckpt_ids.specs.Ordered.{IsIn, IsInOrder, in_order_once}
-use Rattle.ckpt_ids.specs.Records.{Record, Use, Holder, Subtask, Pin, use_before, holder_before, same_holder, uses, uses_of}
-use Rattle.ckpt_ids.proofs.OrderedLemmas.{IsIn-append_cases, IsIn-from_map, IsIn-from_flat_map, ComesBefore-at, IsInOrder-append, IsInOrder-map, same_from_members, IsInOrder-in_order_once, IsIn-in_order_once, IsIn-from_in_order_once}
-use Rattle.ckpt_ids.proofs.OrderLemmas.{uses_in_order, same_subtask-Decides}
-use Rattle.ckpt_model.specs.Soundness.{id_before, IsRecord}
+use Rattle.ckpt_core.proofs.Names.{◌≡◌, ℕ, ◌<◌, Bool, true, false, ◌&&◌, ◌||◌, cond, ltb, eqb, List, [], ◌∷◌, ◌++◌, map, refl, sym, ap, subst, ◌∙◌, inl, inr, ⊎_elim, arith, filter, flat_map}
+use Rattle.ckpt_core.proofs.Names.{filter-append, cases_Bool, lt-ltb, ltb-true, eq-eqb, or_left, or_right, and_from, Acked, acknowledges_before, AreInSubtaskOrder, IsAscendingSet, IsIn, IsInOrder}
+use Rattle.ckpt_core.proofs.Names.{in_order_once, Record, Use, Holder, Subtask, Pin, use_before, holder_before, same_holder, uses, uses_of, IsIn-append_cases, IsIn-from_map, IsIn-from_flat_map}
+use Rattle.ckpt_core.proofs.Names.{ComesBefore-at, IsInOrder-append, IsInOrder-map, same_from_members, IsInOrder-in_order_once, IsIn-in_order_once, IsIn-from_in_order_once, uses_in_order}
+use Rattle.ckpt_core.proofs.Names.{same_subtask-Decides, id_before, IsRecord, common_steps}
 
 -- an earlier record's uses come first
 pub earlier_record : (u v : Use) → u.id < v.id → use_before u v ≡ true
 earlier_record u v h = or_left (ltb u.id v.id) (eqb u.id v.id && (holder_before u.holder v.holder || (same_holder u.holder v.holder && ltb u.file v.file))) (lt-ltb u.id v.id h)
 
 earlier_holder : (u v : Use) → u.id ≡ v.id → holder_before u.holder v.holder ≡ true → use_before u v ≡ true
-earlier_holder u v e h =
-    let rest : Bool = same_holder u.holder v.holder && ltb u.file v.file in
-    or_right (ltb u.id v.id) (eqb u.id v.id && (holder_before u.holder v.holder || rest)) (and_from (eqb u.id v.id) (holder_before u.holder v.holder || rest) (eq-eqb u.id v.id e) (or_left (holder_before u.holder v.holder) rest h))
+earlier_holder u v e h = grind (arith, common_steps)
 
 same_holder_itself : (h : Holder) → same_holder h h ≡ true
 same_holder_itself (Subtask s) = (same_subtask-Decides s s).1 refl
 same_holder_itself Pin = refl
 
 earlier_file : (id : ℕ) (h : Holder) (f g : ℕ) → ltb f g ≡ true → use_before (record { id = id; holder = h; file = f }) (record { id = id; holder = h; file = g }) ≡ true
-earlier_file id h f g lt =
-    let rest : Bool = same_holder h h && ltb f g in
-    or_right (ltb id id) (eqb id id && (holder_before h h || rest)) (and_from (eqb id id) (holder_before h h || rest) (eq-eqb id id refl) (or_right (holder_before h h) rest (and_from (same_holder h h) (ltb f g) (same_holder_itself h) lt)))
+earlier_file id h f g lt = grind (arith, common_steps)
 
 -- the uses that one holder has of these files
 abbrev pub holds : ℕ → Holder → List ℕ → List Use
@@ -38,11 +27,7 @@ pub holds_in_order : (id : ℕ) (h : Holder) (files : List ℕ) → IsAscendingS
 holds_in_order id h files a = IsInOrder-map ltb use_before (λ f. record { id = id; holder = h; file = f }) files (λ f g lt. earlier_file id h f g lt) a
 
 pub from_holds : (id : ℕ) (h : Holder) (files : List ℕ) (u : Use) → IsIn u (holds id h files) → (u.id ≡ id) × (u.holder ≡ h) × IsIn u.file files
-from_holds id h files u k =
-    let make : ℕ → Use = λ f. record { id = id; holder = h; file = f } in
-    let p = IsIn-from_map make u files k in
-    let P : ℕ → Type 0 = λ f. IsIn f files in
-    (ap (λ w. w.id) p.2, ap (λ w. w.holder) p.2, subst P (sym (ap (λ w. w.file) p.2)) p.1)
+from_holds id h files u k = grind (arith, common_steps, IsIn-from_map)
 
 abbrev held_by_acks : ℕ → List Acked → List Use
 held_by_acks id acks = flat_map (λ a. holds id (Subtask a.subtask) a.files) acks
@@ -97,9 +82,7 @@ uses-in_order rs order each = all_uses_in_order rs order (λ r h. record_in_orde
 
 -- a list that is in order already stays as it is
 pub in_order_once-itself : (us : List Use) → IsInOrder use_before us → in_order_once use_before us ≡ us
-in_order_once-itself us order =
-    same_from_members uses_in_order (in_order_once use_before us) us (IsInOrder-in_order_once uses_in_order us) order
-    (λ u h. IsIn-from_in_order_once use_before u us h) (λ u h. IsIn-in_order_once uses_in_order u us h)
+in_order_once-itself us order = grind (arith, common_steps, IsIn-from_in_order_once, IsIn-in_order_once, IsInOrder-in_order_once, same_from_members, uses_in_order)
 
 -- without the records of some numbers, without their uses
 

@@ -1,20 +1,11 @@
 -- What is known of a call that is not refused: no row of the table of refusals holds.
-use Rattle.std.proofs.Common.{◌≡◌, ℕ, ◌+◌, ◌<◌, ◌≤◌, ◌^◌, Bool, true, false, not, ltb, leb, eqb, List, [], ◌∷◌, ◌++◌, length, refl, sym, ap, ◌∙◌}
-use Rattle.std.specs.Prelude.{find, Option, Some, None}
-use Rattle.std.specs.List.{list_any}
-use Rattle.std.proofs.lemmas.Bool.{both_ways, not-false, leb-false, ltb-false, lt-leb, le-ltb}
-use Rattle.ckpt_ids.specs.declared.subtask.SubtaskId.{SubtaskId}
-use Rattle.ckpt_ids.specs.declared.call.Target.{Target}
+use Rattle.ckpt_model.proofs.Names.{◌≡◌, ℕ, ◌+◌, ◌<◌, ◌≤◌, ◌^◌, Bool, true, false, not, ltb, leb, eqb, List, [], ◌∷◌, ◌++◌, length, refl, sym, ap, ◌∙◌, find, Option, Some, None, list_any, both_ways}
+use Rattle.ckpt_model.proofs.Names.{not-false, leb-false, ltb-false, lt-leb, le-ltb, SubtaskId, Target, Tick, Savepoint, Ack, Decline, Dispose, Restore, Cancel, Deleted, Undeleted, Refusal}
+use Rattle.ckpt_model.proofs.Names.{MomentTooLarge, NotRunning, TooManyFiles, RepeatedFile, UnknownCheckpoint, UnknownSubtask, AlreadyAcknowledged, NameTaken, FileGone, NoSuchSavepoint, InUse}
+use Rattle.ckpt_model.proofs.Names.{TooManySavepoints, NotTaken, IdsUsedUp, Record, uses, is_present, has_acknowledged, is_subtask, Mode, Running, Failed, Cancelled, State, is_known, refusal}
+use Rattle.ckpt_model.proofs.Names.{refuse_if, first_some, is_running, is_cancelled, has_repeats, pending_of, is_done_savepoint, savepoints, was_not_given, is_foreign, is_repeat, named, where_pending}
+use Rattle.ckpt_model.proofs.Names.{is_number, common_steps, arith}
 use Rattle.ckpt_ids.specs.declared.call.Target.TheVariants as target
-use Rattle.ckpt_ids.specs.declared.call.Call.TheVariants.{Tick, Savepoint, Ack, Decline, Dispose, Restore, Cancel, Deleted, Undeleted}
-use Rattle.ckpt_ids.specs.declared.reply.Refusal.{Refusal}
-use Rattle.ckpt_ids.specs.declared.reply.Refusal.TheVariants.{MomentTooLarge, NotRunning, TooManyFiles, RepeatedFile, UnknownCheckpoint, UnknownSubtask, AlreadyAcknowledged, NameTaken, FileGone, NoSuchSavepoint, InUse, TooManySavepoints, NotTaken, IdsUsedUp}
-use Rattle.ckpt_ids.specs.Records.{Record, uses, is_present, has_acknowledged}
-use Rattle.ckpt_ids.specs.Shapes.{is_subtask}
-use Rattle.ckpt_model.specs.declared.mode.Mode.{Mode}
-use Rattle.ckpt_model.specs.declared.mode.Mode.TheVariants.{Running, Failed, Cancelled}
-use Rattle.ckpt_model.specs.State.{State, is_known}
-use Rattle.ckpt_model.specs.Refusals.{refusal, refuse_if, first_some, is_running, is_cancelled, has_repeats, pending_of, is_done_savepoint, savepoints, was_not_given, is_foreign, is_repeat, named, where_pending, is_number}
 
 -- there is none
 abbrev IsNone : {X : Type 0} → Option X → Type 0
@@ -22,39 +13,31 @@ IsNone o = o ≡ None
 
 -- if no row holds, the first does not, and none of the others does
 first_row : (row : Option Refusal) (rows : List (Option Refusal)) → IsNone (first_some (row ∷ rows)) → IsNone row × IsNone (first_some rows)
-first_row None rows h = (refl, h)
-first_row (Some why) rows h = absurd (cc)
+first_row row rows h2 = grind (arith, common_steps)
 
 -- a row that does not refuse: its test fails
 not_refused : (b : Bool) (why : Refusal) → IsNone (refuse_if b why) → b ≡ false
-not_refused true why h = absurd (cc)
-not_refused false why h = refl
+not_refused b why h2 = grind (arith, common_steps)
 
 -- the mode of a job that is not refused NotRunning
 runs : (mode : Mode) → not (is_running mode) ≡ false → mode ≡ Running
-runs Running h = refl
-runs Failed h = absurd (both_ways true h refl)
-runs Cancelled h = absurd (both_ways true h refl)
+runs mode h1 = grind (arith, common_steps, both_ways)
 
 -- a row that does not refuse the subtask: it is one of the pending record's
 is_of_subtask : (o : Option Record) (s : SubtaskId) → IsNone (is_foreign o s) → (r : Record) → o ≡ Some r → is_subtask r.shape s ≡ true
-is_of_subtask None s h r e = absurd (cc)
-is_of_subtask (Some q) s h r e = let same : q ≡ r = cc in ap (λ x. is_subtask x.shape s) (sym same) ∙ not-false (is_subtask q.shape s) (not_refused (not (is_subtask q.shape s)) UnknownSubtask h)
+is_of_subtask o s h2 r h4 = grind (arith, common_steps, not-false, not_refused)
 
 -- a row that does not refuse the acknowledgement: the pending record lacks it
 is_first : (o : Option Record) (s : SubtaskId) → IsNone (is_repeat o s) → (r : Record) → o ≡ Some r → has_acknowledged r s ≡ false
-is_first None s h r e = absurd (cc)
-is_first (Some q) s h r e = let same : q ≡ r = cc in ap (λ x. has_acknowledged x s) (sym same) ∙ not_refused (has_acknowledged q s) AlreadyAcknowledged h
+is_first o s h2 r h4 = grind (arith, common_steps, not_refused)
 
 -- a row that names no file: none was found
 none_named : (why : ℕ → Refusal) (o : Option ℕ) → IsNone (named why o) → IsNone o
-none_named why None h = refl
-none_named why (Some f) h = absurd (cc)
+none_named why o h2 = grind (arith, common_steps)
 
 -- a row that looks at a pending record, if there is one
 none_pending : (o : Option Record) (x : Option Refusal) → IsNone (where_pending o x) → (r : Record) → o ≡ Some r → IsNone x
-none_pending None x h r e = absurd (cc)
-none_pending (Some q) x h r e = h
+none_pending o x h2 r h4 = grind (arith, common_steps)
 
 -- an accepted trigger
 pub record IsAcceptedTrigger (m : State) (now : ℕ) : Type 0 where
@@ -65,31 +48,12 @@ pub record IsAcceptedTrigger (m : State) (now : ℕ) : Type 0 where
 -- of a Tick: the moment is one, the job runs, and there is a number left
 pub accepted_tick : (m : State) (now : ℕ) → refusal m (Tick now) ≡ None → IsAcceptedTrigger m now
 unfolding refusal
-accepted_tick m now h =
-    let a = first_row (refuse_if (leb (2 ^ 62) now) MomentTooLarge) _ h in
-    let b = first_row (refuse_if (not (is_running m.mode)) NotRunning) _ a.1 in
-    let c = first_row (refuse_if (leb (2 ^ 62) m.next) IdsUsedUp) [] b.1 in
-    record {
-      moment = leb-false (2 ^ 62) now (not_refused (leb (2 ^ 62) now) MomentTooLarge a.0);
-      running = runs m.mode (not_refused (not (is_running m.mode)) NotRunning b.0);
-      room = leb-false (2 ^ 62) m.next (not_refused (leb (2 ^ 62) m.next) IdsUsedUp c.0);
-    }
+accepted_tick m now h = grind (arith, common_steps)
 
 -- of a Savepoint: the same, and there is room for one
 pub accepted_savepoint : (m : State) (now : ℕ) → refusal m (Savepoint now) ≡ None → IsAcceptedTrigger m now × (savepoints m < 1000)
 unfolding refusal
-accepted_savepoint m now h =
-    let a = first_row (refuse_if (leb (2 ^ 62) now) MomentTooLarge) _ h in
-    let b = first_row (refuse_if (not (is_running m.mode)) NotRunning) _ a.1 in
-    let c = first_row (refuse_if (leb 1000 (savepoints m)) TooManySavepoints) _ b.1 in
-    let d = first_row (refuse_if (leb (2 ^ 62) m.next) IdsUsedUp) [] c.1 in (
-      record {
-        moment = leb-false (2 ^ 62) now (not_refused (leb (2 ^ 62) now) MomentTooLarge a.0);
-        running = runs m.mode (not_refused (not (is_running m.mode)) NotRunning b.0);
-        room = leb-false (2 ^ 62) m.next (not_refused (leb (2 ^ 62) m.next) IdsUsedUp d.0);
-      },
-      leb-false 1000 (savepoints m) (not_refused (leb 1000 (savepoints m)) TooManySavepoints c.0),
-    )
+accepted_savepoint m now h = grind (arith, common_steps)
 
 -- an accepted acknowledgement
 pub record IsAcceptedAck (m : State) (now id : ℕ) (subtask : SubtaskId) (fresh reused : List ℕ) : Type 0 where
@@ -131,87 +95,61 @@ accepted_ack m now id subtask fresh reused h =
 -- of a Decline: the moment is one
 pub accepted_decline : (m : State) (now id : ℕ) (subtask : SubtaskId) → refusal m (Decline now id subtask) ≡ None → now < 2 ^ 62
 unfolding refusal
-accepted_decline m now id subtask h =
-    leb-false (2 ^ 62) now (not_refused (leb (2 ^ 62) now) MomentTooLarge (first_row (refuse_if (leb (2 ^ 62) now) MomentTooLarge) _ h).0)
+accepted_decline m now id subtask h = grind (arith, common_steps)
 
 -- of a Dispose: it is a done savepoint, and not the base
 pub accepted_dispose : (m : State) (id : ℕ) → refusal m (Dispose id) ≡ None → (is_done_savepoint m id ≡ true) × (is_number m.base id ≡ false)
 unfolding refusal
-accepted_dispose m id h =
-    let a = first_row (refuse_if (not (is_done_savepoint m id)) NoSuchSavepoint) _ h in
-    let b = first_row (refuse_if (is_number m.base id) InUse) _ a.1 in
-    (not-false (is_done_savepoint m id) (not_refused (not (is_done_savepoint m id)) NoSuchSavepoint a.0), not_refused (is_number m.base id) InUse b.0)
+accepted_dispose m id h = grind (arith, common_steps)
 
 -- of a Restore: the moment is one
 pub accepted_restore : (m : State) (now : ℕ) (target : Target) (shape : Option (List ℕ)) → refusal m (Restore now target shape) ≡ None → now < 2 ^ 62
 unfolding refusal
-accepted_restore m now target shape h =
-    leb-false (2 ^ 62) now (not_refused (leb (2 ^ 62) now) MomentTooLarge (first_row (refuse_if (leb (2 ^ 62) now) MomentTooLarge) _ h).0)
+accepted_restore m now target shape h = grind (arith, common_steps)
 
 -- of a Restore to a savepoint: it is a done one
 pub accepted_restore_savepoint : (m : State) (now id : ℕ) (shape : Option (List ℕ)) → refusal m (Restore now (target.Savepoint id) shape) ≡ None → is_done_savepoint m id ≡ true
 unfolding refusal
-accepted_restore_savepoint m now id shape h =
-    let a = first_row (refuse_if (leb (2 ^ 62) now) MomentTooLarge) _ h in
-    let b = first_row (refuse_if (is_cancelled m.mode) NotRunning) _ a.1 in
-    let c = first_row (refuse_if (not (is_done_savepoint m id)) NoSuchSavepoint) _ b.1 in
-    not-false (is_done_savepoint m id) (not_refused (not (is_done_savepoint m id)) NoSuchSavepoint c.0)
+accepted_restore_savepoint m now id shape h = grind (arith, common_steps)
 
 -- of a Cancel: the moment is one
 pub accepted_cancel : (m : State) (now : ℕ) → refusal m (Cancel now) ≡ None → now < 2 ^ 62
 unfolding refusal
-accepted_cancel m now h =
-    leb-false (2 ^ 62) now (not_refused (leb (2 ^ 62) now) MomentTooLarge (first_row (refuse_if (leb (2 ^ 62) now) MomentTooLarge) _ h).0)
+accepted_cancel m now h = grind (arith, common_steps)
 
 -- of an Undeleted: the file was fetched
 pub accepted_undeleted : (m : State) (file : ℕ) → refusal m (Undeleted file) ≡ None → list_any (λ f. eqb f file) m.taken ≡ true
 unfolding refusal
-accepted_undeleted m file h =
-    not-false (list_any (λ f. eqb f file) m.taken) (not_refused (not (list_any (λ f. eqb f file) m.taken)) NotTaken (first_row (refuse_if (not (list_any (λ f. eqb f file) m.taken)) NotTaken) _ h).0)
+accepted_undeleted m file h = grind (arith, common_steps)
 
 -- of a Deleted: the file was fetched
 pub accepted_deleted : (m : State) (file : ℕ) → refusal m (Deleted file) ≡ None → list_any (λ f. eqb f file) m.taken ≡ true
 unfolding refusal
-accepted_deleted m file h =
-    not-false (list_any (λ f. eqb f file) m.taken) (not_refused (not (list_any (λ f. eqb f file) m.taken)) NotTaken (first_row (refuse_if (not (list_any (λ f. eqb f file) m.taken)) NotTaken) _ h).0)
+accepted_deleted m file h = grind (arith, common_steps)
 
 -- the other way round, for an acknowledgement
 
 -- a test that fails refuses nothing
 refused_not : (b : Bool) (why : Refusal) → b ≡ false → IsNone (refuse_if b why)
-refused_not true why h = absurd (both_ways true h refl)
-refused_not false why h = refl
+refused_not b why h2 = grind (arith, common_steps, both_ways)
 
 -- a row that does not hold is passed over
 no_row : (row : Option Refusal) (rows : List (Option Refusal)) → IsNone row → IsNone (first_some rows) → IsNone (first_some (row ∷ rows))
-no_row None rows h k = k
-no_row (Some why) rows h k = absurd (cc)
+no_row row rows h2 h3 = grind (arith, common_steps)
 
 -- a subtask of the pending record is not refused
 not_foreign : (o : Option Record) (s : SubtaskId) → ((r : Record) → o ≡ Some r → is_subtask r.shape s ≡ true) → IsNone (is_foreign o s)
-not_foreign None s h = refl
-not_foreign (Some r) s h = refused_not (not (is_subtask r.shape s)) UnknownSubtask (ap not (h r refl))
+not_foreign o s h2 = grind (arith, common_steps, refused_not)
 
 -- an acknowledgement that the pending record lacks is not refused
 not_repeat : (o : Option Record) (s : SubtaskId) → ((r : Record) → o ≡ Some r → has_acknowledged r s ≡ false) → IsNone (is_repeat o s)
-not_repeat None s h = refl
-not_repeat (Some r) s h = refused_not (has_acknowledged r s) AlreadyAcknowledged (h r refl)
+not_repeat o s h2 = grind (arith, common_steps, refused_not)
 
 -- if no file is found, none is named
 not_named : (o : Option Record) (why : ℕ → Refusal) (x : Option ℕ) → ((r : Record) → o ≡ Some r → IsNone x) → IsNone (where_pending o (named why x))
-not_named None why x h = refl
-not_named (Some r) why x h = ap (named why) (h r refl)
+not_named o why x h3 = grind (arith, common_steps)
 
 -- an Ack of which no row holds is not refused
 pub not_refused-ack : (m : State) (now id : ℕ) (subtask : SubtaskId) (fresh reused : List ℕ) → IsAcceptedAck m now id subtask fresh reused → refusal m (Ack now id subtask fresh reused) ≡ None
 unfolding refusal
-not_refused-ack m now id subtask fresh reused a =
-    let pending : Option Record = pending_of m.records id in
-    no_row (refuse_if (leb (2 ^ 62) now) MomentTooLarge) _ (refused_not (leb (2 ^ 62) now) MomentTooLarge (lt-leb (2 ^ 62) now a.moment))
-    (no_row (refuse_if (ltb 4096 (length fresh + length reused)) TooManyFiles) _ (refused_not (ltb 4096 (length fresh + length reused)) TooManyFiles (le-ltb 4096 (length fresh + length reused) a.few))
-    (no_row (refuse_if (has_repeats (fresh ++ reused)) RepeatedFile) _ (refused_not (has_repeats (fresh ++ reused)) RepeatedFile a.once)
-    (no_row (refuse_if (was_not_given m id) UnknownCheckpoint) _ (refused_not (was_not_given m id) UnknownCheckpoint a.given)
-    (no_row (is_foreign pending subtask) _ (not_foreign pending subtask a.of_subtask)
-    (no_row (is_repeat pending subtask) _ (not_repeat pending subtask a.first)
-    (no_row (where_pending pending (named NameTaken (find (is_known m) fresh))) _ (not_named pending NameTaken (find (is_known m) fresh) a.unknown)
-    (no_row (where_pending pending (named FileGone (find (λ f. not (is_present (uses m.records) f)) reused))) _ (not_named pending FileGone (find (λ f. not (is_present (uses m.records) f)) reused) a.present) refl)))))))
+not_refused-ack m now id subtask fresh reused a = grind (arith, common_steps)

@@ -1,7 +1,5 @@
 -- The rows of the table of refusals, one after the other.
-use Rattle.std.proofs.Common.{◌≡◌, List, [], ◌∷◌, ◌++◌, refl, sym, ap, ◌∙◌, Option, Some, None}
-use Rattle.ckpt_ids.specs.declared.reply.Refusal.{Refusal}
-use Rattle.ckpt_model.specs.Refusals.{first_some}
+use Rattle.ckpt_model.proofs.Names.{◌≡◌, List, [], ◌∷◌, ◌++◌, refl, sym, ap, ◌∙◌, Option, Some, None, Refusal, first_some, common_steps, arith}
 
 -- the row that holds decides
 pub row_holds : (why : Refusal) (row : Option Refusal) (rows : List (Option Refusal)) → Some why ≡ row → Some why ≡ first_some (row ∷ rows)
@@ -13,24 +11,18 @@ row_fails row rows o e h = h ∙ ap (λ r. first_some (r ∷ rows)) e
 
 -- a row that no other follows decides
 pub row_last : (row : Option Refusal) (rows : List (Option Refusal)) (o : Option Refusal) → o ≡ row → first_some rows ≡ None → o ≡ first_some (row ∷ rows)
-row_last None rows o h e = h ∙ sym e
-row_last (Some why) rows o h e = h
+row_last row rows o h3 h4 = grind (arith, common_steps)
 
 -- if none holds, the first does not
 pub first_row-none : (row : Option Refusal) (rows : List (Option Refusal)) → first_some (row ∷ rows) ≡ None → row ≡ None
-first_row-none None rows h = refl
-first_row-none (Some why) rows h = absurd (cc)
+first_row-none row rows h2 = grind (arith, common_steps)
 
 -- two rows, then others
 pub rows_hold : (why : Refusal) (row next : Option Refusal) (rows : List (Option Refusal)) → Some why ≡ first_some (row ∷ next ∷ []) → Some why ≡ first_some (row ∷ next ∷ rows)
-rows_hold why (Some other) next rows h = h
-rows_hold why None (Some other) rows h = h
-rows_hold why None None rows h = absurd (cc)
+rows_hold why row next rows h4 = grind (arith, common_steps)
 
 pub rows_fail : (row next : Option Refusal) (rows : List (Option Refusal)) (o : Option Refusal) → None ≡ first_some (row ∷ next ∷ []) → o ≡ first_some rows → o ≡ first_some (row ∷ next ∷ rows)
-rows_fail (Some other) next rows o e h = absurd (cc)
-rows_fail None (Some other) rows o e h = absurd (cc)
-rows_fail None None rows o e h = h
+rows_fail row next rows o h4 h5 = grind (arith, common_steps)
 
 -- no row more that holds
 pub rows_only : (rows more : List (Option Refusal)) → first_some more ≡ None → first_some rows ≡ first_some (rows ++ more)

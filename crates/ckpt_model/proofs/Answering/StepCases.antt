@@ -1,16 +1,6 @@
 -- A step is a refusal, or the effect of the call.
-use Rattle.std.proofs.Common.{◌≡◌, ℕ, max, Bool, true, false, List, refl, ap, ◌∙◌, Option, Some, None}
-use Rattle.std.proofs.lemmas.Bool.{both_ways}
-use Rattle.ckpt_ids.specs.declared.subtask.SubtaskId.{SubtaskId}
-use Rattle.ckpt_ids.specs.declared.call.Call.{Call}
-use Rattle.ckpt_ids.specs.declared.call.Call.TheVariants.{Ack}
-use Rattle.ckpt_ids.specs.Records.{Record}
-use Rattle.ckpt_ids.specs.declared.reply.Refusal.{Refusal}
-use Rattle.ckpt_ids.specs.declared.reply.Answer.{Answer}
-use Rattle.ckpt_ids.specs.declared.reply.Answer.TheVariants.{Refused}
-use Rattle.ckpt_model.specs.State.{State}
-use Rattle.ckpt_model.specs.Refusals.{refusal, moment_of, pending_of}
-use Rattle.ckpt_model.specs.Steps.{Stepped, ack, effect, at_moment, unless_refused, step}
+use Rattle.ckpt_model.proofs.Names.{◌≡◌, ℕ, max, Bool, true, false, List, refl, ap, ◌∙◌, Option, Some, None, both_ways, SubtaskId, Call, Ack, Record, Refusal, Answer, Refused, State, refusal}
+use Rattle.ckpt_model.proofs.Names.{moment_of, pending_of, Stepped, ack, effect, at_moment, unless_refused, step, common_steps, arith}
 
 pub step_refused : (m : State) (call : Call) (why : Refusal) → refusal m call ≡ Some why → step m call ≡ (m, Refused why)
 unfolding step
@@ -37,6 +27,4 @@ not_refused-from_answer passes fails m call = step_by m call (λ x. passes x.1 �
 pub ack_step : (m : State) (now id : ℕ) (subtask : SubtaskId) (fresh reused : List ℕ) (o : Option Record) → refusal m (Ack now id subtask fresh reused) ≡ None → pending_of m.records id ≡ o →
     step m (Ack now id subtask fresh reused) ≡ ack (record m { latest = max now m.latest }) o subtask fresh reused
 unfolding step effect
-ack_step m now id subtask fresh reused o accepted found =
-    ap (unless_refused m (Ack now id subtask fresh reused)) accepted
-    ∙ ap (λ q. ack (record m { latest = max now m.latest }) q subtask fresh reused) found
+ack_step m now id subtask fresh reused o accepted found = grind (arith, common_steps)

@@ -1,22 +1,7 @@
 -- The acknowledgements of a live record are exactly the accepted ones of its number.
-use Rattle.std.proofs.Common.{◌≡◌, ℕ, ◌<◌, ◌≤◌, ◌&&◌, eqb, List, [], ◌∷◌, ◌++◌, refl, sym, ap, subst, ◌∙◌, inl, inr, ⊎_elim, arith}
-use Rattle.std.specs.Prelude.{Option}
-use Rattle.std.proofs.lemmas.Bool.{and_from, and_left, and_right, eq-eqb, ne_eqb, cond-true, cond-false}
-use Rattle.std.proofs.lemmas.List.{append-nil, append_assoc}
-use Rattle.ckpt_ids.specs.declared.subtask.SubtaskId.{SubtaskId}
-use Rattle.ckpt_ids.specs.declared.ack.Acked.{Acked}
-use Rattle.ckpt_ids.specs.declared.call.Call.{Call}
-use Rattle.ckpt_ids.specs.declared.call.Call.TheVariants.{Ack}
-use Rattle.ckpt_ids.specs.Ordered.{IsIn, in_order}
-use Rattle.ckpt_ids.specs.Acknowledged.{acknowledges_before, put_ack}
-use Rattle.ckpt_ids.specs.Ascending.{ascending}
-use Rattle.ckpt_ids.specs.Records.{Record}
-use Rattle.ckpt_ids.proofs.OrderedLemmas.{IsIn-in_order}
-use Rattle.ckpt_model.specs.State.{State, Opening, opened}
-use Rattle.ckpt_model.specs.Steps.{step}
-use Rattle.ckpt_model.specs.Histories.{replay}
-use Rattle.ckpt_model.specs.Soundness.{IsSound}
-use Rattle.ckpt_model.specs.Laws.{CanOpen, AreCalls, is_ack_taken, along, accepted_by, Acknowledgements}
+use Rattle.ckpt_model.proofs.Names.{◌≡◌, ℕ, ◌<◌, ◌≤◌, ◌&&◌, eqb, List, [], ◌∷◌, ◌++◌, refl, sym, ap, subst, ◌∙◌, inl, inr, ⊎_elim, arith, Option, and_from, and_left, and_right, eq-eqb, ne_eqb}
+use Rattle.ckpt_model.proofs.Names.{cond-true, cond-false, append-nil, append_assoc, SubtaskId, Acked, Call, Ack, IsIn, in_order, acknowledges_before, put_ack, ascending, Record, IsIn-in_order, State}
+use Rattle.ckpt_model.proofs.Names.{Opening, opened, step, replay, IsSound, CanOpen, AreCalls, is_ack_taken, along, accepted_by, Acknowledgements, common_steps}
 use Rattle.ckpt_model.proofs.Records.Acknowledged.{new_subtask}
 use Rattle.ckpt_model.proofs.Reordering.ExchangeLemmas.{acks_commute}
 use Rattle.ckpt_model.proofs.Histories.Moves.{IsMoved, IsTriggered, moved_from}
@@ -98,12 +83,8 @@ taken_accepted m now id subtask fresh reused so_far s i a =
 
 -- each call
 step_accepts : (m : State) (call : Call) (so_far : ℕ → List Acked) → IsSound m → AreAccepted m so_far → AreAccepted (step m call).0 (and_then so_far m call)
-step_accepts m (Ack now id subtask fresh reused) so_far s a =
-    ⊎_elim
-    (λ i. passed_accepted m now id subtask fresh reused so_far i a)
-    (λ i. taken_accepted m now id subtask fresh reused so_far s i a)
-    ((step_is m (Ack now id subtask fresh reused)).records s)
-step_accepts m call so_far s a = moved_accepted m call so_far (λ _. refl) ((step_is m call).records s) a
+step_accepts m (Ack now id subtask fresh reused) so_far s a = grind (arith, common_steps, passed_accepted, step_is, taken_accepted)
+step_accepts m call so_far s a = grind (arith, common_steps, moved_accepted, step_is)
 
 -- each list of calls
 acks_along : (m : State) (calls : List Call) (so_far : ℕ → List Acked) → IsSound m → AreCalls calls → AreAccepted m so_far → (r : Record) → IsIn r (replay m calls).records → r.acks ≡ in_order acknowledges_before (so_far r.id ++ along (accepted_by r.id) m calls)

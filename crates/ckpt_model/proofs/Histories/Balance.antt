@@ -1,23 +1,13 @@
 -- The balance of files over every list of calls, and what became of each.
-use Rattle.std.proofs.Common.{◌≡◌, ℕ, ◌+◌, ◌<◌, ◌≤◌, true, false, List, [], ◌∷◌, ◌++◌, refl, sym, ap, subst, ◌∙◌, ◌⊎◌, inl, inr, ⊎_elim, arith}
-use Rattle.std.proofs.lemmas.Bool.{cases_Bool, both_ways, ltb-false, le-ltb}
-use Rattle.std.proofs.lemmas.List.{append-nil, append_assoc}
-use Rattle.ckpt_ids.specs.declared.call.Call.{Call}
-use Rattle.ckpt_ids.specs.Ordered.{IsIn}
-use Rattle.ckpt_ids.specs.Records.{uses, count, is_present}
-use Rattle.ckpt_ids.proofs.OrderedLemmas.{IsIn-append_left, IsIn-append_right, IsIn-append_cases, not_in-from_test}
-use Rattle.ckpt_model.specs.State.{State, Opening, opened}
-use Rattle.ckpt_model.specs.Steps.{step}
-use Rattle.ckpt_model.specs.Histories.{replay}
-use Rattle.ckpt_model.specs.Soundness.{IsSound}
-use Rattle.ckpt_model.specs.Laws.{CanOpen, AreCalls, along, registered_by, handed_by, deleted_by, new_by, ShareNone, NoneAgain, Balance, Handed, Accounted, UsedNoMore, Outbox}
+use Rattle.ckpt_model.proofs.Names.{◌≡◌, ℕ, ◌+◌, ◌<◌, ◌≤◌, true, false, List, [], ◌∷◌, ◌++◌, refl, sym, ap, subst, ◌∙◌, ◌⊎◌, inl, inr, ⊎_elim, arith, cases_Bool, both_ways, ltb-false, le-ltb}
+use Rattle.ckpt_model.proofs.Names.{append-nil, append_assoc, Call, IsIn, uses, count, is_present, IsIn-append_left, IsIn-append_right, IsIn-append_cases, not_in-from_test, State, Opening, opened}
+use Rattle.ckpt_model.proofs.Names.{step, replay, IsSound, CanOpen, AreCalls, along, registered_by, handed_by, deleted_by, new_by, ShareNone, NoneAgain, Balance, Handed, Accounted, UsedNoMore, Outbox}
+use Rattle.ckpt_model.proofs.Names.{one_if, times, times-from_IsIn, IsIn-from_times, times-append, times_at_most_once}
 use Rattle.ckpt_model.proofs.Records.Lists.{outbox_of}
 use Rattle.ckpt_model.proofs.Histories.Balances.{times_none}
 use Rattle.ckpt_model.proofs.Histories.StepBalances.{step_settled, newly_present}
 use Rattle.ckpt_model.proofs.Soundness.Calls.{step_keeps}
 use Rattle.ckpt_model.proofs.Soundness.Histories.{opening_is_sound, replay_is_sound}
-use Rattle.ckpt_ids.specs.Counting.{one_if, times}
-use Rattle.ckpt_ids.proofs.CountLemmas.{times-from_IsIn, IsIn-from_times, times-append, times_at_most_once}
 
 -- from any sound state on
 balance_from : (m : State) (calls : List Call) (f : ℕ) → IsSound m → AreCalls calls → times f (along registered_by m calls) + one_if (is_present (uses m.records) f) ≡ times f (along handed_by m calls) + one_if (is_present (uses (replay m calls).records) f)

@@ -1,14 +1,9 @@
 -- What a change of the records registers, hands out and leaves present, file by file.
-use Rattle.std.proofs.Common.{◌≡◌, ℕ, zero, suc, ◌+◌, ◌<◌, ◌≤◌, true, false, List, [], ◌∷◌, ◌++◌, length, drop, refl, sym, ap, ◌∙◌, ◌⊎◌, ⊎_elim, arith}
-use Rattle.std.proofs.lemmas.Bool.{cases_Bool, cases_lt, both_ways}
-use Rattle.ckpt_ids.specs.Ordered.{IsIn, AreDistinct}
-use Rattle.ckpt_ids.specs.Records.{Record, uses, is_present, released}
-use Rattle.ckpt_ids.proofs.CountLemmas.{IsIn-from_times, times-from_IsIn, times_at_most_once}
+use Rattle.ckpt_model.proofs.Names.{◌≡◌, ℕ, zero, suc, ◌+◌, ◌<◌, ◌≤◌, true, false, List, [], ◌∷◌, ◌++◌, length, refl, sym, ap, ◌∙◌, ◌⊎◌, ⊎_elim, arith, cases_Bool, cases_lt, both_ways, IsIn}
+use Rattle.ckpt_model.proofs.Names.{AreDistinct, Record, uses, is_present, released, IsIn-from_times, times-from_IsIn, times_at_most_once, one_if, times, AreDistinct-from_order, numbers_in_order}
+use Rattle.std.proofs.Common.{drop}
 use Rattle.ckpt_model.proofs.Records.Present.{IsHeld, IsHeld-from_present, present-from_IsHeld, not_held, absent-from_not_held}
 use Rattle.ckpt_model.proofs.Records.Released.{ascending-released, after-from_released, held-from_released, released-from_held}
-use Rattle.ckpt_ids.specs.Counting.{one_if, times}
-use Rattle.ckpt_ids.proofs.OrderedLemmas.{AreDistinct-from_order}
-use Rattle.ckpt_ids.proofs.AscendingLemmas.{numbers_in_order}
 
 -- how often a number is in a list
 

@@ -1,15 +1,7 @@
 -- The record that the choice names is live and done.
-use Rattle.std.proofs.Common.{◌≡◌, ℕ, Bool, true, false, not, ◌&&◌, cond, eqb, List, [], ◌∷◌, refl, sym, ap, subst, ◌∙◌, ◌⊎◌, inl, inr, ⊎_elim}
-use Rattle.std.specs.Prelude.{Option, Some, None}
-use Rattle.std.proofs.lemmas.Bool.{cases_Bool, and_parts, eqb-true, eq-eqb}
-use Rattle.ckpt_ids.specs.declared.call.Call.{Call}
-use Rattle.ckpt_ids.specs.Ordered.{IsIn, IsInOrder}
-use Rattle.ckpt_ids.specs.Records.{Record}
-use Rattle.ckpt_ids.proofs.OrderedLemmas.{IsIn-from_list_any}
-use Rattle.ckpt_model.specs.State.{State, Opening, opened, is_checkpoint, is_done_checkpoint, last_checkpoint, choice_from, choice_of, record_of}
-use Rattle.ckpt_model.specs.Histories.{replay}
-use Rattle.ckpt_model.specs.Soundness.{IsSound, id_before}
-use Rattle.ckpt_model.specs.Laws.{names, ChoiceIsLive}
+use Rattle.ckpt_model.proofs.Names.{◌≡◌, ℕ, Bool, true, false, not, ◌&&◌, cond, eqb, List, [], ◌∷◌, refl, sym, ap, subst, ◌∙◌, ◌⊎◌, inl, inr, ⊎_elim, Option, Some, None, cases_Bool, and_parts}
+use Rattle.ckpt_model.proofs.Names.{eqb-true, eq-eqb, Call, IsIn, IsInOrder, Record, IsIn-from_list_any, State, Opening, opened, is_checkpoint, is_done_checkpoint, last_checkpoint, choice_from}
+use Rattle.ckpt_model.proofs.Names.{choice_of, record_of, replay, IsSound, id_before, names, ChoiceIsLive, common_steps, arith}
 use Rattle.ckpt_model.proofs.Records.Present.{present-from_IsHeld}
 use Rattle.ckpt_model.proofs.Records.Replacing.{same_record}
 use Rattle.ckpt_model.proofs.Reordering.ExchangeLemmas.{find-only}
@@ -18,13 +10,7 @@ use Rattle.ckpt_model.proofs.Soundness.Triggers.{held-from_files_of}
 
 -- the last done checkpoint of a list, from that of its rest
 last_among : (r : Record) (rs : List Record) (id : ℕ) (o : Option ℕ) → ((i : ℕ) → last_checkpoint rs ≡ Some i → (s : Record) × IsIn s rs × (s.id ≡ i) × (is_done_checkpoint s ≡ true)) → last_checkpoint rs ≡ o → elim o [ Some i ↦ Some i | None ↦ cond (is_done_checkpoint r) (Some r.id) None ] ≡ Some id → (s : Record) × IsIn s (r ∷ rs) × (s.id ≡ id) × (is_done_checkpoint s ≡ true)
-last_among r rs id (Some i) rest k h = let same : i ≡ id = cc in let q = rest i k in (q.0, inr q.1, q.2 ∙ same, q.3)
-last_among r rs id None rest k h =
-    let P : Bool → Type 0 = λ b. cond b (Some r.id) None ≡ Some id in
-    ⊎_elim
-    (λ (t : is_done_checkpoint r ≡ true). let l : ◌≡◌ {A = Option ℕ} (Some r.id) (Some id) = subst P t h in let same : r.id ≡ id = cc in (r, inl refl, same, t))
-    (λ (t : is_done_checkpoint r ≡ false). let l : ◌≡◌ {A = Option ℕ} None (Some id) = subst P t h in absurd (cc))
-    (cases_Bool (is_done_checkpoint r))
+last_among r rs id o h4 h5 h6 = grind (arith, common_steps, cases_Bool)
 
 -- the last done checkpoint is one of the records
 pub last_is_done : (rs : List Record) (id : ℕ) → last_checkpoint rs ≡ Some id → (r : Record) × IsIn r rs × (r.id ≡ id) × (is_done_checkpoint r ≡ true)
@@ -33,9 +19,7 @@ last_is_done (r ∷ rs) id e = last_among r rs id (last_checkpoint rs) (λ i k. 
 
 -- what a choice names is a done checkpoint, or the base
 names_is : (last base : Option ℕ) (id : ℕ) → names (choice_from last base) ≡ Some id → (last ≡ Some id) ⊎ (base ≡ Some id)
-names_is (Some i) base id e = inl e
-names_is None (Some i) id e = inr e
-names_is None None id e = absurd (cc)
+names_is last base id h3 = grind (arith, common_steps)
 
 -- a record is found by its number
 pub found : (m : State) (r : Record) → IsInOrder id_before m.records → IsIn r m.records → record_of m r.id ≡ Some r

@@ -1,12 +1,6 @@
 -- The words of the laws, computed for two short lists of calls. The expected values were written by hand, from the rules.
-use Rattle.std.specs.Prelude.{◌≡◌, ℕ, List, refl, true, false, [], ◌∷◌}
-use Rattle.ckpt_ids.specs.declared.subtask.SubtaskId.{SubtaskId}
-use Rattle.ckpt_ids.specs.declared.call.Call.{Call}
-use Rattle.ckpt_ids.specs.declared.call.Call.TheVariants.{Tick, Ack, Take, Deleted}
-use Rattle.ckpt_ids.specs.Configuration.{Configuration}
-use Rattle.ckpt_model.specs.State.{State, opened}
-use Rattle.ckpt_model.specs.Steps.{step, step_computes}
-use Rattle.ckpt_model.specs.Laws.{Part, ack_of, is_ack_pending, is_ack_taken, along, registered_by, handed_by, deleted_by, given_by, new_by, accepted_by}
+use Rattle.ckpt_model.proofs.Names.{◌≡◌, ℕ, List, refl, true, false, [], ◌∷◌, SubtaskId, Call, Tick, Ack, Take, Deleted, Configuration, State, opened, step, step_computes, Part, ack_of}
+use Rattle.ckpt_model.proofs.Names.{is_ack_pending, is_ack_taken, along, registered_by, handed_by, deleted_by, given_by, new_by, accepted_by}
 
 -- a checkpoint each second, of which one is kept
 abbrev usual : Configuration

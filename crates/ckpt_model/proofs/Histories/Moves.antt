@@ -1,18 +1,6 @@
 -- What a call that is no acknowledgement does to the records: it drops some, and it may trigger one.
-use Rattle.std.proofs.Common.{◌≡◌, ℕ, Bool, true, false, not, List, [], ◌∷◌, ◌++◌, map, refl, sym, ap, subst, ◌∙◌, ◌⊎◌, inl, inr, ⊎_elim}
-use Rattle.std.specs.Prelude.{Option, Some, None}
-use Rattle.std.specs.List.{filter}
-use Rattle.std.proofs.lemmas.Bool.{not_from_false}
-use Rattle.std.proofs.lemmas.List.{append-nil, append_assoc, map-id}
-use Rattle.ckpt_ids.specs.declared.numbers.Kind.{Kind}
-use Rattle.ckpt_ids.specs.declared.call.Call.{Call}
-use Rattle.ckpt_ids.specs.declared.call.Call.TheVariants.{Dispose}
-use Rattle.ckpt_ids.specs.declared.reply.Answer.{Answer}
-use Rattle.ckpt_ids.specs.declared.reply.Answer.TheVariants.{Refused}
-use Rattle.ckpt_ids.specs.Ordered.{IsIn}
-use Rattle.ckpt_ids.specs.Records.{Record}
-use Rattle.ckpt_ids.proofs.OrderedLemmas.{IsIn-append_left, IsIn-append_cases}
-use Rattle.ckpt_model.specs.State.{State, is_checkpoint, pins_now}
+use Rattle.ckpt_model.proofs.Names.{◌≡◌, ℕ, Bool, true, false, not, List, [], ◌∷◌, ◌++◌, map, refl, sym, ap, subst, ◌∙◌, ◌⊎◌, inl, inr, ⊎_elim, Option, Some, None, filter, not_from_false, append-nil}
+use Rattle.ckpt_model.proofs.Names.{append_assoc, map-id, Kind, Call, Dispose, Answer, Refused, IsIn, Record, IsIn-append_left, IsIn-append_cases, State, is_checkpoint, pins_now, common_steps, arith}
 use Rattle.ckpt_model.proofs.Records.Counts.{IsIn-changed, IsIn-from_changed}
 use Rattle.ckpt_model.proofs.Soundness.Acks.{nothing_dropped}
 use Rattle.ckpt_model.proofs.Soundness.Triggers.{new_record}
@@ -43,13 +31,7 @@ moved_from {m} {disposed} {after} i y h =
 
 -- a done savepoint is there after, if it is not the one disposed of
 pub savepoint_moved : {m : State} {disposed : Option ℕ} {after : List Record} → IsMoved m disposed after → (r : Record) → IsIn r m.records → r.done ≡ true → is_checkpoint r ≡ false → (disposed ≡ Some r.id → ⊥) → IsIn r after
-savepoint_moved {m} {disposed} {after} i r h done savepoint other =
-    let There : List Record → Type 0 = λ rs. IsIn r rs in
-    let left : List Record = map (λ r. r) (filter i.keep m.records) in
-    ⊎_elim
-    (λ (k : i.keep r ≡ true). subst There (sym i.records) (IsIn-append_left r left i.new (IsIn-changed (λ (x : Record). x) i.keep r m.records h k)))
-    (λ (k : disposed ≡ Some r.id). absurd (other k))
-    (i.savepoints r h done savepoint)
+savepoint_moved {m} {disposed} {after} i r h done savepoint other = grind (arith, common_steps, IsIn-append_left, IsIn-changed)
 
 -- nothing is done to the records
 pub unmoved : (m : State) (disposed : Option ℕ) → IsMoved m disposed m.records

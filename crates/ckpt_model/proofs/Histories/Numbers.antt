@@ -1,10 +1,6 @@
 -- The numbers given rise from the first by one.
-use Rattle.std.proofs.Common.{◌≡◌, ℕ, ◌+◌, ◌≤◌, arith, List, [], ◌∷◌, ◌++◌, length, refl, sym, ap, subst, ◌∙◌, ⊎_elim}
-use Rattle.std.specs.List.{range_with_len}
-use Rattle.ckpt_ids.specs.declared.call.Call.{Call}
-use Rattle.ckpt_model.specs.State.{State, Opening, opened}
-use Rattle.ckpt_model.specs.Steps.{step}
-use Rattle.ckpt_model.specs.Laws.{along, given_by, Numbers}
+use Rattle.ckpt_model.proofs.Names.{◌≡◌, ℕ, ◌+◌, ◌≤◌, arith, List, [], ◌∷◌, ◌++◌, length, refl, sym, ap, subst, ◌∙◌, ⊎_elim, range_with_len, Call, State, Opening, opened, step, along, given_by}
+use Rattle.ckpt_model.proofs.Names.{Numbers}
 use Rattle.ckpt_model.proofs.Stepping.Changes.{Gives}
 use Rattle.ckpt_model.proofs.Stepping.Walk.{step_is}
 

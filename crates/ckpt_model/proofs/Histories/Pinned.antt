@@ -1,21 +1,9 @@
 -- An acknowledgement for a pending record that reuses only files of the choice at its trigger is never refused FileGone.
-use Rattle.std.proofs.Common.{◌≡◌, ℕ, ◌+◌, ◌<◌, ◌≤◌, ◌^◌, Bool, true, false, not, ◌&&◌, ltb, leb, eqb, List, [], ◌∷◌, ◌++◌, length, refl, sym, ap, subst, ◌∙◌, ◌⊎◌, inl, inr, ⊎_elim, arith}
-use Rattle.std.specs.Prelude.{find, Option, Some, None}
-use Rattle.std.proofs.lemmas.Bool.{both_ways, and_parts, not-true, eqb-true}
-use Rattle.ckpt_ids.specs.declared.subtask.SubtaskId.{SubtaskId}
-use Rattle.ckpt_ids.specs.declared.call.Call.{Call}
-use Rattle.ckpt_ids.specs.declared.call.Call.TheVariants.{Ack}
-use Rattle.ckpt_ids.specs.declared.reply.Refusal.{Refusal}
-use Rattle.ckpt_ids.specs.declared.reply.Refusal.TheVariants.{MomentTooLarge, TooManyFiles, RepeatedFile, UnknownCheckpoint, UnknownSubtask, AlreadyAcknowledged, NameTaken, FileGone}
-use Rattle.ckpt_ids.specs.Ordered.{IsIn}
-use Rattle.ckpt_ids.specs.Records.{Record, uses, is_present, has_acknowledged}
-use Rattle.ckpt_ids.specs.Shapes.{is_subtask}
-use Rattle.ckpt_model.specs.State.{State, Opening, opened, is_pending, is_known, choice_of, chosen, files_of, pins_now}
-use Rattle.ckpt_model.specs.Refusals.{refusal, refuse_if, first_some, has_repeats, pending_of, was_not_given, is_foreign, is_repeat, named, where_pending}
-use Rattle.ckpt_model.specs.Steps.{Stepped, step}
-use Rattle.ckpt_model.specs.Histories.{replay}
-use Rattle.ckpt_model.specs.Soundness.{IsSound, IsCall}
-use Rattle.ckpt_model.specs.Laws.{CanOpen, AreCalls, given_by, Pinned}
+use Rattle.ckpt_model.proofs.Names.{◌≡◌, ℕ, ◌+◌, ◌<◌, ◌≤◌, ◌^◌, Bool, true, false, not, ◌&&◌, ltb, leb, eqb, List, [], ◌∷◌, ◌++◌, length, refl, sym, ap, subst, ◌∙◌, ◌⊎◌, inl, inr, ⊎_elim, arith, find}
+use Rattle.ckpt_model.proofs.Names.{Option, Some, None, both_ways, and_parts, not-true, eqb-true, SubtaskId, Call, Ack, Refusal, MomentTooLarge, TooManyFiles, RepeatedFile, UnknownCheckpoint}
+use Rattle.ckpt_model.proofs.Names.{UnknownSubtask, AlreadyAcknowledged, NameTaken, FileGone, IsIn, Record, uses, is_present, has_acknowledged, is_subtask, State, Opening, opened, is_pending}
+use Rattle.ckpt_model.proofs.Names.{is_known, choice_of, chosen, files_of, pins_now, refusal, refuse_if, first_some, has_repeats, pending_of, was_not_given, is_foreign, is_repeat, named}
+use Rattle.ckpt_model.proofs.Names.{where_pending, Stepped, step, replay, IsSound, IsCall, CanOpen, AreCalls, given_by, Pinned, common_steps}
 use Rattle.ckpt_model.proofs.Records.Counts.{IsIn-from_find}
 use Rattle.ckpt_model.proofs.Records.Present.{present-from_IsHeld}
 use Rattle.ckpt_model.proofs.Histories.Moves.{IsMoved, IsTriggered, moved_from}
@@ -71,11 +59,7 @@ has_pins_along m (call ∷ calls) number pins s c p = has_pins_along (step m cal
 
 -- the number that a call gives is the next one
 given_is_next : (m : State) (call : Call) (number : ℕ) → given_by m call ≡ number ∷ [] → (number ≡ m.next) × (number < ((step m call).0).next)
-given_is_next m call number e =
-    ⊎_elim
-    (λ (g : (given_by m call ≡ []) × (((step m call).0).next ≡ m.next)). let none : given_by m call ≡ [] = g.0 in absurd (cc))
-    (λ (g : (given_by m call ≡ m.next ∷ []) × (((step m call).0).next ≡ m.next + 1)). let its : given_by m call ≡ m.next ∷ [] = g.0 in let same : number ≡ m.next = cc in (same, omega (arith, g.1)))
-    (step_gives m call)
+given_is_next m call number e = grind (arith, common_steps, step_gives)
 
 -- the record that a call triggers pins the files of the choice
 has_pins_first : (m : State) (call : Call) (number : ℕ) → IsSound m → given_by m call ≡ number ∷ [] → HasPins (step m call).0 number (pins_now m)
@@ -95,35 +79,27 @@ has_pins_first m call number s e =
 
 -- the row that decides is the first or a later one
 this_or_later : (row : Option Refusal) (rows : List (Option Refusal)) (why : Refusal) → first_some (row ∷ rows) ≡ Some why → (row ≡ Some why) ⊎ (first_some rows ≡ Some why)
-this_or_later None rows why h = inr h
-this_or_later (Some other) rows why h = inl h
+this_or_later row rows why h3 = grind (arith, common_steps)
 
 -- a row of another refusal does not decide it
 this_is_other : (b : Bool) (other why : Refusal) → (other ≡ why → ⊥) → refuse_if b other ≡ Some why → ⊥
-this_is_other true other why ne h = ne (cc)
-this_is_other false other why ne h = cc
+this_is_other b other why h3 h4 = grind (arith, common_steps)
 
 -- nor does UnknownSubtask
 foreign_is_other : (o : Option Record) (s : SubtaskId) (f : ℕ) → is_foreign o s ≡ Some (FileGone f) → ⊥
-foreign_is_other None s f h = cc
-foreign_is_other (Some r) s f h = this_is_other (not (is_subtask r.shape s)) UnknownSubtask (FileGone f) (λ e. cc) h
+foreign_is_other o s f h3 = grind (arith, common_steps, this_is_other)
 
 -- nor AlreadyAcknowledged
 repeat_is_other : (o : Option Record) (s : SubtaskId) (f : ℕ) → is_repeat o s ≡ Some (FileGone f) → ⊥
-repeat_is_other None s f h = cc
-repeat_is_other (Some r) s f h = this_is_other (has_acknowledged r s) AlreadyAcknowledged (FileGone f) (λ e. cc) h
+repeat_is_other o s f h3 = grind (arith, common_steps, this_is_other)
 
 -- nor NameTaken
 taken_is_other : (o : Option Record) (x : Option ℕ) (f : ℕ) → where_pending o (named NameTaken x) ≡ Some (FileGone f) → ⊥
-taken_is_other None x f h = cc
-taken_is_other (Some r) None f h = cc
-taken_is_other (Some r) (Some g) f h = cc
+taken_is_other o x f h3 = grind (arith, common_steps)
 
 -- the row of FileGone names the file that it found
 file_gone_is : (o : Option Record) (x : Option ℕ) (f : ℕ) → where_pending o (named FileGone x) ≡ Some (FileGone f) → (r : Record) × (o ≡ Some r) × (x ≡ Some f)
-file_gone_is None x f h = absurd (cc)
-file_gone_is (Some r) None f h = absurd (cc)
-file_gone_is (Some r) (Some g) f h = (r, refl, cc)
+file_gone_is o x f h3 = grind (arith, common_steps)
 
 -- of a call that is refused FileGone the record is pending, and the file is one that it reuses and is not present
 pub file_gone_found : (m : State) (now id : ℕ) (subtask : SubtaskId) (fresh reused : List ℕ) (f : ℕ) → refusal m (Ack now id subtask fresh reused) ≡ Some (FileGone f) → (r : Record) × (pending_of m.records id ≡ Some r) × IsIn f reused × (is_present (uses m.records) f ≡ false)

@@ -1,10 +1,5 @@
 -- Calls made one list after the other.
-use Rattle.std.proofs.Common.{◌≡◌, List, [], ◌∷◌, ◌++◌, refl, ap}
-use Rattle.ckpt_ids.specs.declared.call.Call.{Call}
-use Rattle.ckpt_ids.specs.declared.reply.Answer.{Answer}
-use Rattle.ckpt_model.specs.State.{State}
-use Rattle.ckpt_model.specs.Steps.{step}
-use Rattle.ckpt_model.specs.Histories.{replay, answers}
+use Rattle.ckpt_model.proofs.Names.{◌≡◌, List, [], ◌∷◌, ◌++◌, refl, ap, Call, Answer, State, step, replay, answers}
 
 pub replay-append : (m : State) (before after : List Call) → replay m (before ++ after) ≡ replay (replay m before) after
 replay-append m [] after = refl

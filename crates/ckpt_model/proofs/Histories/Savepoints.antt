@@ -1,19 +1,7 @@
 -- A done savepoint stays, unchanged, until an accepted Dispose of its number.
-use Rattle.std.proofs.Common.{◌≡◌, ℕ, true, false, ◌&&◌, eqb, List, [], ◌∷◌, refl, sym, subst, ⊎_elim}
-use Rattle.std.specs.Prelude.{Some}
-use Rattle.std.proofs.lemmas.Bool.{both_ways, and_from, eq-eqb}
-use Rattle.std.proofs.lemmas.Option.{none-some}
-use Rattle.ckpt_ids.specs.declared.call.Call.{Call}
-use Rattle.ckpt_ids.specs.declared.call.Call.TheVariants.{Ack, Dispose}
-use Rattle.ckpt_ids.specs.declared.reply.Answer.{Answer}
-use Rattle.ckpt_ids.specs.declared.reply.Answer.TheVariants.{Done, Refused}
-use Rattle.ckpt_ids.specs.Ordered.{IsIn}
-use Rattle.ckpt_ids.specs.Records.{Record}
-use Rattle.ckpt_model.specs.State.{State, Opening, opened, is_checkpoint}
-use Rattle.ckpt_model.specs.Steps.{Stepped, step}
-use Rattle.ckpt_model.specs.Histories.{replay}
-use Rattle.ckpt_model.specs.Soundness.{IsSound}
-use Rattle.ckpt_model.specs.Laws.{CanOpen, AreCalls, is_disposed_by, IsNeverDisposed, Savepoints}
+use Rattle.ckpt_model.proofs.Names.{◌≡◌, ℕ, true, false, ◌&&◌, eqb, List, [], ◌∷◌, refl, sym, subst, ⊎_elim, Some, both_ways, and_from, eq-eqb, none-some, Call, Ack, Dispose, Answer, Done, Refused}
+use Rattle.ckpt_model.proofs.Names.{IsIn, Record, State, Opening, opened, is_checkpoint, Stepped, step, replay, IsSound, CanOpen, AreCalls, is_disposed_by, IsNeverDisposed, Savepoints, common_steps}
+use Rattle.ckpt_model.proofs.Names.{arith}
 use Rattle.ckpt_model.proofs.Histories.Moves.{savepoint_moved, disposed_by}
 use Rattle.ckpt_model.proofs.Histories.Takings.{savepoint_kept}
 use Rattle.ckpt_model.proofs.Stepping.Changes.{IsPassedOver, IsTakenBy}
@@ -29,8 +17,7 @@ pub record IsDoneSavepoint (m : State) (r : Record) : Type 0 where
 
 -- a Dispose that is no accepted one of this number does not dispose of it
 disposes_other : (number id : ℕ) (answer : Answer) → (eqb id number && elim answer [ Done reply ↦ true | Refused why ↦ false ]) ≡ false → disposed_by (Dispose id) answer ≡ Some number → ⊥
-disposes_other number id (Done reply) e h = let same : id ≡ number = cc in both_ways (eqb id number && true) e (and_from (eqb id number) true (eq-eqb id number same) refl)
-disposes_other number id (Refused why) e h = none-some number h
+disposes_other number id answer h3 h4 = grind (arith, common_steps, and_from, both_ways, eq-eqb, none-some)
 
 -- through each call but an accepted Dispose of its number
 savepoint_stays : (m : State) (call : Call) (r : Record) → IsSound m → IsDoneSavepoint m r → is_disposed_by r.id m call ≡ false → IsIn r (step m call).0.records
@@ -52,5 +39,4 @@ savepoint_stays_along m (call ∷ calls) r s a d n =
 
 -- the law
 pub savepoints_stay : (o : Opening) (before calls : List Call) → CanOpen o → AreCalls before → AreCalls calls → Savepoints o before calls
-savepoints_stay o before calls c a b r there done savepoint n =
-    savepoint_stays_along (replay (opened o) before) calls r (replay_is_sound o before c a) b (record { there = there; done = done; savepoint = savepoint }) n
+savepoints_stay o before calls c a b r there done savepoint n = grind (arith, common_steps, replay_is_sound, savepoint_stays_along)

@@ -1,20 +1,7 @@
 -- What a drop, a trigger and an acknowledgement put at the end of waiting, and that the files balance.
-use Rattle.std.proofs.Common.{◌≡◌, ℕ, Bool, true, not, ltb, List, [], ◌∷◌, ◌++◌, map, refl, sym, subst, ◌⊎◌, inl, inr, ⊎_elim}
-use Rattle.std.specs.Prelude.{Option, Some, None}
-use Rattle.std.specs.List.{filter}
-use Rattle.std.proofs.lemmas.Bool.{or_parts}
-use Rattle.std.proofs.lemmas.List.{append-nil}
-use Rattle.ckpt_ids.specs.declared.subtask.SubtaskId.{SubtaskId}
-use Rattle.ckpt_ids.specs.declared.ack.Acked.{Acked}
-use Rattle.ckpt_ids.specs.declared.numbers.Kind.{Kind}
-use Rattle.ckpt_ids.specs.Ordered.{IsIn}
-use Rattle.ckpt_ids.specs.Ascending.{ascending}
-use Rattle.ckpt_ids.specs.Records.{Record, uses, is_present, released}
-use Rattle.ckpt_ids.proofs.OrderedLemmas.{IsIn-append_left, IsIn-append_cases, IsIn-in_order, IsIn-from_in_order, AreDistinct-left}
-use Rattle.ckpt_model.specs.State.{State, is_known, in_outbox, kept, drop, pins_now}
-use Rattle.ckpt_model.specs.Steps.{replaced, with_records, superseded, triggered, ack}
-use Rattle.ckpt_model.specs.Soundness.{IsSound}
-use Rattle.ckpt_model.specs.Laws.{registered_as}
+use Rattle.ckpt_model.proofs.Names.{◌≡◌, ℕ, Bool, true, not, ltb, List, [], ◌∷◌, ◌++◌, map, refl, sym, subst, ◌⊎◌, inl, inr, ⊎_elim, Option, Some, None, filter, or_parts, append-nil, SubtaskId, Acked}
+use Rattle.ckpt_model.proofs.Names.{Kind, IsIn, ascending, Record, uses, is_present, released, IsIn-append_left, IsIn-append_cases, IsIn-in_order, IsIn-from_in_order, AreDistinct-left, State}
+use Rattle.ckpt_model.proofs.Names.{is_known, in_outbox, kept, drop, pins_now, replaced, with_records, superseded, triggered, ack, IsSound, registered_as, common_steps, arith}
 use Rattle.ckpt_model.proofs.Records.Present.{Holds, Holds-put_ack_new, Holds-put_ack_old, IsHeld, IsHeld-from_present, not_held, Holds-put_ack}
 use Rattle.ckpt_model.proofs.Records.Replacing.{put_in, IsReplacing, put_in_replaces}
 use Rattle.ckpt_model.proofs.Soundness.Drops.{held_before_filter}
@@ -117,6 +104,4 @@ completed_spreads m q subtask fresh reused failures completed_at base s a =
 -- a late one
 pub late_spreads : (m : State) (subtask : SubtaskId) (fresh reused : List ℕ) → IsSpread m.records m.waiting m.taken (ack m None subtask fresh reused).0 (registered_as (ack m None subtask fresh reused).1 fresh (filter (λ f. not (is_known m f)) fresh))
 unfolding ack
-late_spreads m subtask fresh reused =
-    let unknown : List ℕ = filter (λ f. not (is_known m f)) fresh in
-    record { out = unknown; waits = refl; fetched = refl; even = even_same m.records unknown }
+late_spreads m subtask fresh reused = grind (arith, common_steps)

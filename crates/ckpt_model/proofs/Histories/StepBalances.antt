@@ -1,32 +1,17 @@
 -- What one step registers, hands out and deletes, and which files are present after it.
-use Rattle.std.proofs.Common.{◌≡◌, ℕ, ◌+◌, ◌<◌, Bool, true, false, not, List, [], refl, sym, ap, subst, ◌∙◌, ◌⊎◌, inl, inr, ⊎_elim, arith}
-use Rattle.std.specs.List.{filter}
-use Rattle.std.proofs.lemmas.Bool.{cond-true}
-use Rattle.ckpt_ids.specs.declared.call.Call.{Call}
-use Rattle.ckpt_ids.specs.declared.call.Call.TheVariants.{Ack, Deleted, Undeleted}
-use Rattle.ckpt_ids.specs.Ordered.{IsIn}
-use Rattle.ckpt_ids.specs.Records.{uses, is_present}
-use Rattle.ckpt_model.specs.State.{State, is_known}
-use Rattle.ckpt_model.specs.Steps.{step}
-use Rattle.ckpt_model.specs.Soundness.{IsSound}
-use Rattle.ckpt_model.specs.Laws.{is_ack_taken, registered_by, handed_by, deleted_by, new_by}
+use Rattle.ckpt_model.proofs.Names.{◌≡◌, ℕ, ◌+◌, ◌<◌, Bool, true, false, not, List, [], refl, sym, ap, subst, ◌∙◌, ◌⊎◌, inl, inr, ⊎_elim, arith, filter, cond-true, Call, Ack, Deleted, Undeleted, IsIn}
+use Rattle.ckpt_model.proofs.Names.{uses, is_present, State, is_known, step, IsSound, is_ack_taken, registered_by, handed_by, deleted_by, new_by, one_if, times, IsIn-from_times, common_steps}
 use Rattle.ckpt_model.proofs.Stepping.Changes.{IsPassedOver, IsTakenBy}
 use Rattle.ckpt_model.proofs.Stepping.Files.{IsSettled}
 use Rattle.ckpt_model.proofs.Stepping.Walk.{registered_taken, step_is}
-use Rattle.ckpt_ids.specs.Counting.{one_if, times}
-use Rattle.ckpt_ids.proofs.CountLemmas.{IsIn-from_times}
 
 -- each call: by computation it registers, hands out and deletes what the laws say
 pub step_settled : (m : State) (call : Call) → IsSound m → IsSettled m (step m call).0 (registered_by m call) (handed_by m call) (deleted_by m call)
-step_settled m (Ack now id subtask fresh reused) s = (step_is m (Ack now id subtask fresh reused)).files s
-step_settled m (Undeleted file) s = (step_is m (Undeleted file)).files s
-step_settled m (Deleted file) s = (step_is m (Deleted file)).files s
-step_settled m call s = (step_is m call).files s
+step_settled m call h2 = grind (arith, common_steps, step_is)
 
 -- a file that is present after was present before, or is newly named: by the balance of one file
 present_before : (a b c : Bool) (n k : ℕ) → n + one_if a ≡ k + one_if b → b ≡ true → (0 < n) ⊎ (a ≡ true)
-present_before true b c n k e t = inr refl
-present_before false b c n k e t = let one : one_if b ≡ 1 = ap one_if t in let g : n + 0 ≡ k + one_if b = e in inl (omega arith)
+present_before a b c n k h5 h6 = grind (arith, common_steps)
 
 -- through each call
 pub newly_present : (m : State) (call : Call) (f : ℕ) → IsSound m → is_present (uses (step m call).0.records) f ≡ true → IsIn f (new_by m call) ⊎ (is_present (uses m.records) f ≡ true)

@@ -1,16 +1,7 @@
 -- What an acknowledgement that is accepted for a pending record does to the records: it puts one in the place of that record, and a completion drops some.
-use Rattle.std.proofs.Common.{◌≡◌, ℕ, Bool, true, false, not, ◌&&◌, ◌||◌, ltb, List, [], ◌++◌, map, refl, sym, ap, subst, ◌∙◌, ◌⊎◌, inl, inr, ⊎_elim}
-use Rattle.std.specs.List.{filter}
-use Rattle.std.proofs.lemmas.Bool.{both_ways, not_from_false, and_left, and_right, or_from}
-use Rattle.ckpt_ids.specs.declared.subtask.SubtaskId.{SubtaskId}
-use Rattle.ckpt_ids.specs.declared.ack.Acked.{Acked}
-use Rattle.ckpt_ids.specs.Ordered.{IsIn}
-use Rattle.ckpt_ids.specs.Acknowledged.{put_ack}
-use Rattle.ckpt_ids.specs.Ascending.{ascending}
-use Rattle.ckpt_ids.specs.Records.{Record}
-use Rattle.ckpt_model.specs.State.{State, is_checkpoint, is_pending, is_subsumed, is_surplus}
-use Rattle.ckpt_model.specs.Steps.{replaced, superseded}
-use Rattle.ckpt_model.specs.Soundness.{IsSound}
+use Rattle.ckpt_model.proofs.Names.{◌≡◌, ℕ, Bool, true, false, not, ◌&&◌, ◌||◌, ltb, List, [], ◌++◌, map, refl, sym, ap, subst, ◌∙◌, ◌⊎◌, inl, inr, ⊎_elim, filter, both_ways, not_from_false, and_left}
+use Rattle.ckpt_model.proofs.Names.{and_right, or_from, SubtaskId, Acked, IsIn, put_ack, ascending, Record, State, is_checkpoint, is_pending, is_subsumed, is_surplus, replaced, superseded, IsSound}
+use Rattle.ckpt_model.proofs.Names.{common_steps, arith}
 use Rattle.ckpt_model.proofs.Records.Counts.{IsIn-changed, IsIn-from_changed}
 use Rattle.ckpt_model.proofs.Records.Replacing.{put_in, IsReplacing, put_in_replaces, unpinned_replaces}
 use Rattle.ckpt_model.proofs.Soundness.Acks.{IsAcking, with_ack, nothing_dropped}
@@ -29,30 +20,15 @@ pub record IsTaken (rs : List Record) (q : Record) (a : Acked) (after : List Rec
 
 -- a record after it is the new one, or one of the others
 pub taken_from : {rs : List Record} {q : Record} {a : Acked} {after : List Record} (i : IsTaken rs q a after) → (y : Record) → IsIn y after → (y ≡ i.new) ⊎ ((y.id ≡ q.id → ⊥) × IsIn y rs)
-taken_from {rs} {q} {a} {after} i y h =
-    let There : List Record → Type 0 = λ xs. IsIn y xs in
-    let P : Record → Type 0 = λ z. IsIn z rs in
-    let x = IsIn-from_changed i.change i.keep y rs (subst There i.records h) in
-    ⊎_elim
-    (λ (c : (x.0 ≡ q) × (i.change x.0 ≡ i.new)). inl (x.3 ∙ c.1))
-    (λ (c : ((x.0).id ≡ q.id → ⊥) × (i.change x.0 ≡ x.0)). let same : y ≡ x.0 = x.3 ∙ c.1 in inr (λ e. c.0 (ap (λ z. z.id) (sym same) ∙ e), subst P (sym same) x.1))
-    ((i.replaces).cases x.0 x.1)
+taken_from {rs} {q} {a} {after} i y h = grind (arith, common_steps, IsIn-from_changed)
 
 -- the record put in has the number of the old one
 pub taken_id : {rs : List Record} {q : Record} {a : Acked} {after : List Record} (i : IsTaken rs q a after) → IsIn q rs → (i.new).id ≡ q.id
-taken_id {rs} {q} {a} {after} i there =
-    ⊎_elim
-    (λ (c : (q ≡ q) × (i.change q ≡ i.new)). ap (λ z. z.id) (sym c.1) ∙ (i.replaces).same q)
-    (λ (c : (q.id ≡ q.id → ⊥) × (i.change q ≡ q)). absurd (c.0 refl))
-    ((i.replaces).cases q there)
+taken_id {rs} {q} {a} {after} i there = grind (arith, common_steps)
 
 -- a done savepoint is there after
 pub savepoint_kept : {rs : List Record} {q : Record} {a : Acked} {after : List Record} → IsTaken rs q a after → q.done ≡ false → (r : Record) → IsIn r rs → r.done ≡ true → is_checkpoint r ≡ false → IsIn r after
-savepoint_kept {rs} {q} {a} {after} i pending r h done savepoint =
-    let There : List Record → Type 0 = λ xs. IsIn r xs in
-    let P : Record → Type 0 = λ z. IsIn z (map i.change (filter i.keep rs)) in
-    let itself : i.change r ≡ r = ⊎_elim (λ (c : (r ≡ q) × (i.change r ≡ i.new)). absurd (both_ways q.done pending (ap (λ z. z.done) (sym c.0) ∙ done))) (λ (c : (r.id ≡ q.id → ⊥) × (i.change r ≡ r)). c.1) ((i.replaces).cases r h) in
-    subst There (sym i.records) (subst P itself (IsIn-changed i.change i.keep r rs h (i.savepoints r h done savepoint)))
+savepoint_kept {rs} {q} {a} {after} i pending r h done savepoint = grind (arith, common_steps, IsIn-changed, both_ways)
 
 -- the record is pending still
 pub taken_pending : (m : State) (q : Record) (subtask : SubtaskId) (fresh reused : List ℕ) → IsSound m → IsAcking m q subtask fresh reused → IsTaken m.records q (record { subtask = subtask; files = ascending (fresh ++ reused) }) (replaced m.records (with_ack q subtask fresh reused))
@@ -71,14 +47,7 @@ taken_pending m q subtask fresh reused s a =
 
 -- a completion drops no done savepoint
 not_superseded : (m : State) (q c r : Record) → IsReplacing (put_in c) q c m.records → q.done ≡ false → IsIn r m.records → r.done ≡ true → is_checkpoint r ≡ false → staying m c r ≡ true
-not_superseded m q c r g pending h done savepoint =
-    let n : State = having m c in
-    let itself : put_in c r ≡ r = ⊎_elim (λ (e : (r ≡ q) × (put_in c r ≡ c)). absurd (both_ways q.done pending (ap (λ z. z.done) (sym e.0) ∙ done))) (λ (e : (r.id ≡ q.id → ⊥) × (put_in c r ≡ r)). e.1) (g.cases r h) in
-    let not_pending : is_pending r ≡ false = ap not done in
-    let subsumed : is_subsumed c.id r ≡ false = and_left (is_pending r && is_checkpoint r) (ltb r.id c.id) (and_left (is_pending r) (is_checkpoint r) not_pending) in
-    let surplus : is_surplus n r ≡ false = and_left (r.done && is_checkpoint r) _ (and_right r.done (is_checkpoint r) savepoint) in
-    let none : superseded n c r ≡ false = and_right (is_checkpoint c) (is_subsumed c.id r || is_surplus n r) (or_from (is_subsumed c.id r) (is_surplus n r) subsumed surplus) in
-    ap (λ z. not (superseded n c z)) itself ∙ not_from_false (superseded n c r) none
+not_superseded m q c r g pending h done savepoint = grind (arith, common_steps)
 
 -- the record is completed
 pub taken_completed : (m : State) (q : Record) (subtask : SubtaskId) (fresh reused : List ℕ) → IsSound m → IsAcking m q subtask fresh reused → IsTaken m.records q (record { subtask = subtask; files = ascending (fresh ++ reused) }) (left_by m (completed q subtask fresh reused))

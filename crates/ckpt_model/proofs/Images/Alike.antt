@@ -1,39 +1,20 @@
 -- No answer depends on the order in which files were fetched.
-use Rattle.std.proofs.Common.{◌≡◌, ℕ, ◌+◌, max, Bool, true, false, not, ◌&&◌, ◌||◌, cond, ltb, eqb, List, [], ◌∷◌, ◌++◌, take, refl, sym, ap, subst, ◌∙◌, ⊎_elim}
-use Rattle.std.specs.Prelude.{count_by, length, Option, Some, None}
+use Rattle.ckpt_model.proofs.Names.{◌≡◌, ℕ, ◌+◌, max, Bool, true, false, not, ◌&&◌, ◌||◌, cond, ltb, eqb, List, [], ◌∷◌, ◌++◌, take, refl, sym, ap, subst, ◌∙◌, ⊎_elim, count_by, length, Option, Some}
+use Rattle.ckpt_model.proofs.Names.{None, filter, list_any, cases_Bool, both_ways, SubtaskId, Kind, Target, Call, Tick, Savepoint, Ack, Decline, Dispose, Restore, Cancel, Take, Deleted, Undeleted}
+use Rattle.ckpt_model.proofs.Names.{Show, Count, Choice, Answer, Done, Refusal, NameTaken, NotTaken, ascending, times, IsIn, Record, acknowledged, missing, uses, is_present, IsAscending-ascending}
+use Rattle.ckpt_model.proofs.Names.{same_from_times, times-ascending, times-append, times-filter, IsIn-append_left, IsIn-append_right, IsIn-append_cases, IsIn-in_order, IsIn-from_in_order}
+use Rattle.ckpt_model.proofs.Names.{filter-same, list_any-from_IsIn, IsIn-from_list_any, Hold, Interval, AtOnce, Pause, Go, gap, hold, State, is_checkpoint, is_pending, is_known, in_outbox}
+use Rattle.ckpt_model.proofs.Names.{is_expired, drop, released_by, choice_of, chosen, files_of, pins_now, refusal, moment_of, pending_of, first_some, named, where_pending, refuse_if, moment_too_large}
+use Rattle.ckpt_model.proofs.Names.{not_running, too_many_files, repeated_file, unknown_checkpoint, unknown_subtask, already_acknowledged, name_taken, file_gone, no_such_savepoint, in_use}
+use Rattle.ckpt_model.proofs.Names.{too_many_savepoints, not_taken, no_such_record, ids_used_up, Stepped, with_records, dropped_by, triggered, failed_over, pending_checkpoints, start_or_hold}
+use Rattle.ckpt_model.proofs.Names.{after_expiry, tick, replaced, superseded, cleared, completed_with, acknowledged_in, ack, dropping, failures_with, fails_the_job, decline_pending, decline, dispose}
+use Rattle.ckpt_model.proofs.Names.{restarted, restore, cancel, take_files, without, effect, at_moment, unless_refused, step, answers, AreAlike, GoesOnAs, common_steps, arith}
 use Rattle.std.specs.Prelude as prelude
-use Rattle.std.specs.List.{filter, list_any}
-use Rattle.std.proofs.lemmas.Bool.{cases_Bool, both_ways}
-use Rattle.ckpt_ids.specs.declared.subtask.SubtaskId.{SubtaskId}
-use Rattle.ckpt_ids.specs.declared.numbers.Kind.{Kind}
 use Rattle.ckpt_ids.specs.declared.numbers.Kind.TheVariants as kind
-use Rattle.ckpt_ids.specs.declared.call.Target.{Target}
 use Rattle.ckpt_ids.specs.declared.call.Target.TheVariants as target
-use Rattle.ckpt_ids.specs.declared.call.Call.{Call}
-use Rattle.ckpt_ids.specs.declared.call.Call.TheVariants.{Tick, Savepoint, Ack, Decline, Dispose, Restore, Cancel, Take, Deleted, Undeleted, Show, Count}
 use Rattle.ckpt_ids.specs.declared.reply.TickEnd.TheVariants as end
 use Rattle.ckpt_ids.specs.declared.reply.Reply.TheVariants as reply
-use Rattle.ckpt_ids.specs.declared.reply.Choice.{Choice}
 use Rattle.ckpt_ids.specs.declared.reply.Choice.TheVariants as choice
-use Rattle.ckpt_ids.specs.declared.reply.Answer.{Answer}
-use Rattle.ckpt_ids.specs.declared.reply.Answer.TheVariants.{Done}
-use Rattle.ckpt_ids.specs.declared.reply.Refusal.{Refusal}
-use Rattle.ckpt_ids.specs.declared.reply.Refusal.TheVariants.{NameTaken, NotTaken}
-use Rattle.ckpt_ids.specs.Ascending.{ascending}
-use Rattle.ckpt_ids.specs.Counting.{times}
-use Rattle.ckpt_ids.specs.Ordered.{IsIn}
-use Rattle.ckpt_ids.specs.Records.{Record, acknowledged, missing, uses, is_present}
-use Rattle.ckpt_ids.proofs.AscendingLemmas.{IsAscending-ascending, same_from_times, times-ascending}
-use Rattle.ckpt_ids.proofs.CountLemmas.{times-append, times-filter}
-use Rattle.ckpt_ids.proofs.OrderedLemmas.{IsIn-append_left, IsIn-append_right, IsIn-append_cases, IsIn-in_order, IsIn-from_in_order, filter-same, list_any-from_IsIn, IsIn-from_list_any}
-use Rattle.ckpt_rules.specs.declared.hold.Hold.{Hold}
-use Rattle.ckpt_rules.specs.declared.hold.Hold.TheVariants.{Interval, AtOnce, Pause, Go}
-use Rattle.ckpt_rules.specs.Trigger.{gap, hold}
-use Rattle.ckpt_model.specs.State.{State, is_checkpoint, is_pending, is_known, in_outbox, is_expired, drop, released_by, choice_of, chosen, files_of, pins_now}
-use Rattle.ckpt_model.specs.Refusals.{refusal, moment_of, pending_of, first_some, named, where_pending, refuse_if, moment_too_large, not_running, too_many_files, repeated_file, unknown_checkpoint, unknown_subtask, already_acknowledged, name_taken, file_gone, no_such_savepoint, in_use, too_many_savepoints, not_taken, no_such_record, ids_used_up}
-use Rattle.ckpt_model.specs.Steps.{Stepped, with_records, dropped_by, triggered, failed_over, pending_checkpoints, start_or_hold, after_expiry, tick, replaced, superseded, cleared, completed_with, acknowledged_in, ack, dropping, failures_with, fails_the_job, decline_pending, decline, dispose, restarted, restore, cancel, take_files, without, effect, at_moment, unless_refused, step}
-use Rattle.ckpt_model.specs.Histories.{answers}
-use Rattle.ckpt_model.specs.Images.{AreAlike, GoesOnAs}
 use Rattle.ckpt_model.proofs.Records.Counts.{find_agree}
 
 -- the same files, in whatever order
@@ -61,16 +42,7 @@ same-without f t u e =
 
 -- whether a test passes somewhere
 same_any : (p : ℕ → Bool) (xs ys : List ℕ) → ((z : ℕ) → IsIn z xs → IsIn z ys) → ((z : ℕ) → IsIn z ys → IsIn z xs) → list_any p xs ≡ list_any p ys
-same_any p xs ys there back =
-    let yes : list_any p xs ≡ true → list_any p xs ≡ list_any p ys = λ (e : list_any p xs ≡ true).
-    let q = IsIn-from_list_any p xs e in
-    e ∙ sym (list_any-from_IsIn p q.0 ys (there q.0 q.1) q.2) in
-    let no : list_any p xs ≡ false → list_any p xs ≡ list_any p ys = λ (e : list_any p xs ≡ false).
-    ⊎_elim
-    (λ (k : list_any p ys ≡ true). let q = IsIn-from_list_any p ys k in absurd (both_ways (list_any p xs) e (list_any-from_IsIn p q.0 xs (back q.0 q.1) q.2)))
-    (λ (k : list_any p ys ≡ false). e ∙ sym k)
-    (cases_Bool (list_any p ys)) in
-    ⊎_elim yes no (cases_Bool (list_any p xs))
+same_any p xs ys there back = grind (arith, common_steps, IsIn-from_list_any, both_ways, cases_Bool, list_any-from_IsIn)
 
 same_any_taken : (p : ℕ → Bool) (t u : List ℕ) → Same t u → list_any p t ≡ list_any p u
 same_any_taken p t u e = same_any p t u (in_same t u e) (in_same u t (sym e))
@@ -93,12 +65,7 @@ same_refusal : (m : State) (t u : List ℕ) (call : Call) → Same t u → refus
 unfolding refusal
 same_refusal m t u (Tick now) e = refl
 same_refusal m t u (Savepoint now) e = refl
-same_refusal m t u (Ack now id subtask fresh reused) e =
-    let call : Call = Ack now id subtask fresh reused in
-    let n : State = with_taken m u in
-    let row : name_taken (with_taken m t) call ≡ name_taken n call = ap (λ o. where_pending (pending_of m.records id) (named NameTaken o)) (find_agree (is_known (with_taken m t)) (is_known n) fresh (λ f _. same_known m t u e f)) in
-    ap (λ o. first_some (moment_too_large (moment_of call) ∷ not_running n call ∷ too_many_files call ∷ repeated_file call ∷ unknown_checkpoint n call ∷ unknown_subtask n call ∷ already_acknowledged n call
-    ∷ o ∷ file_gone n call ∷ no_such_savepoint n call ∷ in_use n call ∷ too_many_savepoints n call ∷ not_taken n call ∷ no_such_record n call ∷ ids_used_up n call ∷ [])) row
+same_refusal m t u (Ack now id subtask fresh reused) e = grind (arith, common_steps, find_agree, same_known)
 same_refusal m t u (Decline now id subtask) e = refl
 same_refusal m t u (Dispose id) e = refl
 same_refusal m t u (Restore now target.Latest shape) e = refl
@@ -117,13 +84,10 @@ abbrev framed : List ℕ → Stepped → Stepped
 framed t x = (with_taken x.0 t, x.1)
 
 either : (t : List ℕ) (b : Bool) (x y x' y' : Stepped) → x' ≡ framed t x → y' ≡ framed t y → cond b x' y' ≡ framed t (cond b x y)
-either t true x y x' y' e f = e
-either t false x y x' y' e f = f
+either t b x y x' y' h6 h7 = grind (arith, common_steps)
 
 chosen_frame : (m : State) (t : List ℕ) (c : Choice) → chosen c (with_taken m t) ≡ chosen c m
-chosen_frame m t (choice.Checkpoint id) = refl
-chosen_frame m t (choice.Savepoint id) = refl
-chosen_frame m t choice.Fresh = refl
+chosen_frame m t c = grind (arith, common_steps)
 
 pins_frame : (m : State) (t : List ℕ) → pins_now (with_taken m t) ≡ pins_now m
 unfolding pins_now choice_of
@@ -138,10 +102,7 @@ triggered_frame m t its_kind = ap (λ pins. record m { next = m.next + 1; record
 
 start_frame : (m : State) (t : List ℕ) (expired : ℕ) (h : Hold) → start_or_hold (with_taken m t) expired h ≡ framed t (start_or_hold m expired h)
 unfolding start_or_hold
-start_frame m t expired Interval = refl
-start_frame m t expired AtOnce = refl
-start_frame m t expired Pause = refl
-start_frame m t expired Go = ap (λ (s : State). (record s { due = m.latest + gap m.opening.config }, Done (reply.Ticked expired (end.Triggered m.next)))) (triggered_frame m t kind.Checkpoint)
+start_frame m t expired h = grind (arith, common_steps, triggered_frame)
 
 tick_frame : (m : State) (t : List ℕ) → tick (with_taken m t) ≡ framed t (tick m)
 unfolding tick drop failed_over after_expiry
@@ -178,17 +139,11 @@ acknowledged_frame m t r =
 
 decline_frame : (m : State) (t : List ℕ) (o : Option Record) → decline (with_taken m t) o ≡ framed t (decline m o)
 unfolding decline decline_pending dropping failed_over drop
-decline_frame m t None = refl
-decline_frame m t (Some r) =
-    let counted : State = record m { failures = failures_with m r } in
-    let gone : Stepped = (failed_over counted, Done (reply.DeclineFailed (length (released_by m is_pending None)))) in
-    let aborted : Stepped = dropping counted (λ s. eqb s.id r.id) reply.DeclineAborted in
-    either t (fails_the_job m r) gone aborted (framed t gone) (framed t aborted) refl refl
+decline_frame m t o = grind (arith, common_steps, either)
 
 restore_frame : (m : State) (t : List ℕ) (target : Target) (shape : Option (List ℕ)) → restore (with_taken m t) target shape ≡ framed t (restore m target shape)
 unfolding restore restarted drop choice_of
-restore_frame m t target.Latest shape = refl
-restore_frame m t (target.Savepoint id) shape = refl
+restore_frame m t target shape = grind (arith, common_steps)
 
 -- Both states are alike after the step, and answer the same.
 abbrev Both : Stepped → Stepped → Type 0
@@ -196,27 +151,17 @@ Both x y = AreAlike x.0 y.0 × (x.1 ≡ y.1)
 
 -- of such a step
 both_framed : (t u : List ℕ) (x y z : Stepped) → Same t u → x ≡ framed t z → y ≡ framed u z → Both x y
-both_framed t u x y z e a b =
-    let P : Stepped → Type 0 = λ w. Both w y in
-    let Q : Stepped → Type 0 = λ w. Both (framed t z) w in
-    let it : Both (framed t z) (framed u z) = (ap (with_taken z.0) e, refl) in
-    subst P (sym a) (subst Q (sym b) it)
+both_framed t u x y z e a b = grind (arith, common_steps)
 
 -- a late acknowledgement looks whether its files are known
 late_both : (m : State) (t u : List ℕ) (subtask : SubtaskId) (fresh reused : List ℕ) → Same t u → Both (ack (with_taken m t) None subtask fresh reused) (ack (with_taken m u) None subtask fresh reused)
 unfolding ack
-late_both m t u subtask fresh reused e =
-    let unknown : List ℕ → List ℕ = λ a. filter (λ f. not (is_known (with_taken m a) f)) fresh in
-    let same : unknown t ≡ unknown u = filter-same (λ f. not (is_known (with_taken m t) f)) (λ f. not (is_known (with_taken m u) f)) fresh (λ f h. ap not (same_known m t u e f)) in
-    let after : List ℕ → List ℕ → State = λ a files. record m { waiting = m.waiting ++ files; taken = ascending a } in
-    (ap (λ files. after t files) same ∙ ap (λ xs. record m { waiting = m.waiting ++ unknown u; taken = xs }) e, ap (λ (files : List ℕ). Done (reply.AckLate (length files))) same)
+late_both m t u subtask fresh reused e = grind (arith, common_steps, filter-same, same_known)
 
 ack_both : (m : State) (t u : List ℕ) (o : Option Record) (subtask : SubtaskId) (fresh reused : List ℕ) → Same t u → Both (ack (with_taken m t) o subtask fresh reused) (ack (with_taken m u) o subtask fresh reused)
 unfolding ack
 ack_both m t u None subtask fresh reused e = late_both m t u subtask fresh reused e
-ack_both m t u (Some r) subtask fresh reused e =
-    let its : Record = acknowledged r subtask (ascending (fresh ++ reused)) in
-    both_framed t u (acknowledged_in (with_taken m t) its) (acknowledged_in (with_taken m u) its) (acknowledged_in m its) e (acknowledged_frame m t its) (acknowledged_frame m u its)
+ack_both m t u (Some r) subtask fresh reused e = grind (arith, common_steps, acknowledged_frame, both_framed)
 
 -- what an accepted call does, at its moment
 effect_both : (m : State) (t u : List ℕ) (call : Call) → Same t u → Both (effect (at_moment (with_taken m t) (moment_of call)) call) (effect (at_moment (with_taken m u) (moment_of call)) call)
@@ -244,20 +189,14 @@ effect_both m t u (Count file) e = (ap (with_taken m) e, refl)
 
 -- a call that is refused leaves both as they are
 unless_both : (m : State) (t u : List ℕ) (call : Call) (o : Option Refusal) → Same t u → Both (unless_refused (with_taken m t) call o) (unless_refused (with_taken m u) call o)
-unless_both m t u call (Some why) e = (ap (with_taken m) e, refl)
-unless_both m t u call None e = effect_both m t u call e
+unless_both m t u call o h5 = grind (arith, common_steps, effect_both)
 
 step_both : (m : State) (t u : List ℕ) (call : Call) → Same t u → Both (step (with_taken m t) call) (step (with_taken m u) call)
 unfolding step
-step_both m t u call e =
-    let P : Option Refusal → Type 0 = λ o. Both (unless_refused (with_taken m t) call o) (unless_refused (with_taken m u) call (refusal (with_taken m u) call)) in
-    subst P (sym (same_refusal m t u call e)) (unless_both m t u call (refusal (with_taken m u) call) e)
+step_both m t u call e = grind (arith, common_steps, same_refusal, unless_both)
 
 step_alike : (m n : State) (call : Call) → AreAlike m n → Both (step m call) (step n call)
-step_alike m n call e =
-    let other : n ≡ with_taken m n.taken = ap (λ (s : State). with_taken s n.taken) (sym e) in
-    let P : State → Type 0 = λ s. Both (step m call) (step s call) in
-    subst P (sym other) (step_both m m.taken n.taken call (ap (λ (s : State). s.taken) e))
+step_alike m n call e = grind (arith, common_steps, step_both)
 
 pub go_on_alike : (m n : State) (calls : List Call) → AreAlike m n → GoesOnAs m n calls
 go_on_alike m n [] e = record { answers = refl; state = e }

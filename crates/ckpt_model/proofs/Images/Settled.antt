@@ -1,12 +1,7 @@
 -- A state that an image may have is one too with the fetched files in ascending order.
-use Rattle.std.proofs.Common.{ℕ, ltb, List, ap, ⊎_elim, arith}
-use Rattle.ckpt_ids.specs.Ascending.{ascending}
-use Rattle.ckpt_ids.specs.Ordered.{IsIn, AreDistinct}
-use Rattle.ckpt_ids.proofs.AscendingLemmas.{IsAscending-ascending, ascending_already, times-ascending}
-use Rattle.ckpt_ids.proofs.CountLemmas.{AreDistinct-from_times, times_at_most_once}
-use Rattle.ckpt_ids.proofs.OrderedLemmas.{AreDistinct-append, AreDistinct-apart, AreDistinct-left, AreDistinct-right, IsIn-append_left, IsIn-append_right, IsIn-append_cases, IsIn-from_in_order}
-use Rattle.ckpt_model.specs.State.{State}
-use Rattle.ckpt_model.specs.Images.{AreAlike, CanHold, settled}
+use Rattle.ckpt_model.proofs.Names.{ℕ, ltb, List, ap, ⊎_elim, arith, ascending, IsIn, AreDistinct, IsAscending-ascending, ascending_already, times-ascending, AreDistinct-from_times}
+use Rattle.ckpt_model.proofs.Names.{times_at_most_once, AreDistinct-append, AreDistinct-apart, AreDistinct-left, AreDistinct-right, IsIn-append_left, IsIn-append_right, IsIn-append_cases}
+use Rattle.ckpt_model.proofs.Names.{IsIn-from_in_order, State, AreAlike, CanHold, settled}
 use Rattle.ckpt_model.proofs.Records.Lists.{IsSoundOutbox, outbox_of}
 use Rattle.ckpt_model.proofs.Soundness.Outbox.{outbox_is_sound}
 

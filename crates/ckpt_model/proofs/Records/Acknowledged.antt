@@ -1,18 +1,8 @@
 -- A record with one acknowledgement more, and a record that has all of them.
-use Rattle.std.proofs.Common.{◌≡◌, ℕ, true, false, ltb, eqb, List, [], ◌∷◌, refl, sym, ap, subst, ◌∙◌, ⊎_elim, arith}
-use Rattle.std.proofs.lemmas.Bool.{cases_Bool, both_ways, eqb-false}
-use Rattle.ckpt_ids.specs.declared.subtask.SubtaskId.{SubtaskId}
-use Rattle.ckpt_ids.specs.declared.ack.Acked.{Acked}
-use Rattle.ckpt_ids.specs.Ordered.{IsIn, AreDistinct}
-use Rattle.ckpt_ids.specs.Acknowledged.{is_before, acknowledges_before, put_ack, AreInSubtaskOrder}
-use Rattle.ckpt_ids.specs.Ascending.{IsAscendingSet, ascending}
-use Rattle.ckpt_ids.specs.Records.{Record, missing, has_acknowledged, acknowledged}
-use Rattle.ckpt_ids.specs.Shapes.{IsShape, is_subtask, same_subtask}
-use Rattle.ckpt_ids.proofs.AscendingLemmas.{numbers_in_order}
-use Rattle.ckpt_ids.proofs.OrderLemmas.{subtasks_in_order, same_subtask-Decides}
-use Rattle.ckpt_ids.proofs.OrderedLemmas.{IsIn-put_cases, IsInOrder-put, IsInOrder-put_between, IsIn-from_in_order, list_any-from_IsIn}
-use Rattle.ckpt_model.specs.Soundness.{IsRecord}
-use Rattle.ckpt_pending.proofs.FullLemmas.{full_from_missing}
+use Rattle.ckpt_model.proofs.Names.{◌≡◌, ℕ, true, false, ltb, eqb, List, [], ◌∷◌, refl, sym, ap, subst, ◌∙◌, ⊎_elim, arith, cases_Bool, both_ways, eqb-false, SubtaskId, Acked, IsIn, AreDistinct}
+use Rattle.ckpt_model.proofs.Names.{is_before, acknowledges_before, put_ack, AreInSubtaskOrder, IsAscendingSet, ascending, Record, missing, has_acknowledged, acknowledged, IsShape, is_subtask}
+use Rattle.ckpt_model.proofs.Names.{same_subtask, numbers_in_order, subtasks_in_order, same_subtask-Decides, IsIn-put_cases, IsInOrder-put, IsInOrder-put_between, IsIn-from_in_order}
+use Rattle.ckpt_model.proofs.Names.{list_any-from_IsIn, IsRecord, full_from_missing, common_steps}
 
 -- a subtask that has not acknowledged is that of no acknowledgement
 pub new_subtask : (r : Record) (s : SubtaskId) (a : Acked) → has_acknowledged r s ≡ false → IsIn a r.acks → s ≡ a.subtask → ⊥
@@ -50,18 +40,7 @@ acknowledged_is r s files i of_shape none up =
 
 -- still pending
 pub acknowledged_pending : (r : Record) (s : SubtaskId) (files : List ℕ) → IsRecord r → r.done ≡ false → IsAcknowledged (acknowledged r s files) → eqb (missing (acknowledged r s files)) 0 ≡ false → IsRecord (acknowledged r s files)
-acknowledged_pending r s files i pending a lacks =
-    let some : missing (acknowledged r s files) ≡ 0 → ⊥ = eqb-false (missing (acknowledged r s files)) 0 lacks in
-    record {
-      shape = i.shape;
-      acks_in_order = a.acks_in_order;
-      acks_of_subtasks = a.acks_of_subtasks;
-      files = a.files;
-      pins = i.pins;
-      pending = λ _. omega arith;
-      full = λ e. absurd (both_ways r.done pending e);
-      unpinned = λ e. absurd (both_ways r.done pending e);
-    }
+acknowledged_pending r s files i pending a lacks = grind (arith, common_steps)
 
 -- done, with no pins
 pub completed_is : (r : Record) → IsRecord r → (a : Record) → a.shape ≡ r.shape → IsAcknowledged a → missing a ≡ 0 → IsRecord (record a { done = true; pins = [] })

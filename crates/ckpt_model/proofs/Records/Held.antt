@@ -1,13 +1,6 @@
 -- What is held after a record is put in the place of another, and after it gets one more acknowledgement.
-use Rattle.std.proofs.Common.{◌≡◌, ℕ, List, ◌++◌, map, refl, sym, subst, ◌⊎◌, inl, inr, ⊎_elim, ltb, eqb}
-use Rattle.std.proofs.lemmas.Bool.{cond-true, eq-eqb}
-use Rattle.ckpt_ids.specs.declared.ack.Acked.{Acked}
-use Rattle.ckpt_ids.specs.declared.subtask.SubtaskId.{SubtaskId}
-use Rattle.ckpt_ids.specs.Ordered.{IsIn, IsInOrder}
-use Rattle.ckpt_ids.specs.Ascending.{ascending}
-use Rattle.ckpt_ids.specs.Records.{Record, acknowledged}
-use Rattle.ckpt_ids.proofs.OrderedLemmas.{IsIn-append_cases, IsIn-map, IsIn-from_map, IsIn-in_order, IsIn-from_in_order}
-use Rattle.ckpt_model.specs.Soundness.{id_before}
+use Rattle.ckpt_model.proofs.Names.{◌≡◌, ℕ, List, ◌++◌, map, refl, sym, subst, ◌⊎◌, inl, inr, ⊎_elim, ltb, eqb, cond-true, eq-eqb, Acked, SubtaskId, IsIn, IsInOrder, ascending, Record, acknowledged}
+use Rattle.ckpt_model.proofs.Names.{IsIn-append_cases, IsIn-map, IsIn-from_map, IsIn-in_order, IsIn-from_in_order, id_before, common_steps, arith}
 use Rattle.ckpt_model.proofs.Records.Present.{Holds, IsHeld, Holds-put_ack, Holds-put_ack_new, Holds-put_ack_old}
 use Rattle.ckpt_model.proofs.Records.Replacing.{put_in, IsReplacing, put_in_replaces}
 
@@ -23,9 +16,7 @@ held_after_put f rs old new p h =
 
 -- what the record put in holds is held after
 pub held_by_put : (f : ℕ) (rs : List Record) (old new : Record) → IsIn old rs → new.id ≡ old.id → Holds f new → IsHeld f (map (put_in new) rs)
-held_by_put f rs old new there same h =
-    let P : Record → Type 0 = λ r. IsIn r (map (put_in new) rs) in
-    (new, subst P (cond-true (eqb old.id new.id) new old (eq-eqb old.id new.id (sym same))) (IsIn-map (put_in new) old rs there), h)
+held_by_put f rs old new there same h = grind (arith, common_steps, IsIn-map, cond-true, eq-eqb, put_in)
 
 -- what was held before is held after, if the record put in holds what the old one held
 pub held_beside_put : (f : ℕ) (rs : List Record) (old new : Record) → IsReplacing (put_in new) old new rs → IsIn old rs → new.id ≡ old.id → (Holds f old → Holds f new) → IsHeld f rs → IsHeld f (map (put_in new) rs)

@@ -1,22 +1,11 @@
 -- What holds of a coordinator's records as a list, and that filtering, changing and appending keep it.
-use Rattle.std.proofs.Common.{◌≡◌, ◌≢◌, ℕ, ◌+◌, ◌<◌, ◌≤◌, ◌^◌, Bool, true, false, not, ◌&&◌, ltb, leb, List, [], ◌∷◌, ◌++◌, map, refl, sym, ap, subst, ◌∙◌, ⊎_elim, arith}
-use Rattle.std.specs.Prelude.{count_by, Some}
-use Rattle.std.specs.List.{filter}
-use Rattle.std.proofs.lemmas.Bool.{cases_Bool, both_ways, and_parts, and_from, and_left, and_right, not-true, not_from_false, ltb-true, lt-ltb, le-ltb, leb-false}
-use Rattle.ckpt_ids.specs.declared.numbers.Kind.{Kind}
+use Rattle.ckpt_model.proofs.Names.{◌≡◌, ◌≢◌, ℕ, ◌+◌, ◌<◌, ◌≤◌, ◌^◌, Bool, true, false, not, ◌&&◌, ltb, leb, List, [], ◌∷◌, ◌++◌, map, refl, sym, ap, subst, ◌∙◌, ⊎_elim, arith, count_by, Some, filter}
+use Rattle.ckpt_model.proofs.Names.{cases_Bool, both_ways, and_parts, and_from, and_left, and_right, not-true, not_from_false, ltb-true, lt-ltb, le-ltb, leb-false, Kind, IsIn, IsInOrder, ComesBefore}
+use Rattle.ckpt_model.proofs.Names.{AreDistinct, IsWithinLimits, Record, uses, is_present, IsShape, IsIn-append_cases, IsInOrder-append, IsInOrder-filter, IsInOrder-map, ComesBefore-at}
+use Rattle.ckpt_model.proofs.Names.{IsIn-from_test, test-from_IsIn, limit, Running, State, Opening, is_checkpoint, is_pending, is_done_checkpoint, is_done_savepoint, IsSound, IsRecord, id_before}
+use Rattle.ckpt_model.proofs.Names.{count_by-append, count_by_yes, count_by_no, count_by-same, common_steps}
 use Rattle.ckpt_ids.specs.declared.numbers.Kind.TheVariants as kind
-use Rattle.ckpt_ids.specs.Ordered.{IsIn, IsInOrder, ComesBefore, AreDistinct}
-use Rattle.ckpt_ids.specs.Configuration.{IsWithinLimits}
-use Rattle.ckpt_ids.specs.Records.{Record, uses, is_present}
-use Rattle.ckpt_ids.specs.Shapes.{IsShape}
-use Rattle.ckpt_ids.proofs.OrderedLemmas.{IsIn-append_cases, IsInOrder-append, IsInOrder-filter, IsInOrder-map, ComesBefore-at, IsIn-from_test, test-from_IsIn}
-use Rattle.ckpt_rules.specs.Trigger.{limit}
-use Rattle.ckpt_model.specs.declared.mode.Mode.TheVariants.{Running}
-use Rattle.ckpt_model.specs.State.{State, Opening, is_checkpoint, is_pending, is_done_checkpoint}
-use Rattle.ckpt_model.specs.Refusals.{is_done_savepoint}
-use Rattle.ckpt_model.specs.Soundness.{IsSound, IsRecord, id_before}
 pub use Rattle.ckpt_model.specs.Soundness.{AreSoundRecords, is_pending_checkpoint}
-use Rattle.ckpt_ids.proofs.CountLemmas.{count_by-append, count_by_yes, count_by_no, count_by-same}
 use Rattle.ckpt_model.proofs.Records.Counts.{count_by-le, count_by-changed, IsIn-from_changed}
 
 -- a record is a checkpoint, or none, by its kind
@@ -81,9 +70,7 @@ same_checkpoint before after k = let of_kind : Kind → Bool = λ k. elim k [ ki
 
 -- a pending checkpoint was one before
 pub pending_checkpoint_before : (before after : Record) → IsKept before after → is_pending_checkpoint after ≡ true → is_pending_checkpoint before ≡ true
-pending_checkpoint_before before after k h =
-    let parts = and_parts (is_pending after) (is_checkpoint after) h in
-    and_from (is_pending before) (is_checkpoint before) (not_from_false before.done (k.pending (not-true after.done parts.0))) (sym (same_checkpoint before after k) ∙ parts.1)
+pending_checkpoint_before before after k h = grind (arith, common_steps)
 
 -- and one that keeps the numbers keeps the order
 pub in_order-changed : (h : Record → Record) (q : Record → Bool) (rs : List Record) → ((r : Record) → (h r).id ≡ r.id) → IsInOrder id_before rs → IsInOrder id_before (map h (filter q rs))
@@ -147,8 +134,7 @@ appended_records {o} {next} {rs} r a first id done each started at_once savepoin
 
 -- a test that holds adds nothing
 and_true : (b : Bool) → (b && true) ≡ b
-and_true true = refl
-and_true false = refl
+and_true b = grind (arith, common_steps)
 
 -- how many that pass come after a record
 abbrev pub later : (Record → Bool) → Record → List Record → ℕ
@@ -156,17 +142,11 @@ later p r rs = count_by (λ s. p s && ltb r.id s.id) rs
 
 -- the first of a list in order has all others after it
 later_first : (p : Record → Bool) (r : Record) (rs : List Record) → ComesBefore id_before r rs → later p r (r ∷ rs) ≡ count_by p rs
-later_first p r rs c =
-    let test : Record → Bool = λ s. p s && ltb r.id s.id in
-    let not_itself : test r ≡ false = and_right (p r) (ltb r.id r.id) (le-ltb r.id r.id (omega arith)) in
-    let all : (s : Record) → IsIn s rs → test s ≡ p s = λ s h. ap (λ b. p s && b) (ComesBefore-at id_before r s rs c h) ∙ and_true (p s) in
-    count_by_no test r rs not_itself ∙ count_by-same test p rs all
+later_first p r rs c = grind (arith, common_steps, ComesBefore-at, and_right, and_true, count_by-same, count_by_no, le-ltb)
 
 -- one that comes after the first has as many after it without the first
 later_rest : (p : Record → Bool) (x r : Record) (rs : List Record) → x.id ≤ r.id → later p r (x ∷ rs) ≡ later p r rs
-later_rest p x r rs h =
-    let test : Record → Bool = λ s. p s && ltb r.id s.id in
-    count_by_no test x rs (and_right (p x) (ltb r.id x.id) (le-ltb r.id x.id h))
+later_rest p x r rs h = grind (arith, common_steps)
 
 -- of those that pass, the ones with fewer than n later ones are n at most
 pub newest_at_most : (p : Record → Bool) (n : ℕ) (rs : List Record) → IsInOrder id_before rs → count_by (λ r. p r && not (leb n (later p r rs))) rs ≤ n

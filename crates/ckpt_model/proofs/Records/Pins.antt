@@ -1,15 +1,8 @@
 -- What a record that is triggered pins does not change if no done record is dropped.
-use Rattle.std.proofs.Common.{◌≡◌, ℕ, Bool, true, false, cond, eqb, List, [], ◌∷◌, map, refl, sym, ap, subst, ◌∙◌, inl, inr, ⊎_elim}
-use Rattle.std.specs.Prelude.{Option, Some, None}
-use Rattle.std.specs.List.{filter}
-use Rattle.std.proofs.lemmas.Bool.{cases_Bool, both_ways, and_parts, eqb-true}
-use Rattle.ckpt_ids.specs.declared.reply.Choice.{Choice}
+use Rattle.ckpt_model.proofs.Names.{◌≡◌, ℕ, Bool, true, false, cond, eqb, List, [], ◌∷◌, map, refl, sym, ap, subst, ◌∙◌, inl, inr, ⊎_elim, Option, Some, None, filter, cases_Bool, both_ways, and_parts}
+use Rattle.ckpt_model.proofs.Names.{eqb-true, Choice, IsIn, IsInOrder, Record, State, is_checkpoint, is_done_checkpoint, last_checkpoint, choice_from, choice_of, chosen, files_of, record_of, pins_now}
+use Rattle.ckpt_model.proofs.Names.{IsSound, id_before, names, common_steps, arith}
 use Rattle.ckpt_ids.specs.declared.reply.Choice.TheVariants as choice
-use Rattle.ckpt_ids.specs.Ordered.{IsIn, IsInOrder}
-use Rattle.ckpt_ids.specs.Records.{Record}
-use Rattle.ckpt_model.specs.State.{State, is_checkpoint, is_done_checkpoint, last_checkpoint, choice_from, choice_of, chosen, files_of, record_of, pins_now}
-use Rattle.ckpt_model.specs.Soundness.{IsSound, id_before}
-use Rattle.ckpt_model.specs.Laws.{names}
 use Rattle.ckpt_model.proofs.Records.Counts.{IsIn-changed, IsIn-from_find}
 use Rattle.ckpt_model.proofs.Records.Lists.{in_order-changed}
 use Rattle.ckpt_model.proofs.Histories.Choice.{found, chosen_is_done}
@@ -32,16 +25,12 @@ last_stays q (r ∷ rs) keeps =
 
 -- the record of a choice is the same if its number finds the same
 chosen_same : (c : Choice) (m k : State) → ((id : ℕ) → names c ≡ Some id → record_of k id ≡ record_of m id) → chosen c k ≡ chosen c m
-chosen_same (choice.Checkpoint id) m k same = same id refl
-chosen_same (choice.Savepoint id) m k same = same id refl
-chosen_same choice.Fresh m k same = refl
+chosen_same c m k h3 = grind (arith, common_steps)
 
 -- it reads the base, the last done checkpoint and the record of the choice alone
 pub pins_same : (m k : State) → k.base ≡ m.base → last_checkpoint k.records ≡ last_checkpoint m.records → ((id : ℕ) → names (choice_of m) ≡ Some id → record_of k id ≡ record_of m id) → pins_now k ≡ pins_now m
 unfolding pins_now choice_of
-pins_same m k base last same =
-    let choices : choice_of k ≡ choice_of m = ap (λ o. choice_from o k.base) last ∙ ap (choice_from (last_checkpoint m.records)) base in
-    ap (λ c. files_of (chosen c k)) choices ∙ ap files_of (chosen_same (choice_of m) m k same)
+pins_same m k base last same = grind (arith, common_steps)
 
 -- so it stays if no done record is dropped
 pub pins_stay : (m k : State) (q : Record → Bool) → IsSound m → k.base ≡ m.base → k.records ≡ map (λ r. r) (filter q m.records) → ((r : Record) → IsIn r m.records → r.done ≡ true → q r ≡ true) → pins_now k ≡ pins_now m

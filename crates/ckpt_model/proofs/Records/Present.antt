@@ -1,14 +1,8 @@
 -- A file is present exactly if some record holds it, for an acknowledgement or as a pin.
-use Rattle.std.proofs.Common.{◌≡◌, ℕ, ◌<◌, Bool, true, false, eqb, List, map, refl, sym, ap, subst, ◌⊎◌, inl, inr, ⊎_elim}
-use Rattle.std.specs.Prelude.{count_by}
-use Rattle.std.specs.List.{flat_map}
-use Rattle.std.proofs.lemmas.Bool.{cases_Bool, both_ways, eqb-true, eq-eqb, ltb-true, lt-ltb}
-use Rattle.ckpt_ids.specs.declared.ack.Acked.{Acked}
-use Rattle.ckpt_ids.specs.Ordered.{IsIn}
-use Rattle.ckpt_ids.specs.Acknowledged.{acknowledges_before, put_ack}
-use Rattle.ckpt_ids.specs.Records.{Record, Use, Subtask, Pin, uses, uses_of, count, is_present}
-use Rattle.ckpt_ids.proofs.OrderedLemmas.{IsIn-append_left, IsIn-append_right, IsIn-append_cases, IsIn-map, IsIn-from_map, IsIn-flat_map, IsIn-from_flat_map, IsIn-put_cases, IsIn-put, IsIn-put_itself}
-use Rattle.ckpt_ids.proofs.CountLemmas.{counted-from_IsIn, IsIn-from_counted}
+use Rattle.ckpt_model.proofs.Names.{◌≡◌, ℕ, ◌<◌, Bool, true, false, eqb, List, map, refl, sym, ap, subst, ◌⊎◌, inl, inr, ⊎_elim, count_by, flat_map, cases_Bool, both_ways, eqb-true, eq-eqb, ltb-true}
+use Rattle.ckpt_model.proofs.Names.{lt-ltb, Acked, IsIn, acknowledges_before, put_ack, Record, Use, Subtask, Pin, uses, uses_of, count, is_present, IsIn-append_left, IsIn-append_right}
+use Rattle.ckpt_model.proofs.Names.{IsIn-append_cases, IsIn-map, IsIn-from_map, IsIn-flat_map, IsIn-from_flat_map, IsIn-put_cases, IsIn-put, IsIn-put_itself, counted-from_IsIn, IsIn-from_counted}
+use Rattle.ckpt_model.proofs.Names.{common_steps, arith}
 
 -- a record holds a file
 abbrev pub Holds : ℕ → Record → Type 0
@@ -81,12 +75,7 @@ IsHeld_before f before after kept e = absent-from_not_held f after (λ h. not_he
 
 -- the files of one acknowledgement more
 pub Holds-put_ack : (f : ℕ) (a : Acked) (r : Record) → Holds f (record r { acks = put_ack a r.acks }) → IsIn f a.files ⊎ Holds f r
-Holds-put_ack f a r (inl h) =
-    let P : Acked → Type 0 = λ b. IsIn f b.files in
-    let new : h.0 ≡ a → IsIn f a.files ⊎ Holds f r = λ (e : h.0 ≡ a). inl (subst P e h.2) in
-    let old : IsIn h.0 r.acks → IsIn f a.files ⊎ Holds f r = λ (k : IsIn h.0 r.acks). inr (inl (h.0, k, h.2)) in
-    ⊎_elim new old (IsIn-put_cases acknowledges_before a h.0 r.acks h.1)
-Holds-put_ack f a r (inr h) = inr (inr h)
+Holds-put_ack f a r h3 = grind (arith, common_steps, IsIn-put_cases)
 
 -- it holds the new files
 pub Holds-put_ack_new : (f : ℕ) (a : Acked) (r : Record) → IsIn f a.files → Holds f (record r { acks = put_ack a r.acks })
@@ -94,5 +83,4 @@ Holds-put_ack_new f a r h = inl (a, IsIn-put_itself acknowledges_before a r.acks
 
 -- and what it held before
 pub Holds-put_ack_old : (f : ℕ) (a : Acked) (r : Record) → Holds f r → Holds f (record r { acks = put_ack a r.acks })
-Holds-put_ack_old f a r (inl h) = inl (h.0, IsIn-put acknowledges_before a h.0 r.acks h.1, h.2)
-Holds-put_ack_old f a r (inr h) = inr h
+Holds-put_ack_old f a r h3 = grind (arith, common_steps, IsIn-put)

@@ -1,50 +1,29 @@
 -- What is released: files that were present before and are not after, ascending, so each once. Lists with no number twice.
-use Rattle.std.proofs.Common.{◌≡◌, ℕ, Bool, true, false, not, ltb, eqb, List, [], ◌∷◌, map, refl, sym, subst}
-use Rattle.std.specs.List.{list_any}
-use Rattle.std.proofs.lemmas.Bool.{both_ways, eq-eqb, lt-ltb, not-true, not_from_false, or_parts}
-use Rattle.ckpt_ids.specs.Ordered.{IsIn, AreDistinct}
-use Rattle.ckpt_ids.specs.Ascending.{IsAscendingSet, ascending_set}
-use Rattle.ckpt_ids.specs.Records.{Record, Use, uses, count, is_present, released}
-use Rattle.ckpt_ids.proofs.AscendingLemmas.{numbers_in_order}
-use Rattle.ckpt_ids.proofs.OrderedLemmas.{IsIn-map, IsIn-from_map, IsIn-filter, IsIn-from_filter, IsInOrder-filter, IsInOrder-in_order_once, IsIn-in_order_once, IsIn-from_in_order_once, list_any-from_IsIn}
-use Rattle.ckpt_model.specs.Refusals.{has_repeats}
+use Rattle.ckpt_model.proofs.Names.{◌≡◌, ℕ, Bool, true, false, not, ltb, eqb, List, [], ◌∷◌, map, refl, sym, subst, list_any, both_ways, eq-eqb, lt-ltb, not-true, not_from_false, or_parts, IsIn}
+use Rattle.ckpt_model.proofs.Names.{AreDistinct, IsAscendingSet, ascending_set, Record, Use, uses, count, is_present, released, numbers_in_order, IsIn-map, IsIn-from_map, IsIn-filter}
+use Rattle.ckpt_model.proofs.Names.{IsIn-from_filter, IsInOrder-filter, IsInOrder-in_order_once, IsIn-in_order_once, IsIn-from_in_order_once, list_any-from_IsIn, has_repeats, IsIn-flat_map, uses_of}
+use Rattle.ckpt_model.proofs.Names.{counted-from_IsIn, common_steps, arith}
 use Rattle.ckpt_model.proofs.Records.Present.{IsHeld-from_present, use-from_Holds}
-use Rattle.ckpt_ids.proofs.OrderedLemmas.{IsIn-flat_map}
-use Rattle.ckpt_ids.specs.Records.{uses_of}
-use Rattle.ckpt_ids.proofs.CountLemmas.{counted-from_IsIn}
 
 -- the files of a list of uses are ascending
 pub ascending-released : (before after : List Use) → IsAscendingSet (released before after)
-ascending-released before after =
-    IsInOrder-filter ltb (λ f. not (is_present after f)) (ascending_set (map (λ u. u.file) before)) (IsInOrder-in_order_once numbers_in_order (map (λ (u : Use). u.file) before))
+ascending-released before after = grind (arith, common_steps, IsInOrder-filter, IsInOrder-in_order_once, numbers_in_order)
 
 -- a released file was used before
 pub before-from_released : (f : ℕ) (before after : List Use) → IsIn f (released before after) → (u : Use) × IsIn u before × (f ≡ u.file)
-before-from_released f before after h =
-    let file : Use → ℕ = λ u. u.file in
-    let q = IsIn-from_filter (λ g. not (is_present after g)) f (ascending_set (map file before)) h in
-    IsIn-from_map file f before (IsIn-from_in_order_once ltb f (map file before) q.0)
+before-from_released f before after h = grind (arith, common_steps, IsIn-from_filter, IsIn-from_in_order_once, IsIn-from_map)
 
 -- and is not present after
 pub after-from_released : (f : ℕ) (before after : List Use) → IsIn f (released before after) → is_present after f ≡ false
-after-from_released f before after h =
-    let file : Use → ℕ = λ u. u.file in
-    not-true (is_present after f) (IsIn-from_filter (λ g. not (is_present after g)) f (ascending_set (map file before)) h).1
+after-from_released f before after h = grind (arith, common_steps, IsIn-from_filter, not-true)
 
 -- a file that is present before and not after is released
 pub IsIn-released : (f : ℕ) (u : Use) (before after : List Use) → IsIn u before → u.file ≡ f → is_present after f ≡ false → IsIn f (released before after)
-IsIn-released f u before after h e gone =
-    let file : Use → ℕ = λ v. v.file in
-    let P : ℕ → Type 0 = λ g. IsIn g (map file before) in
-    let there : IsIn f (map file before) = subst P e (IsIn-map file u before h) in
-    IsIn-filter (λ g. not (is_present after g)) f (ascending_set (map file before)) (IsIn-in_order_once numbers_in_order f (map file before) there) (not_from_false (is_present after f) gone)
+IsIn-released f u before after h e gone = grind (arith, common_steps, IsIn-filter, IsIn-in_order_once, IsIn-map, not_from_false, numbers_in_order)
 
 -- of records: what they held before is released exactly if it is not held after
 pub held-from_released : (f : ℕ) (before : List Record) (after : List Use) → IsIn f (released (uses before) after) → is_present (uses before) f ≡ true
-held-from_released f before after h =
-    let q = before-from_released f (uses before) after h in
-    let of_file : Use → Bool = λ u. eqb u.file f in
-    lt-ltb 0 (count (uses before) f) (counted-from_IsIn of_file q.0 (uses before) q.1 (eq-eqb (q.0).file f (sym q.2)))
+held-from_released f before after h = grind (arith, common_steps, before-from_released, counted-from_IsIn, eq-eqb, lt-ltb)
 
 -- and what was present and is not present after is released
 pub released-from_held : (f : ℕ) (before : List Record) (after : List Use) → is_present (uses before) f ≡ true → is_present after f ≡ false → IsIn f (released (uses before) after)
@@ -57,8 +36,5 @@ released-from_held f before after h gone =
 
 -- a list that passes the test of repeats
 pub distinct-from_test : (xs : List ℕ) → has_repeats xs ≡ false → AreDistinct xs
-distinct-from_test [] e = tt
-distinct-from_test (x ∷ xs) e =
-    let parts = or_parts (list_any (λ y. eqb x y) xs) (has_repeats xs) e in
-    let new : IsIn x xs → ⊥ = λ (h : IsIn x xs). both_ways (list_any (λ y. eqb x y) xs) parts.0 (list_any-from_IsIn (λ y. eqb x y) x xs h (eq-eqb x x refl)) in
-    (new, distinct-from_test xs parts.1)
+distinct-from_test [] e = grind (arith, common_steps)
+distinct-from_test (x ∷ xs) e = grind (arith, common_steps, both_ways, eq-eqb, list_any-from_IsIn, or_parts, distinct-from_test xs)

@@ -1,13 +1,7 @@
 -- One record of a list put in the place of another with its number.
-use Rattle.std.proofs.Common.{◌≡◌, ℕ, ◌<◌, ◌≤◌, Bool, true, false, not, cond, eqb, List, [], ◌∷◌, map, refl, sym, ap, subst, ◌∙◌, ◌⊎◌, inl, inr, ⊎_elim, arith}
-use Rattle.std.specs.Prelude.{count_by, Some}
-use Rattle.std.specs.List.{filter}
-use Rattle.std.proofs.lemmas.Bool.{cases_Bool, both_ways, not-true, and_parts, cond-true, cond-false, eqb-true, eqb-false, eq-eqb, ne_eqb, ltb-true}
-use Rattle.ckpt_ids.specs.Ordered.{IsIn, IsInOrder}
-use Rattle.ckpt_ids.specs.Records.{Record}
-use Rattle.ckpt_ids.proofs.OrderedLemmas.{ComesBefore-at}
-use Rattle.ckpt_model.specs.State.{Opening, is_checkpoint, is_pending, is_done_checkpoint, unpinned}
-use Rattle.ckpt_model.specs.Soundness.{IsRecord, id_before}
+use Rattle.ckpt_model.proofs.Names.{◌≡◌, ℕ, ◌<◌, ◌≤◌, Bool, true, false, not, cond, eqb, List, [], ◌∷◌, map, refl, sym, ap, subst, ◌∙◌, ◌⊎◌, inl, inr, ⊎_elim, arith, count_by, Some, filter}
+use Rattle.ckpt_model.proofs.Names.{cases_Bool, both_ways, not-true, and_parts, cond-true, cond-false, eqb-true, eqb-false, eq-eqb, ne_eqb, ltb-true, IsIn, IsInOrder, Record, ComesBefore-at, Opening}
+use Rattle.ckpt_model.proofs.Names.{is_checkpoint, is_pending, is_done_checkpoint, unpinned, IsRecord, id_before, common_steps}
 use Rattle.ckpt_model.proofs.Records.Counts.{count_by-changed}
 use Rattle.ckpt_model.proofs.Records.Lists.{AreSoundRecords, IsKept, changed_records, is_pending_checkpoint, pending_checkpoint_before}
 
@@ -21,8 +15,7 @@ same_record x y (r ∷ rs) a (inr h) (inr k) e = same_record x y rs a.1 h k e
 
 -- what is the same of two values is that of either
 pub cond_same : {X Y : Type 0} (g : X → Y) (b : Bool) (x y : X) → g x ≡ g y → g (cond b x y) ≡ g y
-cond_same g true x y e = e
-cond_same g false x y e = refl
+cond_same g b x y h4 = grind (arith, common_steps)
 
 -- the record of this number, in the place of the one that has it
 abbrev pub put_in : Record → Record → Record
@@ -35,22 +28,11 @@ pub record IsReplacing (change : Record → Record) (old new : Record) (rs : Lis
 
 -- the number stays
 put_in_same : (r x : Record) → (put_in r x).id ≡ x.id
-put_in_same r x =
-    ⊎_elim
-    (λ (e : eqb x.id r.id ≡ true). ap (λ z. z.id) (cond-true (eqb x.id r.id) r x e) ∙ sym (eqb-true x.id r.id e))
-    (λ (e : eqb x.id r.id ≡ false). ap (λ z. z.id) (cond-false (eqb x.id r.id) r x e))
-    (cases_Bool (eqb x.id r.id))
+put_in_same r x = grind (arith, common_steps)
 
 -- it is such a change
 pub put_in_replaces : (old new : Record) (rs : List Record) → IsInOrder id_before rs → IsIn old rs → new.id ≡ old.id → IsReplacing (put_in new) old new rs
-put_in_replaces old new rs a there id = record {
-  same = put_in_same new;
-  cases = λ x h.
-      ⊎_elim
-      (λ (e : eqb x.id new.id ≡ true). inl (same_record x old rs a h there (eqb-true x.id new.id e ∙ id), cond-true (eqb x.id new.id) new x e))
-      (λ (e : eqb x.id new.id ≡ false). inr (λ k. eqb-false x.id new.id e (k ∙ sym id), cond-false (eqb x.id new.id) new x e))
-      (cases_Bool (eqb x.id new.id));
-}
+put_in_replaces old new rs a there id = grind (arith, common_steps, cases_Bool, cond-false, cond-true, eqb-false, eqb-true, put_in_same, same_record)
 
 -- letting the pins go keeps the number
 unpinned_same : (ended : ℕ) (x : Record) → (unpinned (Some ended) x).id ≡ x.id
@@ -72,28 +54,15 @@ unpinned_replaces old new rs a there id =
 
 -- what a list's order and limits read of the record put in is as it was
 pub replacing_keeps : {change : Record → Record} {old new : Record} {rs : List Record} → IsReplacing change old new rs → old.done ≡ false → new.kind ≡ old.kind → new.started ≡ old.started → (x : Record) → IsIn x rs → IsKept x (change x)
-replacing_keeps {change} {old} {new} p pending kind started x h =
-    let P : Record → Type 0 = λ z. IsKept x z in
-    ⊎_elim
-    (λ (e : (x ≡ old) × (change x ≡ new)). subst P (sym e.1) (record { kind = kind ∙ ap (λ z. z.kind) (sym e.0); started = started ∙ ap (λ z. z.started) (sym e.0); pending = λ _. ap (λ z. z.done) e.0 ∙ pending }))
-    (λ (e : (x.id ≡ old.id → ⊥) × (change x ≡ x)). subst P (sym e.1) (record { kind = refl; started = refl; pending = λ k. k }))
-    (p.cases x h)
+replacing_keeps {change} {old} {new} p pending kind started x h = grind (arith, common_steps)
 
 -- each record is one after it
 pub replacing_is_record : {change : Record → Record} {old new : Record} {rs : List Record} → IsReplacing change old new rs → ((x : Record) → IsIn x rs → IsRecord x) → IsRecord new → (x : Record) → IsIn x rs → IsRecord (change x)
-replacing_is_record {change} {old} {new} p each i x h =
-    ⊎_elim
-    (λ (e : (x ≡ old) × (change x ≡ new)). subst IsRecord (sym e.1) i)
-    (λ (e : (x.id ≡ old.id → ⊥) × (change x ≡ x)). subst IsRecord (sym e.1) (each x h))
-    (p.cases x h)
+replacing_is_record {change} {old} {new} p each i x h = grind (arith, common_steps)
 
 -- a done checkpoint after it was one before, if the record put in is none
 done_checkpoint_before : {change : Record → Record} {old new : Record} {rs : List Record} → IsReplacing change old new rs → is_done_checkpoint new ≡ false → (x : Record) → IsIn x rs → is_done_checkpoint (change x) ≡ true → is_done_checkpoint x ≡ true
-done_checkpoint_before {change} {old} {new} p none x h d =
-    ⊎_elim
-    (λ (e : (x ≡ old) × (change x ≡ new)). absurd (both_ways (is_done_checkpoint new) none (ap is_done_checkpoint (sym e.1) ∙ d)))
-    (λ (e : (x.id ≡ old.id → ⊥) × (change x ≡ x)). ap is_done_checkpoint (sym e.1) ∙ d)
-    (p.cases x h)
+done_checkpoint_before {change} {old} {new} p none x h d = grind (arith, common_steps)
 
 -- a record put in that is no done checkpoint keeps the list sound
 pub replaced_records : {o : Opening} {next : ℕ} {rs : List Record} {change : Record → Record} {old new : Record} (q : Record → Bool) → AreSoundRecords o next rs → IsReplacing change old new rs → old.done ≡ false → new.kind ≡ old.kind → new.started ≡ old.started → IsRecord new → is_done_checkpoint new ≡ false → AreSoundRecords o next (map change (filter q rs))

@@ -1,20 +1,8 @@
 -- Calls dealt out to seats, each to the seat of its place modulo how many there are: whatever order the seats make them in, they
 -- come to what they come to one after the other.
-use Rattle.std.proofs.Common.{◌≡◌, ℕ, ◌+◌, ◌%◌, ◌<◌, ◌≤◌, Bool, true, false, eqb, List, [], ◌∷◌, map, refl, sym, ap, subst, ◌∙◌, inl, inr, ⊎_elim, arith}
-use Rattle.std.specs.Prelude.{count_by, Some}
-use Rattle.std.specs.List.{filter, enumerate_from}
-use Rattle.std.proofs.lemmas.Bool.{cases_Bool, eqb-true}
-use Rattle.std.proofs.lemmas.Bool.{cases_lt}
-use Rattle.ckpt_ids.specs.declared.call.Call.{Call}
-use Rattle.ckpt_ids.specs.declared.reply.Answer.{Answer}
-use Rattle.ckpt_ids.specs.Ordered.{IsIn}
-use Rattle.ckpt_ids.specs.Records.{Record}
-use Rattle.ckpt_ids.proofs.OrderedLemmas.{IsIn-from_map}
-use Rattle.ckpt_model.specs.State.{State, record_of}
-use Rattle.ckpt_model.specs.Steps.{step}
-use Rattle.ckpt_model.specs.Histories.{replay, answers}
-use Rattle.ckpt_model.specs.Soundness.{IsSound}
-use Rattle.ckpt_model.specs.Interleavings.{of_seat, SameBySeat, NewFile, ack_with, calls_of, first_completed, is_completing, SameOutcome}
+use Rattle.ckpt_model.proofs.Names.{◌≡◌, ℕ, ◌+◌, ◌%◌, ◌<◌, ◌≤◌, Bool, true, false, eqb, List, [], ◌∷◌, map, refl, sym, ap, subst, ◌∙◌, inl, inr, ⊎_elim, arith, count_by, Some, filter, enumerate_from}
+use Rattle.ckpt_model.proofs.Names.{cases_Bool, eqb-true, cases_lt, Call, Answer, IsIn, Record, IsIn-from_map, State, record_of, step, replay, answers, IsSound, of_seat, SameBySeat, NewFile, ack_with}
+use Rattle.ckpt_model.proofs.Names.{calls_of, first_completed, is_completing, SameOutcome, common_steps}
 use Rattle.ckpt_model.proofs.Reordering.Rearranged.{as_often_by_seat, of_seat-map, of_seat-other}
 use Rattle.ckpt_model.proofs.Reordering.Interleavings.{any_order, same_completed_by_seat}
 use Rattle.ckpt_model.proofs.Reordering.MissingFiles.{new_files, missing_of, pending_record, apart_missing, are_missing}
@@ -46,11 +34,7 @@ none-beyond {X} seats seat (x ∷ xs) below beyond =
     of_seat-other seat x xs other ∙ none-beyond seats seat xs (λ y h. below y (inr h)) beyond
 
 below-dealt : {X : Type 0} (seats : ℕ) (xs : List X) → 0 < seats → SeatsFrom seats (dealt seats xs)
-below-dealt {X} seats xs some x h =
-    let q = IsIn-from_map (λ (p : ℕ × X). (p.0 % seats, p.1)) x (enumerate_from 0 xs) h in
-    let P : ℕ → Type 0 = λ k. k < seats in
-    let within : (q.0).0 % seats < seats = omega arith in
-    subst P (sym (ap (λ (y : ℕ × X). y.0) q.2)) within
+below-dealt {X} seats xs some x h = grind (arith, common_steps, IsIn-from_map)
 
 -- if each seat has what was dealt out to it
 pub same_as_dealt : {X : Type 0} (seats : ℕ) (xs : List X) (made : List (ℕ × X)) → 0 < seats → SeatsFrom seats made → ((seat : ℕ) → seat < seats → of_seat seat made ≡ dealt_out seats seat xs) → SameBySeat (dealt seats xs) made

@@ -1,22 +1,9 @@
 -- The law of exchange: two acknowledgements of one record go in either order.
-use Rattle.std.proofs.Common.{◌≡◌, ℕ, ◌+◌, max, true, false, not, ◌&&◌, ◌||◌, cond, eqb, List, ◌++◌, refl, sym, ap, subst, ◌∙◌, ⊎_elim, arith}
-use Rattle.std.specs.Prelude.{Option, Some, None}
-use Rattle.std.proofs.lemmas.Bool.{both_ways, not-true, not-false, not_from_true, and_parts, or_parts, or_from, cond_both, cond-false}
-use Rattle.ckpt_ids.specs.declared.ack.Acked.{Acked}
-use Rattle.ckpt_ids.specs.declared.call.Call.{Call}
+use Rattle.ckpt_model.proofs.Names.{◌≡◌, ℕ, ◌+◌, max, true, false, not, ◌&&◌, ◌||◌, cond, eqb, List, ◌++◌, refl, sym, ap, subst, ◌∙◌, ⊎_elim, arith, Option, Some, None, both_ways, not-true, not-false}
+use Rattle.ckpt_model.proofs.Names.{not_from_true, and_parts, or_parts, or_from, cond_both, cond-false, Acked, Call, Done, IsIn, ascending, Record, uses, is_present, missing, has_acknowledged}
+use Rattle.ckpt_model.proofs.Names.{is_subtask, IsIn-append_left, list_any-none, find-none, State, is_pending, is_known, in_outbox, refusal, pending_of, Stepped, replaced, with_records}
+use Rattle.ckpt_model.proofs.Names.{completed_with, acknowledged_in, ack, effect, step, IsSound, is_ack_pending, is_ack_taken, ShareNone, Part, ack_of, Exchange, common_steps}
 use Rattle.ckpt_ids.specs.declared.reply.Reply.TheVariants as reply
-use Rattle.ckpt_ids.specs.declared.reply.Answer.TheVariants.{Done}
-use Rattle.ckpt_ids.specs.Ordered.{IsIn}
-use Rattle.ckpt_ids.specs.Ascending.{ascending}
-use Rattle.ckpt_ids.specs.Records.{Record, uses, is_present, missing, has_acknowledged}
-use Rattle.ckpt_ids.specs.Shapes.{is_subtask}
-use Rattle.ckpt_ids.proofs.OrderedLemmas.{IsIn-append_left, list_any-none}
-use Rattle.ckpt_ids.proofs.PlaceLemmas.{find-none}
-use Rattle.ckpt_model.specs.State.{State, is_pending, is_known, in_outbox}
-use Rattle.ckpt_model.specs.Refusals.{refusal, pending_of}
-use Rattle.ckpt_model.specs.Steps.{Stepped, replaced, with_records, completed_with, acknowledged_in, ack, effect, step}
-use Rattle.ckpt_model.specs.Soundness.{IsSound}
-use Rattle.ckpt_model.specs.Laws.{is_ack_pending, is_ack_taken, ShareNone, Part, ack_of, Exchange}
 use Rattle.ckpt_model.proofs.Records.Counts.{IsIn-from_find, fails-from_find}
 use Rattle.ckpt_model.proofs.Records.Present.{IsHeld, IsHeld-from_present, present-from_IsHeld, not_held, absent-from_not_held}
 use Rattle.ckpt_model.proofs.Answering.StepCases.{ack_step, not_refused-from_answer, step_by}
@@ -33,26 +20,19 @@ step_ack m now id p r = ack_step m now id p.subtask p.fresh p.reused (Some r)
 -- one that leaves the record pending
 pub left_pending : (n : State) (w : Record) → eqb (missing w) 0 ≡ false → acknowledged_in n w ≡ (with_records n (replaced n.records w), Done (reply.AckPending (missing w)))
 unfolding acknowledged_in
-left_pending n w lacks =
-    let c : Record = record w { done = true } in
-    cond-false (eqb (missing w) 0) (completed_with (with_records n (replaced n.records c)) c) (with_records n (replaced n.records w), Done (reply.AckPending (missing w))) lacks
+left_pending n w lacks = grind (arith, common_steps)
 
 -- what follows for the call from its answer
 
 -- a record for which the answer is AckPending still lacks an acknowledgement
 still_lacks : (n : State) (w : Record) → is_ack_pending (acknowledged_in n w).1 ≡ true → eqb (missing w) 0 ≡ false
 unfolding acknowledged_in completed_with
-still_lacks n w =
-    let c : Record = record w { done = true } in
-    cond_both (eqb (missing w) 0) (completed_with (with_records n (replaced n.records c)) c) (with_records n (replaced n.records w), Done (reply.AckPending (missing w))) (λ (x : Stepped). is_ack_pending x.1 ≡ true → eqb (missing w) 0 ≡ false)
-    (λ _ h. absurd (both_ways false refl h))
-    (λ e _. e)
+still_lacks n w = grind (arith, common_steps)
 
 -- only for a pending record is the answer AckPending
 was_pending : (n : State) (p : Part) (o : Option Record) → is_ack_pending (ack n o p.subtask p.fresh p.reused).1 ≡ true → (r : Record) × (o ≡ Some r) × (eqb (missing (with_ack r p.subtask p.fresh p.reused)) 0 ≡ false)
 unfolding ack
-was_pending n p None h = absurd (both_ways false refl h)
-was_pending n p (Some r) h = (r, refl, still_lacks n (with_ack r p.subtask p.fresh p.reused) h)
+was_pending n p o h3 = grind (arith, common_steps, both_ways, still_lacks, with_ack)
 
 -- a call that is answered AckPending found its record pending, and left it so
 pending_found : (m : State) (now id : ℕ) (p : Part) → is_ack_pending (step m (ack_of now id p)).1 ≡ true → (r : Record) × (pending_of m.records id ≡ Some r) × (eqb (missing (with_ack r p.subtask p.fresh p.reused)) 0 ≡ false)
@@ -65,19 +45,11 @@ pending_found m now id p =
 -- the record that was replaced is replaced again, at the same moment
 settles : (n : State) (now : ℕ) (w v : Record) → max now n.latest ≡ n.latest → w.id ≡ v.id → acknowledged_in (record (with_records n (replaced n.records w)) { latest = max now n.latest }) v ≡ acknowledged_in n v
 unfolding acknowledged_in
-settles n now w v late same =
-    let c : Record = record v { done = true } in
-    let made : ℕ → List Record → List Record → Stepped = λ t xs ys. cond (eqb (missing v) 0) (completed_with (record n { latest = t; records = xs }) c) (record n { latest = t; records = ys }, Done (reply.AckPending (missing v))) in
-    ap (λ t. made t (replaced (replaced n.records w) c) (replaced (replaced n.records w) v)) late
-    ∙ ap (λ xs. made n.latest xs (replaced (replaced n.records w) v)) (replaced_twice c w n.records same)
-    ∙ ap (λ ys. made n.latest (replaced n.records c) ys) (replaced_twice v w n.records same)
+settles n now w v late same = grind (arith, common_steps, replaced_twice)
 
 -- with both acknowledgements, whichever came first
 both_in : (r : Record) (p q : Part) → (p.subtask ≡ q.subtask → ⊥) → with_ack (with_ack r p.subtask p.fresh p.reused) q.subtask q.fresh q.reused ≡ with_ack (with_ack r q.subtask q.fresh q.reused) p.subtask p.fresh p.reused
-both_in r p q ne =
-    let a : Acked = record { subtask = p.subtask; files = ascending (p.fresh ++ p.reused) } in
-    let b : Acked = record { subtask = q.subtask; files = ascending (q.fresh ++ q.reused) } in
-    ap (λ acks. record r { acks = acks }) (acks_commute b a r.acks (λ e. ne (sym e)))
+both_in r p q ne = grind (arith, common_steps, acks_commute)
 
 -- the second of two acknowledgements, accepted after the first, is accepted before it
 accepted_before : (m : State) (now id : ℕ) (p q : Part) (r : Record) → IsSound m → pending_of m.records id ≡ Some r → IsAcceptedAck m now id p.subtask p.fresh p.reused → ShareNone p.fresh q.reused → pending_of (replaced m.records (with_ack r p.subtask p.fresh p.reused)) id ≡ Some (with_ack r p.subtask p.fresh p.reused) → IsAcceptedAck (with_records (record m { latest = max now m.latest }) (replaced m.records (with_ack r p.subtask p.fresh p.reused))) now id q.subtask q.fresh q.reused → IsAcceptedAck m now id q.subtask q.fresh q.reused

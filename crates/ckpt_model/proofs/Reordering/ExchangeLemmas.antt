@@ -1,21 +1,10 @@
 -- Putting two acknowledgements into one record, in either order.
-use Rattle.std.proofs.Common.{◌≡◌, ℕ, ◌+◌, Bool, true, false, not, ◌&&◌, eqb, List, [], ◌∷◌, map, refl, sym, ap, subst, ◌∙◌, inl, inr, ⊎_elim}
-use Rattle.std.specs.Prelude.{find, Some}
-use Rattle.std.proofs.lemmas.Bool.{cases_Bool, both_ways, not_from_true, not_from_false, and_parts, and_from, cond-true, cond-false, eqb-true, eq-eqb}
-use Rattle.ckpt_ids.specs.declared.subtask.SubtaskId.{SubtaskId}
-use Rattle.ckpt_ids.specs.declared.ack.Acked.{Acked}
-use Rattle.ckpt_ids.specs.Ordered.{IsIn, IsInOrder, put}
-use Rattle.ckpt_ids.specs.Acknowledged.{is_before, acknowledges_before, put_ack}
-use Rattle.ckpt_ids.specs.Records.{Record, missing, has_acknowledged, acknowledged}
-use Rattle.ckpt_ids.specs.Shapes.{subtasks, is_subtask, same_subtask}
-use Rattle.ckpt_ids.proofs.OrderLemmas.{subtasks_in_order, same_subtask-Decides}
-use Rattle.ckpt_ids.proofs.OrderedLemmas.{IsIn-map, IsIn-from_map, IsIn-put, IsIn-put_itself, IsIn-put_cases, IsIn-from_list_any, list_any-from_IsIn}
-use Rattle.ckpt_model.specs.State.{is_pending}
-use Rattle.ckpt_model.specs.Refusals.{pending_of}
-use Rattle.ckpt_model.specs.Steps.{replaced}
-use Rattle.ckpt_model.specs.Soundness.{id_before}
+use Rattle.ckpt_model.proofs.Names.{◌≡◌, ℕ, ◌+◌, Bool, true, false, not, ◌&&◌, eqb, List, [], ◌∷◌, map, refl, sym, ap, subst, ◌∙◌, inl, inr, ⊎_elim, find, Some, cases_Bool, both_ways, not_from_true}
+use Rattle.ckpt_model.proofs.Names.{not_from_false, and_parts, and_from, cond-true, cond-false, eqb-true, eq-eqb, SubtaskId, Acked, IsIn, IsInOrder, put, is_before, acknowledges_before, put_ack}
+use Rattle.ckpt_model.proofs.Names.{Record, missing, has_acknowledged, acknowledged, subtasks, is_subtask, same_subtask, subtasks_in_order, same_subtask-Decides, IsIn-map, IsIn-from_map, IsIn-put}
+use Rattle.ckpt_model.proofs.Names.{IsIn-put_itself, IsIn-put_cases, IsIn-from_list_any, list_any-from_IsIn, is_pending, pending_of, replaced, id_before, count_by_one_more, IsInOrder-subtasks}
+use Rattle.ckpt_model.proofs.Names.{IsIn-subtasks, same_subtask-itself, common_steps, arith}
 use Rattle.ckpt_model.proofs.Records.Counts.{IsIn-from_find}
-use Rattle.ckpt_pending.proofs.SubtaskLemmas.{count_by_one_more, IsInOrder-subtasks, IsIn-subtasks, same_subtask-itself}
 use Rattle.ckpt_model.proofs.Records.Replacing.{put_in, IsReplacing, put_in_replaces}
 
 -- two elements, one before the other, go into a list in either order
@@ -62,27 +51,15 @@ acks_commute a b acks ne =
 
 -- the new one
 pub has_its_own : (r : Record) (s : SubtaskId) (files : List ℕ) → has_acknowledged (acknowledged r s files) s ≡ true
-has_its_own r s files =
-    let a : Acked = record { subtask = s; files = files } in
-    list_any-from_IsIn (λ (b : Acked). same_subtask s b.subtask) a (put_ack a r.acks) (IsIn-put_itself acknowledges_before a r.acks) (same_subtask-itself s)
+has_its_own r s files = grind (arith, common_steps, IsIn-put_itself, list_any-from_IsIn, same_subtask-itself)
 
 -- each that was there
 pub has_still : (r : Record) (s t : SubtaskId) (files : List ℕ) → has_acknowledged r t ≡ true → has_acknowledged (acknowledged r s files) t ≡ true
-has_still r s t files h =
-    let a : Acked = record { subtask = s; files = files } in
-    let q = IsIn-from_list_any (λ (b : Acked). same_subtask t b.subtask) r.acks h in
-    list_any-from_IsIn (λ (b : Acked). same_subtask t b.subtask) q.0 (put_ack a r.acks) (IsIn-put acknowledges_before a q.0 r.acks q.1) q.2
+has_still r s t files h = grind (arith, common_steps, IsIn-from_list_any, IsIn-put, list_any-from_IsIn)
 
 -- and no other
 pub had_before : (r : Record) (s t : SubtaskId) (files : List ℕ) → (t ≡ s → ⊥) → has_acknowledged (acknowledged r s files) t ≡ true → has_acknowledged r t ≡ true
-had_before r s t files ne h =
-    let a : Acked = record { subtask = s; files = files } in
-    let q = IsIn-from_list_any (λ (b : Acked). same_subtask t b.subtask) (put_ack a r.acks) h in
-    let same : t ≡ (q.0).subtask = (same_subtask-Decides t (q.0).subtask).0 q.2 in
-    ⊎_elim
-    (λ (e : q.0 ≡ a). absurd (ne (same ∙ ap (λ b. b.subtask) e)))
-    (λ (k : IsIn q.0 r.acks). list_any-from_IsIn (λ (b : Acked). same_subtask t b.subtask) q.0 r.acks k q.2)
-    (IsIn-put_cases acknowledges_before a q.0 r.acks q.1)
+had_before r s t files ne h = grind (arith, common_steps, IsIn-from_list_any, IsIn-put_cases, list_any-from_IsIn, same_subtask-Decides)
 
 -- what lacks after lacked before
 pub has_not_before : (r : Record) (s t : SubtaskId) (files : List ℕ) → has_acknowledged (acknowledged r s files) t ≡ false → has_acknowledged r t ≡ false
@@ -94,40 +71,23 @@ has_not_after r s t files ne e = ⊎_elim (λ (h : has_acknowledged (acknowledge
 
 -- of any other subtask nothing changes
 pub has_same : (r : Record) (s t : SubtaskId) (files : List ℕ) → (t ≡ s → ⊥) → has_acknowledged (acknowledged r s files) t ≡ has_acknowledged r t
-has_same r s t files ne =
-    ⊎_elim
-    (λ (h : has_acknowledged r t ≡ true). has_still r s t files h ∙ sym h)
-    (λ (h : has_acknowledged r t ≡ false). has_not_after r s t files ne h ∙ sym h)
-    (cases_Bool (has_acknowledged r t))
+has_same r s t files ne = grind (arith, common_steps, cases_Bool, has_not_after, has_still)
 
 -- one less is missing
 pub missing_one_less : (r : Record) (s : SubtaskId) (files : List ℕ) → is_subtask r.shape s ≡ true → has_acknowledged r s ≡ false → missing (acknowledged r s files) + 1 ≡ missing r
-missing_one_less r s files of_shape none =
-    let w : Record = acknowledged r s files in
-    count_by_one_more (λ t. not (has_acknowledged r t)) (λ t. not (has_acknowledged w t)) s (subtasks r.shape) (IsInOrder-subtasks r.shape) (IsIn-subtasks r.shape s of_shape)
-    (not_from_false (has_acknowledged r s) none) (not_from_true (has_acknowledged w s) (has_its_own r s files)) (λ t ne. ap not (has_same r s t files ne))
+missing_one_less r s files of_shape none = grind (arith, common_steps, IsIn-subtasks, IsInOrder-subtasks, count_by_one_more, has_its_own, has_same, not_from_false, not_from_true)
 
 -- the records, with one replaced twice
 
 -- the second counts
 pub replaced_twice : (v w : Record) (rs : List Record) → w.id ≡ v.id → replaced (replaced rs w) v ≡ replaced rs v
-replaced_twice v w [] same = refl
-replaced_twice v w (x ∷ rs) same =
-    let here : put_in v (put_in w x) ≡ put_in v x =
-    ⊎_elim
-    (λ (e : eqb x.id w.id ≡ true). ap (put_in v) (cond-true (eqb x.id w.id) w x e) ∙ cond-true (eqb w.id v.id) v w (eq-eqb w.id v.id same) ∙ sym (cond-true (eqb x.id v.id) v x (eq-eqb x.id v.id (eqb-true x.id w.id e ∙ same))))
-    (λ (e : eqb x.id w.id ≡ false). ap (put_in v) (cond-false (eqb x.id w.id) w x e))
-    (cases_Bool (eqb x.id w.id)) in
-    ap (λ y. y ∷ replaced (replaced rs w) v) here ∙ ap (λ ys. put_in v x ∷ ys) (replaced_twice v w rs same)
+replaced_twice v w [] same = grind (arith, common_steps)
+replaced_twice v w (x ∷ rs) same = grind (arith, common_steps, replaced_twice v w rs same)
 
 -- what `find` finds if only one element passes
 pub find-only : {X : Type 0} (p : X → Bool) (x : X) (xs : List X) → IsIn x xs → p x ≡ true → ((y : X) → IsIn y xs → p y ≡ true → y ≡ x) → find p xs ≡ Some x
-find-only p x [] h t only = absurd h
-find-only {X} p x (y ∷ xs) h t only =
-    ⊎_elim
-    (λ (e : p y ≡ true). cond-true (p y) (Some y) (find p xs) e ∙ ap Some (only y (inl refl) e))
-    (λ (e : p y ≡ false). cond-false (p y) (Some y) (find p xs) e ∙ find-only p x xs (⊎_elim (λ (k : x ≡ y). absurd (both_ways (p y) e (ap p (sym k) ∙ t))) (λ (k : IsIn x xs). k) h) t (λ z k. only z (inr k)))
-    (cases_Bool (p y))
+find-only p x [] h t only = grind (arith, common_steps)
+find-only {X} p x (y ∷ xs) h t only = grind (arith, common_steps, find-only p x xs)
 
 -- the pending record of a number, after it was replaced
 pub pending_of_replaced : (rs : List Record) (id : ℕ) (q w : Record) → IsInOrder id_before rs → pending_of rs id ≡ Some q → w.id ≡ q.id → w.done ≡ false → pending_of (replaced rs w) id ≡ Some w

@@ -1,19 +1,7 @@
 -- The missing acknowledgements of one record come to the same in every order.
-use Rattle.std.proofs.Common.{◌≡◌, ℕ, ◌+◌, ◌≤◌, Bool, true, false, cond, List, [], ◌∷◌, ◌++◌, map, refl, sym, ap, subst, ◌∙◌, inl, inr, ⊎_elim, arith}
-use Rattle.std.specs.Prelude.{count_by, Option, Some, None}
-use Rattle.std.specs.Option.{option_or, is_some}
-use Rattle.std.proofs.lemmas.Bool.{both_ways}
-use Rattle.ckpt_ids.specs.declared.call.Call.{Call}
-use Rattle.ckpt_ids.specs.declared.reply.Answer.{Answer}
-use Rattle.ckpt_ids.specs.Ordered.{IsIn}
-use Rattle.ckpt_ids.specs.Records.{Record}
-use Rattle.ckpt_ids.proofs.CountLemmas.{count_by-cons, count_by_yes, count_by_no}
-use Rattle.ckpt_ids.proofs.OrderedLemmas.{IsIn-append_right}
-use Rattle.ckpt_model.specs.State.{State}
-use Rattle.ckpt_model.specs.Steps.{step}
-use Rattle.ckpt_model.specs.Histories.{replay, answers}
-use Rattle.ckpt_model.specs.Soundness.{IsSound}
-use Rattle.ckpt_model.specs.Interleavings.{SameBySeat, NewFile, ack_with, AreApart, calls_of, completed_by, first_completed, is_completing, SameOutcome, AnyOrder}
+use Rattle.ckpt_model.proofs.Names.{◌≡◌, ℕ, ◌+◌, ◌≤◌, Bool, true, false, cond, List, [], ◌∷◌, ◌++◌, map, refl, sym, ap, subst, ◌∙◌, inl, inr, ⊎_elim, arith, count_by, Option, Some, None, option_or}
+use Rattle.ckpt_model.proofs.Names.{is_some, both_ways, Call, Answer, IsIn, Record, count_by-cons, count_by_yes, count_by_no, IsIn-append_right, State, step, replay, answers, IsSound, SameBySeat}
+use Rattle.ckpt_model.proofs.Names.{NewFile, ack_with, AreApart, calls_of, completed_by, first_completed, is_completing, SameOutcome, AnyOrder, common_steps}
 use Rattle.ckpt_model.proofs.Records.Counts.{count_by_at_most_more}
 use Rattle.ckpt_model.proofs.Soundness.Calls.{step_keeps}
 use Rattle.ckpt_model.proofs.Reordering.Rearranged.{Rearranged, IsIn-midst, IsIn-rearranged, Rearranged-map, Rearranged-from_map, rearranged_by_seat, count_by-rearranged}
@@ -23,33 +11,20 @@ use Rattle.ckpt_model.proofs.Reordering.NewFiles.{Awaits, Exchanged, awaits_afte
 
 -- of two of which one is none, either comes first
 option_or-swap : {X : Type 0} (o p q : Option X) → (is_some o ≡ true → is_some p ≡ true → ⊥) → option_or o (option_or p q) ≡ option_or p (option_or o q)
-option_or-swap None p q apart = refl
-option_or-swap (Some x) None q apart = refl
-option_or-swap (Some x) (Some y) q apart = absurd (apart refl refl)
+option_or-swap o p q h3 = grind (arith, common_steps)
 
 -- an answer in the middle, if at most one completes
 first-midst : (a : Answer) (front back : List Answer) → count_by is_completing (a ∷ front ++ back) ≤ 1 → first_completed (front ++ a ∷ back) ≡ first_completed (a ∷ front ++ back)
-first-midst a [] back once = refl
-first-midst a (b ∷ front) back once =
-    let rest : List Answer = front ++ back in
-    let fewer : count_by is_completing (a ∷ rest) ≤ 1 = omega (arith, count_by-cons is_completing a (b ∷ rest), count_by-cons is_completing b rest, count_by-cons is_completing a rest) in
-    let apart : is_completing b ≡ true → is_completing a ≡ true → ⊥ = λ h k. let no : ⊥ = omega (arith, count_by_yes is_completing a (b ∷ rest) k, count_by_yes is_completing b rest h) in no in
-    ap (option_or (completed_by b)) (first-midst a front back fewer) ∙ option_or-swap (completed_by b) (completed_by a) (first_completed rest) apart
+first-midst a [] back once = grind (arith, common_steps)
+first-midst a (b ∷ front) back once = grind (arith, common_steps, first-midst a front back)
 
 -- if at most one completes, the order does not matter
 first-rearranged : (xs ys : List Answer) → Rearranged xs ys → count_by is_completing xs ≤ 1 → first_completed xs ≡ first_completed ys
-first-rearranged [] ys e once = ap first_completed (sym e)
-first-rearranged (a ∷ xs) ys r once =
-    let rest : List Answer = (r.0) ++ (r.1) in
-    let as_many : count_by is_completing xs ≡ count_by is_completing rest = count_by-rearranged is_completing xs rest r.3 in
-    let fewer : count_by is_completing xs ≤ 1 = omega (arith, count_by-cons is_completing a xs) in
-    let once_there : count_by is_completing (a ∷ rest) ≤ 1 = omega (arith, count_by-cons is_completing a xs, count_by-cons is_completing a rest) in
-    ap (option_or (completed_by a)) (first-rearranged xs rest r.3 fewer) ∙ sym (ap first_completed r.2 ∙ first-midst a r.0 r.1 once_there)
+first-rearranged [] ys e once = grind (arith, common_steps)
+first-rearranged (a ∷ xs) ys r once = grind (arith, common_steps, count_by-cons, count_by-rearranged, first-midst, first-rearranged xs)
 
 pub same_completed_by_seat : (xs ys : List (ℕ × Answer)) → SameBySeat xs ys → count_by is_completing (map (λ (x : ℕ × Answer). x.1) xs) ≤ 1 → first_completed (map (λ (x : ℕ × Answer). x.1) xs) ≡ first_completed (map (λ (x : ℕ × Answer). x.1) ys)
-same_completed_by_seat xs ys same once =
-    let value : ℕ × Answer → Answer = λ x. x.1 in
-    first-rearranged (map value xs) (map value ys) (Rearranged-map value xs ys (rearranged_by_seat xs ys same)) once
+same_completed_by_seat xs ys same once = grind (arith, common_steps, Rearranged-map, first-rearranged, rearranged_by_seat)
 
 -- what two lists of calls come to
 
@@ -59,29 +34,14 @@ record Same (m : State) (xs ys : List Call) : Type 0 where
   completed : first_completed (answers m xs) ≡ first_completed (answers m ys)
 
 same_itself : (m : State) (xs ys : List Call) → xs ≡ ys → Same m xs ys
-same_itself m xs ys e = record {
-  state = ap (replay m) e;
-  as_often = λ asked. ap (λ zs. count_by asked (answers m zs)) e;
-  completed = ap (λ zs. first_completed (answers m zs)) e;
-}
+same_itself m xs ys e = grind (arith, common_steps)
 
 same_chain : {m : State} {xs ys zs : List Call} → Same m xs ys → Same m ys zs → Same m xs zs
-same_chain a b = record {
-  state = a.state ∙ b.state;
-  as_often = λ asked. a.as_often asked ∙ b.as_often asked;
-  completed = a.completed ∙ b.completed;
-}
+same_chain a b = grind (arith, common_steps)
 
 -- after one call more at the start
 same_later : (m : State) (call : Call) (xs ys : List Call) → Same (step m call).0 xs ys → Same m (call ∷ xs) (call ∷ ys)
-same_later m call xs ys a =
-    let n : State = (step m call).0 in
-    let first : Answer = (step m call).1 in
-    record {
-      state = a.state;
-      as_often = λ asked. count_by-cons asked first (answers n xs) ∙ ap (λ k. cond (asked first) 1 0 + k) (a.as_often asked) ∙ sym (count_by-cons asked first (answers n ys));
-      completed = ap (option_or (completed_by first)) a.completed;
-    }
+same_later m call xs ys a = grind (arith, common_steps)
 
 -- with the first two exchanged, of which the first does not complete the record
 same_exchanged : (m : State) (a b : Call) (rest : List Call) → Exchanged m a b → is_completing (step m a).1 ≡ false → Same m (a ∷ b ∷ rest) (b ∷ a ∷ rest)

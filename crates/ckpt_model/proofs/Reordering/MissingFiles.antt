@@ -1,35 +1,14 @@
 -- The missing subtasks of a pending record, each with the next file from a first one on, meet the conditions of the law of any order.
-use Rattle.std.proofs.Common.{◌≡◌, ℕ, ◌+◌, ◌≤◌, Bool, true, false, not, ◌&&◌, eqb, List, [], ◌∷◌, map, refl, sym, ap, subst, ◌∙◌, inl, inr, ⊎_elim, arith}
-use Rattle.std.specs.Prelude.{find, Some}
-use Rattle.std.specs.List.{filter, enumerate_from}
-use Rattle.std.proofs.lemmas.Bool.{cases_Bool, both_ways, not-true, not_from_false, and_parts, and_from, cond-true, cond-false}
-use Rattle.ckpt_ids.specs.declared.subtask.SubtaskId.{SubtaskId}
-use Rattle.ckpt_ids.specs.Ordered.{IsIn, IsInOrder}
-use Rattle.ckpt_ids.specs.Acknowledged.{is_before}
-use Rattle.ckpt_ids.specs.Records.{Record, has_acknowledged}
-use Rattle.ckpt_ids.specs.Shapes.{subtasks}
-use Rattle.ckpt_ids.proofs.OrderLemmas.{subtasks_in_order}
-use Rattle.ckpt_ids.proofs.OrderedLemmas.{IsIn-from_filter, IsInOrder-filter, ComesBefore-at}
-use Rattle.ckpt_pending.proofs.SubtaskLemmas.{IsInOrder-subtasks, is_subtask-from_IsIn}
-use Rattle.ckpt_model.specs.State.{State, is_pending, record_of}
-use Rattle.ckpt_model.specs.Refusals.{pending_of}
-use Rattle.ckpt_model.specs.Interleavings.{NewFile, AreApart, AreMissing}
+use Rattle.ckpt_model.proofs.Names.{◌≡◌, ℕ, ◌+◌, ◌≤◌, Bool, true, false, not, ◌&&◌, eqb, List, [], ◌∷◌, map, refl, sym, ap, subst, ◌∙◌, inl, inr, ⊎_elim, arith, find, Some, filter, enumerate_from}
+use Rattle.ckpt_model.proofs.Names.{cases_Bool, both_ways, not-true, not_from_false, and_parts, and_from, cond-true, cond-false, SubtaskId, IsIn, IsInOrder, is_before, Record, has_acknowledged}
+use Rattle.ckpt_model.proofs.Names.{subtasks, subtasks_in_order, IsIn-from_filter, IsInOrder-filter, ComesBefore-at, IsInOrder-subtasks, is_subtask-from_IsIn, State, is_pending, record_of, pending_of}
+use Rattle.ckpt_model.proofs.Names.{NewFile, AreApart, AreMissing, common_steps}
 use Rattle.ckpt_model.proofs.Records.Counts.{IsIn-from_find}
 
 -- the one that a test finds is found by a narrower test that it passes
 find-narrower : {X : Type 0} (wide narrow : X → Bool) (x : X) (xs : List X) → ((y : X) → narrow y ≡ true → wide y ≡ true) → find wide xs ≡ Some x → narrow x ≡ true → find narrow xs ≡ Some x
-find-narrower wide narrow x [] within found passes = absurd (cc)
-find-narrower {X} wide narrow x (y ∷ ys) within found passes =
-    let here : wide y ≡ true → find narrow (y ∷ ys) ≡ Some x = λ (e : wide y ≡ true).
-    let it : Some y ≡ Some x = sym (cond-true (wide y) (Some y) (find wide ys) e) ∙ found in
-    let same : y ≡ x = cc in
-    cond-true (narrow y) (Some y) (find narrow ys) (ap narrow same ∙ passes) ∙ it in
-    let later : wide y ≡ false → find narrow ys ≡ Some x = λ (e : wide y ≡ false). find-narrower wide narrow x ys within (sym (cond-false (wide y) (Some y) (find wide ys) e) ∙ found) passes in
-    let not_it : wide y ≡ false → narrow y ≡ false = λ (e : wide y ≡ false). ⊎_elim (λ (k : narrow y ≡ true). absurd (both_ways (wide y) e (within y k))) (λ (k : narrow y ≡ false). k) (cases_Bool (narrow y)) in
-    ⊎_elim
-    here
-    (λ (e : wide y ≡ false). cond-false (narrow y) (Some y) (find narrow ys) (not_it e) ∙ later e)
-    (cases_Bool (wide y))
+find-narrower wide narrow x [] within found passes = grind (arith, common_steps)
+find-narrower {X} wide narrow x (y ∷ ys) within found passes = grind (arith, common_steps, find-narrower wide narrow x ys within)
 
 -- the record of a number, if it is pending
 pub pending_record : (m : State) (id : ℕ) (r : Record) → record_of m id ≡ Some r → r.done ≡ false → pending_of m.records id ≡ Some r

@@ -1,23 +1,11 @@
 -- Acknowledgements of missing subtasks, each with one new file: what one does to another.
-use Rattle.std.proofs.Common.{◌≡◌, ℕ, ◌<◌, ◌≤◌, ◌^◌, max, Bool, true, false, not, ◌&&◌, ◌||◌, cond, ltb, leb, eqb, List, [], ◌∷◌, ◌++◌, refl, sym, ap, subst, ◌∙◌, ◌⊎◌, inl, inr, ⊎_elim, arith}
-use Rattle.std.specs.Prelude.{Option, Some, None}
-use Rattle.std.proofs.lemmas.Bool.{cases_Bool, both_ways, not-true, not_from_false, and_parts, or_from, cond-false, eqb-true, leb-false, le-ltb, lt-leb}
-use Rattle.ckpt_ids.specs.declared.call.Call.{Call}
-use Rattle.ckpt_ids.specs.declared.reply.Refusal.{Refusal}
-use Rattle.ckpt_ids.specs.declared.reply.Refusal.TheVariants.{MomentTooLarge, UnknownCheckpoint, UnknownSubtask, AlreadyAcknowledged, NameTaken}
+use Rattle.ckpt_model.proofs.Names.{◌≡◌, ℕ, ◌<◌, ◌≤◌, ◌^◌, max, Bool, true, false, not, ◌&&◌, ◌||◌, cond, ltb, leb, eqb, List, [], ◌∷◌, ◌++◌, refl, sym, ap, subst, ◌∙◌, ◌⊎◌, inl, inr, ⊎_elim, arith}
+use Rattle.ckpt_model.proofs.Names.{Option, Some, None, cases_Bool, both_ways, not-true, not_from_false, and_parts, or_from, cond-false, eqb-true, leb-false, le-ltb, lt-leb, Call, Refusal}
+use Rattle.ckpt_model.proofs.Names.{MomentTooLarge, UnknownCheckpoint, UnknownSubtask, AlreadyAcknowledged, NameTaken, Done, Refused, ascending, IsIn, Record, uses, is_present, missing}
+use Rattle.ckpt_model.proofs.Names.{has_acknowledged, subtasks, is_subtask, IsIn-subtasks, State, is_pending, is_known, in_outbox, refusal, refuse_if, pending_of, was_not_given, is_foreign, is_repeat}
+use Rattle.ckpt_model.proofs.Names.{named, where_pending, Stepped, replaced, with_records, step, IsSound, is_ack_pending, is_ack_taken, Part, NewFile, ack_with, is_completing, counted-from_IsIn}
+use Rattle.ckpt_model.proofs.Names.{common_steps}
 use Rattle.ckpt_ids.specs.declared.reply.Reply.TheVariants as reply
-use Rattle.ckpt_ids.specs.declared.reply.Answer.TheVariants.{Done, Refused}
-use Rattle.ckpt_ids.specs.Ascending.{ascending}
-use Rattle.ckpt_ids.specs.Ordered.{IsIn}
-use Rattle.ckpt_ids.specs.Records.{Record, uses, is_present, missing, has_acknowledged}
-use Rattle.ckpt_ids.specs.Shapes.{subtasks, is_subtask}
-use Rattle.ckpt_pending.proofs.SubtaskLemmas.{IsIn-subtasks}
-use Rattle.ckpt_model.specs.State.{State, is_pending, is_known, in_outbox}
-use Rattle.ckpt_model.specs.Refusals.{refusal, refuse_if, pending_of, was_not_given, is_foreign, is_repeat, named, where_pending}
-use Rattle.ckpt_model.specs.Steps.{Stepped, replaced, with_records, step}
-use Rattle.ckpt_model.specs.Soundness.{IsSound}
-use Rattle.ckpt_model.specs.Laws.{is_ack_pending, is_ack_taken, Part}
-use Rattle.ckpt_model.specs.Interleavings.{NewFile, ack_with, is_completing}
 use Rattle.ckpt_model.proofs.Records.Counts.{IsIn-from_find}
 use Rattle.ckpt_model.proofs.Records.Present.{IsHeld, IsHeld-from_present, present-from_IsHeld}
 use Rattle.ckpt_model.proofs.Answering.Accepted.{not_refused-ack}
@@ -27,7 +15,6 @@ use Rattle.ckpt_model.proofs.Soundness.Calls.{step_keeps}
 use Rattle.ckpt_model.proofs.Records.Held.{held_or_named, held_still}
 use Rattle.ckpt_model.proofs.Reordering.ExchangeLemmas.{has_not_after, pending_of_replaced}
 use Rattle.ckpt_model.proofs.Reordering.Exchange.{step_ack, left_pending, exchange}
-use Rattle.ckpt_ids.proofs.CountLemmas.{counted-from_IsIn}
 use Rattle.ckpt_model.proofs.Answering.StepCases.{step_refused, step_accepted, step_by}
 use Rattle.ckpt_model.proofs.Stepping.Acknowledged.{acknowledged_is_taken}
 
@@ -43,23 +30,11 @@ pub record Awaits (m : State) (id : ℕ) (n : NewFile) : Type 0 where
 
 -- a record that lacks a subtask is not full
 not_full : (r : Record) (n : NewFile) → Lacks r n → eqb (missing r) 0 ≡ false
-not_full r n l =
-    let some : 0 < missing r = counted-from_IsIn (λ s. not (has_acknowledged r s)) n.subtask (subtasks r.shape) (IsIn-subtasks r.shape n.subtask l.0) (not_from_false (has_acknowledged r n.subtask) l.1) in
-    ⊎_elim
-    (λ (e : eqb (missing r) 0 ≡ true). let none : missing r ≡ 0 = eqb-true (missing r) 0 e in absurd (let no : ⊥ = omega arith in no))
-    (λ (e : eqb (missing r) 0 ≡ false). e)
-    (cases_Bool (eqb (missing r) 0))
+not_full r n l = grind (arith, common_steps, IsIn-subtasks, cases_Bool, counted-from_IsIn, eqb-true, not_from_false)
 
 -- two subtasks are awaited by one record
 same_record : {m : State} {id : ℕ} {a b : NewFile} (wa : Awaits m id a) → Awaits m id b → Lacks wa.r b
-same_record {m} {id} {a} {b} wa wb =
-    let left : Record = wa.r in
-    let right : Record = wb.r in
-    let one : pending_of m.records id ≡ Some left = wa.found in
-    let other : pending_of m.records id ≡ Some right = wb.found in
-    let same : right ≡ left = cc in
-    let P : Record → Type 0 = λ r. Lacks r b in
-    subst P same wb.lacks
+same_record {m} {id} {a} {b} wa wb = grind (arith, common_steps)
 
 -- which of them are refused
 
@@ -80,18 +55,7 @@ refused_late m now id n late = sym (row_holds MomentTooLarge (refuse_if (leb (2 
 -- else those whose file is known
 pub refused_known : (m : State) (now id : ℕ) (n : NewFile) → IsSound m → Awaits m id n → leb (2 ^ 62) now ≡ false → is_known m n.file ≡ true → refusal m (ack_with now id n) ≡ Some (NameTaken n.file)
 unfolding refusal
-refused_known m now id n s w early known =
-    let pending : Option Record = pending_of m.records id in
-    let r : Record = w.r in
-    let found : pending ≡ Some r = w.found in
-    let its : Lacks r n = w.lacks in
-    let why : Refusal = NameTaken n.file in
-    let taken : Option Record → Bool → Option Refusal = λ o b. where_pending o (named NameTaken (cond b (Some n.file) None)) in
-    sym (row_fails (refuse_if (leb (2 ^ 62) now) MomentTooLarge) _ (Some why) (ap (λ b. refuse_if b MomentTooLarge) (sym early))
-    (row_fails (refuse_if (was_not_given m id) UnknownCheckpoint) _ (Some why) (ap (λ b. refuse_if b UnknownCheckpoint) (sym (was_given m id r s found)))
-    (row_fails (is_foreign pending n.subtask) _ (Some why) (ap (λ b. refuse_if (not b) UnknownSubtask) (sym its.0) ∙ ap (λ o. is_foreign o n.subtask) (sym found))
-    (row_fails (is_repeat pending n.subtask) _ (Some why) (ap (λ b. refuse_if b AlreadyAcknowledged) (sym its.1) ∙ ap (λ o. is_repeat o n.subtask) (sym found))
-    (row_holds why (taken pending (is_known m n.file)) _ (ap (λ b. taken (Some r) b) (sym known) ∙ ap (λ o. taken o (is_known m n.file)) (sym found)))))))
+refused_known m now id n s w early known = grind (arith, common_steps, row_fails, row_holds, was_given)
 
 -- and no other
 pub accepted_unknown : (m : State) (now id : ℕ) (n : NewFile) → IsSound m → Awaits m id n → leb (2 ^ 62) now ≡ false → is_known m n.file ≡ false → refusal m (ack_with now id n) ≡ None
@@ -199,24 +163,11 @@ pub record Exchanged (m : State) (a b : Call) : Type 0 where
   pub answers : (((step m b).1 ≡ (step m a).1) × ((step (step m b).0 a).1 ≡ (step (step m a).0 b).1)) ⊎ (((step m b).1 ≡ (step (step m a).0 b).1) × ((step (step m b).0 a).1 ≡ (step m a).1))
 
 exchanged_back : {m : State} {a b : Call} → Exchanged m a b → Exchanged m b a
-exchanged_back {m} {a} {b} x = record {
-  state = sym x.state;
-  answers = ⊎_elim
-      (λ (e : ((step m b).1 ≡ (step m a).1) × ((step (step m b).0 a).1 ≡ (step (step m a).0 b).1)). inl (sym e.0, sym e.1))
-      (λ (e : ((step m b).1 ≡ (step (step m a).0 b).1) × ((step (step m b).0 a).1 ≡ (step m a).1)). inr (sym e.1, sym e.0))
-      x.answers;
-}
+exchanged_back {m} {a} {b} x = grind (arith, common_steps)
 
 -- one that is refused, before the other and after it
 exchanged_refused : (m : State) (a b : Call) (why : Refusal) → refusal m a ≡ Some why → refusal (step m b).0 a ≡ Some why → Exchanged m a b
-exchanged_refused m a b why first second =
-    let at_first : step m a ≡ (m, Refused why) = step_refused m a why first in
-    let at_second : step (step m b).0 a ≡ ((step m b).0, Refused why) = step_refused (step m b).0 a why second in
-    let after : step (step m a).0 b ≡ step m b = ap (λ (x : Stepped). step x.0 b) at_first in
-    record {
-      state = ap (λ (x : Stepped). x.0) after ∙ sym (ap (λ (x : Stepped). x.0) at_second);
-      answers = inr (sym (ap (λ (x : Stepped). x.1) after), ap (λ (x : Stepped). x.1) at_second ∙ sym (ap (λ (x : Stepped). x.1) at_first));
-    }
+exchanged_refused m a b why first second = grind (arith, common_steps, step_refused)
 
 -- the file of the first is known
 exchanged_known : (m : State) (now id : ℕ) (a b : NewFile) → IsSound m → Awaits m id a → Awaits m id b → (a.subtask ≡ b.subtask → ⊥) → (a.file ≡ b.file → ⊥) → leb (2 ^ 62) now ≡ false → is_known m a.file ≡ true → Exchanged m (ack_with now id a) (ack_with now id b)

@@ -1,13 +1,6 @@
 -- Lists with the same elements in another order. Two lists in which each seat has the same elements in the same order are such lists.
-use Rattle.std.proofs.Common.{◌≡◌, ℕ, Bool, true, false, cond, eqb, List, [], ◌∷◌, ◌++◌, map, refl, sym, ap, subst, ◌∙◌, ◌⊎◌, inl, inr, ⊎_elim, arith}
-use Rattle.std.specs.Prelude.{count_by}
-use Rattle.std.specs.List.{filter}
-use Rattle.std.proofs.lemmas.Bool.{cases_Bool, cond-true, cond-false, eqb-true, eq-eqb}
-use Rattle.std.proofs.lemmas.List.{map-append}
-use Rattle.ckpt_ids.specs.Ordered.{IsIn}
-use Rattle.ckpt_ids.proofs.CountLemmas.{count_by-cons}
-use Rattle.ckpt_ids.proofs.OrderedLemmas.{IsIn-append_left, IsIn-append_right, IsIn-append_cases}
-use Rattle.ckpt_model.specs.Interleavings.{of_seat, SameBySeat}
+use Rattle.ckpt_model.proofs.Names.{◌≡◌, ℕ, Bool, true, false, cond, eqb, List, [], ◌∷◌, ◌++◌, map, refl, sym, ap, subst, ◌∙◌, ◌⊎◌, inl, inr, ⊎_elim, arith, count_by, filter, cases_Bool, cond-true}
+use Rattle.ckpt_model.proofs.Names.{cond-false, eqb-true, eq-eqb, map-append, IsIn, count_by-cons, IsIn-append_left, IsIn-append_right, IsIn-append_cases, of_seat, SameBySeat, common_steps}
 
 -- ys has the elements of xs, in some order
 abbrev pub Rearranged : {X : Type 0} → List X → List X → Type 0
@@ -32,21 +25,17 @@ IsIn-rearranged {X} y (x ∷ xs) ys r h =
 
 -- as many pass a test
 count_by-midst : {X : Type 0} (p : X → Bool) (x : X) (front back : List X) → count_by p (front ++ x ∷ back) ≡ count_by p (x ∷ front ++ back)
-count_by-midst p x [] back = refl
-count_by-midst p x (y ∷ front) back =
-    omega (arith, count_by-midst p x front back, count_by-cons p y (front ++ x ∷ back), count_by-cons p x (front ++ back), count_by-cons p x (y ∷ front ++ back), count_by-cons p y (front ++ back))
+count_by-midst p x [] back = grind (arith, common_steps)
+count_by-midst p x (y ∷ front) back = grind (arith, common_steps, count_by-midst p x front back,)
 
 pub count_by-rearranged : {X : Type 0} (p : X → Bool) (xs ys : List X) → Rearranged xs ys → count_by p xs ≡ count_by p ys
-count_by-rearranged p [] ys e = ap (count_by p) (sym e)
-count_by-rearranged p (x ∷ xs) ys r =
-    omega (arith, ap (count_by p) r.2, count_by-midst p x r.0 r.1, count_by-cons p x xs, count_by-cons p x ((r.0) ++ (r.1)), count_by-rearranged p xs ((r.0) ++ (r.1)) r.3)
+count_by-rearranged p [] ys e = grind (arith, common_steps)
+count_by-rearranged p (x ∷ xs) ys r = grind (arith, common_steps, count_by-rearranged p xs ((r.0) ++ (r.1)) r.3)
 
 -- what comes of the elements is rearranged with them
 pub Rearranged-map : {X Y : Type 0} (f : X → Y) (xs ys : List X) → Rearranged xs ys → Rearranged (map f xs) (map f ys)
-Rearranged-map f [] ys e = ap (map f) e
-Rearranged-map {X} {Y} f (x ∷ xs) ys r =
-    let P : List Y → Type 0 = λ zs. Rearranged (map f xs) zs in
-    (map f r.0, map f r.1, ap (map f) r.2 ∙ map-append f r.0 (x ∷ r.1), subst P (map-append f r.0 r.1) (Rearranged-map f xs ((r.0) ++ (r.1)) r.3))
+Rearranged-map f [] ys e = grind (arith, common_steps)
+Rearranged-map {X} {Y} f (x ∷ xs) ys r = grind (arith, common_steps, Rearranged-map f xs ((r.0) ++ (r.1)) r.3)
 
 -- two parts of what came of a list came of two parts of it
 parts-from_map : {X Y : Type 0} (f : X → Y) (front back : List Y) (zs : List X) → front ++ back ≡ map f zs → (first : List X) × (second : List X) × (zs ≡ first ++ second) × (front ≡ map f first) × (back ≡ map f second)
@@ -71,10 +60,7 @@ Rearranged-from_map {X} {Y} f (x ∷ xs) ys r =
 -- of one seat
 
 pub of_seat-cons : {X : Type 0} (seat : ℕ) (x : ℕ × X) (xs : List (ℕ × X)) → of_seat seat (x ∷ xs) ≡ cond (eqb x.0 seat) (x.1 ∷ of_seat seat xs) (of_seat seat xs)
-of_seat-cons {X} seat x xs =
-    let kept : List (ℕ × X) = filter (λ y. eqb y.0 seat) xs in
-    let both : (b : Bool) → map (λ (y : ℕ × X). y.1) (cond b (x ∷ kept) kept) ≡ cond b (x.1 ∷ map (λ (y : ℕ × X). y.1) kept) (map (λ (y : ℕ × X). y.1) kept) = λ b. elim b as (λ b. map (λ (y : ℕ × X). y.1) (cond b (x ∷ kept) kept) ≡ cond b (x.1 ∷ map (λ (y : ℕ × X). y.1) kept) (map (λ (y : ℕ × X). y.1) kept)) [ true ↦ refl | false ↦ refl ] in
-    both (eqb x.0 seat)
+of_seat-cons {X} seat x xs = grind (arith, common_steps)
 
 of_seat-its : {X : Type 0} (seat : ℕ) (x : ℕ × X) (xs : List (ℕ × X)) → eqb x.0 seat ≡ true → of_seat seat (x ∷ xs) ≡ x.1 ∷ of_seat seat xs
 of_seat-its seat x xs e = of_seat-cons seat x xs ∙ cond-true (eqb x.0 seat) (x.1 ∷ of_seat seat xs) (of_seat seat xs) e
@@ -119,13 +105,8 @@ first_later {X} seat x rest y ys at f =
     }
 
 first_of_seat : {X : Type 0} (seat : ℕ) (x : X) (rest : List X) (ys : List (ℕ × X)) → of_seat seat ys ≡ x ∷ rest → IsFirst seat x rest ys
-first_of_seat seat x rest [] e = absurd (cc)
-first_of_seat {X} seat x rest (y ∷ ys) e =
-    let later : eqb y.0 seat ≡ false → IsFirst seat x rest ys = λ (at : eqb y.0 seat ≡ false). first_of_seat seat x rest ys (sym (of_seat-other seat y ys at) ∙ e) in
-    ⊎_elim
-    (λ (at : eqb y.0 seat ≡ true). first_here seat x rest y ys at e)
-    (λ (at : eqb y.0 seat ≡ false). first_later seat x rest y ys at (later at))
-    (cases_Bool (eqb y.0 seat))
+first_of_seat seat x rest [] e = grind (arith, common_steps)
+first_of_seat {X} seat x rest (y ∷ ys) e = grind (arith, common_steps, cases_Bool, first_here, first_later, of_seat-other, first_of_seat seat x rest ys)
 
 -- if no seat has a value, the list is empty
 empty-by_seat : {X : Type 0} (ys : List (ℕ × X)) → SameBySeat [] ys → ys ≡ []
@@ -153,9 +134,5 @@ as_often_by_seat {X} xs ys same asked =
 
 -- what a seat has of a list of things that know their seat
 pub of_seat-map : {E X : Type 0} (seat_of : E → ℕ) (value_of : E → X) (seat : ℕ) (es : List E) → of_seat seat (map (λ e. (seat_of e, value_of e)) es) ≡ map value_of (filter (λ e. eqb (seat_of e) seat) es)
-of_seat-map seat_of value_of seat [] = refl
-of_seat-map {E} {X} seat_of value_of seat (e ∷ es) =
-    let pair : E → ℕ × X = λ x. (seat_of x, value_of x) in
-    let its : List E = filter (λ x. eqb (seat_of x) seat) es in
-    let outside : (b : Bool) → cond b (value_of e ∷ map value_of its) (map value_of its) ≡ map value_of (cond b (e ∷ its) its) = λ b. elim b as (λ b. cond b (value_of e ∷ map value_of its) (map value_of its) ≡ map value_of (cond b (e ∷ its) its)) [ true ↦ refl | false ↦ refl ] in
-    of_seat-cons seat (pair e) (map pair es) ∙ ap (λ zs. cond (eqb (seat_of e) seat) (value_of e ∷ zs) zs) (of_seat-map seat_of value_of seat es) ∙ outside (eqb (seat_of e) seat)
+of_seat-map seat_of value_of seat [] = grind (arith, common_steps)
+of_seat-map {E} {X} seat_of value_of seat (e ∷ es) = grind (arith, common_steps, of_seat-map seat_of value_of seat es)

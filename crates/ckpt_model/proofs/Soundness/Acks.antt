@@ -1,19 +1,9 @@
 -- An acknowledgement that leaves its record pending keeps a coordinator sound; and lemmas on one that completes it, for Completions.
-use Rattle.std.proofs.Common.{◌≡◌, ℕ, ◌≤◌, Bool, true, false, not, ◌&&◌, ◌||◌, cond, ltb, leb, eqb, List, [], ◌∷◌, ◌++◌, map, refl, sym, ap, subst, ◌∙◌, inl, inr, ⊎_elim, arith}
-use Rattle.std.specs.Prelude.{count_by, Option, Some, None}
-use Rattle.std.specs.List.{filter, list_any}
-use Rattle.std.proofs.lemmas.Bool.{cases_Bool, both_ways, not-true, not-false, not_from_false, and_parts, and_left, and_cases, and_from, or_parts, cond_both, ltb-false}
-use Rattle.ckpt_ids.specs.declared.subtask.SubtaskId.{SubtaskId}
-use Rattle.ckpt_ids.specs.declared.ack.Acked.{Acked}
-use Rattle.ckpt_ids.specs.Ordered.{IsIn, IsInOrder, AreDistinct}
-use Rattle.ckpt_ids.specs.Ascending.{ascending}
-use Rattle.ckpt_ids.specs.Records.{Record, uses, is_present, missing, has_acknowledged, acknowledged}
-use Rattle.ckpt_ids.specs.Shapes.{is_subtask}
-use Rattle.ckpt_ids.proofs.OrderedLemmas.{IsIn-append_cases, IsIn-from_in_order, filter-all, not_in-from_test}
-use Rattle.ckpt_model.specs.State.{State, is_checkpoint, is_pending, is_done_checkpoint, is_subsumed, is_surplus, is_known, in_outbox, kept, unpinned}
-use Rattle.ckpt_model.specs.Refusals.{pending_of}
-use Rattle.ckpt_model.specs.Steps.{replaced, with_records, superseded}
-use Rattle.ckpt_model.specs.Soundness.{IsSound, IsRecord, id_before}
+use Rattle.ckpt_model.proofs.Names.{◌≡◌, ℕ, ◌≤◌, Bool, true, false, not, ◌&&◌, ◌||◌, cond, ltb, leb, eqb, List, [], ◌∷◌, ◌++◌, map, refl, sym, ap, subst, ◌∙◌, inl, inr, ⊎_elim, arith, count_by}
+use Rattle.ckpt_model.proofs.Names.{Option, Some, None, filter, list_any, cases_Bool, both_ways, not-true, not-false, not_from_false, and_parts, and_left, and_cases, and_from, or_parts, cond_both}
+use Rattle.ckpt_model.proofs.Names.{ltb-false, SubtaskId, Acked, IsIn, IsInOrder, AreDistinct, ascending, Record, uses, is_present, missing, has_acknowledged, acknowledged, is_subtask}
+use Rattle.ckpt_model.proofs.Names.{IsIn-append_cases, IsIn-from_in_order, filter-all, not_in-from_test, State, is_checkpoint, is_pending, is_done_checkpoint, is_subsumed, is_surplus, is_known}
+use Rattle.ckpt_model.proofs.Names.{in_outbox, kept, unpinned, pending_of, replaced, with_records, superseded, IsSound, IsRecord, id_before, common_steps}
 use Rattle.ckpt_model.proofs.Records.Counts.{count_by-changed, IsIn-from_changed, IsIn-from_find, fails-from_find}
 use Rattle.ckpt_model.proofs.Records.Present.{Holds, IsHeld, Holds-put_ack, absent-from_not_held, not_held}
 use Rattle.ckpt_model.proofs.Records.Released.{distinct-from_test}
@@ -50,15 +40,7 @@ acking m now id subtask fresh reused q a e =
 
 -- the moment is the only thing that an accepted call changes before its effect, and an acknowledgement does not read it
 pub acking_at : (m : State) (latest : ℕ) (q : Record) (subtask : SubtaskId) (fresh reused : List ℕ) → IsAcking m q subtask fresh reused → IsAcking (record m { latest = latest }) q subtask fresh reused
-acking_at m latest q subtask fresh reused a = record {
-  there = a.there;
-  pending = a.pending;
-  of_subtask = a.of_subtask;
-  first = a.first;
-  once = a.once;
-  unknown = a.unknown;
-  present = a.present;
-}
+acking_at m latest q subtask fresh reused a = grind (arith, common_steps)
 
 -- the record with it
 abbrev pub with_ack : Record → SubtaskId → List ℕ → List ℕ → Record
@@ -66,8 +48,7 @@ with_ack q subtask fresh reused = acknowledged q subtask (ascending (fresh ++ re
 
 -- it is in order, of its subtasks, with ascending files
 pub with_ack_is : {m : State} {q : Record} {subtask : SubtaskId} {fresh reused : List ℕ} → IsSound m → IsAcking m q subtask fresh reused → IsAcknowledged (with_ack q subtask fresh reused)
-with_ack_is {m} {q} {subtask} {fresh} {reused} s a =
-    acknowledged_is q subtask (ascending (fresh ++ reused)) (s.records.each q a.there) a.of_subtask a.first (ascending-distinct (fresh ++ reused) a.once)
+with_ack_is {m} {q} {subtask} {fresh} {reused} s a = grind (arith, common_steps, acknowledged_is, ascending-distinct)
 
 -- the outbox has none of its files
 files_not_out : {m : State} {q : Record} {subtask : SubtaskId} {fresh reused : List ℕ} → IsSound m → IsAcking m q subtask fresh reused → (f : ℕ) → IsIn f (ascending (fresh ++ reused)) → IsIn f (m.waiting ++ m.taken) → ⊥
@@ -103,8 +84,7 @@ savepoint_is_other id x q pending t e = both_ways x.done (ap (λ z. z.done) e �
 
 -- a done savepoint stays, if nothing is dropped and a pending record is replaced
 pub savepoint_beside : {change : Record → Record} {old new : Record} {rs : List Record} (id : ℕ) → IsReplacing change old new rs → old.done ≡ false → list_any (is_savepoint id) rs ≡ true → list_any (is_savepoint id) (map change (filter (λ _. true) rs)) ≡ true
-savepoint_beside {change} {old} {new} {rs} id p pending e =
-    savepoint_stays change (λ _. true) id rs (λ x h t. (refl, ⊎_elim (λ (c : (x ≡ old) × (change x ≡ new)). absurd (savepoint_is_other id x old pending t c.0)) (λ (c : (x.id ≡ old.id → ⊥) × (change x ≡ x)). c.1) (p.cases x h))) e
+savepoint_beside {change} {old} {new} {rs} id p pending e = grind (arith, common_steps, savepoint_is_other, savepoint_stays)
 
 -- a filter that keeps all leaves all
 pub nothing_dropped : (change : Record → Record) (rs : List Record) → map change (filter (λ _. true) rs) ≡ map change rs
@@ -135,23 +115,16 @@ ack_pending_is_sound m q subtask fresh reused s a lacks =
 
 -- filtering after a change is filtering by the changed, and two changes are one
 pub fused : (u g : Record → Record) (k : Record → Bool) (rs : List Record) → map u (filter k (map g rs)) ≡ map (λ x. u (g x)) (filter (λ x. k (g x)) rs)
-fused u g k [] = refl
-fused u g k (x ∷ rs) =
-    let P : Bool → Type 0 = λ b. map u (cond b (g x ∷ filter k (map g rs)) (filter k (map g rs))) ≡ map (λ y. u (g y)) (cond b (x ∷ filter (λ y. k (g y)) rs) (filter (λ y. k (g y)) rs)) in
-    let rest = fused u g k rs in
-    let kept : P true = ap (λ ys. u (g x) ∷ ys) rest in
-    ⊎_elim (λ (e : k (g x) ≡ true). subst P (sym e) kept) (λ (e : k (g x) ≡ false). subst P (sym e) rest) (cases_Bool (k (g x)))
+fused u g k [] = grind (arith, common_steps)
+fused u g k (x ∷ rs) = grind (arith, common_steps, fused u g k rs)
 
 -- a record without its pins holds no more
 Holds-unpinned : (f : ℕ) (ended : Option ℕ) (x : Record) → Holds f (unpinned ended x) → Holds f x
-Holds-unpinned f None x h = h
-Holds-unpinned f (Some ended) x h = cond_both (eqb x.id ended) (record x { pins = [] }) x (λ (z : Record). Holds f z → Holds f x) (λ _. ⊎_elim (λ (k : (a : Acked) × IsIn a x.acks × IsIn f a.files). inl k) (λ (n : ⊥). absurd n)) (λ _ k. k) h
+Holds-unpinned f ended x h3 = grind (arith, common_steps, cond_both)
 
 -- what is held after a completion's drop was held before
 pub held_before_kept : (dropped : Record → Bool) (ended : Option ℕ) (rs : List Record) (f : ℕ) → IsHeld f (kept dropped ended rs) → IsHeld f rs
-held_before_kept dropped ended rs f h =
-    let x = IsIn-from_changed (unpinned ended) (λ r. not (dropped r)) h.0 rs h.1 in
-    (x.0, x.1, Holds-unpinned f ended x.0 (subst (Holds f) x.3 h.2))
+held_before_kept dropped ended rs f h = grind (arith, common_steps, IsIn-from_changed)
 
 -- letting the pins go keeps done checkpoints
 unpinned_checkpoint : (ended : ℕ) (x : Record) → is_done_checkpoint (unpinned (Some ended) x) ≡ is_done_checkpoint x
@@ -174,9 +147,4 @@ retained_after m r checkpoint order =
 
 -- what is not subsumed does not come before
 pub not_before : (m : State) (r x : Record) → is_checkpoint r ≡ true → not (superseded m r x) ≡ true → is_pending_checkpoint x ≡ true → r.id ≤ x.id
-not_before m r x checkpoint stays waits =
-    let either : (is_subsumed r.id x || is_surplus m x) ≡ false = ⊎_elim (λ (e : is_checkpoint r ≡ false). absurd (both_ways (is_checkpoint r) e checkpoint)) (λ (e : (is_subsumed r.id x || is_surplus m x) ≡ false). e) (and_cases (is_checkpoint r) (is_subsumed r.id x || is_surplus m x) (not-true (superseded m r x) stays)) in
-    ⊎_elim
-    (λ (e : is_pending_checkpoint x ≡ false). absurd (both_ways (is_pending_checkpoint x) e waits))
-    (λ (e : ltb x.id r.id ≡ false). ltb-false x.id r.id e)
-    (and_cases (is_pending_checkpoint x) (ltb x.id r.id) (or_parts (is_subsumed r.id x) (is_surplus m x) either).0)
+not_before m r x checkpoint stays waits = grind (arith, common_steps)

@@ -1,8 +1,5 @@
 -- Each call keeps a coordinator sound.
-use Rattle.ckpt_ids.specs.declared.call.Call.{Call}
-use Rattle.ckpt_model.specs.State.{State}
-use Rattle.ckpt_model.specs.Steps.{step}
-use Rattle.ckpt_model.specs.Soundness.{IsSound, IsCall}
+use Rattle.ckpt_model.proofs.Names.{Call, State, step, IsSound, IsCall}
 use Rattle.ckpt_model.proofs.Stepping.Walk.{step_is}
 
 pub step_keeps : (m : State) (call : Call) → IsCall call → IsSound m → IsSound (step m call).0

@@ -1,16 +1,9 @@
 -- An acknowledgement that completes a record keeps a coordinator sound, and so does a late one.
-use Rattle.std.proofs.Common.{◌≡◌, ℕ, ◌<◌, ◌≤◌, Bool, true, false, not, eqb, List, [], ◌++◌, map, refl, sym, ap, subst, ◌∙◌, ⊎_elim, arith}
-use Rattle.std.specs.Prelude.{count_by, Option, Some, None}
-use Rattle.std.specs.List.{filter, list_any}
-use Rattle.std.proofs.lemmas.Bool.{cases_Bool, both_ways, not-true, not_from_false, and_left, and_right, or_parts, ltb-true, lt-ltb}
-use Rattle.ckpt_ids.specs.declared.subtask.SubtaskId.{SubtaskId}
-use Rattle.ckpt_ids.specs.Ordered.{IsIn, IsInOrder, AreDistinct}
-use Rattle.ckpt_ids.specs.Records.{Record, uses, is_present, missing}
-use Rattle.ckpt_ids.proofs.OrderedLemmas.{IsIn-append_left, IsIn-append_right, IsIn-append_cases, IsIn-from_filter, IsInOrder-map, AreDistinct-append, AreDistinct-left, AreDistinct-right, AreDistinct-apart, AreDistinct-filter, test-from_IsIn}
-use Rattle.ckpt_model.specs.declared.mode.Mode.TheVariants.{Running}
-use Rattle.ckpt_model.specs.State.{State, is_checkpoint, is_done_checkpoint, is_known, in_outbox, kept, unpinned, drop, released_by}
-use Rattle.ckpt_model.specs.Steps.{replaced, with_records, superseded, ack}
-use Rattle.ckpt_model.specs.Soundness.{IsSound, IsRecord, id_before}
+use Rattle.ckpt_model.proofs.Names.{◌≡◌, ℕ, ◌<◌, ◌≤◌, Bool, true, false, not, eqb, List, [], ◌++◌, map, refl, sym, ap, subst, ◌∙◌, ⊎_elim, arith, count_by, Option, Some, None, filter, list_any}
+use Rattle.ckpt_model.proofs.Names.{cases_Bool, both_ways, not-true, not_from_false, and_left, and_right, or_parts, ltb-true, lt-ltb, SubtaskId, IsIn, IsInOrder, AreDistinct, Record, uses, is_present}
+use Rattle.ckpt_model.proofs.Names.{missing, IsIn-append_left, IsIn-append_right, IsIn-append_cases, IsIn-from_filter, IsInOrder-map, AreDistinct-append, AreDistinct-left, AreDistinct-right}
+use Rattle.ckpt_model.proofs.Names.{AreDistinct-apart, AreDistinct-filter, test-from_IsIn, Running, State, is_checkpoint, is_done_checkpoint, is_known, in_outbox, kept, unpinned, drop, released_by}
+use Rattle.ckpt_model.proofs.Names.{replaced, with_records, superseded, ack, IsSound, IsRecord, id_before}
 use Rattle.ckpt_model.proofs.Records.Lists.{AreSoundRecords, IsSoundOutbox, sound_from, outbox_of, is_pending_checkpoint}
 use Rattle.ckpt_model.proofs.Records.Replacing.{put_in, IsReplacing, put_in_replaces, unpinned_replaces, cond_same, replaced_records, completed_records}
 use Rattle.ckpt_model.proofs.Records.Acknowledged.{completed_is}

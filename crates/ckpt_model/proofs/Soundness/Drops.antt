@@ -1,18 +1,12 @@
 -- After a drop of records, done savepoints, idle states and the outbox are still as in a sound state. A later moment keeps a state sound.
-use Rattle.std.proofs.Common.{◌≡◌, ◌≢◌, ℕ, ◌<◌, ◌^◌, max, Bool, true, false, not, ◌&&◌, eqb, List, ◌++◌, map, ap, subst, ◌∙◌, ⊎_elim, arith}
-use Rattle.std.specs.List.{filter, list_any}
-use Rattle.std.proofs.lemmas.Bool.{cases_Bool, both_ways, not-true, not_from_false}
-use Rattle.ckpt_ids.specs.Ordered.{IsIn, AreDistinct}
-use Rattle.ckpt_ids.specs.Records.{Record, uses, is_present, released}
-use Rattle.ckpt_ids.proofs.OrderedLemmas.{IsIn-append_left, IsIn-append_right, IsIn-append_cases, IsIn-from_list_any, list_any-from_IsIn, AreDistinct-append, AreDistinct-left, AreDistinct-right, AreDistinct-apart, AreDistinct-from_order}
-use Rattle.ckpt_model.specs.declared.mode.Mode.TheVariants.{Running}
-use Rattle.ckpt_model.specs.State.{State, is_checkpoint, is_pending}
-use Rattle.ckpt_model.specs.Soundness.{IsSound}
+use Rattle.ckpt_model.proofs.Names.{◌≡◌, ◌≢◌, ℕ, ◌<◌, ◌^◌, max, Bool, true, false, not, ◌&&◌, eqb, List, ◌++◌, map, ap, subst, ◌∙◌, ⊎_elim, arith, filter, list_any, cases_Bool, both_ways, not-true}
+use Rattle.ckpt_model.proofs.Names.{not_from_false, IsIn, AreDistinct, Record, uses, is_present, released, IsIn-append_left, IsIn-append_right, IsIn-append_cases, IsIn-from_list_any}
+use Rattle.ckpt_model.proofs.Names.{list_any-from_IsIn, AreDistinct-append, AreDistinct-left, AreDistinct-right, AreDistinct-apart, AreDistinct-from_order, Running, State, is_checkpoint, is_pending}
+use Rattle.ckpt_model.proofs.Names.{IsSound, numbers_in_order, common_steps}
 use Rattle.ckpt_model.proofs.Records.Counts.{IsIn-changed, IsIn-from_changed}
 use Rattle.ckpt_model.proofs.Records.Present.{Holds, IsHeld, IsHeld_before}
 use Rattle.ckpt_model.proofs.Records.Released.{ascending-released, after-from_released, held-from_released}
 use Rattle.ckpt_model.proofs.Records.Lists.{IsSoundOutbox, sound_from, outbox_of}
-use Rattle.ckpt_ids.proofs.AscendingLemmas.{numbers_in_order}
 
 -- a done savepoint with this number
 abbrev pub is_savepoint : ℕ → Record → Bool
@@ -27,9 +21,7 @@ savepoint_stays h q id rs stays e =
 
 -- what is held after filtering was held before
 pub held_before_filter : (q : Record → Bool) (rs : List Record) (f : ℕ) → IsHeld f (map (λ r. r) (filter q rs)) → IsHeld f rs
-held_before_filter q rs f h =
-    let p = IsIn-from_changed (λ (r : Record). r) q h.0 rs h.1 in
-    (p.0, p.1, subst (Holds f) p.3 h.2)
+held_before_filter q rs f h = grind (arith, common_steps, IsIn-from_changed)
 
 -- the outbox after a drop
 pub outbox_dropped : (before after : List Record) (waiting taken : List ℕ) → IsSoundOutbox before waiting taken → ((f : ℕ) → IsHeld f after → IsHeld f before) → IsSoundOutbox after (waiting ++ released (uses before) (uses after)) taken
@@ -66,23 +58,8 @@ idle_stays {m} dropped s ne r h = let p = IsIn-from_changed (λ (r : Record). r)
 
 -- a later moment
 pub moment_is_sound : (m : State) (now : ℕ) → IsSound m → now < 2 ^ 62 → IsSound (record m { latest = max now m.latest })
-moment_is_sound m now s within =
-    sound_from (record m { latest = max now m.latest }) (record {
-      config = s.config;
-      shape = s.shape;
-      latest = let old : m.latest < 2 ^ 62 = s.latest in omega arith;
-      first = s.first;
-      next_from = s.next_from;
-      next_to = s.next_to;
-      base = s.base;
-      idle = s.idle;
-      failures = s.failures;
-    }) s.records (outbox_of s)
+moment_is_sound m now s within = grind (arith, common_steps)
 
 -- no pending record is left if all are dropped
 pub none_pending_left : (rs : List Record) (dropped : Record → Bool) → ((r : Record) → is_pending r ≡ true → dropped r ≡ true) → (r : Record) → IsIn r (map (λ r. r) (filter (λ r. not (dropped r)) rs)) → r.done ≡ true
-none_pending_left rs dropped all r h =
-    let p = IsIn-from_changed (λ (r : Record). r) (λ r. not (dropped r)) r rs h in
-    let stays : dropped p.0 ≡ false = not-true (dropped p.0) p.2 in
-    let done : (p.0).done ≡ true = ⊎_elim (λ (e : (p.0).done ≡ true). e) (λ (e : (p.0).done ≡ false). absurd (both_ways (dropped p.0) stays (all p.0 (not_from_false (p.0).done e)))) (cases_Bool (p.0).done) in
-    ap (λ x. x.done) p.3 ∙ done
+none_pending_left rs dropped all r h = grind (arith, common_steps, IsIn-from_changed, both_ways, cases_Bool, not-true, not_from_false)

@@ -1,11 +1,5 @@
 -- After every list of calls a coordinator is sound.
-use Rattle.std.proofs.Common.{List, [], ◌∷◌}
-use Rattle.ckpt_ids.specs.declared.call.Call.{Call}
-use Rattle.ckpt_model.specs.State.{State, Opening, opened}
-use Rattle.ckpt_model.specs.Steps.{step}
-use Rattle.ckpt_model.specs.Histories.{replay}
-use Rattle.ckpt_model.specs.Soundness.{IsSound}
-use Rattle.ckpt_model.specs.Laws.{CanOpen, AreCalls}
+use Rattle.ckpt_model.proofs.Names.{List, [], ◌∷◌, Call, State, Opening, opened, step, replay, IsSound, CanOpen, AreCalls}
 use Rattle.ckpt_model.proofs.Soundness.Opening.{opened_is_sound}
 use Rattle.ckpt_model.proofs.Soundness.Calls.{step_keeps}
 

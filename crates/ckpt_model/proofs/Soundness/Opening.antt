@@ -1,12 +1,5 @@
 -- A coordinator that is opened is sound, and its opening is within the bounds of what can be opened.
-use Rattle.std.proofs.Common.{◌≡◌, ℕ, ◌<◌, ◌≤◌, ◌^◌, [], refl, arith}
-use Rattle.std.specs.Prelude.{None}
-use Rattle.std.proofs.lemmas.Bool.Decides.{nat_tests}
-use Rattle.ckpt_ids.specs.Configuration.{IsWithinLimits}
-use Rattle.ckpt_ids.specs.Shapes.{IsShape}
-use Rattle.ckpt_model.specs.Opening.{open_fault}
-use Rattle.ckpt_model.specs.State.{Opening, opened}
-use Rattle.ckpt_model.specs.Soundness.{IsSound}
+use Rattle.ckpt_model.proofs.Names.{◌≡◌, ℕ, ◌<◌, ◌≤◌, ◌^◌, [], refl, arith, None, nat_tests, IsWithinLimits, IsShape, open_fault, Opening, opened, IsSound, common_steps}
 use Rattle.ckpt_model.proofs.Records.Lists.{IsSoundHead, AreSoundRecords, IsSoundOutbox, sound_from}
 
 -- within the limits, at a moment and with a first number that leave room
@@ -47,8 +40,4 @@ pub record InBounds (now first : ℕ) : Type 0 where
   pub first_to : first < 2 ^ 62
 
 pub in_bounds : (now first : ℕ) → open_fault now first ≡ None → InBounds now first
-in_bounds now first e = record {
-  start = grind (arith, nat_tests);
-  first_from = grind (arith, nat_tests);
-  first_to = grind (arith, nat_tests);
-}
+in_bounds now first e = grind (arith, common_steps)

@@ -1,14 +1,8 @@
 -- Fetching files, and what is reported of them, keeps a coordinator sound.
-use Rattle.std.proofs.Common.{◌≡◌, ℕ, true, not, eqb, List, [], ◌∷◌, ◌++◌, take, drop, sym, subst, ⊎_elim}
-use Rattle.std.specs.List.{list_any}
-use Rattle.std.proofs.lemmas.Bool.{not-true, eqb-true, eqb-false}
-use Rattle.std.proofs.lemmas.List.{take-append-drop}
-use Rattle.ckpt_ids.specs.Ordered.{IsIn, AreDistinct}
-use Rattle.ckpt_ids.specs.Records.{Record}
-use Rattle.ckpt_ids.proofs.OrderedLemmas.{IsIn-append_left, IsIn-append_right, IsIn-append_cases, IsIn-from_filter, IsIn-from_list_any, AreDistinct-append, AreDistinct-left, AreDistinct-right, AreDistinct-apart, AreDistinct-filter, only_one}
-use Rattle.ckpt_model.specs.State.{State}
-use Rattle.ckpt_model.specs.Steps.{take_files, without}
-use Rattle.ckpt_model.specs.Soundness.{IsSound}
+use Rattle.ckpt_model.proofs.Names.{◌≡◌, ℕ, true, not, eqb, List, [], ◌∷◌, ◌++◌, take, sym, subst, ⊎_elim, list_any, not-true, eqb-true, eqb-false, take-append-drop, IsIn, AreDistinct, Record}
+use Rattle.ckpt_model.proofs.Names.{IsIn-append_left, IsIn-append_right, IsIn-append_cases, IsIn-from_filter, IsIn-from_list_any, AreDistinct-append, AreDistinct-left, AreDistinct-right}
+use Rattle.ckpt_model.proofs.Names.{AreDistinct-apart, AreDistinct-filter, only_one, State, take_files, without, IsSound}
+use Rattle.std.proofs.Common.{drop}
 use Rattle.ckpt_model.proofs.Records.Lists.{IsSoundOutbox, sound_from, outbox_of}
 
 -- the outbox alone is changed

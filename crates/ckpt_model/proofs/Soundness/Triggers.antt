@@ -1,33 +1,12 @@
 -- Triggering a checkpoint or savepoint keeps a coordinator sound, and when a tick may trigger one.
-use Rattle.std.proofs.Common.{◌≡◌, ℕ, ◌+◌, ◌<◌, ◌≤◌, ◌^◌, Bool, true, false, not, ◌&&◌, cond, ltb, leb, eqb, List, [], ◌∷◌, ◌++◌, map, sum, length, refl, sym, ap, subst, ◌∙◌, inl, ⊎_elim, arith}
-use Rattle.std.specs.Prelude.{count_by, Option, Some, None}
-use Rattle.std.specs.List.{list_any}
-use Rattle.std.proofs.lemmas.Bool.{cases_Bool, both_ways, and_left, and_cases, or_left, leb-false, ltb-false}
-use Rattle.std.proofs.lemmas.List.Sums.{sum_by-cons}
-use Rattle.std.proofs.lemmas.List.Folds.{list_any-append}
-use Rattle.std.proofs.lemmas.List.{append-nil}
-use Rattle.ckpt_ids.specs.declared.subtask.SubtaskId.{SubtaskId}
-use Rattle.ckpt_ids.specs.declared.numbers.Kind.{Kind}
+use Rattle.ckpt_model.proofs.Names.{◌≡◌, ℕ, ◌+◌, ◌<◌, ◌≤◌, ◌^◌, Bool, true, false, not, ◌&&◌, cond, ltb, leb, eqb, List, [], ◌∷◌, ◌++◌, map, sum, length, refl, sym, ap, subst, ◌∙◌, inl, ⊎_elim, arith}
+use Rattle.ckpt_model.proofs.Names.{count_by, Option, Some, None, list_any, cases_Bool, both_ways, and_left, and_cases, or_left, leb-false, ltb-false, sum_by-cons, list_any-append, append-nil}
+use Rattle.ckpt_model.proofs.Names.{SubtaskId, Kind, Choice, Configuration, IsIn, IsAscendingSet, Record, Use, uses, uses_of, missing, has_acknowledged, IsShape, subtasks, same_subtask}
+use Rattle.ckpt_model.proofs.Names.{numbers_in_order, length-subtasks_from, IsIn-append_cases, IsIn-from_map, IsIn-from_in_order_once, IsInOrder-in_order_once, hold, limit, pause_ends, Hold, Interval}
+use Rattle.ckpt_model.proofs.Names.{AtOnce, Pause, Go, Running, State, is_checkpoint, is_pending, is_expired, files_of, chosen, choice_of, pins_now, savepoints, triggered, pending_checkpoints}
+use Rattle.ckpt_model.proofs.Names.{IsSound, IsRecord, count_by-append, count_by_yes, count_by_no, counted-from_IsIn, common_steps}
 use Rattle.ckpt_ids.specs.declared.numbers.Kind.TheVariants as kind
-use Rattle.ckpt_ids.specs.declared.reply.Choice.{Choice}
 use Rattle.ckpt_ids.specs.declared.reply.Choice.TheVariants as choice
-use Rattle.ckpt_ids.specs.Configuration.{Configuration}
-use Rattle.ckpt_ids.specs.Ordered.{IsIn}
-use Rattle.ckpt_ids.specs.Ascending.{IsAscendingSet}
-use Rattle.ckpt_ids.specs.Records.{Record, Use, uses, uses_of, missing, has_acknowledged}
-use Rattle.ckpt_ids.specs.Shapes.{IsShape, subtasks, same_subtask}
-use Rattle.ckpt_ids.proofs.AscendingLemmas.{numbers_in_order}
-use Rattle.ckpt_ids.proofs.ShapeLemmas.{length-subtasks_from}
-use Rattle.ckpt_ids.proofs.OrderedLemmas.{IsIn-append_cases, IsIn-from_map, IsIn-from_in_order_once, IsInOrder-in_order_once}
-use Rattle.ckpt_rules.specs.Trigger.{hold, limit, pause_ends}
-use Rattle.ckpt_rules.specs.declared.hold.Hold.{Hold}
-use Rattle.ckpt_rules.specs.declared.hold.Hold.TheVariants.{Interval, AtOnce, Pause, Go}
-use Rattle.ckpt_model.specs.declared.mode.Mode.TheVariants.{Running}
-use Rattle.ckpt_model.specs.State.{State, is_checkpoint, is_pending, is_expired, files_of, chosen, choice_of, pins_now}
-use Rattle.ckpt_model.specs.Refusals.{savepoints}
-use Rattle.ckpt_model.specs.Steps.{triggered, pending_checkpoints}
-use Rattle.ckpt_model.specs.Soundness.{IsSound, IsRecord}
-use Rattle.ckpt_ids.proofs.CountLemmas.{count_by-append, count_by_yes, count_by_no, counted-from_IsIn}
 use Rattle.ckpt_model.proofs.Records.Counts.{IsIn-from_find}
 use Rattle.ckpt_model.proofs.Records.Present.{Holds, IsHeld, Holds-from_use, absent-from_not_held, not_held}
 use Rattle.ckpt_model.proofs.Records.Lists.{AreSoundRecords, IsSoundOutbox, sound_from, outbox_of, appended_records, is_pending_checkpoint}
@@ -48,9 +27,7 @@ held-from_files_of f (Some r) rs there h =
 
 -- the record of a choice is live
 pub chosen_in : (m : State) (c : Choice) (r : Record) → chosen c m ≡ Some r → IsIn r m.records
-chosen_in m (choice.Checkpoint id) r e = (IsIn-from_find (λ s. eqb s.id id) r m.records e).0
-chosen_in m (choice.Savepoint id) r e = (IsIn-from_find (λ s. eqb s.id id) r m.records e).0
-chosen_in m choice.Fresh r e = absurd (cc)
+chosen_in m c r h3 = grind (arith, common_steps, IsIn-from_find)
 
 -- so what a new record pins is held
 pub held-from_pins : (m : State) (f : ℕ) → IsIn f (pins_now m) → IsHeld f m.records
@@ -59,8 +36,7 @@ held-from_pins m f h = held-from_files_of f (chosen (choice_of m) m) m.records (
 
 -- the files of a record are ascending
 ascending-files_of : (o : Option Record) → IsAscendingSet (files_of o)
-ascending-files_of None = tt
-ascending-files_of (Some r) = IsInOrder-in_order_once numbers_in_order (map (λ (u : Use). u.file) (uses (r ∷ [])))
+ascending-files_of o = grind (arith, common_steps, IsInOrder-in_order_once, numbers_in_order)
 
 -- so are the pins
 pub ascending-pins : (m : State) → IsAscendingSet (pins_now m)
@@ -76,18 +52,11 @@ some_element (x ∷ xs) h = (x, inl refl)
 
 -- a shape has a size above 0
 some_size : (shape : List ℕ) → IsShape shape → 0 < sum shape
-some_size [] s = let n : 1 ≤ 0 = s.vertices_from in absurd (omega arith)
-some_size (p ∷ shape) s = let first : 1 ≤ p = s.each 0 0 (omega arith) in omega (arith, sum_by-cons (λ x. x) p shape)
+some_size shape h1 = grind (arith, common_steps, sum_by-cons)
 
 -- a record with no acknowledgement lacks one
 pub missing_at_first : (r : Record) → r.acks ≡ [] → IsShape r.shape → 0 < missing r
-missing_at_first r none s =
-    let all : length (subtasks r.shape) ≡ sum r.shape = length-subtasks_from 0 r.shape in
-    let some : 0 < length (subtasks r.shape) = omega (arith, some_size r.shape s) in
-    let q = some_element (subtasks r.shape) some in
-    let lacks : SubtaskId → Bool = λ t. not (has_acknowledged r t) in
-    let has_none : lacks q.0 ≡ true = ap (λ acks. not (list_any (λ a. same_subtask q.0 a.subtask) acks)) none in
-    counted-from_IsIn lacks q.0 (subtasks r.shape) q.1 has_none
+missing_at_first r none s = grind (arith, common_steps, counted-from_IsIn, length-subtasks_from, some_element, some_size)
 
 -- the record that is triggered
 
@@ -164,27 +133,11 @@ savepoint_is_sound m s running room fewer =
 
 -- nothing holds a checkpoint back only if fewer are pending than may be
 pub fewer-from_go : (c : Configuration) (due : ℕ) (completed : Option ℕ) (t pending : ℕ) → hold c due completed t pending ≡ Go → pending < limit c
-fewer-from_go c due completed t pending e =
-    let inner : Hold = cond (ltb t (pause_ends c completed)) Pause Go in
-    let middle : Hold = cond (leb (limit c) pending) AtOnce inner in
-    let P : Bool → Type 0 = λ b. cond b Interval middle ≡ Go in
-    let Q : Bool → Type 0 = λ b. cond b AtOnce inner ≡ Go in
-    let waits : ltb t due ≡ true → pending < limit c = λ (h : ltb t due ≡ true). let k : Interval ≡ Go = subst P h e in absurd (cc) in
-    let goes : ltb t due ≡ false → pending < limit c = λ (h : ltb t due ≡ false).
-    let k : middle ≡ Go = subst P h e in
-    ⊎_elim
-    (λ (g : leb (limit c) pending ≡ true). let l : AtOnce ≡ Go = subst Q g k in absurd (cc))
-    (λ (g : leb (limit c) pending ≡ false). leb-false (limit c) pending g)
-    (cases_Bool (leb (limit c) pending)) in
-    ⊎_elim waits goes (cases_Bool (ltb t due))
+fewer-from_go c due completed t pending e = grind (arith, common_steps)
 
 -- if a tick does not fail over, few enough checkpoints have failed
 pub few_failures : (late failures tolerable : ℕ) → failures ≤ tolerable → (ltb 0 late && ltb tolerable (failures + late)) ≡ false → failures + late ≤ tolerable
-few_failures late failures tolerable few e =
-    ⊎_elim
-    (λ (h : ltb 0 late ≡ false). omega (arith, ltb-false 0 late h))
-    (λ (h : ltb tolerable (failures + late) ≡ false). ltb-false tolerable (failures + late) h)
-    (and_cases (ltb 0 late) (ltb tolerable (failures + late)) e)
+few_failures late failures tolerable few e = grind (arith, common_steps)
 
 -- an expired record is pending
 pub expired_is_pending : (m : State) (t : ℕ) (r : Record) → is_pending r ≡ false → is_expired m t r ≡ false

@@ -1,18 +1,7 @@
 -- What an acknowledgement that is accepted for a pending record changes: the record gets it, or is completed by it.
-use Rattle.std.proofs.Common.{◌≡◌, ℕ, ◌≤◌, true, false, eqb, List, [], ◌++◌, refl, arith}
-use Rattle.std.specs.Prelude.{Option, Some}
-use Rattle.std.specs.List.{list_any}
-use Rattle.std.proofs.lemmas.Bool.{cond_both, eqb-true}
-use Rattle.ckpt_ids.specs.declared.numbers.Kind.{Kind}
+use Rattle.ckpt_model.proofs.Names.{◌≡◌, ℕ, ◌≤◌, true, false, eqb, List, [], ◌++◌, refl, arith, Option, Some, list_any, cond_both, eqb-true, Kind, SubtaskId, ascending, Record, missing, Running}
+use Rattle.ckpt_model.proofs.Names.{State, is_checkpoint, drop, Stepped, superseded, cleared, with_records, replaced, completed_with, acknowledged_in, IsSound, given_as, is_ack_taken, common_steps}
 use Rattle.ckpt_ids.specs.declared.numbers.Kind.TheVariants as kind
-use Rattle.ckpt_ids.specs.declared.subtask.SubtaskId.{SubtaskId}
-use Rattle.ckpt_ids.specs.Ascending.{ascending}
-use Rattle.ckpt_ids.specs.Records.{Record, missing}
-use Rattle.ckpt_model.specs.declared.mode.Mode.TheVariants.{Running}
-use Rattle.ckpt_model.specs.State.{State, is_checkpoint, drop}
-use Rattle.ckpt_model.specs.Steps.{Stepped, superseded, cleared, with_records, replaced, completed_with, acknowledged_in}
-use Rattle.ckpt_model.specs.Soundness.{IsSound}
-use Rattle.ckpt_model.specs.Laws.{given_as, is_ack_taken}
 use Rattle.ckpt_model.proofs.Records.Lists.{is_savepoint-kind}
 use Rattle.ckpt_model.proofs.Soundness.Drops.{is_savepoint}
 use Rattle.ckpt_model.proofs.Soundness.Acks.{IsAcking, with_ack, ack_pending_is_sound}
@@ -58,9 +47,7 @@ completion_is m q subtask fresh reused a none =
 -- its answer is AckPending or AckCompleted
 pub acknowledged_is_taken : (m : State) (w : Record) → is_ack_taken (acknowledged_in m w).1 ≡ true
 unfolding acknowledged_in completed_with
-acknowledged_is_taken m w =
-    let c : Record = record w { done = true } in
-    cond_both (eqb (missing w) 0) (completed_with (having m c) c) (with_records m (replaced m.records w), _) (λ (x : Stepped). is_ack_taken x.1 ≡ true) (λ _. refl) (λ _. refl)
+acknowledged_is_taken m w = grind (arith, common_steps)
 
 -- an accepted acknowledgement of a pending record
 pub acked_is : (m : State) (q : Record) (subtask : SubtaskId) (fresh reused : List ℕ) → IsAcking m q subtask fresh reused → IsAcked m q subtask fresh reused (acknowledged_in m (with_ack q subtask fresh reused))

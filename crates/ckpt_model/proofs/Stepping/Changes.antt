@@ -1,26 +1,8 @@
 -- What any call changes; and what one that is no acknowledgement changes: nothing, the outbox, or records, by a drop with new settings or by a trigger.
-use Rattle.std.proofs.Common.{◌≡◌, ◌≢◌, ℕ, ◌+◌, ◌≤◌, Bool, true, false, not, ◌&&◌, eqb, List, [], ◌∷◌, ◌++◌, length, refl, sym, ap, subst, ◌∙◌, ◌⊎◌, inl, inr, ⊎_elim}
-use Rattle.std.specs.Prelude.{Option, Some, None}
+use Rattle.ckpt_model.proofs.Names.{◌≡◌, ◌≢◌, ℕ, ◌+◌, ◌≤◌, Bool, true, false, not, ◌&&◌, eqb, List, [], ◌∷◌, ◌++◌, length, refl, sym, ap, subst, ◌∙◌, ◌⊎◌, inl, inr, ⊎_elim, Option, Some, None}
+use Rattle.ckpt_model.proofs.Names.{list_any, not-true, not_from_false, and_parts, eqb-true, SubtaskId, Kind, Call, Ack, Refusal, Answer, Refused, IsIn, ascending, Record, IsShape, Mode, Running}
+use Rattle.ckpt_model.proofs.Names.{State, is_checkpoint, is_pending, drop, pins_now, Stepped, triggered, IsSound, IsCall, given_as, is_ack_taken, common_steps, arith}
 use Rattle.std.specs.Prelude as prelude
-use Rattle.std.specs.List.{list_any}
-use Rattle.std.proofs.lemmas.Bool.{not-true, not_from_false, and_parts, eqb-true}
-use Rattle.ckpt_ids.specs.declared.subtask.SubtaskId.{SubtaskId}
-use Rattle.ckpt_ids.specs.declared.numbers.Kind.{Kind}
-use Rattle.ckpt_ids.specs.declared.call.Call.{Call}
-use Rattle.ckpt_ids.specs.declared.call.Call.TheVariants.{Ack}
-use Rattle.ckpt_ids.specs.declared.reply.Refusal.{Refusal}
-use Rattle.ckpt_ids.specs.declared.reply.Answer.{Answer}
-use Rattle.ckpt_ids.specs.declared.reply.Answer.TheVariants.{Refused}
-use Rattle.ckpt_ids.specs.Ordered.{IsIn}
-use Rattle.ckpt_ids.specs.Ascending.{ascending}
-use Rattle.ckpt_ids.specs.Records.{Record}
-use Rattle.ckpt_ids.specs.Shapes.{IsShape}
-use Rattle.ckpt_model.specs.declared.mode.Mode.{Mode}
-use Rattle.ckpt_model.specs.declared.mode.Mode.TheVariants.{Running}
-use Rattle.ckpt_model.specs.State.{State, is_checkpoint, is_pending, drop, pins_now}
-use Rattle.ckpt_model.specs.Steps.{Stepped, triggered}
-use Rattle.ckpt_model.specs.Soundness.{IsSound, IsCall}
-use Rattle.ckpt_model.specs.Laws.{given_as, is_ack_taken}
 use Rattle.ckpt_model.proofs.Records.Lists.{sound_from, outbox_of, filtered_records}
 use Rattle.ckpt_model.proofs.Soundness.Drops.{is_savepoint, savepoint_stays, idle_stays, none_pending_left, outbox_filtered}
 use Rattle.ckpt_model.proofs.Soundness.Acks.{IsAcking}
@@ -73,37 +55,15 @@ pub record IsPlain (m : State) (call : Call) (n : State) (given : List ℕ) : Ty
 
 -- it registers and deletes nothing
 pub plain_step : {m : State} {call : Call} (x : Stepped) → IsPlain m call x.0 (given_as x.1) → (IsMoved m (disposed_of call) (x.0).records → ChangesRecords m call x) → registers m call x.1 ≡ [] → hands m call x.0 ≡ prelude.drop (length m.waiting) x.0.waiting → deletes call x.1 ≡ [] → IsStep m call x
-plain_step {m} {call} x p moved registered handed deleted =
-    let WithIn : List ℕ → Type 0 = λ xs. IsSettled m x.0 xs (prelude.drop (length m.waiting) x.0.waiting) [] in
-    let WithOut : List ℕ → Type 0 = λ xs. IsSettled m x.0 (registers m call x.1) xs [] in
-    let WithDeleted : List ℕ → Type 0 = λ xs. IsSettled m x.0 (registers m call x.1) (hands m call x.0) xs in
-    record {
-      opening = p.opening;
-      gives = p.gives;
-      sound = p.sound;
-      records = λ s. moved (p.moves s);
-      files = λ _. subst WithDeleted (sym deleted) (subst WithOut (sym handed) (subst WithIn (sym registered) (spread_settled p.spreads)));
-    }
+plain_step {m} {call} x p moved registered handed deleted = grind (arith, common_steps, hands, registers, spread_settled)
 
 -- it may be taken from the state with the moment of the call
 pub plain_at : {m : State} {latest : ℕ} {call : Call} {n : State} {given : List ℕ} → (IsSound m → IsSound (record m { latest = latest })) → IsPlain (record m { latest = latest }) call n given → IsPlain m call n given
-plain_at {m} {latest} {call} {n} {given} later p = record {
-  opening = p.opening;
-  gives = p.gives;
-  sound = λ c s. p.sound c (later s);
-  moves = λ s. moves_at m latest (disposed_of call) n.records (p.moves (later s));
-  spreads = p.spreads;
-}
+plain_at {m} {latest} {call} {n} {given} later p = grind (arith, common_steps, disposed_of, moves_at)
 
 -- nothing changes
 pub unchanged : (m : State) (call : Call) → IsPlain m call m []
-unchanged m call = record {
-  opening = refl;
-  gives = inl (refl, refl);
-  sound = λ _ s. s;
-  moves = λ _. unmoved m (disposed_of call);
-  spreads = unspread m;
-}
+unchanged m call = grind (arith, common_steps, disposed_of, unmoved, unspread)
 
 -- a refused call changes no record
 refused_records : (m : State) (call : Call) (why : Refusal) → ChangesRecords m call (m, Refused why)
@@ -116,13 +76,7 @@ refusal_step m call why = plain_step (m, Refused why) (unchanged m call) (λ _. 
 
 -- the outbox alone changes
 pub outbox_step : (m : State) (call : Call) (waiting taken : List ℕ) (answer : Answer) → given_as answer ≡ [] → ChangesRecords m call (record m { waiting = waiting; taken = taken }, answer) → (IsSound m → IsSound (record m { waiting = waiting; taken = taken })) → (IsSound m → IsSettled m (record m { waiting = waiting; taken = taken }) (registers m call answer) (hands m call (record m { waiting = waiting; taken = taken })) (deletes call answer)) → IsStep m call (record m { waiting = waiting; taken = taken }, answer)
-outbox_step m call waiting taken answer none records sound files = record {
-  opening = refl;
-  gives = inl (none, refl);
-  sound = λ _. sound;
-  records = λ _. records;
-  files = files;
-}
+outbox_step m call waiting taken answer none records sound files = grind (arith, common_steps)
 
 -- a drop
 
@@ -152,13 +106,7 @@ pub record IsDropping (m : State) (call : Call) (k : Settings) (dropped : Record
 
 -- the base is not dropped
 base_left : {m : State} {call : Call} {k : Settings} {dropped : Record → Bool} → IsDropping m call k dropped → IsSound m → (id : ℕ) (r : Record) → k.base ≡ Some id → IsIn r m.records → is_savepoint id r ≡ true → dropped r ≡ false
-base_left {m} {call} {k} {dropped} d s id r e h t =
-    let whole = and_parts (r.done && not (is_checkpoint r)) (eqb r.id id) t in
-    let parts = and_parts r.done (not (is_checkpoint r)) whole.0 in
-    ⊎_elim
-    (λ (stays : dropped r ≡ false). stays)
-    (λ (gone : (disposed_of call ≡ Some r.id) × (k.base ≡ Some r.id → ⊥)). absurd (gone.1 (e ∙ ap Some (sym (eqb-true r.id id whole.1)))))
-    (d.savepoints s r h parts.0 (not-true (is_checkpoint r) parts.1))
+base_left {m} {call} {k} {dropped} d s id r e h t = grind (arith, common_steps)
 
 -- so the state after is sound
 dropped_is_sound : (m : State) (call : Call) (k : Settings) (dropped : Record → Bool) → IsDropping m call k dropped → IsCall call → IsSound m → IsSound (drop (set m k) dropped None)
@@ -190,10 +138,4 @@ dropped_is m call k dropped d = record {
 -- a trigger, after a change that gave no number and left the choice
 pub triggered_is : (m k : State) (call : Call) (kind : Kind) (due : ℕ) → IsPlain m call k [] → k.next ≡ m.next → (IsSound m → pins_now k ≡ pins_now m) → (IsSound k → IsSound (record (triggered k kind) { due = due })) → IsPlain m call (record (triggered k kind) { due = due }) (k.next ∷ [])
 unfolding triggered
-triggered_is m k call kind due p next pins sound = record {
-  opening = p.opening;
-  gives = inr (ap (λ i. i ∷ []) next, ap (λ i. i + 1) next);
-  sound = λ c s. sound (p.sound c s);
-  moves = λ s. triggered_moves m k kind (disposed_of call) next (pins s) (p.moves s);
-  spreads = trigger_spreads k kind due m.records m.waiting m.taken p.spreads;
-}
+triggered_is m k call kind due p next pins sound = grind (arith, common_steps, disposed_of, trigger_spreads, triggered_moves)

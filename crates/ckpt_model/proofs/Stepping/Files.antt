@@ -1,22 +1,9 @@
 -- What a call does to the files: which it registers, hands out and deletes, and that none is lost.
-use Rattle.std.proofs.Common.{◌≡◌, ℕ, ◌+◌, ◌≤◌, true, false, not, eqb, List, [], ◌∷◌, ◌++◌, length, take, drop, refl, sym, ap, subst, ◌∙◌, ◌⊎◌, inl, inr, ⊎_elim, arith}
-use Rattle.std.specs.List.{filter}
-use Rattle.std.proofs.lemmas.Bool.{cases_Bool, eqb-true, not_from_false}
-use Rattle.std.proofs.lemmas.List.{length-drop, take-append-drop}
-use Rattle.ckpt_ids.specs.declared.call.Call.{Call}
-use Rattle.ckpt_ids.specs.declared.call.Call.TheVariants.{Ack, Deleted, Undeleted}
-use Rattle.ckpt_ids.specs.declared.reply.Refusal.{Refusal}
-use Rattle.ckpt_ids.specs.declared.reply.Answer.{Answer}
-use Rattle.ckpt_ids.specs.declared.reply.Answer.TheVariants.{Refused}
-use Rattle.ckpt_ids.specs.Counting.{one_if, times}
-use Rattle.ckpt_ids.specs.Ordered.{IsIn}
-use Rattle.ckpt_ids.specs.Records.{uses, is_present}
-use Rattle.ckpt_ids.proofs.OrderedLemmas.{IsIn-append_left, IsIn-append_right, IsIn-append_cases, IsIn-filter, IsIn-from_filter, IsIn-from_list_any}
-use Rattle.std.specs.List.{list_any}
-use Rattle.ckpt_model.specs.State.{State, is_known}
-use Rattle.ckpt_model.specs.Steps.{without}
-use Rattle.ckpt_model.specs.Soundness.{IsSound}
-use Rattle.ckpt_model.specs.Laws.{registered_as, deleted_as}
+use Rattle.ckpt_model.proofs.Names.{◌≡◌, ℕ, ◌+◌, ◌≤◌, true, false, not, eqb, List, [], ◌∷◌, ◌++◌, length, take, refl, sym, ap, subst, ◌∙◌, ◌⊎◌, inl, inr, ⊎_elim, arith, filter, cases_Bool, eqb-true}
+use Rattle.ckpt_model.proofs.Names.{not_from_false, length-drop, take-append-drop, Call, Ack, Deleted, Undeleted, Refusal, Answer, Refused, one_if, times, IsIn, uses, is_present, IsIn-append_left}
+use Rattle.ckpt_model.proofs.Names.{IsIn-append_right, IsIn-append_cases, IsIn-filter, IsIn-from_filter, IsIn-from_list_any, list_any, State, is_known, without, IsSound, registered_as, deleted_as}
+use Rattle.ckpt_model.proofs.Names.{common_steps}
+use Rattle.std.proofs.Common.{drop}
 use Rattle.ckpt_model.proofs.Records.Lists.{outbox_of}
 use Rattle.ckpt_model.proofs.Histories.Balances.{drop_front, drop_all}
 use Rattle.ckpt_model.proofs.Histories.Spreads.{IsSpread}
@@ -105,8 +92,7 @@ take_settled m most =
 
 -- a taken file is the one reported, or stays
 reported_or_taken : (f file : ℕ) (taken : List ℕ) → IsIn f taken → (f ≡ file) ⊎ IsIn f (without file taken)
-reported_or_taken f file taken h =
-    ⊎_elim (λ (e : eqb f file ≡ true). inl (eqb-true f file e)) (λ (e : eqb f file ≡ false). inr (IsIn-filter (λ g. not (eqb g file)) f taken h (not_from_false (eqb f file) e))) (cases_Bool (eqb f file))
+reported_or_taken f file taken h = grind (arith, common_steps, IsIn-filter, cases_Bool, eqb-true, not_from_false)
 
 -- of an accepted Deleted
 pub deleted_settled : (m : State) (file : ℕ) → IsSound m → list_any (λ f. eqb f file) m.taken ≡ true → IsSettled m (record m { taken = without file m.taken }) [] (drop (length m.waiting) m.waiting) (file ∷ [])
@@ -145,13 +131,10 @@ undeleted_settled m file there =
 
 -- a refused call registers, hands out and deletes nothing
 pub refused_registers : (m : State) (call : Call) (why : Refusal) → registers m call (Refused why) ≡ []
-refused_registers m (Ack now id subtask fresh reused) why = refl
-refused_registers m call why = refl
+refused_registers m call why = grind (arith, common_steps)
 
 pub refused_hands : (m : State) (call : Call) → hands m call m ≡ drop (length m.waiting) m.waiting
-refused_hands m (Undeleted file) = sym (drop_all (length m.waiting) m.waiting (omega arith))
-refused_hands m call = refl
+refused_hands m call = grind (arith, common_steps, drop_all)
 
 pub refused_deletes : (call : Call) (why : Refusal) → deletes call (Refused why) ≡ []
-refused_deletes (Deleted file) why = refl
-refused_deletes call why = refl
+refused_deletes call why = grind (arith, common_steps)

@@ -1,31 +1,15 @@
 -- The walk over all calls of `step`: what each changes.
-use Rattle.std.proofs.Common.{◌≡◌, ℕ, ◌+◌, ◌<◌, ◌≤◌, ◌^◌, max, Bool, true, false, not, ◌&&◌, ◌||◌, ltb, eqb, List, [], ◌∷◌, ◌++◌, take, refl, sym, ap, subst, ◌∙◌, inl, inr, ⊎_elim, arith}
-use Rattle.std.specs.Prelude.{count_by, Option, Some, None, unwrap_or, IfSome}
+use Rattle.ckpt_model.proofs.Names.{◌≡◌, ℕ, ◌+◌, ◌<◌, ◌≤◌, ◌^◌, max, Bool, true, false, not, ◌&&◌, ◌||◌, ltb, eqb, List, [], ◌∷◌, ◌++◌, take, refl, sym, ap, subst, ◌∙◌, inl, inr, ⊎_elim, arith}
+use Rattle.ckpt_model.proofs.Names.{count_by, Option, Some, None, unwrap_or, IfSome, filter, list_any, cases_Bool, both_ways, not-true, and_parts, and_left, and_right, or_from, or_left, cond_both}
+use Rattle.ckpt_model.proofs.Names.{eqb-true, eqb-false, ltb-false, SubtaskId, Kind, Target, Call, Tick, Savepoint, Ack, Decline, Dispose, Restore, Cancel, Take, Deleted, Undeleted, Show, Count}
+use Rattle.ckpt_model.proofs.Names.{Answer, Done, IsIn, Record, IsShape, hold, gap, Hold, Interval, AtOnce, Pause, Go, Running, Failed, Cancelled, State, is_checkpoint, is_pending, is_expired}
+use Rattle.ckpt_model.proofs.Names.{is_known, record_of, drop, pins_now, refusal, moment_of, pending_of, is_done_savepoint, is_number, savepoints, Stepped, pending_checkpoints, dropped_by, triggered}
+use Rattle.ckpt_model.proofs.Names.{failed_over, start_or_hold, after_expiry, tick, ack, failures_with, fails_the_job, decline, decline_pending, dropping, dispose, restore, restarted, rolled_back}
+use Rattle.ckpt_model.proofs.Names.{cancel, cancelled, take_files, without, show, effect, at_moment, step, IsSound, given_as, is_ack_taken, registered_as, common_steps}
 use Rattle.std.specs.Prelude as prelude
-use Rattle.std.specs.List.{filter, list_any}
-use Rattle.std.proofs.lemmas.Bool.{cases_Bool, both_ways, not-true, and_parts, and_left, and_right, or_from, or_left, cond_both, eqb-true, eqb-false, ltb-false}
-use Rattle.ckpt_ids.specs.declared.subtask.SubtaskId.{SubtaskId}
-use Rattle.ckpt_ids.specs.declared.numbers.Kind.{Kind}
 use Rattle.ckpt_ids.specs.declared.numbers.Kind.TheVariants as kind
 use Rattle.ckpt_ids.specs.declared.call.Target.TheVariants as target
-use Rattle.ckpt_ids.specs.declared.call.Target.{Target}
-use Rattle.ckpt_ids.specs.declared.call.Call.{Call}
-use Rattle.ckpt_ids.specs.declared.call.Call.TheVariants.{Tick, Savepoint, Ack, Decline, Dispose, Restore, Cancel, Take, Deleted, Undeleted, Show, Count}
 use Rattle.ckpt_ids.specs.declared.reply.Reply.TheVariants as reply
-use Rattle.ckpt_ids.specs.declared.reply.Answer.{Answer}
-use Rattle.ckpt_ids.specs.declared.reply.Answer.TheVariants.{Done}
-use Rattle.ckpt_ids.specs.Ordered.{IsIn}
-use Rattle.ckpt_ids.specs.Records.{Record}
-use Rattle.ckpt_ids.specs.Shapes.{IsShape}
-use Rattle.ckpt_rules.specs.Trigger.{hold, gap}
-use Rattle.ckpt_rules.specs.declared.hold.Hold.{Hold}
-use Rattle.ckpt_rules.specs.declared.hold.Hold.TheVariants.{Interval, AtOnce, Pause, Go}
-use Rattle.ckpt_model.specs.declared.mode.Mode.TheVariants.{Running, Failed, Cancelled}
-use Rattle.ckpt_model.specs.State.{State, is_checkpoint, is_pending, is_expired, is_known, record_of, drop, pins_now}
-use Rattle.ckpt_model.specs.Refusals.{refusal, moment_of, pending_of, is_done_savepoint, is_number, savepoints}
-use Rattle.ckpt_model.specs.Steps.{Stepped, pending_checkpoints, dropped_by, triggered, failed_over, start_or_hold, after_expiry, tick, ack, failures_with, fails_the_job, decline, decline_pending, dropping, dispose, restore, restarted, rolled_back, cancel, cancelled, take_files, without, show, effect, at_moment, step}
-use Rattle.ckpt_model.specs.Soundness.{IsSound}
-use Rattle.ckpt_model.specs.Laws.{given_as, is_ack_taken, registered_as}
 use Rattle.ckpt_model.proofs.Records.Counts.{IsIn-from_find}
 use Rattle.ckpt_model.proofs.Records.Replacing.{same_record}
 use Rattle.ckpt_model.proofs.Records.Released.{distinct-from_test}
@@ -125,8 +109,7 @@ decline_is m call id (Some r) e =
 
 -- a number that is not the base's
 not_the_base : (base : Option ℕ) (id : ℕ) → is_number base id ≡ false → base ≡ Some id → ⊥
-not_the_base None id other e = cc
-not_the_base (Some b) id other e = let same : b ≡ id = cc in eqb-false b id other same
+not_the_base base id h2 h3 = grind (arith, common_steps, eqb-false)
 
 -- a dispose of a savepoint that is not the base
 dispose_is : (m : State) (id : ℕ) → is_number m.base id ≡ false → IsPlain m (Dispose id) (dispose m id).0 (given_as (dispose m id).1)
@@ -141,8 +124,7 @@ dispose_is m id other = dropped_is m (Dispose id) (settings m) (λ r. eqb r.id i
 
 -- the shape after a restore
 shape_after : (shape : Option (List ℕ)) (old : List ℕ) → IfSome shape IsShape → IsShape old → IsShape (unwrap_or shape old)
-shape_after None old new h = h
-shape_after (Some shape) old new h = new
+shape_after shape old h2 h3 = grind (arith, common_steps)
 
 -- what a restore and a cancel drop is no done savepoint
 done_savepoint_stays : (r : Record) (b : Bool) → r.done ≡ true → is_checkpoint r ≡ false → (is_pending r || (r.done && is_checkpoint r && b)) ≡ false
@@ -188,9 +170,7 @@ cancel_is m call = dropped_is m call (record (settings m) { mode = Cancelled; ba
 
 -- an acknowledgement that is taken registers its fresh files
 pub registered_taken : (a : Answer) (fresh unknown : List ℕ) → is_ack_taken a ≡ true → registered_as a fresh unknown ≡ fresh
-registered_taken (Done (reply.AckPending missing)) fresh unknown e = refl
-registered_taken (Done (reply.AckCompleted dropped out)) fresh unknown e = refl
-registered_taken a fresh unknown e = absurd (both_ways false refl e)
+registered_taken a fresh unknown h3 = grind (arith, common_steps, both_ways)
 
 -- an accepted acknowledgement, of a pending record or late
 ack_is : (m : State) (now id : ℕ) (subtask : SubtaskId) (fresh reused : List ℕ) (o : Option Record) → IsAcceptedAck m now id subtask fresh reused → pending_of m.records id ≡ o → IsStep m (Ack now id subtask fresh reused) (ack (record m { latest = max now m.latest }) o subtask fresh reused)

@@ -19,6 +19,13 @@ final class Answers {
         }
     }
 
+    /** Throws unless an answer is this one, which its function alone gives. */
+    static void is(int what, int known) {
+        if (what != known) {
+            throw new CoordinatorException.Unknown("reply", what);
+        }
+    }
+
     /** What a function writes into a buffer that is long enough. */
     static byte[] bytes(long handle, long[] out, Write<byte[]> write) {
         byte[] buffer = new byte[512];
@@ -68,6 +75,9 @@ final class Answers {
             case Header.UNDELETED -> new Reply.Undeleted(a);
             case Header.COUNTED -> new Reply.Counted(a, b);
             // embed/bindings: end
+            case Header.RESERVED -> new Reply.Reserved(a, b);
+            case Header.FORFEITED -> new Reply.Forfeited();
+            case Header.NAMED -> new Reply.Named();
             default -> throw new CoordinatorException.Unknown("reply", what);
         };
     }
@@ -80,6 +90,7 @@ final class Answers {
             case Header.BAD_ARGUMENT -> new CoordinatorException.BadArgument(Argument.of(what));
             case Header.TOO_SHORT -> new CoordinatorException.TooShort(a);
             case Header.BAD_LINE -> new CoordinatorException.BadLine(LineFault.of(what));
+            case Header.FENCED -> new CoordinatorException.Fenced(relkvanu.Fenced.of(what), a);
             default -> throw new CoordinatorException.Unknown("code", code);
         };
     }

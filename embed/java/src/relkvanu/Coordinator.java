@@ -17,6 +17,11 @@ import java.util.Optional;
  * {@link OutOfMemoryError} is another thing: it is of the heap of Java, and may come after the call was made. Then end the process, and go
  * on from the log.
  *
+ * <p><b>Names.</b> A coordinator with names ({@link #openFenced}, {@link #fence}) gives out the numbers of the files that tasks will write,
+ * each once, and counts the terms of the job. Each accepted restore and cancel ends the term. What a task of an ended term sends throws {@code
+ * Fenced} with {@code OLD_TERM}. Whoever restarts the tasks tells them the term, which it reads by {@link #term} after the restore. A coordinator
+ * without names throws {@code Fenced} with {@code NO_NAMES}.
+ *
  * <p><b>Closing.</b> Its memory is not in the heap of Java, so use it in a {@code try} with resources. A call that another thread is in ends
  * first. One that is lost is closed when the heap is collected, which may be never.
  *
@@ -74,29 +79,37 @@ public final class Coordinator extends Reads implements AutoCloseable, Outbox {
     }
 
     /**
-     * Opens the coordinator that an image describes, which {@link #save} returned. It answers every list of calls as the saved one would.
-     * Throws {@code BadArgument} if the bytes are not an image, or if the state is not sound, or no coordinator could be opened so, or if the
-     * image has names: this package has none.
+     * Opens a coordinator with names, in term 1. {@link #ack} and {@link #decline} throw {@code Fenced} then: its tasks call {@link #ackIn} and
+     * {@link #declineIn}. Throws {@code BadArgument} for the settings first, then for the shape, the first name, the moment and the first
+     * number.
+     *
+     * @param settings the configuration
+     * @param shape the number of subtasks of each vertex
+     * @param now the moment of the opening
+     * @param first the number of the first record: 1 for a new job, otherwise one above all earlier numbers
+     * @param firstName the first name that it gives out: all numbers of files that were used before are below it
+     * @return the coordinator
+     */
+    public static Coordinator openFenced(Settings settings, long[] shape, long now, long first, long firstName) {
+        long[] numbers = settings.numbers();
+        Objects.requireNonNull(shape, "shape");
+        return new Coordinator((at, out) -> Native.openFenced(at, numbers, shape, now, first, firstName, RANDOM.nextLong(), RANDOM.nextLong(), out));
+    }
+
+    /**
+     * Opens the coordinator that an image describes, which {@link #save} returned: with names if the image has some. It answers every list of
+     * calls as the saved one would. Throws {@code BadArgument} if the bytes are not an image, or if the state is not sound, or no coordinator
+     * could be opened so.
+     *
+     * <p>All calls that were made after the save are made again, before any task makes a call. Otherwise names that were given out since then
+     * are given out again, and a term that has ended runs again.
      *
      * @param image the image
      * @return the coordinator
      */
     public static Coordinator openSaved(byte[] image) {
         Objects.requireNonNull(image, "image");
-        return new Coordinator((at, out) -> openWithoutNames(at, image, out));
-    }
-
-    private static void openWithoutNames(long at, byte[] image, long[] out) {
-        Native.openSaved(at, image, RANDOM.nextLong(), RANDOM.nextLong(), out);
-        long[] term = new long[out.length];
-        if (out[0] == Header.DONE) {
-            Native.term(at, term);
-            if (term[0] == Header.DONE) {
-                Native.close(at);
-                out[0] = Header.BAD_ARGUMENT;
-                out[1] = Header.BAD_IMAGE;
-            }
-        }
+        return new Coordinator((at, out) -> Native.openSaved(at, image, RANDOM.nextLong(), RANDOM.nextLong(), out));
     }
 
     /**
@@ -274,6 +287,80 @@ public final class Coordinator extends Reads implements AutoCloseable, Outbox {
      */
     public Reply.Cancelled cancel(long now) {
         return (Reply.Cancelled) timed(now, (at, out) -> Native.cancel(at, now, out));
+    }
+
+    /**
+     * Gives the coordinator names, in term 1. Make the call between the end of all tasks and their restart, since a task that began before
+     * it has no term. Throws {@code Fenced} with {@code HAS_NAMES} if it has some, {@code BadArgument} with {@code BAD_NAME}, and {@code Fenced}
+     * with {@code NAME_IN_USE} if a known file has this number or a greater one.
+     *
+     * @param firstName the first name that it gives out: all numbers of files that were used before are below it, those of files that nobody
+     *     acknowledged too
+     * @return that it has names
+     */
+    public Reply.Named fence(long firstName) {
+        return (Reply.Named) replied((at, out) -> Native.fence(at, firstName, out));
+    }
+
+    /**
+     * A task of a term reserves names for files that it will write. The reservation is in the durable log before the task uses one of them.
+     *
+     * @param term the term of the task
+     * @param count how many, 1 to 65536
+     * @return the names
+     */
+    public Reply.Reserved reserve(long term, long count) {
+        return (Reply.Reserved) replied((at, out) -> Native.reserve(at, term, count, out));
+    }
+
+    /**
+     * A task of a term gives up names that it will not acknowledge, such as those of a failed upload: their files are garbage then. Names
+     * that the term does not hold are passed over, so the call can be repeated.
+     *
+     * @param term the term of the task
+     * @param names the names
+     * @return that they are given up
+     */
+    public Reply.Forfeited forfeit(long term, long... names) {
+        Objects.requireNonNull(names, "names");
+        return (Reply.Forfeited) replied((at, out) -> Native.forfeit(at, term, names, out));
+    }
+
+    /**
+     * {@link #ack} of a task of a term. If it is accepted, it spends the names of the fresh files. The same acknowledgement once more throws
+     * {@code Fenced} with {@code SPENT}, if it has fresh files: a task deletes no file for that answer.
+     *
+     * @param term the term of the task
+     * @param now the moment
+     * @param id the record
+     * @param vertex the vertex of the subtask
+     * @param index its place in the vertex
+     * @param fresh the files that it wrote, and has synced
+     * @param reused files of earlier records that it uses again
+     * @return what the record lacks
+     */
+    public Reply.Ack ackIn(long term, long now, long id, int vertex, int index, long[] fresh, long... reused) {
+        Checks.u16(vertex, "vertex");
+        Checks.u16(index, "index");
+        Objects.requireNonNull(fresh, "fresh");
+        Objects.requireNonNull(reused, "reused");
+        return (Reply.Ack) timed(now, (at, out) -> Native.ackIn(at, term, now, id, vertex, index, fresh, reused, out));
+    }
+
+    /**
+     * {@link #decline} of a task of a term.
+     *
+     * @param term the term of the task
+     * @param now the moment
+     * @param id the record
+     * @param vertex the vertex of the subtask
+     * @param index its place in the vertex
+     * @return what became of the record
+     */
+    public Reply.Decline declineIn(long term, long now, long id, int vertex, int index) {
+        Checks.u16(vertex, "vertex");
+        Checks.u16(index, "index");
+        return (Reply.Decline) timed(now, (at, out) -> Native.declineIn(at, term, now, id, vertex, index, out));
     }
 
     /**

@@ -3,7 +3,7 @@ package relkvanu;
 /**
  * A call was not made, and nothing has changed, except maybe after {@link Unknown} and {@link NotStored}. Each exception of this package is one of the classes below.
  *
- * <p>{@link Refused} and {@link NoMemory} are answers that a job gets every day, so they have no stack trace. With {@code
+ * <p>{@link Refused}, {@link Fenced} and {@link NoMemory} are answers that a job gets every day, so they have no stack trace. With {@code
  * -Drelkvanu.traces=true} they have one.
  */
 public abstract sealed class CoordinatorException extends RuntimeException {
@@ -12,6 +12,10 @@ public abstract sealed class CoordinatorException extends RuntimeException {
 
     private CoordinatorException(String text, boolean hasTrace) {
         super(text, null, true, hasTrace);
+    }
+
+    private static String withFile(String text, boolean hasFile, long file) {
+        return hasFile ? text + " " + FileNumbers.toString(file) : text;
     }
 
     /** The coordinator refused the call. */
@@ -23,13 +27,9 @@ public abstract sealed class CoordinatorException extends RuntimeException {
         private final long file;
 
         Refused(Refusal refusal, long file) {
-            super(hasFile(refusal) ? refusal.text() + " " + FileNumbers.toString(file) : refusal.text(), HAS_TRACES);
+            super(withFile(refusal.text(), refusal.namesFile(), file), HAS_TRACES);
             this.refusal = refusal;
             this.file = file;
-        }
-
-        private static boolean hasFile(Refusal refusal) {
-            return refusal == Refusal.NAME_TAKEN || refusal == Refusal.FILE_GONE;
         }
 
         /**
@@ -41,6 +41,38 @@ public abstract sealed class CoordinatorException extends RuntimeException {
 
         /**
          * {@return the file that is to blame, unsigned; 0 unless the refusal is {@code NAME_TAKEN} or {@code FILE_GONE}}
+         */
+        public long file() {
+            return file;
+        }
+    }
+
+    /**
+     * The term of the task or the names refuse the call, or the coordinator has no names. After {@code SPENT} a task deletes no file: an accepted
+     * acknowledgement may have named it, such as this one if it was sent before.
+     */
+    public static final class Fenced extends CoordinatorException {
+        private static final long serialVersionUID = 1;
+        /** @serial why */
+        private final relkvanu.Fenced reason;
+        /** @serial the file that is to blame, or 0 */
+        private final long file;
+
+        Fenced(relkvanu.Fenced reason, long file) {
+            super(withFile(reason.text(), reason.namesFile(), file), HAS_TRACES);
+            this.reason = reason;
+            this.file = file;
+        }
+
+        /**
+         * {@return why}
+         */
+        public relkvanu.Fenced reason() {
+            return reason;
+        }
+
+        /**
+         * {@return the file that is to blame, unsigned; 0 unless the reason is {@code SPENT} or {@code NEVER_RESERVED}}
          */
         public long file() {
             return file;

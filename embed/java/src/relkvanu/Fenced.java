@@ -45,4 +45,9 @@ public enum Fenced {
     public String text() {
         return Names.inScripts(this);
     }
+
+    /** Whether an answer names the file that is to blame. */
+    boolean namesFile() {
+        return this == SPENT || this == NEVER_RESERVED;
+    }
 }

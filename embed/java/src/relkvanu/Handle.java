@@ -16,7 +16,7 @@ final class Handle implements Runnable {
 
     private final ReentrantLock lock = new ReentrantLock();
     private final Condition called = lock.newCondition();
-    private final long[] out = new long[4]; // the last answer
+    private final long[] out = new long[Native.ANSWER]; // the last answer
     private long address;
     private long calls;
 

@@ -217,7 +217,7 @@ final class Header {
     static final int FAULT_NUMBER = 4;
     /** a word follows the last one */
     static final int FAULT_EXTRA = 5;
-    /** a config, job, start or all line: it was read, and makes no call */
+    /** a config, job, start or all line, or in and a term before what is no call: it was read, and makes no call */
     static final int FAULT_NO_CALL = 6;
     static final int CALL_TICK = 1;
     static final int CALL_SAVEPOINT = 2;
@@ -231,6 +231,12 @@ final class Header {
     static final int CALL_UNDELETED = 10;
     static final int CALL_SHOW = 11;
     static final int CALL_COUNT = 12;
+    /** relkvanu_fence */
+    static final int CALL_FENCE = 13;
+    /** relkvanu_reserve */
+    static final int CALL_RESERVE = 14;
+    /** relkvanu_forfeit */
+    static final int CALL_FORFEIT = 15;
     /** no text of an answer has more bytes */
     static final int ANSWER_TEXT = 128;
 }

@@ -12,7 +12,7 @@ public enum LineFault {
     NUMBER(Header.FAULT_NUMBER),
     /** A word follows the last one. */
     EXTRA(Header.FAULT_EXTRA),
-    /** A config, job, start or all line: it was read, and makes no call. */
+    /** A config, job, start or all line, or in and a term before what is no call: it was read, and makes no call. */
     NO_CALL(Header.FAULT_NO_CALL);
 
     private static final LineFault[] ALL = values();

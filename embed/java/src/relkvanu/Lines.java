@@ -5,12 +5,14 @@ import java.util.Objects;
 import java.util.OptionalLong;
 
 /**
- * Lines of a script (docs/SCRIPT.md): a log of calls, which the library writes and reads. {@link Coordinator#line} makes the call of one.
+ * Lines of a script (docs/SCRIPT.md) and of a log with names (docs/LOGS.md): a log of calls, which the library writes and reads. {@link
+ * Coordinator#line} makes the call of one.
  *
  * <p>A line that is written has no newline. It reads back as its call. If it would be too long, it throws {@code BadLine}: none is cut.
  */
 public final class Lines {
     private static final long[] NONE = {};
+    private static final long NO_TERM = 0;
 
     private Lines() {}
 
@@ -27,7 +29,7 @@ public final class Lines {
     public static Line says(byte[] line) {
         Objects.requireNonNull(line, "line");
         Library.need();
-        long[] out = new long[4];
+        long[] out = new long[Native.ANSWER];
         long[] numbers = Answers.numbers(0, out, (at, buffer, to) -> Native.lineSays(line, buffer, to));
         return switch ((int) out[1]) {
             case Header.LINE_SKIP -> new Line.Skip();
@@ -42,8 +44,8 @@ public final class Lines {
 
     /** The record of a show line; empty for another line. */
     static OptionalLong shown(byte[] line) {
-        long[] call = new long[5];
-        Native.lineCall(line, call, NONE, NONE, new long[4]);
+        long[] call = new long[Native.CALL];
+        Native.lineCall(line, call, NONE, NONE, new long[Native.ANSWER]);
         return call[0] == Header.CALL_SHOW ? OptionalLong.of(call[4]) : OptionalLong.empty();
     }
 
@@ -60,19 +62,19 @@ public final class Lines {
         long[] numbers = settings.numbers();
         Objects.requireNonNull(shape, "shape");
         Library.need();
-        return text(Answers.bytes(0, new long[4], (at, lines, out) -> Native.openingLines(numbers, shape, now, lines, out)));
+        return text(Answers.bytes(0, new long[Native.ANSWER], (at, lines, out) -> Native.openingLines(numbers, shape, now, lines, out)));
     }
 
-    private static String line(int kind, int vertex, int index, long now, long number, long[] first, long[] second) {
-        long[] call = {kind, Checks.u16(vertex, "vertex"), Checks.u16(index, "index"), now, number};
+    private static String line(int kind, int vertex, int index, long now, long number, long term, long[] first, long[] second) {
+        long[] call = {kind, Checks.u16(vertex, "vertex"), Checks.u16(index, "index"), now, number, term};
         Objects.requireNonNull(first, "fresh");
         Objects.requireNonNull(second, "reused");
         Library.need();
-        return text(Answers.bytes(0, new long[4], (at, line, out) -> Native.callLine(call, first, second, line, out)));
+        return text(Answers.bytes(0, new long[Native.ANSWER], (at, line, out) -> Native.callLine(call, first, second, line, out)));
     }
 
     private static String line(int kind, long now, long number) {
-        return line(kind, 0, 0, now, number, NONE, NONE);
+        return line(kind, 0, 0, now, number, NO_TERM, NONE, NONE);
     }
 
     /**
@@ -104,7 +106,7 @@ public final class Lines {
      * @param reused files that it uses again
      */
     public static String ack(long now, long id, int vertex, int index, long[] fresh, long... reused) {
-        return line(Header.CALL_ACK, vertex, index, now, id, fresh, reused);
+        return ackIn(NO_TERM, now, id, vertex, index, fresh, reused);
     }
 
     /**
@@ -116,7 +118,7 @@ public final class Lines {
      * @param index its place in the vertex
      */
     public static String decline(long now, long id, int vertex, int index) {
-        return line(Header.CALL_DECLINE, vertex, index, now, id, NONE, NONE);
+        return declineIn(NO_TERM, now, id, vertex, index);
     }
 
     /**
@@ -144,7 +146,7 @@ public final class Lines {
      * @param shape the shape
      */
     public static String restoreLatest(long now, long[] shape) {
-        return line(Header.CALL_RESTORE, 0, 0, now, 0, Checks.shape(shape), NONE);
+        return line(Header.CALL_RESTORE, 0, 0, now, 0, NO_TERM, Checks.shape(shape), NONE);
     }
 
     /**
@@ -165,7 +167,7 @@ public final class Lines {
      * @param shape the shape
      */
     public static String restoreSavepoint(long now, long id, long[] shape) {
-        return line(Header.CALL_RESTORE, 0, 0, now, Checks.savepoint(id), Checks.shape(shape), NONE);
+        return line(Header.CALL_RESTORE, 0, 0, now, Checks.savepoint(id), NO_TERM, Checks.shape(shape), NONE);
     }
 
     /**
@@ -220,5 +222,62 @@ public final class Lines {
      */
     public static String count(long file) {
         return line(Header.CALL_COUNT, 0, file);
+    }
+
+    /**
+     * {@return the line of a fence: from here on names are given out}
+     *
+     * @param firstName the first name
+     */
+    public static String fence(long firstName) {
+        return line(Header.CALL_FENCE, 0, firstName);
+    }
+
+    /**
+     * {@return the line of a reservation}
+     *
+     * @param term the term of the task
+     * @param count how many names
+     */
+    public static String reserve(long term, long count) {
+        return line(Header.CALL_RESERVE, 0, 0, 0, count, term, NONE, NONE);
+    }
+
+    /**
+     * {@return the line that gives names up}
+     *
+     * @param term the term of the task
+     * @param names the names
+     */
+    public static String forfeit(long term, long... names) {
+        return line(Header.CALL_FORFEIT, 0, 0, 0, 0, term, Objects.requireNonNull(names, "names"), NONE);
+    }
+
+    /**
+     * {@return the line of an acknowledgement by a task of a term}
+     *
+     * @param term the term of the task; 0 for none
+     * @param now the moment
+     * @param id the record
+     * @param vertex the vertex of the subtask
+     * @param index its place in the vertex
+     * @param fresh the files that it wrote
+     * @param reused files that it uses again
+     */
+    public static String ackIn(long term, long now, long id, int vertex, int index, long[] fresh, long... reused) {
+        return line(Header.CALL_ACK, vertex, index, now, id, term, fresh, reused);
+    }
+
+    /**
+     * {@return the line of a decline by a task of a term}
+     *
+     * @param term the term of the task; 0 for none
+     * @param now the moment
+     * @param id the record
+     * @param vertex the vertex of the subtask
+     * @param index its place in the vertex
+     */
+    public static String declineIn(long term, long now, long id, int vertex, int index) {
+        return line(Header.CALL_DECLINE, vertex, index, now, id, term, NONE, NONE);
     }
 }

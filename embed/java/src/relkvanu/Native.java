@@ -4,6 +4,18 @@ package relkvanu;
 final class Native {
     private Native() {}
 
+    /** How many numbers relkvanu_settings has. */
+    static final int SETTINGS = 7;
+
+    /** How many numbers relkvanu_answer has. */
+    static final int ANSWER = 4;
+
+    /** How many numbers relkvanu_counts has. */
+    static final int COUNTS = 4;
+
+    /** How many numbers relkvanu_call has. */
+    static final int CALL = 6;
+
     /** Returns the address of a closed handle, or 0 without memory. */
     static native long create();
 

@@ -223,6 +223,29 @@ abstract sealed class Reads permits Coordinator, StoreReads {
     }
 
     /**
+     * The term that runs, and the next name. Whoever restarts the tasks reads it after the restore, and tells each of them once the restore is
+     * durable. A task never asks for it: one that should be dead would learn the new term. Throws {@code Fenced} without names.
+     *
+     * @return the term
+     */
+    public RunningTerm term() {
+        return call(Native::term, RunningTerm::of);
+    }
+
+    /**
+     * Sorts files of a storage, at any time, also while tasks run. Ask a coordinator whose calls are durable: one that forgot a call also
+     * forgets which files are in use. Throws {@code Fenced} without names.
+     *
+     * @param files the files
+     * @return those that may be deleted, and those whose names were not given out, which nobody deletes
+     */
+    public Garbage garbage(long... files) {
+        long[] garbage = new long[files.length];
+        long[] unissued = new long[files.length];
+        return call((at, out) -> Native.garbage(at, files, garbage, unissued, out), (what, first, second) -> Garbage.of(what, garbage, first, unissued, second));
+    }
+
+    /**
      * {@return how many files are in use, wait for deletion, and were fetched}
      */
     public FileCounts fileCounts() {

@@ -55,4 +55,9 @@ public enum Refusal {
     public String text() {
         return Names.inScripts(this);
     }
+
+    /** Whether an answer names the file that is to blame. */
+    boolean namesFile() {
+        return this == NAME_TAKEN || this == FILE_GONE;
+    }
 }

@@ -5,6 +5,7 @@ import java.util.LinkedHashMap;
 import java.util.Map;
 import java.util.regex.Matcher;
 import java.util.regex.Pattern;
+import java.util.stream.LongStream;
 
 /** The reply to a call that was made. A pattern over the records of a reply is complete without a default. */
 public sealed interface Reply {
@@ -90,6 +91,27 @@ public sealed interface Reply {
             return found;
         }
     }
+
+    /**
+     * Names are reserved for files that a task will write.
+     *
+     * @param first the first name
+     * @param count how many there are: the others follow it
+     */
+    record Reserved(long first, long count) implements Reply {
+        /**
+         * {@return the names, ascending}
+         */
+        public long[] names() {
+            return LongStream.range(first, first + count).toArray();
+        }
+    }
+
+    /** The names are given up. */
+    record Forfeited() implements Reply {}
+
+    /** The coordinator has names now. */
+    record Named() implements Reply {}
 
     // embed/bindings makes the replies
     /**

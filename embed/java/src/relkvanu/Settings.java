@@ -29,7 +29,7 @@ public record Settings(long interval, long pause, long atOnce, long timeout, lon
      * @param millis the pause
      */
     public Settings withPause(long millis) {
-        return new Settings(interval, millis, atOnce, timeout, tolerable, retained, keepOnCancel);
+        return with(1, millis);
     }
 
     /**
@@ -38,7 +38,7 @@ public record Settings(long interval, long pause, long atOnce, long timeout, lon
      * @param checkpoints the number
      */
     public Settings withAtOnce(long checkpoints) {
-        return new Settings(interval, pause, checkpoints, timeout, tolerable, retained, keepOnCancel);
+        return with(2, checkpoints);
     }
 
     /**
@@ -47,7 +47,7 @@ public record Settings(long interval, long pause, long atOnce, long timeout, lon
      * @param millis the timeout
      */
     public Settings withTimeout(long millis) {
-        return new Settings(interval, pause, atOnce, millis, tolerable, retained, keepOnCancel);
+        return with(3, millis);
     }
 
     /**
@@ -56,7 +56,7 @@ public record Settings(long interval, long pause, long atOnce, long timeout, lon
      * @param failures the number
      */
     public Settings withTolerable(long failures) {
-        return new Settings(interval, pause, atOnce, timeout, failures, retained, keepOnCancel);
+        return with(4, failures);
     }
 
     /**
@@ -65,7 +65,7 @@ public record Settings(long interval, long pause, long atOnce, long timeout, lon
      * @param checkpoints the number
      */
     public Settings withRetained(long checkpoints) {
-        return new Settings(interval, pause, atOnce, timeout, tolerable, checkpoints, keepOnCancel);
+        return with(5, checkpoints);
     }
 
     /**
@@ -74,7 +74,14 @@ public record Settings(long interval, long pause, long atOnce, long timeout, lon
      * @param isKept whether they are kept
      */
     public Settings withKeepOnCancel(boolean isKept) {
-        return new Settings(interval, pause, atOnce, timeout, tolerable, retained, isKept);
+        return with(6, isKept ? 1 : 0);
+    }
+
+    /** These settings with another value at a place of numbers. */
+    private Settings with(int place, long value) {
+        long[] changed = numbers();
+        changed[place] = value;
+        return of(changed);
     }
 
     /** In the order of the header's struct and of a config line. */

@@ -20,7 +20,13 @@ import java.util.function.IntSupplier;
  * <p>Each call returns once it is committed and synced. <b>Threads</b> may share a store: while one of them commits, the calls of the others
  * gather, and are committed together.
  *
- * <p><b>Faults.</b> A call throws {@code Refused}, {@code BadArgument} and {@code NoMemory} as that of a {@link Coordinator} does, {@code
+ * <p><b>Names.</b> A job has names, unless it was made with {@link StoreOptions#withPlain}. A task is started with the term from the outcome of the
+ * restore before it ({@link StoreOutcome.Made#term}), or with {@link StoreReport#term} if the job is new; it never asks for a term. It reserves
+ * names, puts a file by each, and acknowledges them; what it does not acknowledge it forfeits. It deletes nothing. What a task of an ended term
+ * sends throws {@code Fenced} with {@code OLD_TERM}. The discarder and {@link #sweep} may run at any time, twice, late, or from a process that
+ * should be dead: no live file is deleted.
+ *
+ * <p><b>Faults.</b> A call throws {@code Refused}, {@code Fenced}, {@code BadArgument} and {@code NoMemory} as that of a {@link Coordinator} does, {@code
  * Closed} after {@link #close}, and {@link CoordinatorException.NotStored} if it was not committed. If that {@linkplain StoreFault#closes closes
  * the store}, nobody may act on the call: close the store and open it again, or end the process.
  *
@@ -164,7 +170,8 @@ public final class Store implements AutoCloseable {
 
     /** The outcome of the numbers from a place on, in the order of store_jni.c, and of the words from another. */
     private static StoreOutcome outcome(long[] numbers, int at, long[] words, int buffer) {
-        long[] answer = Arrays.copyOfRange(numbers, at, at + 4);
+        long[] answer = Arrays.copyOfRange(numbers, at, at + Native.ANSWER);
+        int choice = at + Native.ANSWER;
         if (answer[0] == NOT_MADE) {
             return new StoreOutcome.NotMade(new CoordinatorException.NoMemory()); // a call before it ran out of memory
         }
@@ -177,7 +184,8 @@ public final class Store implements AutoCloseable {
         }
         int what = (int) answer[1];
         Reply reply = what == Header.TAKEN ? new Reply.Taken(Arrays.copyOfRange(words, buffer, buffer + (int) answer[2])) : Answers.reply(what, answer[2], answer[3]);
-        return new StoreOutcome.Made(reply, numbers[at + 6], numbers[at + 4] == 0 ? Optional.empty() : Chosen.of((int) numbers[at + 4], numbers[at + 5]));
+        return new StoreOutcome.Made(reply, numbers[choice + 2], numbers[choice] == 0 ? Optional.empty() : Chosen.of((int) numbers[choice], numbers[choice + 1]),
+            numbers[choice + 3]);
     }
 
     /**
@@ -253,6 +261,100 @@ public final class Store implements AutoCloseable {
      */
     public Reply.Decline decline(long id, int vertex, int index) {
         return (Reply.Decline) call(StoreCall.decline(id, vertex, index)).reply();
+    }
+
+    /**
+     * A subtask of a term has taken its part of a record, as {@link Coordinator#ackIn}.
+     *
+     * @param term the term of the task
+     * @param id the record
+     * @param vertex the vertex of the subtask
+     * @param index its place in the vertex
+     * @param fresh the files that it wrote, and has synced
+     * @param reused files of earlier records that it uses again
+     * @return what the record lacks
+     */
+    public Reply.Ack ackIn(long term, long id, int vertex, int index, long[] fresh, long... reused) {
+        return (Reply.Ack) call(StoreCall.ackIn(term, id, vertex, index, fresh, reused)).reply();
+    }
+
+    /**
+     * A subtask of a term could not take its part of a record.
+     *
+     * @param term the term of the task
+     * @param id the record
+     * @param vertex the vertex of the subtask
+     * @param index its place in the vertex
+     * @return what became of the record
+     */
+    public Reply.Decline declineIn(long term, long id, int vertex, int index) {
+        return (Reply.Decline) call(StoreCall.declineIn(term, id, vertex, index)).reply();
+    }
+
+    /**
+     * A task of a term reserves names for files that it will write. They are not given out again, whatever happens.
+     *
+     * @param term the term of the task
+     * @param count how many, 1 to 65536
+     * @return the names
+     */
+    public Reply.Reserved reserve(long term, long count) {
+        return (Reply.Reserved) call(StoreCall.reserve(term, count)).reply();
+    }
+
+    /**
+     * A task of a term gives up names that it will not acknowledge, such as that of a file which could not be put: their files are garbage then.
+     * Names that the term does not hold are passed over. A list of more than 4096 is several calls, with no other in between.
+     *
+     * @param term the term of the task
+     * @param names the names, at most 65536
+     * @return that they are given up
+     */
+    public Reply.Forfeited forfeit(long term, long... names) {
+        Objects.requireNonNull(names, "names");
+        long[] answer = new long[Native.ANSWER];
+        checked(() -> StoreNative.forfeit(address, term, names, answer));
+        Answers.check(answer);
+        return (Reply.Forfeited) Answers.reply((int) answer[1], answer[2], answer[3]);
+    }
+
+    /**
+     * Gives names to a job without, in term 1, for good. Make the call after a restore and before tasks start, and start them with that term.
+     * Throws {@code Fenced} with {@code NAME_IN_USE} if the storage or the coordinator has a file from this number on.
+     *
+     * @param firstName the first name: each number that a task was told of is below it
+     * @return that it has names
+     */
+    public Reply.Named fence(long firstName) {
+        return (Reply.Named) call(StoreCall.fence(firstName)).reply();
+    }
+
+    /**
+     * The term that runs, and the next name. Whoever starts tasks takes the term from the outcome of its own restore: another restore may have
+     * ended that one. A task never asks. Throws {@code Fenced} if the job has no names.
+     *
+     * @return the term
+     */
+    public RunningTerm term() {
+        long[] answer = new long[Native.ANSWER];
+        checked(() -> StoreNative.term(address, answer));
+        Answers.check(answer);
+        return RunningTerm.of((int) answer[1], answer[2], answer[3]);
+    }
+
+    /**
+     * Sorts files of a storage, at any time, also while tasks run. Throws {@code Fenced} if the job has no names.
+     *
+     * @param files the files
+     * @return those that may be deleted, and those whose names were not given out, which nobody deletes
+     */
+    public Garbage garbage(long... files) {
+        long[] garbage = new long[files.length];
+        long[] unissued = new long[files.length];
+        long[] answer = new long[Native.ANSWER];
+        checked(() -> StoreNative.garbage(address, files, garbage, unissued, answer));
+        Answers.check(answer);
+        return Garbage.of((int) answer[1], garbage, answer[2], unissued, answer[3]);
     }
 
     /**
@@ -375,13 +477,14 @@ public final class Store implements AutoCloseable {
     }
 
     /**
-     * For the sweep of a recovery: those of the files that the coordinator does not know. The engine deletes exactly these.
+     * For a sweep: those of the files that may be deleted. The engine deletes exactly these. In a job with names they are garbage, at any time.
      *
-     * <p>Throws {@code NotStored} with {@code NOT_NOW} unless the job was restored, or is cancelled, and no checkpoint was triggered or
-     * acknowledged since: a task may have written a file whose acknowledgement is on its way.
+     * <p>In a job without names they are the files that the coordinator does not know, at one time only. It throws {@code NotStored} with {@code
+     * NOT_NOW} unless the job was restored, or is cancelled, and no checkpoint was triggered or acknowledged since: a task may have written a
+     * file whose acknowledgement is on its way.
      *
      * @param files files of the storage
-     * @return the unknown ones
+     * @return those that may be deleted
      */
     public long[] unknown(long... files) {
         long[] left = files.clone();
@@ -391,12 +494,66 @@ public final class Store implements AutoCloseable {
     }
 
     /**
+     * Makes a state file in the storage folder, by its number: writes it beside its name, syncs it, gives it the name, and syncs the folder. A
+     * loss of power does not take it then, and a task may acknowledge it. The file 7 has the name 7, and 7.part while it is not whole.
+     *
+     * <p>Throws {@code NotStored} with {@code PRESENT} if there is a file of this number, or a part of one; with {@code STORAGE} if the folder lacks its
+     * marker, or another opening has it; with {@code NOT_PUT} if it can't be written; with {@code BAD_ARGUMENT} if there is no storage folder.
+     * Then the task forfeits the name and declines. The number is not given again: a sweep deletes what is left.
+     *
+     * @param file the number: in a job with names one that the task has reserved
+     * @param contents what it contains
+     */
+    public void put(long file, byte[] contents) {
+        Objects.requireNonNull(contents, "contents");
+        byte[] why = new byte[StoreNative.MESSAGE];
+        enter();
+        try {
+            int status = StoreNative.put(address, file, contents, why);
+            if (status == StoreFault.NOT_PUT.status) {
+                throw fault(status, text(why));
+            }
+            check(status);
+        } finally {
+            leave();
+        }
+    }
+
+    /**
+     * A sweep: deletes the files of the storage folder that {@link #unknown} returns, also what is there in part, and syncs the folder. A job with
+     * names is swept at each restore and whenever the engine likes, also while tasks run: {@link #counts} then tells how many files it left because
+     * their names were not given out. One without is swept at each recovery, each restore and after a cancel, when all tasks have ended.
+     *
+     * <p>Throws {@code NotStored} with {@code NOT_NOW} as {@link #unknown}; with {@code STORAGE} if the folder lacks its marker, another opening has
+     * it, or it can't be read or synced; with {@code BAD_ARGUMENT} if there is no storage folder.
+     *
+     * @return how many it could not delete: the next sweep tries them again
+     */
+    public long sweep() {
+        long[] left = new long[1];
+        checked(() -> StoreNative.sweep(address, left));
+        return left[0];
+    }
+
+    /**
      * {@return a path of the storage folder that leads to the folder which was there at the opening, also if another one is mounted over it; empty
      * if there is none} It lasts until the close.
      */
     public Optional<Path> folder() {
         int folder = within(() -> StoreNative.folder(address));
         return folder < 0 ? Optional.empty() : Optional.of(Path.of("/proc/self/fd" + File.separator + folder));
+    }
+
+    /** A discarder of the files that {@link #put} has made, in batches of 256: see {@link #discard(Delete, int)}. */
+    public void discard() {
+        discarded(() -> StoreNative.discardFiles(address));
+    }
+
+    private void discarded(IntSupplier loop) {
+        checked(() -> {
+            int status = loop.getAsInt();
+            return status == StoreFault.STOPPED.status ? StoreFault.OK : status;
+        });
     }
 
     /**
@@ -419,14 +576,11 @@ public final class Store implements AutoCloseable {
     public void discard(Delete delete, int batch) {
         Remover remover = new Remover(Objects.requireNonNull(delete, "delete"), () -> StoreNative.stop(address));
         long size = Checks.natural(batch, "a batch");
-        enter();
-        try {
+        discarded(() -> {
             int status = StoreNative.discard(address, size, remover);
             remover.check();
-            check(status == StoreFault.STOPPED.status ? StoreFault.OK : status);
-        } finally {
-            leave();
-        }
+            return status;
+        });
     }
 
     /** Lets {@link #awaitTick} and {@link #discard(Delete)} return, now and later. What was taken is reported first. */
@@ -448,8 +602,10 @@ public final class Store implements AutoCloseable {
      * @param checkpoints how often SQLite's log was brought into the file
      * @param failedCheckpoints how often it could not
      * @param retries of commits
+     * @param swept files that sweeps have deleted
+     * @param unissued files that the last whole sweep left, since their names were not given out: they are another job's, or its log was lost
      */
-    public record Counts(long commits, long calls, long largest, long images, long failedImages, long checkpoints, long failedCheckpoints, long retries) {}
+    public record Counts(long commits, long calls, long largest, long images, long failedImages, long checkpoints, long failedCheckpoints, long retries, long swept, long unissued) {}
 
     /**
      * {@return counts since the opening}
@@ -460,6 +616,6 @@ public final class Store implements AutoCloseable {
             StoreNative.count(address, it);
             return 0;
         });
-        return new Counts(it[0], it[1], it[2], it[3], it[4], it[5], it[6], it[7]);
+        return new Counts(it[0], it[1], it[2], it[3], it[4], it[5], it[6], it[7], it[8], it[9]);
     }
 }

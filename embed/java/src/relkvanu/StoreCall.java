@@ -6,18 +6,21 @@ import java.util.Objects;
 /** A call of a list for {@link Store#calls}, with the moment of the store's clock. */
 public final class StoreCall {
     private static final long NOW = -1;
+    private static final long NO_TERM = 0;
     private static final long[] NONE = {};
     private final int kind;
     private final int vertex;
     private final int index;
     private final long number;
+    private final long term; // 0: none
     private final long[] first;
     private final long[] second;
     private long moment = NOW;
 
-    private StoreCall(int kind, long number, int vertex, int index, long[] first, long[] second) {
+    private StoreCall(int kind, long number, long term, int vertex, int index, long[] first, long[] second) {
         this.kind = kind;
         this.number = number;
+        this.term = term;
         this.vertex = Checks.u16(vertex, "vertex");
         this.index = Checks.u16(index, "index");
         this.first = first.clone();
@@ -25,7 +28,7 @@ public final class StoreCall {
     }
 
     private static StoreCall of(int kind, long number) {
-        return new StoreCall(kind, number, 0, 0, NONE, NONE);
+        return new StoreCall(kind, number, NO_TERM, 0, 0, NONE, NONE);
     }
 
     /**
@@ -34,7 +37,7 @@ public final class StoreCall {
      * @param now the moment
      */
     public StoreCall at(long now) {
-        StoreCall it = new StoreCall(kind, number, vertex, index, first, second);
+        StoreCall it = new StoreCall(kind, number, term, vertex, index, first, second);
         it.moment = Checks.natural(now, "a moment");
         return it;
     }
@@ -63,7 +66,21 @@ public final class StoreCall {
      * @param reused files of earlier records that it uses again
      */
     public static StoreCall ack(long id, int vertex, int index, long[] fresh, long... reused) {
-        return new StoreCall(Header.CALL_ACK, id, vertex, index, Objects.requireNonNull(fresh, "fresh"), Objects.requireNonNull(reused, "reused"));
+        return ackIn(NO_TERM, id, vertex, index, fresh, reused);
+    }
+
+    /**
+     * {@return an acknowledgement of a task of a term, as {@link Coordinator#ackIn}}
+     *
+     * @param term the term of the task
+     * @param id the record
+     * @param vertex the vertex of the subtask
+     * @param index its place in the vertex
+     * @param fresh the files that it wrote, and has synced
+     * @param reused files of earlier records that it uses again
+     */
+    public static StoreCall ackIn(long term, long id, int vertex, int index, long[] fresh, long... reused) {
+        return new StoreCall(Header.CALL_ACK, id, term, vertex, index, Objects.requireNonNull(fresh, "fresh"), Objects.requireNonNull(reused, "reused"));
     }
 
     /**
@@ -74,7 +91,48 @@ public final class StoreCall {
      * @param index its place in the vertex
      */
     public static StoreCall decline(long id, int vertex, int index) {
-        return new StoreCall(Header.CALL_DECLINE, id, vertex, index, NONE, NONE);
+        return declineIn(NO_TERM, id, vertex, index);
+    }
+
+    /**
+     * {@return a decline of a task of a term}
+     *
+     * @param term the term of the task
+     * @param id the record
+     * @param vertex the vertex of the subtask
+     * @param index its place in the vertex
+     */
+    public static StoreCall declineIn(long term, long id, int vertex, int index) {
+        return new StoreCall(Header.CALL_DECLINE, id, term, vertex, index, NONE, NONE);
+    }
+
+    /**
+     * {@return a fence, which gives names to a job without, as {@link Store#fence}}
+     *
+     * @param firstName the first name
+     */
+    public static StoreCall fence(long firstName) {
+        return of(Header.CALL_FENCE, firstName);
+    }
+
+    /**
+     * {@return a reservation of names, as {@link Store#reserve}}
+     *
+     * @param term the term of the task
+     * @param count how many, 1 to 65536
+     */
+    public static StoreCall reserve(long term, long count) {
+        return new StoreCall(Header.CALL_RESERVE, count, term, 0, 0, NONE, NONE);
+    }
+
+    /**
+     * {@return a call that gives at most 4096 names up, as {@link Store#forfeit}}
+     *
+     * @param term the term of the task
+     * @param names the names
+     */
+    public static StoreCall forfeit(long term, long... names) {
+        return new StoreCall(Header.CALL_FORFEIT, 0, term, 0, 0, Objects.requireNonNull(names, "names"), NONE);
     }
 
     /**
@@ -99,7 +157,7 @@ public final class StoreCall {
      * @param shape the number of subtasks of each vertex
      */
     public static StoreCall restoreLatest(long[] shape) {
-        return new StoreCall(Header.CALL_RESTORE, 0, 0, 0, Checks.shape(shape), NONE);
+        return new StoreCall(Header.CALL_RESTORE, 0, NO_TERM, 0, 0, Checks.shape(shape), NONE);
     }
 
     /**
@@ -118,7 +176,7 @@ public final class StoreCall {
      * @param shape the number of subtasks of each vertex
      */
     public static StoreCall restoreSavepoint(long id, long[] shape) {
-        return new StoreCall(Header.CALL_RESTORE, Checks.savepoint(id), 0, 0, Checks.shape(shape), NONE);
+        return new StoreCall(Header.CALL_RESTORE, Checks.savepoint(id), NO_TERM, 0, 0, Checks.shape(shape), NONE);
     }
 
     /**
@@ -168,7 +226,7 @@ public final class StoreCall {
         long[] numbers = new long[calls.size() * StoreNative.CALL];
         int at = 0;
         for (StoreCall it : calls) {
-            long[] own = {it.kind, it.vertex, it.index, it.moment, it.number, it.first.length, it.second.length, it.room()};
+            long[] own = {it.kind, it.vertex, it.index, it.moment, it.number, it.term, it.first.length, it.second.length, it.room()};
             System.arraycopy(own, 0, numbers, at, own.length);
             at += own.length;
         }

@@ -16,13 +16,13 @@ public enum StoreFault {
     DIFFERS(7),
     /** An image, a call or the file is damaged. The message says which. */
     DAMAGED(8),
-    /** The storage folder is not that of this job, or a new job's has files, or the job's file is an older copy. */
+    /** The storage folder is not that of this job, or a new job's has files, or the job's file is an older copy, or the folder lacks its marker. */
     STORAGE(9),
     /** An earlier commit failed. */
     CLOSED(10),
     /** This process is a child of the one that opened the store. */
     FORKED(11),
-    /** No sweep is safe now, or another thread discards. */
+    /** No sweep of a job without names is safe now, or another thread discards. */
     NOT_NOW(13),
     /** The store was stopped. */
     STOPPED(14),

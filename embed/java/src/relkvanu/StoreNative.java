@@ -2,13 +2,13 @@ package relkvanu;
 
 /** The functions of include/relkvanu_store.h, over store_jni.c. Each status is one of that header. Any thread may call until the close. */
 final class StoreNative {
-    /** How many numbers a call has, and its outcome. */
-    static final int CALL = 8;
-    static final int OUTCOME = 7;
-    static final int REPORT = 12;
+    /** How many numbers a call has, and its outcome: those of relkvanu_call and relkvanu_answer, and others, in the order of store_jni.c. */
+    static final int CALL = Native.CALL + 3;
+    static final int OUTCOME = Native.ANSWER + 4;
+    static final int REPORT = 14;
     static final int MOST_STEPS = 8;
     static final int MESSAGE = 512;
-    static final int COUNTS = 8;
+    static final int COUNTS = 10;
 
     private StoreNative() {}
 
@@ -17,6 +17,12 @@ final class StoreNative {
     static native void close(long store);
 
     static native int calls(long store, long[] calls, long[] words);
+
+    static native int forfeit(long store, long term, long[] names, long[] answer);
+
+    static native int term(long store, long[] answer);
+
+    static native int garbage(long store, long[] files, long[] garbage, long[] unissued, long[] answer);
 
     static native int awaitTick(long store, long longest, long[] outcome);
 
@@ -29,6 +35,12 @@ final class StoreNative {
     static native int nextTick(long store, long[] wait);
 
     static native int unknown(long store, long[] files, long[] length);
+
+    static native int put(long store, long file, byte[] contents, byte[] why);
+
+    static native int sweep(long store, long[] left);
+
+    static native int discardFiles(long store);
 
     static native int folder(long store);
 

@@ -3,6 +3,7 @@ package relkvanu;
 import java.nio.file.Path;
 import java.time.Duration;
 import java.util.Optional;
+import java.util.function.Consumer;
 
 /**
  * How a {@link Store} is opened.
@@ -14,8 +15,25 @@ import java.util.Optional;
  * @param patience for how long a commit is tried again if the disk is full, SQLite has no memory or a lock is held
  * @param imageCalls after how many calls an image is written; 0 is 10,000, and -1 never: then the log is never cut
  * @param mostAhead how many milliseconds a moment may be ahead; 0 is a day
+ * @param isPlain whether a job that is made has no names: then the engine gives out the numbers of files, and sweeps only when no task runs. A
+ *     recovered job keeps what it has
  */
-public record StoreOptions(Opening opening, Optional<Path> storage, boolean adopts, boolean fromEarlierImage, Duration patience, long imageCalls, long mostAhead) {
+public record StoreOptions(Opening opening, Optional<Path> storage, boolean adopts, boolean fromEarlierImage, Duration patience, long imageCalls, long mostAhead, boolean isPlain) {
+    /**
+     * Options of a job with names.
+     *
+     * @param opening whether it may make a job
+     * @param storage the folder of the state files
+     * @param adopts whether a new job may have a storage with files
+     * @param fromEarlierImage whether to begin with the image before the last one
+     * @param patience for how long a commit is tried again
+     * @param imageCalls after how many calls an image is written
+     * @param mostAhead how many milliseconds a moment may be ahead
+     */
+    public StoreOptions(Opening opening, Optional<Path> storage, boolean adopts, boolean fromEarlierImage, Duration patience, long imageCalls, long mostAhead) {
+        this(opening, storage, adopts, fromEarlierImage, patience, imageCalls, mostAhead, false);
+    }
+
     /** Whether an opening may make a job. */
     public enum Opening {
         /** There has to be a job, so a wrong path makes no new one. */
@@ -28,6 +46,7 @@ public record StoreOptions(Opening opening, Optional<Path> storage, boolean adop
 
     private static final int ADOPT = 4;
     private static final int EARLIER_IMAGE = 8;
+    private static final int PLAIN = 16;
 
     /**
      * {@return options without a storage}
@@ -44,7 +63,7 @@ public record StoreOptions(Opening opening, Optional<Path> storage, boolean adop
      * @param folder the folder of the state files
      */
     public StoreOptions withStorage(Path folder) {
-        return new StoreOptions(opening, Optional.of(folder), adopts, fromEarlierImage, patience, imageCalls, mostAhead);
+        return with(it -> it.storage = Optional.of(folder));
     }
 
     /**
@@ -53,7 +72,7 @@ public record StoreOptions(Opening opening, Optional<Path> storage, boolean adop
      * @param isAdopted whether they are adopted
      */
     public StoreOptions withAdopts(boolean isAdopted) {
-        return new StoreOptions(opening, storage, isAdopted, fromEarlierImage, patience, imageCalls, mostAhead);
+        return with(it -> it.adopts = isAdopted);
     }
 
     /**
@@ -62,7 +81,7 @@ public record StoreOptions(Opening opening, Optional<Path> storage, boolean adop
      * @param isEarlier whether they do
      */
     public StoreOptions withFromEarlierImage(boolean isEarlier) {
-        return new StoreOptions(opening, storage, adopts, isEarlier, patience, imageCalls, mostAhead);
+        return with(it -> it.fromEarlierImage = isEarlier);
     }
 
     /**
@@ -71,7 +90,7 @@ public record StoreOptions(Opening opening, Optional<Path> storage, boolean adop
      * @param time for how long
      */
     public StoreOptions withPatience(Duration time) {
-        return new StoreOptions(opening, storage, adopts, fromEarlierImage, time, imageCalls, mostAhead);
+        return with(it -> it.patience = time);
     }
 
     /**
@@ -80,7 +99,7 @@ public record StoreOptions(Opening opening, Optional<Path> storage, boolean adop
      * @param calls how many
      */
     public StoreOptions withImageCalls(long calls) {
-        return new StoreOptions(opening, storage, adopts, fromEarlierImage, patience, calls, mostAhead);
+        return with(it -> it.imageCalls = calls);
     }
 
     /**
@@ -89,12 +108,47 @@ public record StoreOptions(Opening opening, Optional<Path> storage, boolean adop
      * @param millis how many milliseconds
      */
     public StoreOptions withMostAhead(long millis) {
-        return new StoreOptions(opening, storage, adopts, fromEarlierImage, patience, imageCalls, millis);
+        return with(it -> it.mostAhead = millis);
+    }
+
+    /**
+     * {@return these options, whose job has no names if it is made, or has some}
+     *
+     * @param hasNone whether it has none
+     */
+    public StoreOptions withPlain(boolean hasNone) {
+        return with(it -> it.isPlain = hasNone);
+    }
+
+    /** Options while one of them changes. */
+    private static final class Draft {
+        Opening opening;
+        Optional<Path> storage;
+        boolean adopts;
+        boolean fromEarlierImage;
+        Duration patience;
+        long imageCalls;
+        long mostAhead;
+        boolean isPlain;
+    }
+
+    private StoreOptions with(Consumer<Draft> change) {
+        Draft it = new Draft();
+        it.opening = opening;
+        it.storage = storage;
+        it.adopts = adopts;
+        it.fromEarlierImage = fromEarlierImage;
+        it.patience = patience;
+        it.imageCalls = imageCalls;
+        it.mostAhead = mostAhead;
+        it.isPlain = isPlain;
+        change.accept(it);
+        return new StoreOptions(it.opening, it.storage, it.adopts, it.fromEarlierImage, it.patience, it.imageCalls, it.mostAhead, it.isPlain);
     }
 
     /** In the order of store_jni.c. */
     long[] numbers() {
-        long flags = opening.ordinal() | (adopts ? ADOPT : 0) | (fromEarlierImage ? EARLIER_IMAGE : 0);
+        long flags = opening.ordinal() | (adopts ? ADOPT : 0) | (fromEarlierImage ? EARLIER_IMAGE : 0) | (isPlain ? PLAIN : 0);
         return new long[] {flags, Math.min(Math.max(patience.toMillis(), 0), 0xffff_ffffL), imageCalls, Checks.natural(mostAhead, "a time")};
     }
 }

@@ -15,8 +15,20 @@ public sealed interface StoreOutcome {
      * @param reply the reply
      * @param place its place in the log, from 1; 0 if it changed nothing
      * @param choice after a trigger: the record that its barrier names beside it
+     * @param term after a restore, cancel or fence of a job with names: the term that begins, for who starts the tasks; otherwise 0
      */
-    record Made(Reply reply, long place, Optional<Chosen> choice) implements StoreOutcome {
+    record Made(Reply reply, long place, Optional<Chosen> choice, long term) implements StoreOutcome {
+        /**
+         * A call that begins no term.
+         *
+         * @param reply the reply
+         * @param place its place in the log
+         * @param choice the record that its barrier names beside it
+         */
+        public Made(Reply reply, long place, Optional<Chosen> choice) {
+            this(reply, place, choice, 0);
+        }
+
         @Override
         public Made made() {
             return this;
@@ -26,7 +38,7 @@ public sealed interface StoreOutcome {
     /**
      * A call that was not made. It has changed nothing.
      *
-     * @param why a {@code Refused}, {@code BadArgument} or {@code NoMemory}
+     * @param why a {@code Refused}, {@code Fenced}, {@code BadArgument} or {@code NoMemory}
      */
     record NotMade(CoordinatorException why) implements StoreOutcome {
         @Override

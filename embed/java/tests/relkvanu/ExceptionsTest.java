@@ -18,6 +18,7 @@ import org.junit.jupiter.api.function.Executable;
 /** What the package throws. */
 class ExceptionsTest {
     private static final List<CoordinatorException> ALL = List.of(new CoordinatorException.Refused(Refusal.NOT_RUNNING, 0), new CoordinatorException.Refused(Refusal.NAME_TAKEN, -1),
+        new CoordinatorException.Fenced(Fenced.NEVER_RESERVED, -1),
         new CoordinatorException.NoMemory(), new CoordinatorException.Closed(), new CoordinatorException.BadArgument(Argument.BAD_SHAPE), new CoordinatorException.BadLine(LineFault.MISSING),
         new CoordinatorException.TooShort(5), new CoordinatorException.OutOfRange("out"), new CoordinatorException.Unknown("reply", 999), new CoordinatorException.NotStored(StoreFault.FULL, "job.db: full"),
         new CoordinatorException.NoLibrary("none"));
@@ -36,13 +37,14 @@ class ExceptionsTest {
             }
         }
         assertEquals("NameTaken 18446744073709551615", ALL.get(1).getMessage());
+        assertEquals("NeverReserved 18446744073709551615", ALL.get(2).getMessage());
     }
 
     @Test
     void eachKindIsHere() {
         Class<?>[] kinds = CoordinatorException.class.getPermittedSubclasses();
         assertTrue(Arrays.stream(kinds).allMatch(kind -> ALL.stream().anyMatch(kind::isInstance)));
-        assertEquals(10, kinds.length);
+        assertEquals(11, kinds.length);
     }
 
     /** The names are those of the library, and no number is beyond them. */
@@ -76,9 +78,9 @@ class ExceptionsTest {
 
     @Test
     void numbersThatNobodyKnows() {
-        long[] code = {99, 0, 0, 0}, refusal = {Header.REFUSED, 99, 0, 0}, argument = {Header.BAD_ARGUMENT, 99, 0, 0}, fault = {Header.BAD_LINE, 99, 0, 0};
-        List<Executable> all = List.of(() -> Answers.check(code), () -> Answers.check(refusal), () -> Answers.check(argument), () -> Answers.check(fault), () -> Answers.reply(999, 0, 0),
-            () -> Mode.of(999), () -> Standing.of(999), () -> Live.of(999, 0, 0), () -> Chosen.of(999, 0));
+        long[] code = {99, 0, 0, 0}, refusal = {Header.REFUSED, 99, 0, 0}, argument = {Header.BAD_ARGUMENT, 99, 0, 0}, fault = {Header.BAD_LINE, 99, 0, 0}, fenced = {Header.FENCED, 99, 0, 0};
+        List<Executable> all = List.of(() -> Answers.check(code), () -> Answers.check(refusal), () -> Answers.check(argument), () -> Answers.check(fault), () -> Answers.check(fenced),
+            () -> Answers.reply(999, 0, 0), () -> Answers.is(999, Header.TERM), () -> Mode.of(999), () -> Standing.of(999), () -> Live.of(999, 0, 0), () -> Chosen.of(999, 0));
         all.forEach(it -> assertThrows(CoordinatorException.Unknown.class, it));
     }
 

@@ -78,6 +78,22 @@ class LeakTest {
         }
     }
 
+    /** The same of calls on names, whose lists are four. */
+    @Test
+    void namesAreFreed() throws Exception {
+        try (Coordinator job = Coordinator.openFenced(Jobs.SETTINGS, new long[] {1}, 0, 1, 1)) {
+            doesNotGrow(2000, number -> {
+                long term = job.term().term();
+                job.reserve(term, 65536);
+                assertEquals(term == 1 ? 0 : FILES.length, job.garbage(FILES).garbage().length); // the first term holds them
+                assertThrows(CoordinatorException.class, () -> job.ackIn(term, 0, 1, 0, 0, FILES, FILES));
+                job.forfeit(term, FILES);
+                job.restoreLatest(0);
+                Coordinator.openSaved(job.save()).close();
+            });
+        }
+    }
+
     /** 20,000 that are lost, with some 20 kB each: 400 MB, if none were freed. The garbage beside them has the heap collected now and then. */
     @Test
     void lostOnesAreFreed() throws Exception {

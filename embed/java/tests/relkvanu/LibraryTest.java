@@ -17,7 +17,8 @@ class LibraryTest {
     @Test
     void eachWayInSaysWhatIsWrong() {
         Pattern told = Pattern.compile(System.getProperty("told"));
-        List<Executable> ways = List.of(Coordinator::version, () -> Coordinator.open(Settings.every(1000), new long[] {1}, 0), () -> Coordinator.openSaved(new byte[] {1}), () -> Lines.says(new byte[] {}),
+        List<Executable> ways = List.of(Coordinator::version, () -> Coordinator.open(Settings.every(1000), new long[] {1}, 0), () -> Coordinator.openFenced(Settings.every(1000), new long[] {1}, 0, 1, 1),
+            () -> Coordinator.openSaved(new byte[] {1}), () -> Lines.says(new byte[] {}),
             () -> Lines.tick(1), () -> Lines.opening(Settings.every(1000), new long[] {1}, 0),
             () -> Store.open(Path.of("job.db"), Settings.every(1000), new long[] {1}, StoreOptions.of(StoreOptions.Opening.CREATE)), Coordinator::version);
         String first = assertThrows(CoordinatorException.NoLibrary.class, ways.get(0)).getMessage();

@@ -5,7 +5,9 @@ import static org.junit.jupiter.api.Assertions.assertEquals;
 import static org.junit.jupiter.api.Assertions.assertTrue;
 
 import java.util.Arrays;
+import java.util.List;
 import java.util.function.Function;
+import java.util.function.LongConsumer;
 import java.util.function.Supplier;
 import java.util.stream.LongStream;
 import org.junit.jupiter.api.Tag;
@@ -19,6 +21,7 @@ import org.junit.jupiter.api.Test;
 class MemoryTest {
     private static final long[] MANY = LongStream.rangeClosed(100, 400).toArray();
     private int faults;
+    private LongConsumer refuse = Heap::refuse;
 
     private static String text(Object told) {
         return told instanceof long[] files ? FileNumbers.toString(files) : told instanceof byte[] bytes ? Lines.text(bytes) : told.toString();
@@ -26,7 +29,7 @@ class MemoryTest {
 
     /** Makes a call with a request refused, and once more if it ran out of memory. Before that it has changed nothing. */
     private <T> T withRefusal(long nth, Supplier<T> call, Runnable unchanged) {
-        Heap.refuse(nth);
+        refuse.accept(nth);
         try {
             return call.get();
         } catch (CoordinatorException.NoMemory fault) {
@@ -110,6 +113,61 @@ class MemoryTest {
         }
     }
 
+    /**
+     * Makes the call of a coordinator that is made anew each time, so that it has no room to spare, with all requests from another one on refused:
+     * a call that has room for less asks for less.
+     */
+    private <T> void toldAnew(Supplier<Coordinator> make, Function<Coordinator, T> call, T reply) {
+        long requests;
+        try (Coordinator job = make.get()) {
+            Heap.refuse(0);
+            call.apply(job);
+            requests = Heap.requests();
+        }
+        refuse = Heap::refuseFrom;
+        faults = 0;
+        for (long nth = 1; nth <= requests; nth++) {
+            try (Coordinator job = make.get()) {
+                byte[] before = job.save();
+                assertEquals(reply, withRefusal(nth, () -> call.apply(job), () -> assertArrayEquals(before, job.save())));
+            }
+        }
+        refuse = Heap::refuse;
+        assertTrue(faults > 0);
+    }
+
+    /** A task has reserved so many names from 5 on, and checkpoint 1 is pending. */
+    private static Coordinator withNames(long held) {
+        Coordinator job = Coordinator.openFenced(Jobs.SETTINGS, new long[] {1}, 0, 1, 5);
+        if (held > 0) {
+            job.reserve(1, held);
+        }
+        job.tick(1000);
+        return job;
+    }
+
+    @Test
+    void names() {
+        toldAnew(() -> withNames(0), it -> it.reserve(1, 3), new Reply.Reserved(5, 3));
+        toldAnew(() -> withNames(3), it -> it.forfeit(1, 6), new Reply.Forfeited());
+        toldAnew(() -> withNames(3), it -> it.ackIn(1, 1000, 1, 0, 0, Jobs.files(7, 5)), new Reply.AckCompleted(0, 0));
+        toldAnew(() -> withNames(1000), it -> it.forfeit(1, MANY), new Reply.Forfeited());
+        toldAnew(() -> withNames(1000), it -> it.ackIn(1, 1000, 1, 0, 0, MANY), new Reply.AckCompleted(0, 0));
+        toldAnew(() -> withNames(1000), it -> it.garbage(MANY), new Garbage(Jobs.files(), Jobs.files()));
+        toldAnew(() -> {
+            Coordinator job = Jobs.opened(Jobs.SETTINGS, 1);
+            job.tick(1000);
+            job.ack(1000, 1, 0, 0, Jobs.files(4));
+            return job;
+        }, it -> it.fence(5), new Reply.Named());
+        try (Coordinator job = withNames(3)) {
+            toldWithout(job, it -> it.declineIn(1, 1100, 1, 0, 0), new Reply.DeclineFailed(0));
+            assertEquals(new RunningTerm(1, 8), told(job, Reads::term, false));
+            assertEquals(new Garbage(Jobs.files(4), Jobs.files(8)), told(job, it -> it.garbage(4, 5, 6, 7, 8), false));
+            toldWithout(job, it -> it.restoreLatest(2100), new Reply.RestoredFresh(0));
+        }
+    }
+
     @Test
     void longLists() {
         try (Coordinator job = Jobs.opened(Settings.every(1000), 1)) {
@@ -164,8 +222,10 @@ class MemoryTest {
     void openings() {
         opens(() -> Jobs.opened(Jobs.SETTINGS, 2));
         opens(() -> Coordinator.open(Jobs.SETTINGS, LongStream.range(0, 200).map(it -> 1).toArray(), 0));
-        try (Coordinator job = withCheckpoint3()) {
+        opens(() -> Coordinator.openFenced(Jobs.SETTINGS, new long[] {2}, 0, 1, 5));
+        for (Coordinator job : List.of(withCheckpoint3(), NamesTest.busy())) {
             byte[] image = job.save();
+            job.close();
             opens(() -> Coordinator.openSaved(image));
         }
     }

@@ -93,7 +93,7 @@ class ReadsTest {
         String text = Lines.text(image);
         // a record that no coordinator has given out yet, and files that are in use and wait
         List<String> damaged = List.of("{}", "{\"version\": 1}", text + "x", text.replace("\"next\":4", "\"next\":3"), text.replace("\"waiting\":[2,3]", "\"waiting\":[1,3]"),
-            text.replace("\"version\":1", "\"names\":{\"next\":100,\"term\":1,\"unspent\":[]},\"version\":2"));
+            text.replace("\"version\":1", "\"names\":{\"next\":100,\"term\":0,\"unspent\":[]},\"version\":2"));
         damaged.forEach(it -> assertFalse(it.equals(text)));
         damaged.forEach(it -> isNoImage(Jobs.line(it)));
         isNoImage(new byte[] {-1});

@@ -19,7 +19,7 @@ final class Script {
 
     final List<byte[]> lines;
 
-    private Script(List<byte[]> lines) {
+    Script(List<byte[]> lines) {
         this.lines = lines;
     }
 
@@ -50,6 +50,9 @@ final class Script {
         prints(Reply.Undeleted.class, it -> "undeleted " + FileNumbers.toString(it.file()));
         prints(Reply.Shown.class, Reply.Shown::json);
         prints(Reply.Counted.class, it -> "count " + FileNumbers.toString(it.file()) + " " + it.uses());
+        prints(Reply.Reserved.class, it -> "reserved " + it.first());
+        prints(Reply.Forfeited.class, it -> "forfeited");
+        prints(Reply.Named.class, it -> "term 1");
     }
 
     private static String spaced(long[] files) {
@@ -101,13 +104,16 @@ final class Script {
         return output;
     }
 
-    private Optional<String> printed(Function<byte[], Optional<Reply>> make, int place) {
+    /** What a line prints. */
+    Optional<String> printed(Function<byte[], Optional<Reply>> make, int place) {
         try {
             return make.apply(lines.get(place)).map(it -> TEXTS.get(it.getClass()).apply(it));
         } catch (CoordinatorException.BadLine fault) {
             return fault.fault() == LineFault.NO_CALL ? Optional.empty() : Optional.of("line " + (place + 1) + " fault " + fault.getMessage());
         } catch (CoordinatorException.Refused | CoordinatorException.BadArgument fault) {
             return Optional.of("refused " + fault.getMessage());
+        } catch (CoordinatorException.Fenced fault) {
+            return Optional.of("fenced " + fault.getMessage());
         }
     }
 }

@@ -31,7 +31,7 @@ import org.junit.jupiter.api.Test;
 import org.junit.jupiter.api.Timeout;
 import org.junit.jupiter.api.io.TempDir;
 
-/** A coordinator whose calls are durable. */
+/** A coordinator whose calls are durable, of a job without names. */
 @Tag("store")
 @Timeout(value = 120, unit = TimeUnit.SECONDS)
 class StoreTest {
@@ -50,7 +50,7 @@ class StoreTest {
     }
 
     private static StoreOptions creates() {
-        return StoreOptions.of(StoreOptions.Opening.CREATE);
+        return StoreOptions.of(StoreOptions.Opening.CREATE).withPlain(true);
     }
 
     private Store open(StoreOptions options) {
@@ -158,7 +158,7 @@ class StoreTest {
         job.close();
         List<org.junit.jupiter.api.function.Executable> ways = List.of(job::tick, job::savepoint, () -> job.ack(1, 0, 0, new long[] {1}), () -> job.decline(1, 0, 0), () -> job.dispose(1),
             job::restoreLatest, () -> job.restoreLatest(new long[] {1}), () -> job.restoreSavepoint(1), job::cancel, () -> job.calls(List.of(StoreCall.tick())), () -> job.read(StoreReads::mode), job::now,
-            job::nextTick, () -> job.awaitTick(Duration.ofSeconds(1)), () -> job.unknown(1), job::folder, () -> job.discard(file -> {}), job::stop, job::counts);
+            job::nextTick, () -> job.awaitTick(Duration.ofSeconds(1)), () -> job.unknown(1), job::folder, () -> job.discard(file -> {}), job::discard, job::sweep, () -> job.put(1, new byte[1]), job::stop, job::counts);
         ways.forEach(way -> assertThrows(CoordinatorException.Closed.class, way));
     }
 
@@ -267,6 +267,55 @@ class StoreTest {
         job.close();
     }
 
+    private List<String> listed() throws IOException {
+        try (java.util.stream.Stream<Path> found = Files.list(storage)) {
+            return found.map(it -> it.getFileName().toString()).filter(it -> !it.startsWith(".")).sorted().toList();
+        }
+    }
+
+    /** A task's file is made, kept while a record uses it, and then deleted; what no record knows is swept. */
+    @Test
+    void filesOfTheStorage() throws Exception {
+        byte[] contents = {0, 1, -1};
+        try (Store job = open(creates().withStorage(storage))) {
+            job.put(1, contents);
+            job.put(2, new byte[0]);
+            job.put(-1, new byte[1 << 20]);
+            assertArrayEquals(contents, Files.readAllBytes(storage.resolve("1")));
+            assertEquals(0, Files.size(storage.resolve("2")));
+            assertEquals(List.of("1", "18446744073709551615", "2"), listed());
+            assertSame(StoreFault.PRESENT, fault(() -> job.put(1, contents)));
+            Files.createFile(storage.resolve("9.part"));
+            assertSame(StoreFault.PRESENT, fault(() -> job.put(9, contents)));
+            Files.createDirectory(storage.resolve("10"));
+            complete(job, 1);
+            assertSame(StoreFault.NOT_NOW, fault(job::sweep));
+            assertThrows(NullPointerException.class, () -> job.put(3, null));
+        }
+        try (Store job = open(creates().withStorage(storage))) {
+            job.restoreLatest();
+            assertEquals(1, job.sweep()); // the folder 10
+            assertEquals(List.of("1", "10", "2"), listed());
+            Thread discarder = new Thread(job::discard);
+            discarder.start();
+            job.put(11, contents);
+            job.put(12, contents);
+            complete(job, 11);
+            while (job.read(reads -> reads.fileCounts().waiting() + reads.fileCounts().taken()) != 0) {
+                Thread.onSpinWait();
+            }
+            assertEquals(List.of("10", "11", "12"), listed());
+            Files.delete(storage.resolve(".relkvanu-job"));
+            assertSame(StoreFault.STORAGE, fault(() -> job.put(13, contents)));
+            job.stop();
+            discarder.join();
+        }
+        try (Store job = Store.open(folder.resolve("other.db"), SETTINGS, SHAPE, creates())) {
+            assertSame(StoreFault.BAD_ARGUMENT, fault(() -> job.put(1, contents)));
+            assertSame(StoreFault.BAD_ARGUMENT, fault(job::sweep));
+        }
+    }
+
     /** What a deletion throws ends the discarder, and no file counts as deleted after it. */
     @Test
     void aDeletionThatThrows() {
@@ -301,15 +350,33 @@ class StoreTest {
         }
         for (String line : new String(layout.getInputStream().readAllBytes()).split("\n")) {
             String[] words = line.split(" ");
-            if (words[0].equals("number") && !List.of("CREATE", "CREATE_ONLY", "ADOPT", "EARLIER_IMAGE", "NOW", "NO_IMAGES", "MOST_CALLS").contains(words[1])) {
+            if (words[0].equals("number") && !List.of("CREATE", "CREATE_ONLY", "ADOPT", "EARLIER_IMAGE", "PLAIN", "NOW", "NO_IMAGES", "MOST_CALLS").contains(words[1])) {
                 assertEquals(Integer.parseInt(words[2]), own.remove(words[1]), line);
             }
         }
         assertEquals(Map.of(), own);
-        assertArrayEquals(new long[] {1 | 4 | 8, 5000, -1, 7},
+        assertArrayEquals(new long[] {1 | 4 | 8 | 16, 5000, -1, 7},
             creates().withAdopts(true).withFromEarlierImage(true).withPatience(Duration.ofSeconds(5)).withImageCalls(-1).withMostAhead(7).numbers());
         assertEquals(2, StoreOptions.of(StoreOptions.Opening.CREATE_ONLY).numbers()[0]);
+        assertEquals(creates().withPlain(false), new StoreOptions(StoreOptions.Opening.CREATE, Optional.empty(), false, false, Duration.ZERO, 0, 0));
+        assertEquals(Optional.of(storage), creates().withStorage(storage).storage());
         assertThrows(CoordinatorException.Unknown.class, () -> StoreFault.of(999));
+    }
+
+    /** The disk is full for file 7, by embed/store/tests/shim.c: nothing of it is left, and others are made. */
+    @Test
+    @Tag("full")
+    void aFileThatCanNotBeWritten() throws IOException {
+        Path in = Path.of(System.getenv("STORE_IN"));
+        storage = Files.createDirectory(in.resolve("state"));
+        try (Store job = Store.open(in.resolve("job.db"), SETTINGS, SHAPE, creates().withStorage(storage))) {
+            CoordinatorException.NotStored told = assertThrows(CoordinatorException.NotStored.class, () -> job.put(7, new byte[] {1}));
+            assertSame(StoreFault.NOT_PUT, told.fault());
+            assertEquals("NOT_PUT: No space left on device", told.getMessage());
+            assertFalse(told.fault().closes());
+            job.put(8, new byte[] {1});
+            assertEquals(List.of("8"), listed());
+        }
     }
 
     /** A sync fails, by embed/store/tests/shim.c. Nobody was answered by that commit, and each call that was answered is there again. */

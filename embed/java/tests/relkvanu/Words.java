@@ -3,6 +3,7 @@ package relkvanu;
 import java.nio.charset.StandardCharsets;
 import java.util.Arrays;
 import java.util.Optional;
+import java.util.stream.LongStream;
 
 /** The words of a line that makes a call, read here: makes the call by its method, or writes it again. */
 final class Words {
@@ -10,6 +11,15 @@ final class Words {
 
     private Words(byte[] line) {
         words = new String(line, StandardCharsets.ISO_8859_1).replaceFirst("\r$", "").replaceFirst("^ +", "").split(" +");
+    }
+
+    private Words(String[] words) {
+        this.words = words;
+    }
+
+    /** What follows the term of an in line. */
+    private Words inTerm() {
+        return new Words(Arrays.copyOfRange(words, 2, words.length));
     }
 
     /** The words, if it makes a call. Throws its fault. */
@@ -38,7 +48,28 @@ final class Words {
     }
 
     private long[] shape() {
-        return Arrays.stream(words).skip(3).mapToLong(FileNumbers::parse).toArray();
+        return numbers(3).toArray();
+    }
+
+    private LongStream numbers(int from) {
+        return Arrays.stream(words).skip(from).mapToLong(FileNumbers::parse);
+    }
+
+    /** The call of a task of a term; for another call the plain one. */
+    private Reply callIn(Coordinator job, long term) {
+        return switch (words[0]) {
+            case "ack" -> job.ackIn(term, number(1), number(2), subtask(0), subtask(1), files("+"), files("="));
+            case "decline" -> job.declineIn(term, number(1), number(2), subtask(0), subtask(1));
+            default -> call(job);
+        };
+    }
+
+    private String writtenIn(long term) {
+        return switch (words[0]) {
+            case "ack" -> Lines.ackIn(term, number(1), number(2), subtask(0), subtask(1), files("+"), files("="));
+            case "decline" -> Lines.declineIn(term, number(1), number(2), subtask(0), subtask(1));
+            default -> "in " + term + " " + written();
+        };
     }
 
     private Reply call(Coordinator job) {
@@ -55,6 +86,10 @@ final class Words {
             case "undeleted" -> job.undeleted(number(1));
             case "show" -> job.show(number(1));
             case "count" -> job.count(number(1));
+            case "fence" -> job.fence(number(1));
+            case "reserve" -> job.reserve(number(1), number(2));
+            case "forfeit" -> job.forfeit(number(1), numbers(2).toArray());
+            case "in" -> inTerm().callIn(job, number(1));
             default -> throw new AssertionError(words[0]);
         };
     }
@@ -81,6 +116,10 @@ final class Words {
             case "undeleted" -> Lines.undeleted(number(1));
             case "show" -> Lines.show(number(1));
             case "count" -> Lines.count(number(1));
+            case "fence" -> Lines.fence(number(1));
+            case "reserve" -> Lines.reserve(number(1), number(2));
+            case "forfeit" -> Lines.forfeit(number(1), numbers(2).toArray());
+            case "in" -> inTerm().writtenIn(number(1));
             default -> throw new AssertionError(words[0]);
         };
     }

@@ -214,7 +214,7 @@ pub const RELKVANU_FAULT_MISSING: u32 = 3;
 pub const RELKVANU_FAULT_NUMBER: u32 = 4;
 /// a word follows the last one
 pub const RELKVANU_FAULT_EXTRA: u32 = 5;
-/// a config, job, start or all line: it was read, and makes no call
+/// a config, job, start or all line, or in and a term before what is no call: it was read, and makes no call
 pub const RELKVANU_FAULT_NO_CALL: u32 = 6;
 pub const RELKVANU_CALL_TICK: u32 = 1;
 pub const RELKVANU_CALL_SAVEPOINT: u32 = 2;
@@ -228,6 +228,12 @@ pub const RELKVANU_CALL_DELETED: u32 = 9;
 pub const RELKVANU_CALL_UNDELETED: u32 = 10;
 pub const RELKVANU_CALL_SHOW: u32 = 11;
 pub const RELKVANU_CALL_COUNT: u32 = 12;
+/// relkvanu_fence
+pub const RELKVANU_CALL_FENCE: u32 = 13;
+/// relkvanu_reserve
+pub const RELKVANU_CALL_RESERVE: u32 = 14;
+/// relkvanu_forfeit
+pub const RELKVANU_CALL_FORFEIT: u32 = 15;
 /// no text of an answer has more bytes
 pub const RELKVANU_ANSWER_TEXT: u32 = 128;
 
@@ -275,6 +281,7 @@ pub struct relkvanu_call {
     pub index: u16,
     pub now: u64,
     pub number: u64,
+    pub term: u64,
 }
 
 extern "C" {
@@ -397,7 +404,7 @@ extern "C" {
         text_len: usize,
     ) -> usize;
 
-    /// Makes the call of a line, and returns what the function of that call returns. A take line writes the files that it fetches to the start of files. If it would fetch more than files_len, the answer is RELKVANU_TOO_SHORT, a is how many places it needs, and nothing has changed. A show line returns what relkvanu_show returns with an empty buffer. A restore line with a bad shape returns RELKVANU_BAD_ARGUMENT with RELKVANU_BAD_SHAPE. A line that has no words or is a comment returns RELKVANU_SKIPPED. A line that can't be read, or makes no call, returns RELKVANU_BAD_LINE. Only RELKVANU_TAKEN changes the buffer. The call takes memory as its own function does, and for the lists of an ack, job or restore line. So such a line may return RELKVANU_NO_MEMORY instead of a refusal.
+    /// Makes the call of a line, and returns what the function of that call returns. A take line writes the files that it fetches to the start of files. If it would fetch more than files_len, the answer is RELKVANU_TOO_SHORT, a is how many places it needs, and nothing has changed. A show line returns what relkvanu_show returns with an empty buffer. A restore line with a bad shape returns RELKVANU_BAD_ARGUMENT with RELKVANU_BAD_SHAPE. A line that has no words or is a comment returns RELKVANU_SKIPPED. A line that can't be read, or makes no call, returns RELKVANU_BAD_LINE. Only RELKVANU_TAKEN changes the buffer. The call takes memory as its own function does, and for the lists of an ack, job, restore or forfeit line. So such a line may return RELKVANU_NO_MEMORY instead of a refusal. A line with fence, reserve or forfeit returns what relkvanu_fence, relkvanu_reserve or relkvanu_forfeit returns. An ack or a decline line after in and a term returns what relkvanu_ack_in or relkvanu_decline_in returns. Each other call after in and a term returns what it returns alone, but RELKVANU_FENCED with RELKVANU_NO_NAMES on a handle without names. After in and the term 0 a call is the one without a term.
     pub fn relkvanu_line(
         handle: *mut relkvanu,
         line: *const u8,
@@ -406,7 +413,7 @@ extern "C" {
         files_len: usize,
     ) -> relkvanu_answer;
 
-    /// Returns the kind of the line, RELKVANU_LINE_SKIP to RELKVANU_LINE_ALL. If the line makes no call, writes its numbers to the start of numbers, in the line's order; keep is 1 and delete is 0. Checks no number against the limits of a job. RELKVANU_TOO_SHORT, and a is how many places it needs; or RELKVANU_BAD_LINE with the fault. Neither changes the buffer. A restore line with a bad shape is RELKVANU_LINE_CALL: relkvanu_line says what is wrong with it. Takes memory only for the lists of an ack, job or restore line.
+    /// Returns the kind of the line, RELKVANU_LINE_SKIP to RELKVANU_LINE_ALL. If the line makes no call, writes its numbers to the start of numbers, in the line's order; keep is 1 and delete is 0. Checks no number against the limits of a job. RELKVANU_TOO_SHORT, and a is how many places it needs; or RELKVANU_BAD_LINE with the fault. Neither changes the buffer. A restore line with a bad shape is RELKVANU_LINE_CALL, and so is each line with fence, reserve, forfeit or in: relkvanu_line says what is wrong with it. Takes memory only for the lists of an ack, job, restore or forfeit line.
     pub fn relkvanu_line_says(
         line: *const u8,
         line_len: usize,
@@ -414,7 +421,7 @@ extern "C" {
         numbers_len: usize,
     ) -> relkvanu_answer;
 
-    /// Writes the call that a line says: its kind and numbers to call, and its lists to the start of first and second. For an ack these are the fresh and the reused files, each in ascending order. For a restore, first is the new shape, or empty. It is the inverse of relkvanu_call_line: that function writes a line that says this call. RELKVANU_LINE_CALL, and a and b are how many items first and second have; RELKVANU_TOO_SHORT, and a and b are how many places they need. A line that says no call, or a restore line with a bad shape, has the answer of relkvanu_line: RELKVANU_SKIPPED, RELKVANU_BAD_LINE or RELKVANU_BAD_ARGUMENT. A restore line with the savepoint 0 is RELKVANU_REFUSED with RELKVANU_NO_SUCH_SAVEPOINT, since 0 stands for the latest record in a relkvanu_call. Only RELKVANU_LINE_CALL changes call and the buffers. Takes memory only for the lists of an ack, job or restore line.
+    /// Writes the call that a line says: its kind, numbers and term to call, and its lists to the start of first and second. For an ack these are the fresh and the reused files, each in ascending order. For a restore, first is the new shape, or empty. For a forfeit, first is the names, in ascending order. It is the inverse of relkvanu_call_line: that function writes a line that says this call. RELKVANU_LINE_CALL, and a and b are how many items first and second have; RELKVANU_TOO_SHORT, and a and b are how many places they need. A line that says no call, or a restore line with a bad shape, has the answer of relkvanu_line: RELKVANU_SKIPPED, RELKVANU_BAD_LINE or RELKVANU_BAD_ARGUMENT. A restore line with the savepoint 0 is RELKVANU_REFUSED with RELKVANU_NO_SUCH_SAVEPOINT, since 0 stands for the latest record in a relkvanu_call. Only RELKVANU_LINE_CALL changes call and the buffers. Takes memory only for the lists of an ack, job, restore or forfeit line.
     pub fn relkvanu_line_call(
         line: *const u8,
         line_len: usize,
@@ -425,7 +432,7 @@ extern "C" {
         second_len: usize,
     ) -> relkvanu_answer;
 
-    /// Writes the line of a call, without a newline and without a zero at its end. relkvanu_line reads it as that call. For an ack, first and second are the fresh and the reused files, in any order. For a restore, first is the new shape, or empty. RELKVANU_WRITTEN; RELKVANU_TOO_SHORT, and a is how many bytes it needs; RELKVANU_BAD_ARGUMENT with RELKVANU_BAD_KIND or RELKVANU_BAD_SHAPE; RELKVANU_BAD_LINE with RELKVANU_FAULT_TOO_LONG if the line would be too long. No line is cut. Only RELKVANU_WRITTEN changes the buffer. Takes memory.
+    /// Writes the line of a call, without a newline and without a zero at its end. relkvanu_line reads it as that call. For an ack, first and second are the fresh and the reused files, in any order. For a restore, first is the new shape, or empty. For a forfeit, first is the names, in any order. A call with a term other than 0 is written after in and the term. RELKVANU_WRITTEN; RELKVANU_TOO_SHORT, and a is how many bytes it needs; RELKVANU_BAD_ARGUMENT with RELKVANU_BAD_KIND or RELKVANU_BAD_SHAPE; RELKVANU_BAD_LINE with RELKVANU_FAULT_TOO_LONG if the line would be too long. No line is cut. Only RELKVANU_WRITTEN changes the buffer. Takes memory.
     pub fn relkvanu_call_line(
         call: *const relkvanu_call,
         first: *const u64,

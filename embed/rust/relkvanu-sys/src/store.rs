@@ -17,6 +17,7 @@ pub const RELKVANU_STORE_FORKED: c_int = 11;
 pub const RELKVANU_STORE_TIMED_OUT: c_int = 12;
 pub const RELKVANU_STORE_NOT_NOW: c_int = 13;
 pub const RELKVANU_STORE_STOPPED: c_int = 14;
+pub const RELKVANU_STORE_NOT_PUT: c_int = 15;
 pub const RELKVANU_STORE_FAILED: c_int = 16;
 pub const RELKVANU_STORE_FULL: c_int = 17;
 pub const RELKVANU_STORE_READ_ONLY: c_int = 18;
@@ -27,6 +28,7 @@ pub const RELKVANU_STORE_CREATE: u32 = 1;
 pub const RELKVANU_STORE_CREATE_ONLY: u32 = 2;
 pub const RELKVANU_STORE_ADOPT: u32 = 4;
 pub const RELKVANU_STORE_EARLIER_IMAGE: u32 = 8;
+pub const RELKVANU_STORE_PLAIN: u32 = 16;
 pub const RELKVANU_STORE_NOW: u64 = u64::MAX;
 pub const RELKVANU_STORE_NO_IMAGES: u64 = u64::MAX;
 pub const RELKVANU_STORE_MOST_CALLS: usize = 4096;
@@ -71,7 +73,9 @@ pub struct relkvanu_store_report {
     pub mode: relkvanu_answer,
     pub choice: relkvanu_answer,
     pub message: [c_char; RELKVANU_STORE_MESSAGE],
-    pub reserved: [u64; 4],
+    pub term: u64,
+    pub next_name: u64,
+    pub reserved: [u64; 2],
 }
 
 #[repr(C)]
@@ -87,6 +91,7 @@ pub struct relkvanu_store_call {
     pub answer: relkvanu_answer,
     pub choice: relkvanu_answer,
     pub place: u64,
+    pub term: u64,
 }
 
 #[repr(C)]
@@ -107,7 +112,9 @@ pub struct relkvanu_store_counts {
     pub checkpoints: u64,
     pub failed_checkpoints: u64,
     pub retries: u64,
-    pub reserved: [u64; 4],
+    pub swept: u64,
+    pub unissued: u64,
+    pub reserved: [u64; 2],
 }
 
 pub type relkvanu_store_delete =
@@ -125,6 +132,13 @@ extern "C" {
         store: *mut relkvanu_store,
         calls: *mut relkvanu_store_call,
         calls_len: usize,
+    ) -> c_int;
+    pub fn relkvanu_store_forfeit(
+        store: *mut relkvanu_store,
+        term: u64,
+        names: *const u64,
+        names_len: usize,
+        answer: *mut relkvanu_answer,
     ) -> c_int;
     pub fn relkvanu_store_submit(
         store: *mut relkvanu_store,
@@ -159,6 +173,19 @@ extern "C" {
         delete_files: relkvanu_store_delete,
         with: *mut c_void,
     ) -> c_int;
+    pub fn relkvanu_store_put(
+        store: *mut relkvanu_store,
+        file: u64,
+        contents: *const c_void,
+        len: usize,
+    ) -> c_int;
+    pub fn relkvanu_store_delete_files(
+        store: *mut c_void,
+        files: *const u64,
+        files_len: usize,
+        is_gone: *mut u8,
+    );
+    pub fn relkvanu_store_sweep(store: *mut relkvanu_store, left: *mut usize) -> c_int;
     pub fn relkvanu_store_stop(store: *mut relkvanu_store);
     pub fn relkvanu_store_count(store: *mut relkvanu_store, counts: *mut relkvanu_store_counts);
     pub fn relkvanu_store_message(

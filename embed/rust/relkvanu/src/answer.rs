@@ -199,6 +199,12 @@ pub enum Answer {
     Undeleted(u64),
     /// The uses by live records.
     Counted { file: u64, uses: u64 },
+    /// The names are given up.
+    Forfeited,
+    /// The job has names, and its first term runs.
+    Named,
+    /// From this name on as many are reserved as the call wanted.
+    Reserved(u64),
     /// The job begins again from this record.
     Restored { from: Choice, released: u64 },
 }
@@ -242,6 +248,9 @@ pub(crate) fn answer(told: sys::relkvanu_answer) -> Result<Answer, Fault> {
         sys::RELKVANU_DELETED => Answer::Deleted(a),
         sys::RELKVANU_UNDELETED => Answer::Undeleted(a),
         sys::RELKVANU_COUNTED => Answer::Counted { file: a, uses: b },
+        sys::RELKVANU_FORFEITED => Answer::Forfeited,
+        sys::RELKVANU_NAMED => Answer::Named,
+        sys::RELKVANU_RESERVED => Answer::Reserved(a),
         _ => return Err(Fault::unknown(told)),
     })
 }
@@ -284,6 +293,9 @@ pub(crate) fn numbers_of(answer: &Answer) -> (u32, u64, u64) {
         Answer::Deleted(a) => (sys::RELKVANU_DELETED, a, 0),
         Answer::Undeleted(a) => (sys::RELKVANU_UNDELETED, a, 0),
         Answer::Counted { file: a, uses: b } => (sys::RELKVANU_COUNTED, a, b),
+        Answer::Forfeited => (sys::RELKVANU_FORFEITED, 0, 0),
+        Answer::Named => (sys::RELKVANU_NAMED, 0, 0),
+        Answer::Reserved(a) => (sys::RELKVANU_RESERVED, a, 0),
         Answer::Restored {
             from: Choice::Unknown(what),
             released,
@@ -291,8 +303,8 @@ pub(crate) fn numbers_of(answer: &Answer) -> (u32, u64, u64) {
     }
 }
 
-/// The text of each answer in scripts (`docs/SCRIPT.md`), in which {a} and {b} stand for its numbers.
-pub(crate) const TEXTS: [(u32, &str); 20] = [
+/// The text of each answer in scripts (`docs/SCRIPT.md`) and logs (`docs/LOGS.md`), in which {a} and {b} stand for its numbers.
+pub(crate) const TEXTS: [(u32, &str); 23] = [
     (
         sys::RELKVANU_TICK_TRIGGERED,
         "tick expired {a} triggered {b}",
@@ -328,6 +340,9 @@ pub(crate) const TEXTS: [(u32, &str); 20] = [
     (sys::RELKVANU_DELETED, "deleted {a}"),
     (sys::RELKVANU_UNDELETED, "undeleted {a}"),
     (sys::RELKVANU_COUNTED, "count {a} {b}"),
+    (sys::RELKVANU_FORFEITED, "forfeited"),
+    (sys::RELKVANU_NAMED, "term 1"),
+    (sys::RELKVANU_RESERVED, "reserved {a}"),
 ];
 // embed/bindings: end
 

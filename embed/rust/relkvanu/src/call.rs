@@ -1,5 +1,6 @@
-//! A call as a line of a log (`docs/SCRIPT.md`), and the call that a line says.
+//! A call as a line of a log (`docs/SCRIPT.md`, with terms and names `docs/LOGS.md`), and the call that a line says.
 use crate::fault::{check_library, done, text, Fault};
+use crate::lines::LineFault;
 use relkvanu_sys as sys;
 use std::num::NonZeroU64;
 
@@ -20,6 +21,12 @@ pub(crate) enum CallKind {
     Undeleted,
     Show,
     Count,
+    /// Relkvanu_fence.
+    Fence,
+    /// Relkvanu_reserve.
+    Reserve,
+    /// Relkvanu_forfeit.
+    Forfeit,
     /// A number that this crate does not know: the library is of another version.
     Unknown(u32),
 }
@@ -39,6 +46,9 @@ impl CallKind {
             sys::RELKVANU_CALL_UNDELETED => CallKind::Undeleted,
             sys::RELKVANU_CALL_SHOW => CallKind::Show,
             sys::RELKVANU_CALL_COUNT => CallKind::Count,
+            sys::RELKVANU_CALL_FENCE => CallKind::Fence,
+            sys::RELKVANU_CALL_RESERVE => CallKind::Reserve,
+            sys::RELKVANU_CALL_FORFEIT => CallKind::Forfeit,
             other => CallKind::Unknown(other),
         }
     }
@@ -58,13 +68,16 @@ impl CallKind {
             CallKind::Undeleted => sys::RELKVANU_CALL_UNDELETED,
             CallKind::Show => sys::RELKVANU_CALL_SHOW,
             CallKind::Count => sys::RELKVANU_CALL_COUNT,
+            CallKind::Fence => sys::RELKVANU_CALL_FENCE,
+            CallKind::Reserve => sys::RELKVANU_CALL_RESERVE,
+            CallKind::Forfeit => sys::RELKVANU_CALL_FORFEIT,
             CallKind::Unknown(what) => *what,
         }
     }
 }
 // embed/bindings: end
 
-/// A call for a log. Its line reads back as this call.
+/// A call for a log. Its line reads back as this call. A term is at least 1: 0 stands for none.
 #[derive(Clone, Copy, Debug, PartialEq, Eq, Hash)]
 pub enum Call<'a> {
     Tick {
@@ -111,14 +124,45 @@ pub enum Call<'a> {
     Count {
         file: u64,
     },
+    /// From this call on the job gives out names, from this one on.
+    Fence {
+        first_name: u64,
+    },
+    /// A task of this term reserves so many names.
+    Reserve {
+        term: u64,
+        count: u64,
+    },
+    /// A task of this term gives up names.
+    Forfeit {
+        term: u64,
+        names: &'a [u64],
+    },
+    /// The acknowledgement of a task of this term.
+    AckIn {
+        term: u64,
+        now: u64,
+        id: u64,
+        subtask: (u16, u16),
+        fresh: &'a [u64],
+        reused: &'a [u64],
+    },
+    /// The decline of a task of this term.
+    DeclineIn {
+        term: u64,
+        now: u64,
+        id: u64,
+        subtask: (u16, u16),
+    },
 }
 
 impl<'a> Call<'a> {
     /// The call that a line says: the bytes before its newline. `None` for a line without words and a comment. The
-    /// lists are for its files or its shape.
+    /// lists are for its files, names or shape.
     ///
     /// A line that makes no call is a [`Fault::BadLine`], and a restore in a bad shape a [`Fault::BadShape`]. A restore
     /// to savepoint 0 is refused with [`Refusal::NoSuchSavepoint`](crate::Refusal::NoSuchSavepoint), since no savepoint has this number.
+    /// A term before a call that has no use for one, as in `in 3 tick 5`, is [`LineFault::NoCall`]: no `Call` says it.
     pub fn of(
         line: &[u8],
         first: &'a mut Vec<u64>,
@@ -136,7 +180,46 @@ impl<'a> Call<'a> {
         let (first, second) = (&first[..told.a as usize], &second[..told.b as usize]);
         Ok(match told.what {
             sys::RELKVANU_SKIPPED => None,
-            _ => Some(Call::with(&call, first, second).ok_or_else(|| Fault::unknown(told))?),
+            _ => {
+                let said = Call::with(&call, first, second).ok_or_else(|| Fault::unknown(told))?;
+                Some(said.of_task(call.term)?)
+            }
+        })
+    }
+
+    /// The record that a line shows, with a term before it or without one.
+    pub(crate) fn shown_by(line: &[u8]) -> Option<u64> {
+        let (told, call) = said(line, &mut [], &mut []);
+        let is_call = told.code == sys::RELKVANU_DONE && told.what == sys::RELKVANU_LINE_CALL;
+        (is_call && call.kind == sys::RELKVANU_CALL_SHOW).then_some(call.number)
+    }
+
+    /// The call of a task of this term, or of none if it is 0.
+    fn of_task(self, term: u64) -> Result<Call<'a>, Fault> {
+        Ok(match self {
+            call if term == 0 => call,
+            Call::Ack {
+                now,
+                id,
+                subtask,
+                fresh,
+                reused,
+            } => Call::AckIn {
+                term,
+                now,
+                id,
+                subtask,
+                fresh,
+                reused,
+            },
+            Call::Decline { now, id, subtask } => Call::DeclineIn {
+                term,
+                now,
+                id,
+                subtask,
+            },
+            call @ (Call::Reserve { .. } | Call::Forfeit { .. } | Call::Fence { .. }) => call,
+            _ => return Err(Fault::BadLine(LineFault::NoCall)),
         })
     }
 
@@ -147,6 +230,7 @@ impl<'a> Call<'a> {
             index,
             now,
             number,
+            term,
         } = call;
         let subtask = (vertex, index);
         Some(match CallKind::of(kind) {
@@ -176,6 +260,12 @@ impl<'a> Call<'a> {
             CallKind::Undeleted => Call::Undeleted { file: number },
             CallKind::Show => Call::Show { id: number },
             CallKind::Count => Call::Count { file: number },
+            CallKind::Fence => Call::Fence { first_name: number },
+            CallKind::Reserve => Call::Reserve {
+                term,
+                count: number,
+            },
+            CallKind::Forfeit => Call::Forfeit { term, names: first },
             CallKind::Unknown(_) => return None,
         })
     }
@@ -209,8 +299,9 @@ impl<'a> Call<'a> {
 
     pub(crate) fn lists(&self) -> (&[u64], &[u64]) {
         match self {
-            Call::Ack { fresh, reused, .. } => (fresh, reused),
+            Call::Ack { fresh, reused, .. } | Call::AckIn { fresh, reused, .. } => (fresh, reused),
             Call::Restore { shape, .. } => (shape.unwrap_or(&[]), &[]),
+            Call::Forfeit { names, .. } => (names, &[]),
             _ => (&[], &[]),
         }
     }
@@ -222,12 +313,14 @@ impl<'a> Call<'a> {
             index: 0,
             now,
             number,
+            term: 0,
         };
         let part = |kind, now, number, (vertex, index): (u16, u16)| sys::relkvanu_call {
             vertex,
             index,
             ..of(kind, now, number)
         };
+        let in_term = |term, call| sys::relkvanu_call { term, ..call };
         match *self {
             Call::Tick { now } => of(CallKind::Tick, now, 0),
             Call::Savepoint { now } => of(CallKind::Savepoint, now, 0),
@@ -245,6 +338,22 @@ impl<'a> Call<'a> {
             Call::Undeleted { file } => of(CallKind::Undeleted, 0, file),
             Call::Show { id } => of(CallKind::Show, 0, id),
             Call::Count { file } => of(CallKind::Count, 0, file),
+            Call::Fence { first_name } => of(CallKind::Fence, 0, first_name),
+            Call::Reserve { term, count } => in_term(term, of(CallKind::Reserve, 0, count)),
+            Call::Forfeit { term, .. } => in_term(term, of(CallKind::Forfeit, 0, 0)),
+            Call::AckIn {
+                term,
+                now,
+                id,
+                subtask,
+                ..
+            } => in_term(term, part(CallKind::Ack, now, id, subtask)),
+            Call::DeclineIn {
+                term,
+                now,
+                id,
+                subtask,
+            } => in_term(term, part(CallKind::Decline, now, id, subtask)),
         }
     }
 }
@@ -261,6 +370,7 @@ fn said(
         index: 0,
         now: 0,
         number: 0,
+        term: 0,
     };
     // SAFETY: the slices and the fields outlive the call, and have as many elements as is said.
     let told = unsafe {

@@ -1,4 +1,4 @@
-//! Lines of a script (`docs/SCRIPT.md`): a log of calls, which the library writes and reads.
+//! Lines of a script (`docs/SCRIPT.md`) and of a log with names (`docs/LOGS.md`), which the library writes and reads.
 use crate::answer::{self, Answer};
 use crate::call::Call;
 use crate::coordinator::{Coordinator, Settings};
@@ -22,7 +22,7 @@ pub enum LineFault {
     Number,
     /// A word follows the last one.
     Extra,
-    /// A config, job, start or all line: it was read, and makes no call.
+    /// A config, job, start or all line, or in and a term before what is no call: it was read, and makes no call.
     NoCall,
     /// A number that this crate does not know: the library is of another version.
     Unknown(u32),
@@ -181,9 +181,9 @@ impl Coordinator {
             )
         };
         if told.code == sys::RELKVANU_TOO_SHORT {
-            return match Call::of(line, &mut Vec::new(), &mut Vec::new())? {
-                Some(Call::Show { id }) => self.show(id).map(Said::Shown),
-                _ => Err(Fault::TooShort { places: told.a }),
+            return match Call::shown_by(line) {
+                Some(id) => self.show(id).map(Said::Shown),
+                None => Err(Fault::TooShort { places: told.a }),
             };
         }
         let told = done(told)?;

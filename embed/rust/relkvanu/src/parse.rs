@@ -121,7 +121,7 @@ mod tests {
     use super::*;
     use crate::answer::numbers_of;
 
-    /// Each answer, with numbers that differ, and its text by docs/SCRIPT.md. None is left out.
+    /// Each answer, with numbers that differ, and its text by docs/SCRIPT.md and docs/LOGS.md. None is left out.
     fn answers() -> Vec<(Answer, &'static str)> {
         use Answer as A;
         #[rustfmt::skip]
@@ -146,6 +146,9 @@ mod tests {
             (A::Deleted(u64::MAX), "deleted 18446744073709551615"),
             (A::Undeleted(11), "undeleted 11"),
             (A::Counted { file: 31, uses: 2 }, "count 31 2"),
+            (A::Forfeited, "forfeited"),
+            (A::Named, "term 1"),
+            (A::Reserved(20), "reserved 20"),
         ];
         for (what, form) in TEXTS {
             let has_row = all.iter().any(|(answer, _)| numbers_of(answer).0 == what);
@@ -165,7 +168,7 @@ mod tests {
     #[test]
     fn no_other_text_is_an_answer() {
         for (_, text) in answers() {
-            let cut = &text[..text.rfind(' ').unwrap()];
+            let cut = text.rsplit_once(' ').map_or("", |(before, _)| before);
             for other in [
                 cut.to_string(),
                 format!("{text} 1"),

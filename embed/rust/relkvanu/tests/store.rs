@@ -1,7 +1,7 @@
 //! The durable coordinator: calls and refusals, a recovery, threads, submits, a read that panics, and the discarder.
 #![cfg(feature = "store")]
-use relkvanu::store::{Options, Outcome, Step, Store, StoreErrorKind, NOW};
-use relkvanu::{Answer, Call, Choice, Fault, Mode, Refusal, Settings};
+use relkvanu::store::{CallError, Options, Outcome, Step, Store, StoreErrorKind, NOW};
+use relkvanu::{Answer, Call, Choice, Fault, Fenced, Mode, Refusal, Settings};
 use std::collections::BTreeSet;
 use std::fs;
 use std::mem::size_of;
@@ -31,9 +31,11 @@ impl Folder {
         Folder(path)
     }
 
+    /// Without names.
     fn open(&self) -> Store {
         let mut options = Options::new(SETTINGS, &[2]);
         options.create = true;
+        options.plain = true;
         Store::open(&self.0.join("job.db"), &options).unwrap()
     }
 }
@@ -194,6 +196,99 @@ fn a_read_that_panics() {
     assert_eq!(store.read(|job| job.file_counts().waiting).unwrap(), 2);
 }
 
+fn fenced<T: std::fmt::Debug>(told: Result<T, CallError>, why: Fenced) {
+    match told {
+        Err(CallError::Fault(Fault::Fenced(found))) => assert_eq!(found, why),
+        other => panic!("{other:?}"),
+    }
+}
+
+fn ack_in(store: &Store, term: u64, id: u64, index: u16, file: u64) -> Result<Answer, CallError> {
+    let call = Call::AckIn {
+        term,
+        now: 0,
+        id,
+        subtask: (0, index),
+        fresh: &[file],
+        reused: &[],
+    };
+    store.call(call).map(|made| made.called().unwrap())
+}
+
+const RESTORE: Call = Call::Restore {
+    now: NOW,
+    savepoint: None,
+    shape: None,
+};
+
+#[test]
+fn terms_and_names() {
+    let folder = Folder::new("names");
+    let mut options = Options::new(SETTINGS, &[2]);
+    options.create = true;
+    options.storage = Some(folder.0.join("state"));
+    let store = Store::open(&folder.0.join("job.db"), &options).unwrap();
+    let names = store.report().names.unwrap();
+    assert_eq!((names.term, names.next_name), (1, 1));
+    assert_eq!(store.reserve(1, 5).unwrap(), 1..6);
+    for file in [1, 2, 3, 9] {
+        store.put(file, b"state").unwrap();
+    }
+    assert_eq!(
+        store.put(9, b"other").unwrap_err().kind,
+        StoreErrorKind::Present
+    );
+    let due = store.read(|job| job.due()).unwrap();
+    let Some(Answer::Triggered { id, .. }) = store.call(Call::Tick { now: due }).unwrap().called()
+    else {
+        panic!("no trigger");
+    };
+    assert_eq!(
+        ack_in(&store, 1, id, 0, 1).unwrap(),
+        Answer::AckPending { missing: 1 }
+    );
+    fenced(ack_in(&store, 1, id, 0, 1), Fenced::Spent(1));
+    fenced(ack_in(&store, 2, id, 1, 2), Fenced::OldTerm);
+    assert!(matches!(
+        ack_in(&store, 1, id, 1, 2).unwrap(),
+        Answer::AckCompleted { .. }
+    ));
+    store.forfeit(1, &[3]).unwrap();
+    let sorted = store.garbage(&[1, 2, 3, 4, 9]).unwrap();
+    assert_eq!((sorted.garbage, sorted.unissued), (vec![3], vec![9]));
+    assert_eq!(store.sweep().unwrap(), 0);
+    assert_eq!((store.counts().swept, store.counts().unissued), (1, 1));
+    assert!(
+        !folder.0.join("state/3").exists()
+            && folder.0.join("state/2").exists()
+            && folder.0.join("state/9").exists()
+    );
+    assert_eq!(store.call(RESTORE).unwrap().term, Some(2));
+    fenced(store.reserve(1, 1), Fenced::OldTerm);
+    fenced(store.forfeit(1, &[4]), Fenced::OldTerm);
+    assert_eq!(
+        store.term().map(|it| (it.term, it.next_name)).ok(),
+        Some((2, 6))
+    );
+}
+
+#[test]
+fn a_job_gets_names() {
+    let folder = Folder::new("fence");
+    let store = folder.open();
+    assert_eq!(store.report().names, None);
+    complete(&store, 1);
+    fenced(store.term(), Fenced::NoNames);
+    fenced(store.garbage(&[1]), Fenced::NoNames);
+    fenced(store.call(Call::Fence { first_name: 2 }), Fenced::NameInUse);
+    let made = store
+        .calls(&[RESTORE, Call::Fence { first_name: 3 }])
+        .unwrap();
+    let terms: Vec<_> = made.iter().map(|it| it.as_ref().unwrap().term).collect();
+    assert_eq!(terms, [None, Some(1)]);
+    assert_eq!(store.reserve(1, 2).unwrap(), 3..5);
+}
+
 #[test]
 fn submits() {
     let folder = Folder::new("submits");
@@ -285,5 +380,6 @@ fn the_header_agrees() {
         "number EARLIER_IMAGE {}",
         sys::RELKVANU_STORE_EARLIER_IMAGE
     ));
+    has(format!("number PLAIN {}", sys::RELKVANU_STORE_PLAIN));
     has(format!("number DISCARD {}", sys::RELKVANU_STORE_DISCARD));
 }

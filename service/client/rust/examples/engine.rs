@@ -1,13 +1,12 @@
 //! A small engine: each subtask acknowledges each checkpoint of a job with a new file, until a number of them have completed.
 //! Its arguments are the service's addresses with commas between them, the job's name and that number.
-use relkvanu_client::{file_numbers, Call, Job, Service};
+use relkvanu_client::{Call, Error, Job, Service, Session};
 use serde_json::{json, Value};
-use std::error::Error;
 
 const SUBTASKS: [(u16, u16); 5] = [(0, 0), (0, 1), (1, 0), (1, 1), (1, 2)];
 
 #[tokio::main(flavor = "current_thread")]
-async fn main() -> Result<(), Box<dyn Error>> {
+async fn main() -> Result<(), Box<dyn std::error::Error>> {
     let words: Vec<String> = std::env::args().skip(1).collect();
     let [urls, name, wanted] = &words[..] else {
         return Err("usage: engine URL[,URL..] JOB CHECKPOINTS".into());
@@ -15,9 +14,9 @@ async fn main() -> Result<(), Box<dyn Error>> {
     let wanted: u64 = wanted.parse()?;
     let service = Service::new(&urls.split(',').collect::<Vec<_>>(), None)?;
     let job = service.open(name, json!({"interval": 20, "retained": 1}), &[2, 3]).await?;
-    let (mut completed, mut numbers) = (0, file_numbers());
+    let mut completed = 0;
     while completed < wanted {
-        completed += round(&job, wanted - completed, &mut numbers).await?;
+        completed += round(&job, wanted - completed).await?;
     }
     let files = job.take(64).await?;
     job.calls(&files.iter().map(|file| Call::Deleted { file: *file }).collect::<Vec<_>>()).await?;
@@ -27,13 +26,21 @@ async fn main() -> Result<(), Box<dyn Error>> {
 
 /// Begins the job, and takes part in checkpoints until this many have completed, or the job has to begin again: it has failed, or
 /// somebody has restored it. Returns how many have completed. If a backup of the service was restored, the error ends the engine.
-async fn round(job: &Job, wanted: u64, numbers: &mut impl Iterator<Item = u64>) -> Result<u64, Box<dyn Error>> {
-    let mut start = job.begin(None, None).await?;
+async fn round(job: &Job, wanted: u64) -> Result<u64, Box<dyn std::error::Error>> {
+    let mut start = match job.begin(None, None).await {
+        Err(Error::Refused(_)) => return Err("the job was cancelled".into()),
+        begun => begun?,
+    };
+    let task = job.session(start.term.ok_or("the job gives out no names")?);
     let mut completed = 0;
     loop {
         for event in start.follower.next(25).await? {
             match event["event"].as_str().unwrap_or_default() {
-                "triggered" => acknowledge(job, &event, numbers).await?,
+                "triggered" => match acknowledge(&task, &event).await {
+                    // somebody has restored the job
+                    Err(Error::OldTerm) => return Ok(completed),
+                    done => done?,
+                },
                 "completed" => completed += 1,
                 "failed" | "restored" | "missed" => return Ok(completed),
                 "cancelled" => return Err("the job was cancelled".into()),
@@ -47,11 +54,15 @@ async fn round(job: &Job, wanted: u64, numbers: &mut impl Iterator<Item = u64>) 
 }
 
 /// Each subtask acknowledges with a new file.
-async fn acknowledge(job: &Job, event: &Value, numbers: &mut impl Iterator<Item = u64>) -> Result<(), Box<dyn Error>> {
-    let id = event["id"].as_u64().ok_or("an event has no id")?;
-    let acks = SUBTASKS.into_iter().zip(numbers);
-    let calls: Vec<Call> =
-        acks.map(|(subtask, file)| Call::Ack { id, subtask, fresh: vec![file], reused: vec![] }).collect();
-    job.calls(&calls).await?;
+async fn acknowledge(task: &Session, event: &Value) -> Result<(), Error> {
+    let id = event["id"].as_u64().unwrap_or_default();
+    for subtask in SUBTASKS {
+        let name = task.name().await?;
+        match task.ack(id, subtask, &[name], &[]).await {
+            // its record may have ended with a tick meanwhile, in which case the file is nobody's
+            Err(Error::Refused(_)) => task.forfeit(&[name]).await?,
+            done => drop(done?),
+        }
+    }
     Ok(())
 }

@@ -1,5 +1,8 @@
 //! Calls and their answers.
+use crate::Error;
 use serde_json::{json, Value};
+
+const NO_MEMORY: u16 = 507;
 
 /// A call. A subtask is a vertex and an index.
 #[derive(Clone, Debug, PartialEq, Eq)]
@@ -41,9 +44,30 @@ pub enum Call {
     Undeleted {
         file: u64,
     },
+    /// A task of this term reserves so many names for new files, at most 65,536.
+    Reserve {
+        term: u64,
+        count: u64,
+    },
+    /// A task of this term gives up names that it will not acknowledge, at most 4096.
+    Forfeit {
+        term: u64,
+        names: Vec<u64>,
+    },
+    /// An acknowledgement or a decline of a task of this term.
+    In {
+        term: u64,
+        call: Box<Call>,
+    },
 }
 
 impl Call {
+    /// The call of a task of this term: an acknowledgement or a decline.
+    #[must_use]
+    pub fn in_term(self, term: u64) -> Call {
+        Call::In { term, call: Box::new(self) }
+    }
+
     pub(crate) fn json(&self) -> Value {
         let subtask = |(vertex, index): &(u16, u16)| format!("{vertex}.{index}");
         match self {
@@ -66,11 +90,18 @@ impl Call {
             Call::Take { most } => json!({"call": "take", "most": most}),
             Call::Deleted { file } => json!({"call": "deleted", "file": file.to_string()}),
             Call::Undeleted { file } => json!({"call": "undeleted", "file": file.to_string()}),
+            Call::Reserve { term, count } => json!({"call": "reserve", "term": term, "count": count}),
+            Call::Forfeit { term, names } => json!({"call": "forfeit", "term": term, "names": texts(names)}),
+            Call::In { term, call } => {
+                let mut told = call.json();
+                told["term"] = json!(term);
+                told
+            }
         }
     }
 }
 
-fn texts(files: &[u64]) -> Vec<String> {
+pub(crate) fn texts(files: &[u64]) -> Vec<String> {
     files.iter().map(u64::to_string).collect()
 }
 
@@ -81,6 +112,8 @@ pub enum Answer {
     Made { seq: Option<u64>, reply: Value },
     /// The coordinator refused the call, which changed nothing.
     Refused { name: String, file: Option<u64> },
+    /// The term or the names refused the call, which changed nothing.
+    Fenced { name: String, file: Option<u64> },
     /// Memory ran out: nothing changed.
     NoMemory,
     /// A call before it in the same request found no memory.
@@ -89,9 +122,12 @@ pub enum Answer {
 
 impl Answer {
     pub(crate) fn of(told: &Value) -> Answer {
+        let file = || told["file"].as_str().and_then(|digits| digits.parse().ok());
         if let Some(name) = told["refused"].as_str() {
-            let file = told["file"].as_str().and_then(|digits| digits.parse().ok());
-            return Answer::Refused { name: name.to_string(), file };
+            return Answer::Refused { name: name.to_string(), file: file() };
+        }
+        if let Some(name) = told["fenced"].as_str() {
+            return Answer::Fenced { name: name.to_string(), file: file() };
         }
         if told["no_memory"] == true {
             return Answer::NoMemory;
@@ -100,6 +136,18 @@ impl Answer {
             return Answer::NotMade;
         }
         Answer::Made { seq: told["seq"].as_u64(), reply: told.clone() }
+    }
+
+    /// The reply of a call that was made, or why it was not.
+    pub(crate) fn reply(self) -> Result<Value, Error> {
+        match self {
+            Answer::Made { reply, .. } => Ok(reply),
+            Answer::Refused { name, .. } => Err(Error::Refused(name)),
+            Answer::Fenced { name, file } => Err(Error::fenced(&name, file)),
+            Answer::NoMemory | Answer::NotMade => {
+                Err(Error::Status { status: NO_MEMORY, text: "memory ran out".to_string(), field: None })
+            }
+        }
     }
 
     /// The files of a take.
@@ -128,5 +176,26 @@ mod tests {
         let wanted = json!({"call": "ack", "id": 7, "subtask": "1.0", "fresh": ["31", "18446744073709551615"],
             "reused": ["11"], "bytes": [5, 0]});
         assert_eq!(call.json(), wanted);
+    }
+
+    #[test]
+    fn a_call_may_have_a_term() {
+        let decline = Call::Decline { id: 7, subtask: (1, 0) }.in_term(3);
+        assert_eq!(decline.json(), json!({"call": "decline", "term": 3, "id": 7, "subtask": "1.0"}));
+        let ack = Call::Ack { id: 7, subtask: (1, 0), fresh: vec![31], reused: vec![] }.in_term(3);
+        let wanted = json!({"call": "ack", "term": 3, "id": 7, "subtask": "1.0", "fresh": ["31"], "reused": []});
+        assert_eq!(ack.json(), wanted);
+        let forfeit = Call::Forfeit { term: 3, names: vec![31, 32] };
+        assert_eq!(forfeit.json(), json!({"call": "forfeit", "term": 3, "names": ["31", "32"]}));
+    }
+
+    #[test]
+    fn what_the_term_refuses_is_an_error_of_its_own() {
+        let error = |told: Value| Answer::of(&told).reply().err().map(|error| format!("{error:?}"));
+        assert_eq!(error(json!({"fenced": "OldTerm"})).as_deref(), Some("OldTerm"));
+        let spent = Some("Fenced { name: \"Spent\", file: Some(7) }");
+        assert_eq!(error(json!({"fenced": "Spent", "file": "7"})).as_deref(), spent);
+        assert_eq!(error(json!({"refused": "InUse"})).as_deref(), Some("Refused(\"InUse\")"));
+        assert_eq!(error(json!({"ack": "late", "handed_out": 0, "seq": 4})), None);
     }
 }

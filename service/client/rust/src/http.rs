@@ -44,6 +44,13 @@ pub enum Error {
     /// The coordinator refused a call, which changed nothing.
     #[error("the coordinator refuses it: {0}")]
     Refused(String),
+    /// The term or the names of the job refused a call, which changed nothing. After `Spent` the file may be in use: nobody deletes it for
+    /// that answer.
+    #[error("the term or the names refuse it: {name}{}", .file.map_or(String::new(), |file| format!(" {file}")))]
+    Fenced { name: String, file: Option<u64> },
+    /// The term of the task has ended: the job was restored or cancelled since the task was started. The task ends, and deletes nothing.
+    #[error("the term of this task has ended")]
+    OldTerm,
     /// The log never had the place that an engine knows: a backup of the service was restored, or another service answers. The job must not
     /// go on by itself, since files of the records that the service has may be deleted. The engine ends, and somebody restores the job to
     /// a record whose files are all there.
@@ -60,6 +67,15 @@ impl Error {
             Error::Unreached(_) => true,
             Error::Status { status, .. } => is_passing(*status),
             Error::Address(_) | Error::Answer(_) | Error::Refused(_) | Error::OtherLog(_) => false,
+            Error::Fenced { .. } | Error::OldTerm => false,
+        }
+    }
+
+    /// What the term or the names refuse.
+    pub(crate) fn fenced(name: &str, file: Option<u64>) -> Error {
+        match name {
+            "OldTerm" => Error::OldTerm,
+            name => Error::Fenced { name: name.to_string(), file },
         }
     }
 }
@@ -257,6 +273,9 @@ impl Told {
     fn error(&self) -> Error {
         let value: Value = serde_json::from_slice(&self.bytes).unwrap_or(Value::Null);
         let text = |name: &str| value[name].as_str().map(str::to_string);
+        if let Some(name) = text("fenced") {
+            return Error::fenced(&name, None);
+        }
         let whole = || String::from_utf8_lossy(&self.bytes).into_owned();
         Error::Status { status: self.status, text: text("error").unwrap_or_else(whole), field: text("field") }
     }

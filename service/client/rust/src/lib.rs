@@ -2,11 +2,14 @@
 //!
 //! ```no_run
 //! # async fn example() -> Result<(), relkvanu_client::Error> {
-//! use relkvanu_client::{Call, Service};
+//! use relkvanu_client::Service;
 //!
 //! let service = Service::new(&["http://127.0.0.1:7780"], None)?;
 //! let job = service.job("orders");
-//! let answers = job.calls(&[Call::Ack { id: 1, subtask: (0, 0), fresh: vec![31], reused: vec![] }]).await?;
+//! let term = 3; // what the task was started with, as `begin` tells it
+//! let task = job.session(term);
+//! let name = task.name().await?; // of a new file, which no other file ever has
+//! task.ack(1, (0, 0), &[name], &[]).await?;
 //! # Ok(())
 //! # }
 //! ```
@@ -17,13 +20,16 @@ mod addresses;
 mod call;
 mod follow;
 mod http;
+mod session;
 mod start;
 
 pub use call::{Answer, Call};
 pub use follow::Follower;
 pub use http::{new_key, Error};
+pub use session::Session;
 pub use start::{file_numbers, Start};
 
+use call::texts;
 use follow::events_of;
 use http::{Asked, Manner, Requests, Told};
 use serde_json::{json, Value};
@@ -66,9 +72,18 @@ impl Service {
     }
 
     /// Opens a job, or finds it: the same name, settings and shape give the same job. Settings are those of the API, as
-    /// `{"interval": 60000}`.
+    /// `{"interval": 60000}`. A new job gives out names, unless the service is set otherwise.
     pub async fn open(&self, name: &str, settings: Value, shape: &[u64]) -> Result<Job, Error> {
-        let body = json!({"name": name, "settings": settings, "shape": shape});
+        self.opened(name, json!({"name": name, "settings": settings, "shape": shape})).await
+    }
+
+    /// The same for an engine that numbers its files itself. A service of an earlier version refuses it, and [`open`](Self::open) does as
+    /// much there.
+    pub async fn open_without_names(&self, name: &str, settings: Value, shape: &[u64]) -> Result<Job, Error> {
+        self.opened(name, json!({"name": name, "settings": settings, "shape": shape, "names": false})).await
+    }
+
+    async fn opened(&self, name: &str, body: Value) -> Result<Job, Error> {
         self.requests.body(&self.manner, Asked::post("/v1/jobs".to_string(), &body, None)).await?;
         Ok(self.job(name))
     }
@@ -128,6 +143,39 @@ impl Job {
         Start::of(self, &told).await
     }
 
+    /// A task of the start that has this term.
+    #[must_use]
+    pub fn session(&self, term: u64) -> Session {
+        Session::new(self.clone(), term)
+    }
+
+    /// The term that runs and the next name, for whoever starts tasks: each learns its term there. A task never asks, since one that should
+    /// be dead would learn the new term. Fails with [`Error::Fenced`] if the job has no names.
+    pub async fn term(&self) -> Result<Value, Error> {
+        self.get("/term").await
+    }
+
+    /// Makes the job give out names, from this one on: all numbers of files that it ever used are below. The call is made between the end of
+    /// all tasks and [`begin`](Self::begin).
+    pub async fn fence(&self, first_name: u64) -> Result<Value, Error> {
+        let body = json!({"first_name": first_name.to_string()});
+        self.requests.body(&self.manner, Asked::post(format!("{}/fence", self.path), &body, Some(&new_key()))).await
+    }
+
+    /// Of these files, at most 10,000, those that may be deleted, and those whose names were never given out, which nobody deletes. The
+    /// first stay garbage for good, so they may be deleted at any time.
+    pub async fn garbage(&self, files: &[u64]) -> Result<(Vec<u64>, Vec<u64>), Error> {
+        let body = json!({"files": texts(files)});
+        let asked = Asked::post(format!("{}/garbage", self.path), &body, None);
+        let told = self.requests.body(&self.manner, asked).await?;
+        let list = |name: &str| {
+            let files = told[name].as_array()?.iter().map(|file| file.as_str()?.parse().ok());
+            files.collect::<Option<Vec<u64>>>()
+        };
+        let sorted = list("garbage").zip(list("unissued"));
+        sorted.ok_or_else(|| Error::Answer("has no garbage".to_string()))
+    }
+
     /// Fetches at most this many files for deletion.
     pub async fn take(&self, most: u64) -> Result<Vec<u64>, Error> {
         let answers = self.calls(&[Call::Take { most }]).await?;
@@ -160,6 +208,11 @@ impl Job {
     /// Calls of the log after a place, at most this many: the first one that the log has, and a list. The last part is empty.
     pub async fn log(&self, after: u64, limit: u64) -> Result<Value, Error> {
         self.get(&format!("/log?after={after}&limit={limit}")).await
+    }
+
+    /// The same with the terms in their lines, for a write token.
+    pub async fn log_with_terms(&self, after: u64, limit: u64) -> Result<Value, Error> {
+        self.get(&format!("/log?after={after}&limit={limit}&terms=1")).await
     }
 
     /// The events after a place, and the place to go on from. Waits at most this many seconds for an event, and at most

@@ -12,6 +12,8 @@ pub struct Start {
     pub id: Option<u64>,
     /// The files that each subtask loads.
     pub files: Vec<(String, Vec<u64>)>,
+    /// For each task that is started from here, and for nobody else; `None` if the job has no names.
+    pub term: Option<u64>,
     /// The events after it.
     pub follower: Follower,
 }
@@ -19,11 +21,7 @@ pub struct Start {
 impl Start {
     /// By the body that answers a restore.
     pub(crate) async fn of(job: &Job, told: &Value) -> Result<Start, Error> {
-        let reply = match Answer::of(&told["answers"][0]) {
-            Answer::Made { reply, .. } => reply,
-            Answer::Refused { name, .. } => return Err(Error::Refused(name)),
-            other => return Err(Error::Answer(format!("to restore is {other:?}"))),
-        };
+        let reply = Answer::of(&told["answers"][0]).reply()?;
         let kind =
             reply["restore"].as_str().ok_or_else(|| Error::Answer("to restore is none".to_string()))?.to_string();
         let (id, seq, log) = (reply["id"].as_u64(), reply["seq"].as_u64(), told["log"].as_str());
@@ -32,7 +30,7 @@ impl Start {
             None => Vec::new(),
         };
         let follower = Follower::new(job.clone(), seq, log.map(str::to_string));
-        Ok(Start { kind, id, files, follower })
+        Ok(Start { kind, id, files, term: reply["term"].as_u64(), follower })
     }
 }
 
@@ -47,7 +45,7 @@ fn held(record: &Value, id: u64) -> Result<Vec<(String, Vec<u64>)>, Error> {
     acks.iter().map(files).collect::<Option<_>>().ok_or_else(|| Error::Answer(format!("has no files of record {id}")))
 }
 
-/// Numbers for new files: 40 random bits, and a count in the 24 bits below. So no two tasks give the same, and none comes
+/// Numbers for new files of a job without names: 40 random bits, and a count in the 24 bits below. So no two tasks give the same, and none comes
 /// twice after a backup of the service was restored, as numbers of records do then.
 pub fn file_numbers() -> impl Iterator<Item = u64> {
     std::iter::repeat_with(random).flat_map(|begin| begin..=begin | ((1 << COUNT_BITS) - 1))

@@ -1,9 +1,5 @@
 -- Answers the goals of `joined`.
-use Rattle.std.proofs.Common.{◌≡◌, ◌++◌, ◌∙◌, [], ℕ, List, ap, sym}
-use Rattle.std.specs.Prelude.{Result, Ok, Err, IfOk}
-use Rattle.std.proofs.lemmas.List.{append-nil}
-use Rattle.ckpt_ids.specs.Ascending.{IsAscending, ascending}
-use Rattle.ckpt_ids.proofs.AscendingLemmas.{ascending-swapped, ascending_already}
+use Rattle.ckpt_core.proofs.Names.{◌≡◌, ◌++◌, ◌∙◌, [], ℕ, List, ap, sym, Result, Ok, Err, IfOk, append-nil, IsAscending, ascending, ascending-swapped, ascending_already}
 use Rattle.ckpt_core.proofs.acks.joined.Goals as goal
 
 -- with no reused file the fresh ones are all

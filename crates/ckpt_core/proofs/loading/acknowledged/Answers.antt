@@ -1,14 +1,6 @@
 -- Answers the goals of `acknowledged`.
-use Rattle.std.proofs.Common.{◌≡◌, ℕ, ◌+◌, [], ◌∷◌, ◌++◌, List, true, false, cond, take, refl, sym, ap, subst, ◌∙◌, inl, inr, Err}
-use Rattle.std.proofs.lemmas.List.{take_more}
-use Rattle.std.proofs.lemmas.Bool.{both_ways}
-use Rattle.ckpt_ids.specs.declared.ack.Acked.{Acked}
-use Rattle.ckpt_ids.specs.Acknowledged.{AreInSubtaskOrder, acknowledges_before, put_ack}
-use Rattle.ckpt_ids.specs.Ordered.{IsIn}
-use Rattle.ckpt_ids.specs.Records.{Record, acknowledged}
-use Rattle.ckpt_ids.specs.Shapes.{is_subtask}
-use Rattle.ckpt_ids.proofs.OrderedLemmas.{IsIn-get_or}
-use Rattle.ckpt_pending.specs.Acknowledging.{pending_record}
+use Rattle.ckpt_core.proofs.Names.{◌≡◌, ℕ, ◌+◌, [], ◌∷◌, ◌++◌, List, true, false, cond, take, refl, sym, ap, subst, ◌∙◌, inl, inr, Err, take_more, both_ways, Acked, AreInSubtaskOrder}
+use Rattle.ckpt_core.proofs.Names.{acknowledges_before, put_ack, IsIn, Record, acknowledged, is_subtask, IsIn-get_or, pending_record}
 use Rattle.ckpt_core.proofs.Loaded.Uses.{before_in, take_in_order}
 use Rattle.ckpt_core.proofs.loading.acknowledged.Goals as goal
 

@@ -1,11 +1,6 @@
 -- Answers the goals of `names_each_once`.
-use Rattle.std.proofs.Common.{◌≡◌, ℕ, ◌+◌, List, [], ◌∷◌, ◌++◌, take, sym, ap, subst, ◌∙◌, ⊎_elim}
-use Rattle.std.proofs.lemmas.List.{take_all, take_more}
-use Rattle.std.proofs.lemmas.Bool.{both_ways}
-use Rattle.ckpt_ids.specs.declared.ack.Acked.{Acked}
-use Rattle.ckpt_ids.specs.Ascending.{IsAscendingSet}
-use Rattle.ckpt_ids.specs.Ordered.{IsIn}
-use Rattle.ckpt_ids.proofs.OrderedLemmas.{IsIn-append_cases, IsIn-at, only_one}
+use Rattle.ckpt_core.proofs.Names.{◌≡◌, ℕ, ◌+◌, List, [], ◌∷◌, ◌++◌, take, sym, ap, subst, ◌∙◌, ⊎_elim, take_all, take_more, both_ways, Acked, IsAscendingSet, IsIn, IsIn-append_cases, IsIn-at}
+use Rattle.ckpt_core.proofs.Names.{only_one}
 use Rattle.ckpt_core.proofs.loading.names_each_once.Goals as goal
 
 pub loop-acked-init : goal.loop-acked-init

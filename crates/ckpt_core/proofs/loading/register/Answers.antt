@@ -1,16 +1,7 @@
 -- Answers the goals of `register`.
-use Rattle.std.proofs.Common.{◌≡◌, ℕ, ◌+◌, ◌<◌, ◌≤◌, ◌-◌, ◌^◌, ◌++◌, ◌∷◌, [], List, length, take, get_or, sym, ap, subst, ◌∙◌, arith}
-use Rattle.std.proofs.lemmas.List.{append-nil, take_more, take_all}
-use Rattle.std.proofs.lemmas.Result.{on_ok_weaker}
-use Rattle.ckpt_ids.specs.declared.ack.Acked.{Acked}
-use Rattle.ckpt_ids.specs.Acknowledged.{AreInSubtaskOrder}
-use Rattle.ckpt_ids.specs.Ascending.{IsAscendingSet}
-use Rattle.ckpt_ids.specs.Ordered.{IsIn, in_order_once}
-use Rattle.ckpt_ids.specs.Records.{Use, Subtask, Pin, count, use_before}
-use Rattle.ckpt_ids.proofs.AscendingLemmas.{numbers_in_order}
-use Rattle.ckpt_ids.proofs.OrderedLemmas.{AreDistinct-from_order, IsIn-at}
-use Rattle.ckpt_registry.specs.Uses.{HasNoUse}
-use Rattle.ckpt_core.specs.Inside.Loading.{uses_of_acks, uses_held}
+use Rattle.ckpt_core.proofs.Names.{◌≡◌, ℕ, ◌+◌, ◌<◌, ◌≤◌, ◌-◌, ◌^◌, ◌++◌, ◌∷◌, [], List, length, take, get_or, sym, ap, subst, ◌∙◌, arith, append-nil, take_more, take_all, on_ok_weaker, Acked}
+use Rattle.ckpt_core.proofs.Names.{AreInSubtaskOrder, IsAscendingSet, IsIn, in_order_once, Use, Subtask, Pin, count, use_before, numbers_in_order, AreDistinct-from_order, IsIn-at, HasNoUse}
+use Rattle.ckpt_core.proofs.Names.{uses_of_acks, uses_held}
 use Rattle.ckpt_core.proofs.Using.Order.{holds}
 use Rattle.ckpt_core.proofs.Loaded.Uses.{ack_registered, count_front, in_front, pins_registered, pins_unused, subtask_unused, take_in_order}
 use Rattle.ckpt_core.proofs.loading.register.Goals as goal

@@ -1,10 +1,7 @@
 -- Answers the goals of `rises`.
-use Rattle.std.proofs.Common.{◌≡◌, ℕ, Bool, true, false, not, List, sym, ap, subst, ◌∙◌}
-use Rattle.ckpt_ids.specs.Ascending.{IsAscending, IsAscendingSet}
-use Rattle.ckpt_ids.proofs.AscendingLemmas.{numbers_in_order, set-from_distinct}
-use Rattle.ckpt_ids.proofs.OrderedLemmas.{AreDistinct-from_order}
+use Rattle.ckpt_core.proofs.Names.{◌≡◌, ℕ, Bool, true, false, not, List, sym, ap, subst, ◌∙◌, IsAscending, IsAscendingSet, numbers_in_order, set-from_distinct, AreDistinct-from_order}
+use Rattle.ckpt_core.proofs.Names.{distinct-from_test}
 use Rattle.ckpt_core.proofs.Answering.RefusalRepeats.{test-from_distinct}
-use Rattle.ckpt_model.proofs.Records.Released.{distinct-from_test}
 use Rattle.ckpt_core.proofs.loading.rises.Goals as goal
 
 fails : (b r : Bool) → r ≡ b → not r ≡ true → b ≡ false

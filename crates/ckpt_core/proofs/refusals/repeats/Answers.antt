@@ -1,6 +1,5 @@
 -- Answers the goals of `repeats`.
-use Rattle.std.proofs.Common.{rules, nat_lt}
-use Rattle.std.proofs.lemmas.List.Sorted.{answers_always}
+use Rattle.ckpt_core.proofs.Names.{rules, nat_lt, answers_always}
 use Rattle.ckpt_core.proofs.Answering.RefusalRepeats.{repeats-from_adjacent}
 use Rattle.ckpt_core.proofs.refusals.repeats.Goals as goal
 

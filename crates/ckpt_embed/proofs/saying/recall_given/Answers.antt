@@ -3,4 +3,4 @@ use Rattle.ckpt_embed.proofs.SayingLemmas.{given_back}
 use Rattle.ckpt_embed.proofs.saying.recall_given.Goals as goal
 
 pub returns : goal.returns
-returns c = given_back c.args.call.now c.recall_lists.ensures
+returns c = given_back c.args.asked.now c.recall_lists.ensures

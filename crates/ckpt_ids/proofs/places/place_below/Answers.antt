@@ -1,6 +1,5 @@
 -- Answers the goals of `place_below`.
-use Rattle.std.proofs.Common.{rules}
-use Rattle.std.proofs.lemmas.List.Sorted.{answers_always}
+use Rattle.ckpt_ids.proofs.Names.{rules, answers_always}
 use Rattle.ckpt_ids.proofs.PlaceLemmas.{search_absent, search_found}
 use Rattle.ckpt_ids.proofs.places.place_below.Goals as goal
 

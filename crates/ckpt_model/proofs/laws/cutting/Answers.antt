@@ -1,9 +1,5 @@
 -- Answers the goals of `cutting`.
-use Rattle.std.proofs.Common.{List, ◌++◌, sym, ap, subst, ◌∙◌}
-use Rattle.ckpt_ids.specs.declared.reply.Answer.{Answer}
-use Rattle.ckpt_model.specs.State.{State}
-use Rattle.ckpt_model.specs.Histories.{replay, answers}
-use Rattle.ckpt_model.specs.Images.{AreAlike, GoesOnAs, settled}
+use Rattle.ckpt_model.proofs.Names.{List, ◌++◌, sym, ap, subst, ◌∙◌, Answer, State, replay, answers, AreAlike, GoesOnAs, settled}
 use Rattle.ckpt_model.proofs.Histories.Replays.{answers-append, replay-append}
 use Rattle.ckpt_model.proofs.Images.Alike.{go_on_alike}
 use Rattle.ckpt_model.proofs.Images.Settled.{settled_alike}

@@ -1,8 +1,6 @@
 -- Answers the goals of `draw_again`.
-use Rattle.std.proofs.Common.{◌∙◌, get_or, nat_eq, sym}
-use Rattle.std.proofs.lemmas.Map.Steps.{set_value_same}
+use Rattle.ckpt_outbox.proofs.Names.{◌∙◌, get_or, nat_eq, sym, set_value_same, ticket}
 use Rattle.std.specs.HashMap as hash
-use Rattle.ckpt_outbox.specs.Places.{ticket}
 use Rattle.ckpt_outbox.proofs.TicketLemmas.{ticket_found}
 use Rattle.ckpt_outbox.proofs.places.draw_again.Goals as goal
 

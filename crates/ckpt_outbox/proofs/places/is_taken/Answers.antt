@@ -1,7 +1,6 @@
 -- Answers the goals of `is_taken`.
-use Rattle.std.proofs.Common.{get_or, nat_eq}
+use Rattle.ckpt_outbox.proofs.Names.{get_or, nat_eq, ticket}
 use Rattle.std.specs.HashMap as hash
-use Rattle.ckpt_outbox.specs.Places.{ticket}
 use Rattle.ckpt_outbox.proofs.TicketLemmas.{ticket_found}
 use Rattle.ckpt_outbox.proofs.places.is_taken.Goals as goal
 

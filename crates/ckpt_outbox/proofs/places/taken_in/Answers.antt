@@ -1,9 +1,6 @@
 -- Answers the goals of `taken_in`.
-use Rattle.std.proofs.Common.{◌≡◌, ◌++◌, ◌∷◌, ◌∙◌, ℕ, Bool, List, [], true, false, cond, filter, nat_eq, sym, ap, refl}
+use Rattle.ckpt_outbox.proofs.Names.{◌≡◌, ◌++◌, ◌∷◌, ◌∙◌, ℕ, Bool, List, [], true, false, cond, filter, nat_eq, sym, ap, refl, append-nil, append_assoc, is_apart, is_in}
 use Rattle.std.specs.HashMap as hash
-use Rattle.std.proofs.lemmas.List.{append-nil, append_assoc}
-use Rattle.ckpt_outbox.specs.Places.{is_apart}
-use Rattle.ckpt_outbox.specs.Queues.{is_in}
 use Rattle.ckpt_outbox.proofs.places.taken_in.Goals as goal
 
 pub loop-file-init : goal.loop-file-init

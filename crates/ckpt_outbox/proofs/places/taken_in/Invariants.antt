@@ -1,7 +1,6 @@
 -- The loop invariants of `taken_in`.
-use Rattle.std.proofs.Common.{◌≡◌, ◌++◌, filter, nat_eq}
+use Rattle.ckpt_outbox.proofs.Names.{◌≡◌, ◌++◌, filter, nat_eq, is_apart}
 use Rattle.std.specs.HashMap as hash
-use Rattle.ckpt_outbox.specs.Places.{is_apart}
 use Rattle.ckpt_outbox.proofs.places.taken_in.Given as goal
 
 abbrev pub invariant-loop-file : goal.invariant-loop-file

@@ -1,7 +1,5 @@
 -- Answers the goals of `waits`.
-use Rattle.std.proofs.Common.{◌≡◌, ◌∙◌, ◌<◌, ◌≤◌, ◌+◌, ◌-◌, ◌%◌, ◌^◌, ◌==◌, ℕ, List, length, get_or, false, refl, sym, ap, arith}
-use Rattle.std.proofs.lemmas.Grind.{get_or_default_zero}
-use Rattle.std.proofs.lemmas.Bool.{both_ways}
+use Rattle.ckpt_outbox.proofs.Names.{◌≡◌, ◌∙◌, ◌<◌, ◌≤◌, ◌+◌, ◌-◌, ◌%◌, ◌^◌, ◌==◌, ℕ, List, length, get_or, false, refl, sym, ap, arith, get_or_default_zero, both_ways}
 use Rattle.ckpt_outbox.proofs.TicketLemmas.{waits_there, waits_not}
 use Rattle.ckpt_outbox.proofs.places.waits.Goals as goal
 

@@ -1,7 +1,5 @@
 -- The loop invariants of `all_files`.
-use Rattle.std.proofs.Common.{◌≡◌, ◌++◌}
-use Rattle.std.specs.List.{flat_map}
-use Rattle.std.specs.VecDeque.Iter.{deque_iter_rest}
+use Rattle.ckpt_pending.proofs.Names.{◌≡◌, ◌++◌, flat_map, deque_iter_rest}
 use Rattle.ckpt_pending.proofs.pending.all_files.Given as goal
 
 abbrev pub invariant-loop-acked : goal.invariant-loop-acked

@@ -1,6 +1,5 @@
 -- The loop invariants of `copies`.
-use Rattle.std.proofs.Common.{◌≡◌, ◌++◌}
-use Rattle.std.specs.VecDeque.Iter.{deque_iter_rest}
+use Rattle.ckpt_pending.proofs.Names.{◌≡◌, ◌++◌, deque_iter_rest}
 use Rattle.ckpt_pending.proofs.pending.copies.Given as goal
 
 abbrev pub invariant-loop-acked : goal.invariant-loop-acked

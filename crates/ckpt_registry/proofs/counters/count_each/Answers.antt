@@ -1,9 +1,5 @@
 -- Answers the goals of `count_each`.
-use Rattle.std.proofs.Common.{◌≡◌, ℕ, ◌+◌, ◌<◌, ◌^◌, length, Some, Option, unwrap_or, ap, ◌∙◌, arith, rules}
-use Rattle.std.specs.Result.{IsOk}
-use Rattle.ckpt_ids.specs.Ordered.{IsIn}
-use Rattle.ckpt_ids.proofs.OrderedLemmas.{IsIn-at}
-use Rattle.ckpt_registry.specs.Counters.{Counts, counter}
+use Rattle.ckpt_registry.proofs.Names.{◌≡◌, ℕ, ◌+◌, ◌<◌, ◌^◌, length, Some, Option, unwrap_or, ap, ◌∙◌, arith, rules, IsOk, IsIn, IsIn-at, Counts, counter}
 use Rattle.ckpt_registry.proofs.CounterLemmas.{Sets, OnOk-at, counter_more, AreInRange-set, length_more, times_through}
 use Rattle.ckpt_registry.proofs.counters.count_each.Goals as goal
 

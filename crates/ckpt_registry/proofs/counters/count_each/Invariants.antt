@@ -1,8 +1,5 @@
 -- The loop invariants of `count_each`.
-use Rattle.std.proofs.Common.{◌≡◌, ℕ, ◌+◌, ◌≤◌, length, take}
-use Rattle.indexmap.specs.IndexMap.{index_map_len, spare}
-use Rattle.ckpt_ids.specs.Counting.{times}
-use Rattle.ckpt_registry.specs.Counters.{counter, AreInRange}
+use Rattle.ckpt_registry.proofs.Names.{◌≡◌, ℕ, ◌+◌, ◌≤◌, length, take, index_map_len, spare, times, counter, AreInRange}
 use Rattle.ckpt_registry.proofs.counters.count_each.Given as goal
 
 abbrev pub invariant-loop-file : goal.invariant-loop-file

@@ -1,13 +1,7 @@
 -- Answers the goals of `count_fresh`.
-use Rattle.std.proofs.Common.{◌≡◌, ℕ, ◌<◌, length, take, Some, sym, subst, arith}
-use Rattle.std.specs.Result.{IsOk}
-use Rattle.ckpt_ids.specs.Ordered.{IsIn}
-use Rattle.ckpt_ids.proofs.OrderedLemmas.{IsIn-get_or}
-use Rattle.ckpt_registry.specs.Counters.{counter}
+use Rattle.ckpt_registry.proofs.Names.{◌≡◌, ℕ, ◌<◌, length, take, Some, sym, subst, arith, IsOk, IsIn, IsIn-get_or, counter, times, times_at_most_once}
 use Rattle.ckpt_registry.proofs.CounterLemmas.{Sets, OnOk-at, counter_more, AreInRange-set, get-none, times_before, length_fresh}
 use Rattle.ckpt_registry.proofs.counters.count_fresh.Goals as goal
-use Rattle.ckpt_ids.specs.Counting.{times}
-use Rattle.ckpt_ids.proofs.CountLemmas.{times_at_most_once}
 
 pub loop-file-preserved : goal.loop-file-preserved
 loop-file-preserved c =

@@ -1,9 +1,6 @@
 -- The loop invariants of `count_fresh`.
-use Rattle.std.proofs.Common.{◌≡◌, ℕ, ◌+◌, ◌≤◌, length, take}
-use Rattle.indexmap.specs.IndexMap.{index_map_len, spare}
-use Rattle.ckpt_registry.specs.Counters.{counter, AreInRange}
+use Rattle.ckpt_registry.proofs.Names.{◌≡◌, ℕ, ◌+◌, ◌≤◌, length, take, index_map_len, spare, counter, AreInRange, times}
 use Rattle.ckpt_registry.proofs.counters.count_fresh.Given as goal
-use Rattle.ckpt_ids.specs.Counting.{times}
 
 abbrev pub invariant-loop-file : goal.invariant-loop-file
 invariant-loop-file l = record {

@@ -1,10 +1,5 @@
 -- Answers the goals of `count_reused`.
-use Rattle.std.proofs.Common.{◌≡◌, ℕ, ◌+◌, ◌<◌, ◌^◌, length, Some, Option, unwrap_or, sym, ap, subst, ◌∙◌, arith, rules}
-use Rattle.std.specs.Option.{is_some}
-use Rattle.ckpt_ids.specs.Ordered.{IsIn}
-use Rattle.ckpt_ids.proofs.OrderedLemmas.{IsIn-at}
-use Rattle.indexmap.specs.IndexMap.{index_map_len}
-use Rattle.ckpt_registry.specs.Counters.{Counts, counter}
+use Rattle.ckpt_registry.proofs.Names.{◌≡◌, ℕ, ◌+◌, ◌<◌, ◌^◌, length, Some, Option, unwrap_or, sym, ap, subst, ◌∙◌, arith, rules, is_some, IsIn, IsIn-at, index_map_len, Counts, counter}
 use Rattle.ckpt_registry.proofs.CounterLemmas.{Sets, counter_more, AreInRange-set, times_through}
 use Rattle.ckpt_registry.proofs.counters.count_reused.Goals as goal
 use Rattle.ckpt_registry.proofs.counters.count_reused.Goals.{in-Some, in_default}

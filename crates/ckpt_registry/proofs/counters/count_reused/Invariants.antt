@@ -1,9 +1,6 @@
 -- The loop invariants of `count_reused`.
-use Rattle.std.proofs.Common.{◌≡◌, ℕ, ◌+◌, take}
-use Rattle.indexmap.specs.IndexMap.{index_map_len}
-use Rattle.ckpt_registry.specs.Counters.{counter, AreInRange}
+use Rattle.ckpt_registry.proofs.Names.{◌≡◌, ℕ, ◌+◌, take, index_map_len, counter, AreInRange, times}
 use Rattle.ckpt_registry.proofs.counters.count_reused.Given as goal
-use Rattle.ckpt_ids.specs.Counting.{times}
 
 abbrev pub invariant-loop-file : goal.invariant-loop-file
 invariant-loop-file l = record {

@@ -1,12 +1,6 @@
 -- Answers the goals of `lower`.
-use Rattle.std.proofs.Common.{◌≡◌, ℕ, ◌+◌, ◌-◌, ◌<◌, Option, Some, None, IfSome, if◌then◌else◌, nat_eq, unwrap_or, sym, ap, subst, ◌∙◌, refl, arith, rules}
-use Rattle.std.proofs.lemmas.Cmp.{nat_eq_equiv}
-use Rattle.std.specs.List.{slice_get}
-use Rattle.std.specs.Option.{is_some}
-use Rattle.std.proofs.lemmas.Map.Entries.{hash_map_get_place}
-use Rattle.indexmap.specs.IndexMap.{IsUnique, Updates, index_map_len, with_value_at}
-use Rattle.indexmap.proofs.CallerLemmas.{index_map_len-with_value_at, updates-with_value_at}
-use Rattle.ckpt_registry.specs.Counters.{Counts, counter}
+use Rattle.ckpt_registry.proofs.Names.{◌≡◌, ℕ, ◌+◌, ◌-◌, ◌<◌, Option, Some, None, IfSome, if◌then◌else◌, nat_eq, unwrap_or, sym, ap, subst, ◌∙◌, refl, arith, rules, nat_eq_equiv, slice_get, is_some}
+use Rattle.ckpt_registry.proofs.Names.{hash_map_get_place, IsUnique, Updates, index_map_len, with_value_at, index_map_len-with_value_at, updates-with_value_at, Counts, counter}
 use Rattle.ckpt_registry.proofs.CounterLemmas.{Sets, entry_found, counter-lowered, counted_once-kept, times-released, AreInRange-below, AreInRange-set, AreInRange-gone}
 use Rattle.ckpt_registry.proofs.counters.lower.Goals as goal
 

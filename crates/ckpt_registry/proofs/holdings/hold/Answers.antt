@@ -1,18 +1,7 @@
 -- Answers the goals of `hold`.
-use Rattle.std.proofs.Common.{◌≡◌, ℕ, ◌+◌, ◌<◌, Bool, List, [], ◌∷◌, ◌++◌, length, get_or, ltb, suc, take, drop, ◌⊎◌, refl, sym, ap, subst, ◌∙◌, ⊎_elim, count_by}
-use Rattle.std.specs.VecDeque.{deque_with_item}
-use Rattle.std.proofs.lemmas.List.{append-nil, set_split, take-append-drop}
-use Rattle.ckpt_ids.specs.Ordered.{IsIn}
-use Rattle.ckpt_ids.specs.Places.{BelongsAt}
-use Rattle.ckpt_ids.specs.Records.{Use, Subtask}
-use Rattle.ckpt_ids.proofs.AscendingLemmas.{numbers_in_order}
-use Rattle.ckpt_ids.proofs.OrderedLemmas.{IsIn-append_left, IsIn-append_right}
-use Rattle.ckpt_ids.proofs.PlaceLemmas.{apart_from}
-use Rattle.ckpt_ids.proofs.ResultLemmas.{on_each_error}
-use Rattle.ckpt_registry.specs.declared.holdings.Holding.{Holding}
-use Rattle.ckpt_registry.specs.Holdings.{Acknowledged, AreRising, Extends, uses_by, uses_in}
-use Rattle.ckpt_registry.specs.Uses.{triples}
-use Rattle.ckpt_registry.specs.Parts.{Part, files_of}
+use Rattle.ckpt_registry.proofs.Names.{◌≡◌, ℕ, ◌+◌, ◌<◌, Bool, List, [], ◌∷◌, ◌++◌, length, get_or, ltb, suc, take, drop, ◌⊎◌, refl, sym, ap, subst, ◌∙◌, ⊎_elim, count_by, deque_with_item, append-nil}
+use Rattle.ckpt_registry.proofs.Names.{set_split, take-append-drop, IsIn, BelongsAt, Use, Subtask, numbers_in_order, IsIn-append_left, IsIn-append_right, apart_from, on_each_error, Holding}
+use Rattle.ckpt_registry.proofs.Names.{Acknowledged, AreRising, Extends, uses_by, uses_in, triples, Part, files_of}
 use Rattle.ckpt_registry.proofs.HoldingLemmas.{Extends-grown, number, parts_in, uses-grown, uses-same}
 use Rattle.ckpt_registry.proofs.PlaceLemmas.{apart_at, rising_insert, rising_same, split_at}
 use Rattle.ckpt_registry.proofs.holdings.hold.Goals as goal

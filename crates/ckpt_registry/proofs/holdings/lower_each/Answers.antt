@@ -1,6 +1,5 @@
 -- Answers the goals of `lower_each`.
-use Rattle.std.proofs.Common.{◌≡◌, ◌+◌, ℕ, eqb, get_or, take, ap, arith}
-use Rattle.ckpt_ids.specs.Counting.{one_if, times}
+use Rattle.ckpt_registry.proofs.Names.{◌≡◌, ◌+◌, ℕ, eqb, get_or, take, ap, arith, one_if, times}
 use Rattle.ckpt_registry.proofs.CounterLemmas.{AreLowered-none, AreLowered-then, HasRoom-released, times_more, times_through}
 use Rattle.ckpt_registry.proofs.holdings.lower_each.Goals as goal
 

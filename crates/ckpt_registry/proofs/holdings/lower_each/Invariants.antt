@@ -1,7 +1,5 @@
 -- The loop invariants of `lower_each`.
-use Rattle.std.proofs.Common.{take}
-use Rattle.ckpt_ids.specs.Counting.{times}
-use Rattle.ckpt_registry.specs.Counters.{AreLowered}
+use Rattle.ckpt_registry.proofs.Names.{take, times, AreLowered}
 use Rattle.ckpt_registry.proofs.holdings.lower_each.Given as goal
 
 abbrev pub invariant-loop-file : goal.invariant-loop-file

@@ -1,10 +1,5 @@
 -- Answers the goals of `remove`.
-use Rattle.std.proofs.Common.{eqb, not, ap, sym, ◌∙◌}
-use Rattle.std.proofs.lemmas.Bool.{ne_eqb}
-use Rattle.ckpt_ids.proofs.AscendingLemmas.{numbers_in_order}
-use Rattle.ckpt_ids.proofs.OrderedLemmas.{filter-all}
-use Rattle.ckpt_ids.proofs.PlaceLemmas.{apart_from}
-use Rattle.ckpt_registry.specs.declared.holdings.Holding.{Holding}
+use Rattle.ckpt_registry.proofs.Names.{eqb, not, ap, sym, ◌∙◌, ne_eqb, numbers_in_order, filter-all, apart_from, Holding}
 use Rattle.ckpt_registry.proofs.HoldingLemmas.{number}
 use Rattle.ckpt_registry.proofs.PlaceLemmas.{parts_found, remove_found}
 use Rattle.ckpt_registry.proofs.holdings.remove.Goals as goal

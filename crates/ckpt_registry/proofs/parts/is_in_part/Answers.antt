@@ -1,9 +1,5 @@
 -- Answers the goals of `is_in_part`.
-use Rattle.std.proofs.Common.{◌≡◌, ◌<◌, ltb, sym, ◌∙◌, ap, arith}
-use Rattle.std.specs.List.{between}
-use Rattle.std.specs.Result.{is_ok}
-use Rattle.std.proofs.lemmas.Bool.{ltb-true, ltb-false, lt-ltb}
-use Rattle.ckpt_ids.specs.Counting.{times}
+use Rattle.ckpt_registry.proofs.Names.{◌≡◌, ◌<◌, ltb, sym, ◌∙◌, ap, arith, between, is_ok, ltb-true, ltb-false, lt-ltb, times}
 use Rattle.ckpt_registry.proofs.CutLemmas.{times-between}
 use Rattle.ckpt_registry.proofs.PartLemmas.{times-from_search}
 use Rattle.ckpt_registry.proofs.parts.is_in_part.Goals as goal

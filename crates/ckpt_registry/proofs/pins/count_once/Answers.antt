@@ -1,14 +1,6 @@
 -- Answers the goals of `count_once`.
-use Rattle.std.proofs.Common.{◌≡◌, ℕ, ◌+◌, ◌++◌, List, [], eqb, ltb, ap, subst, ◌∙◌, arith}
-use Rattle.std.specs.List.Sorted.{IsPermutation, IsSorted}
-use Rattle.std.specs.List.Retain.{IsFiltered, DiffersFromLast}
-use Rattle.std.specs.Ordering.{nat_cmp}
-use Rattle.ckpt_ids.specs.Ascending.{ascending_set}
-use Rattle.ckpt_ids.specs.Counting.{times}
-use Rattle.ckpt_ids.specs.Ordered.{IsIn}
-use Rattle.ckpt_ids.proofs.OrderedLemmas.{IsIn-from_in_order_once}
-use Rattle.ckpt_ids.proofs.SetLemmas.{set-from_dedup}
-use Rattle.ckpt_registry.specs.Counters.{counter}
+use Rattle.ckpt_registry.proofs.Names.{◌≡◌, ℕ, ◌+◌, ◌++◌, List, [], eqb, ltb, ap, subst, ◌∙◌, arith, IsPermutation, IsSorted, IsFiltered, DiffersFromLast, nat_cmp, ascending_set, times, IsIn}
+use Rattle.ckpt_registry.proofs.Names.{IsIn-from_in_order_once, set-from_dedup, counter}
 use Rattle.ckpt_registry.proofs.pins.count_once.Goals as goal
 
 -- files that were written into empty room, sorted, and kept once

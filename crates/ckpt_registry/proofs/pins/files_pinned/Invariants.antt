@@ -1,6 +1,5 @@
 -- The loop invariants of `files_pinned`.
-use Rattle.std.proofs.Common.{◌≡◌, take}
-use Rattle.ckpt_registry.specs.Pins.{named_by}
+use Rattle.ckpt_registry.proofs.Names.{◌≡◌, take, named_by}
 use Rattle.ckpt_registry.proofs.pins.files_pinned.Given as goal
 
 abbrev pub invariant-loop-one : goal.invariant-loop-one

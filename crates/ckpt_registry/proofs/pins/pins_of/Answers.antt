@@ -1,17 +1,6 @@
 -- Answers the goals of `pins_of`.
-use Rattle.std.proofs.Common.{◌≡◌, ℕ, ◌+◌, ◌<◌, ◌^◌, ap, sym, subst, ◌∙◌, arith, rules, get_or}
-use Rattle.std.specs.declared.alloc.Global.{Global}
-use Rattle.std.specs.declared.vec.Vec.{Vec}
-use Rattle.std.proofs.lemmas.List.Sums.{sum_by_more, sum_by-take-le}
-use Rattle.ckpt_ids.specs.Counting.{one_if, times}
-use Rattle.ckpt_ids.proofs.CountLemmas.{one_if-true, one_if-false}
-use Rattle.ckpt_registry.specs.declared.pins.FirstParts.{FirstParts}
-use Rattle.ckpt_registry.specs.declared.pins.Look.{Look}
-use Rattle.ckpt_registry.specs.declared.pins.Pinner.{Pinner}
-use Rattle.ckpt_registry.specs.declared.pins.Pins.TheVariants.{Record}
-use Rattle.ckpt_registry.specs.Holdings.{Acknowledged}
-use Rattle.ckpt_registry.specs.Parts.{files_in}
-use Rattle.ckpt_registry.specs.Pins.{IsKept, IsLook, each_file, first_of, parts_pinned}
+use Rattle.ckpt_registry.proofs.Names.{◌≡◌, ℕ, ◌+◌, ◌<◌, ◌^◌, ap, sym, subst, ◌∙◌, arith, rules, get_or, Global, Vec, sum_by_more, sum_by-take-le, one_if, times, one_if-true, one_if-false, FirstParts}
+use Rattle.ckpt_registry.proofs.Names.{Look, Pinner, Record, Acknowledged, files_in, IsKept, IsLook, each_file, first_of, parts_pinned}
 use Rattle.ckpt_registry.proofs.ListLemmas.{times-ascending_set}
 use Rattle.ckpt_registry.proofs.PinLemmas.{IsKept-at}
 use Rattle.ckpt_registry.proofs.pins.pins_of.Goals as goal

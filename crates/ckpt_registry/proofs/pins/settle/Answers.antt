@@ -1,15 +1,7 @@
 -- Answers the goals of `settle`.
-use Rattle.std.proofs.Common.{◌≡◌, ℕ, ◌+◌, ◌<◌, ◌^◌, List, [], ◌∷◌, ◌++◌, length, get_or, set, take, sym, ap, subst, ◌∙◌, arith}
-use Rattle.std.proofs.lemmas.List.{length-set, take_more, take_more_set}
-use Rattle.std.proofs.lemmas.List.Sums.{sum_by_more, sum_by-take-le}
-use Rattle.ckpt_ids.specs.Counting.{times}
-use Rattle.ckpt_ids.proofs.CountLemmas.{times-from_IsIn}
-use Rattle.ckpt_ids.proofs.OrderedLemmas.{IsIn-get_or}
-use Rattle.ckpt_registry.specs.declared.pins.Pinner.{Pinner}
-use Rattle.ckpt_registry.specs.Counters.{counter}
-use Rattle.ckpt_registry.specs.Holdings.{Acknowledged, parts_of}
-use Rattle.ckpt_registry.specs.Parts.{Part, files_in}
-use Rattle.ckpt_registry.specs.Pins.{AreSettled, IsKept, IsSettled, each_file, own_files, own_in, parts_pinned}
+use Rattle.ckpt_registry.proofs.Names.{◌≡◌, ℕ, ◌+◌, ◌<◌, ◌^◌, List, [], ◌∷◌, ◌++◌, length, get_or, set, take, sym, ap, subst, ◌∙◌, arith, length-set, take_more, take_more_set, sum_by_more}
+use Rattle.ckpt_registry.proofs.Names.{sum_by-take-le, times, times-from_IsIn, IsIn-get_or, Pinner, counter, Acknowledged, parts_of, Part, files_in, AreSettled, IsKept, IsSettled, each_file}
+use Rattle.ckpt_registry.proofs.Names.{own_files, own_in, parts_pinned}
 use Rattle.ckpt_registry.proofs.HoldingLemmas.{count-parts_of}
 use Rattle.ckpt_registry.proofs.SoundLemmas.{count-stored}
 use Rattle.ckpt_registry.proofs.PinLemmas.{item_left, left_more, own_in-push, own_in-settled, settled_more}

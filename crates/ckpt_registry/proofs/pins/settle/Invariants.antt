@@ -1,9 +1,5 @@
 -- The loop invariants of `settle`.
-use Rattle.std.proofs.Common.{◌≡◌, ℕ, ◌+◌, take, drop, length}
-use Rattle.indexmap.specs.IndexMap.{index_map_len}
-use Rattle.ckpt_ids.specs.Counting.{times}
-use Rattle.ckpt_registry.specs.Counters.{counter, AreInRange}
-use Rattle.ckpt_registry.specs.Pins.{AreSettled, own_in}
+use Rattle.ckpt_registry.proofs.Names.{◌≡◌, ℕ, ◌+◌, take, drop, length, index_map_len, times, counter, AreInRange, AreSettled, own_in}
 use Rattle.ckpt_registry.proofs.pins.settle.Given as goal
 
 abbrev pub invariant-loop-one : goal.invariant-loop-one

@@ -1,13 +1,6 @@
 -- Answers the goals of `unpin`.
-use Rattle.std.proofs.Common.{◌≡◌, ℕ, ◌+◌, ◌<◌, ◌^◌, ◌++◌, true, false, cond, length, get_or, List, take, refl, ap, sym, subst, ◌∙◌, arith, rules}
-use Rattle.std.specs.declared.alloc.Global.{Global}
-use Rattle.std.specs.declared.vec.Vec.{Vec}
-use Rattle.std.proofs.lemmas.Bool.{cond-true, cond-false}
-use Rattle.std.proofs.lemmas.List.{append-nil, drop_all, get_or_default, take_all}
-use Rattle.ckpt_ids.specs.Counting.{times}
-use Rattle.ckpt_registry.specs.declared.pins.Pinner.{Pinner}
-use Rattle.ckpt_registry.specs.Counters.{Counts, Released, AreLowered}
-use Rattle.ckpt_registry.specs.Pins.{own_files, own_of}
+use Rattle.ckpt_registry.proofs.Names.{◌≡◌, ℕ, ◌+◌, ◌<◌, ◌^◌, ◌++◌, true, false, cond, length, get_or, List, take, refl, ap, sym, subst, ◌∙◌, arith, rules, Global, Vec, cond-true, cond-false}
+use Rattle.ckpt_registry.proofs.Names.{append-nil, drop_all, get_or_default, take_all, times, Pinner, Counts, Released, AreLowered, own_files, own_of}
 use Rattle.ckpt_registry.proofs.PinLemmas.{goes, own_of-more, own_of-le, place_next, place_same, staying, walk_within, walked_on, walked_one, walked_out}
 use Rattle.ckpt_registry.proofs.CounterLemmas.{AreLowered-none, AreLowered-same, AreLowered-then, HasRoom-released}
 use Rattle.ckpt_registry.proofs.pins.unpin.Goals as goal

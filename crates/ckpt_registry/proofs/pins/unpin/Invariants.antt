@@ -1,8 +1,5 @@
 -- The loop invariants of `unpin`.
-use Rattle.std.proofs.Common.{◌≡◌, ◌++◌, [], length, take, drop}
-use Rattle.ckpt_ids.specs.Counting.{times}
-use Rattle.ckpt_registry.specs.Counters.{AreLowered}
-use Rattle.ckpt_registry.specs.Pins.{own_of}
+use Rattle.ckpt_registry.proofs.Names.{◌≡◌, ◌++◌, [], length, take, drop, times, AreLowered, own_of}
 use Rattle.ckpt_registry.proofs.PinLemmas.{staying}
 use Rattle.ckpt_registry.proofs.pins.unpin.Given as goal
 

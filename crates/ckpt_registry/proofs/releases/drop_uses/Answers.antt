@@ -1,11 +1,5 @@
 -- Answers the goals of `drop_uses`.
-use Rattle.std.proofs.Common.{◌≡◌, ℕ, ◌+◌, List, sym, ap, subst, ◌∙◌, arith}
-use Rattle.ckpt_ids.specs.Counting.{times}
-use Rattle.ckpt_registry.specs.declared.pins.Pinner.{Pinner}
-use Rattle.ckpt_registry.specs.Counters.{counter, counted_once}
-use Rattle.ckpt_registry.specs.Holdings.{Acknowledged, parts_of}
-use Rattle.ckpt_registry.specs.Pins.{AreSettled, own_in}
-use Rattle.ckpt_registry.specs.Parts.{Part, files_in}
+use Rattle.ckpt_registry.proofs.Names.{◌≡◌, ℕ, ◌+◌, List, sym, ap, subst, ◌∙◌, arith, times, Pinner, counter, counted_once, Acknowledged, parts_of, AreSettled, own_in, Part, files_in}
 use Rattle.ckpt_registry.proofs.CounterLemmas.{AreReleased-none}
 use Rattle.ckpt_registry.proofs.HoldingLemmas.{AreRising-gone, count-gone, count-parts_of, parts_of-gone, uses_in-gone}
 use Rattle.ckpt_registry.proofs.PinLemmas.{own_in-settled, pins_in-settled}

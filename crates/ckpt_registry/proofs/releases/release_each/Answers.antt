@@ -1,7 +1,5 @@
 -- Answers the goals of `release_each`.
-use Rattle.std.proofs.Common.{ℕ, ◌<◌, length, sym, ap, ◌∙◌}
-use Rattle.ckpt_registry.specs.Holdings.{uses_in}
-use Rattle.ckpt_registry.specs.Pins.{pins_in}
+use Rattle.ckpt_registry.proofs.Names.{ℕ, ◌<◌, length, sym, ap, ◌∙◌, uses_in, pins_in}
 use Rattle.ckpt_registry.proofs.CounterLemmas.{AreReleased-then, HasRoom-released}
 use Rattle.ckpt_registry.proofs.HoldingLemmas.{without_more, without-none}
 use Rattle.ckpt_registry.proofs.PinLemmas.{pins_in-filter}

@@ -1,10 +1,5 @@
 -- The loop invariants of `release_each`.
-use Rattle.std.proofs.Common.{◌≡◌, [], take}
-use Rattle.ckpt_registry.specs.Counters.{AreReleased}
-use Rattle.ckpt_registry.specs.Holdings.{uses_in}
-use Rattle.ckpt_registry.specs.Pins.{pins_in}
-use Rattle.ckpt_registry.specs.Sound.{AreCounted}
-use Rattle.ckpt_registry.specs.Uses.{without}
+use Rattle.ckpt_registry.proofs.Names.{◌≡◌, [], take, AreReleased, uses_in, pins_in, AreCounted, without}
 use Rattle.ckpt_registry.proofs.releases.release_each.Given as goal
 
 abbrev pub invariant-loop-owner : goal.invariant-loop-owner

@@ -1,10 +1,6 @@
 -- Answers the goals of `sort`.
-use Rattle.std.proofs.Common.{◌≡◌, ℕ, ◌+◌, ◌<◌, ◌≤◌, List, true, false, get_or, sym, ap, subst, ⊎_elim, arith, Equal, Greater}
-use Rattle.std.specs.List.Sorted.{IsNonDecreasing, IsSorted}
-use Rattle.std.specs.Ordering.{nat_cmp, is_lt}
-use Rattle.std.specs.Cmp.{nat_cmp_is}
-use Rattle.std.proofs.lemmas.Bool.{cases_lt}
-use Rattle.std.proofs.lemmas.List.Sorted.{IsPermutation-refl, non_decreasing_from_is_sorted}
+use Rattle.ckpt_registry.proofs.Names.{◌≡◌, ℕ, ◌+◌, ◌<◌, ◌≤◌, List, true, false, get_or, sym, ap, subst, ⊎_elim, arith, Equal, Greater, IsNonDecreasing, IsSorted, nat_cmp, is_lt, nat_cmp_is, cases_lt}
+use Rattle.ckpt_registry.proofs.Names.{IsPermutation-refl, non_decreasing_from_is_sorted}
 use Rattle.ckpt_registry.proofs.sorting.sort.Goals as goal
 
 not_less : (a b : ℕ) → b ≤ a → is_lt (nat_cmp a b) ≡ false

@@ -1,11 +1,5 @@
 -- Answers the goals of `place_for`.
-use Rattle.std.proofs.Common.{◌≡◌, ◌<◌, ◌∙◌, ℕ, ltb, true, false, length, get_or, rules}
-use Rattle.std.proofs.lemmas.Bool.{lt-ltb}
-use Rattle.std.proofs.lemmas.List.Sorted.{IsPartitionPoint-from_clause}
-use Rattle.ckpt_ids.specs.Records.{Record}
-use Rattle.ckpt_ids.proofs.AscendingLemmas.{numbers_in_order}
-use Rattle.ckpt_ids.proofs.PlaceLemmas.{all_before, end_point}
-use Rattle.ckpt_store.specs.Storing.{id_of}
+use Rattle.ckpt_store.proofs.Names.{◌≡◌, ◌<◌, ◌∙◌, ℕ, ltb, true, false, length, get_or, rules, lt-ltb, IsPartitionPoint-from_clause, Record, numbers_in_order, all_before, end_point, id_of}
 use Rattle.ckpt_store.proofs.RowLemmas.{partitioned}
 use Rattle.ckpt_store.proofs.places.place_for.Goals as goal
 use Rattle.ckpt_store.proofs.places.place_for.Goals.{in_default-via-in-Some+else-le, in_default-via-in_default}

@@ -12,6 +12,8 @@ pub struct Made {
     pub place: u64,
     /// After a trigger: the record that its barrier names beside it.
     pub choice: Option<Choice>,
+    /// After a restore, cancel or fence of a job with names: the term that begins. Whoever starts the tasks tells each of them.
+    pub term: Option<u64>,
 }
 
 /// The answer to a call, or the files that a take fetched.
@@ -75,6 +77,7 @@ impl List {
                 answer: NONE,
                 choice: NONE,
                 place: 0,
+                term: 0,
             });
             list._lists.extend([first, second]);
             list.files.push(files);
@@ -111,5 +114,6 @@ pub(super) fn made(
         answer,
         place: call.place,
         choice: has_choice.then(|| answer::choice(call.choice)),
+        term: (call.term != 0).then_some(call.term),
     })
 }

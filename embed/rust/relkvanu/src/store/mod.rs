@@ -7,16 +7,17 @@ pub use calls::{Made, Outcome};
 pub use error::{CallError, StoreError, StoreErrorKind};
 pub use opening::{Options, Report, Step};
 
-use crate::answer;
+use crate::answer::{self, Answer, Garbage, RunningTerm};
 use crate::call::Call;
 use crate::coordinator::Coordinator;
-use crate::fault::Fault;
+use crate::fault::{done, Fault};
 use calls::{made, List};
 use opening::step;
 use relkvanu_sys as sys;
 use std::collections::HashMap;
 use std::ffi::{c_int, c_void, CStr, CString};
 use std::fmt;
+use std::ops::Range;
 use std::os::fd::{BorrowedFd, RawFd};
 use std::os::unix::ffi::OsStrExt;
 use std::panic::{catch_unwind, AssertUnwindSafe};
@@ -119,6 +120,10 @@ impl Store {
             moment: found.moment,
             mode: crate::Mode::of(found.mode.what),
             choice: answer::choice(found.choice),
+            names: (found.term != 0).then_some(RunningTerm {
+                term: found.term,
+                next_name: found.next_name,
+            }),
         };
         Ok(Store {
             store,
@@ -172,6 +177,48 @@ impl Store {
         outcomes
             .pop()
             .unwrap_or(Err(Fault::Memory))
+            .map_err(CallError::Fault)
+    }
+
+    /// A task of this term gets names for files that it will write, 1 to 65536. They are durable, and are not given out again.
+    pub fn reserve(&self, term: u64, count: u64) -> Result<Range<u64>, CallError> {
+        match self.call(Call::Reserve { term, count })?.called() {
+            Some(Answer::Reserved(first)) => Ok(first..first + count),
+            other => unreachable!("a reservation is answered {other:?}"),
+        }
+    }
+
+    /// A task of this term gives up names that it will not acknowledge, at most 65536: their files are garbage then. Names that the term does
+    /// not hold are passed over.
+    pub fn forfeit(&self, term: u64, names: &[u64]) -> Result<(), CallError> {
+        let mut told = sys::relkvanu_answer {
+            code: 0,
+            what: 0,
+            a: 0,
+            b: 0,
+        };
+        // SAFETY: the names and the place of the answer outlive the call.
+        let status = unsafe {
+            sys::store::relkvanu_store_forfeit(
+                self.at(),
+                term,
+                names.as_ptr(),
+                names.len(),
+                &mut told,
+            )
+        };
+        self.check(status)?;
+        done(told).map(|_| ()).map_err(CallError::Fault)
+    }
+
+    /// The term that runs, and the next name. Whoever starts tasks takes the term from [`Made::term`] of its restore. A task never asks.
+    pub fn term(&self) -> Result<RunningTerm, CallError> {
+        self.read(|job| job.term())?.map_err(CallError::Fault)
+    }
+
+    /// Of these files those that are garbage, which may be deleted at any time, and those whose names were not given out, which nobody deletes.
+    pub fn garbage(&self, files: &[u64]) -> Result<Garbage, CallError> {
+        self.read(|job| job.garbage(files))?
             .map_err(CallError::Fault)
     }
 
@@ -255,8 +302,8 @@ impl Store {
         made(&list.calls[0], Vec::new()).map_err(CallError::Fault)
     }
 
-    /// For the sweep of a recovery: those of the files that the coordinator does not know. `NotNow` if a task may have written a file whose
-    /// acknowledgement is on its way.
+    /// For a sweep: those of the files that may be deleted. In a job with names these are garbage, at any time. In one without they are those
+    /// that the coordinator does not know: `NotNow` if a task may have written a file whose acknowledgement is on its way.
     pub fn unknown(&self, mut files: Vec<u64>) -> Result<Vec<u64>, StoreError> {
         let mut len = files.len();
         // SAFETY: the vector has as many elements as is said.
@@ -265,6 +312,36 @@ impl Store {
         })?;
         files.truncate(len);
         Ok(files)
+    }
+
+    /// Makes a file of the storage folder by its number, whole and durable, so that a task may acknowledge it. After an error the task
+    /// forfeits the name and declines: a sweep deletes what is there.
+    pub fn put(&self, file: u64, contents: &[u8]) -> Result<(), StoreError> {
+        // SAFETY: the contents outlive the call.
+        let status = unsafe {
+            sys::store::relkvanu_store_put(
+                self.at(),
+                file,
+                contents.as_ptr().cast(),
+                contents.len(),
+            )
+        };
+        match status {
+            sys::store::RELKVANU_STORE_NOT_PUT => Err(StoreError {
+                kind: StoreErrorKind::NotPut,
+                message: std::io::Error::last_os_error().to_string(),
+            }),
+            other => self.check(other),
+        }
+    }
+
+    /// Deletes the files of the storage folder that [`unknown`](Self::unknown) returns, and syncs it. Returns how many could not be deleted. In a
+    /// job with names it runs at any time; [`counts`](Self::counts) then tells how many files it left since their names were not given out.
+    pub fn sweep(&self) -> Result<usize, StoreError> {
+        let mut left = 0;
+        // SAFETY: the place is this function's own.
+        self.check(unsafe { sys::store::relkvanu_store_sweep(self.at(), &mut left) })?;
+        Ok(left)
     }
 
     /// The descriptor of the storage folder, which stays open until the drop: delete within it.
@@ -302,6 +379,23 @@ impl Store {
                 batch,
                 delete::<F>,
                 (&mut gone as *mut F).cast(),
+            )
+        };
+        match status {
+            sys::store::RELKVANU_STORE_STOPPED => Ok(()),
+            other => self.check(other),
+        }
+    }
+
+    /// A discarder of the storage folder's files, as [`discard`](Self::discard).
+    pub fn discard_files(&self, batch: usize) -> Result<(), StoreError> {
+        // SAFETY: the store outlives the call, and the function takes it.
+        let status = unsafe {
+            sys::store::relkvanu_store_discard(
+                self.at(),
+                batch,
+                sys::store::relkvanu_store_delete_files,
+                self.at().cast(),
             )
         };
         match status {

@@ -1,5 +1,5 @@
 //! How a store is opened, and what an opening finds.
-use crate::answer::{Choice, Mode};
+use crate::answer::{Choice, Mode, RunningTerm};
 use crate::coordinator::Settings;
 use relkvanu_sys as sys;
 use std::path::PathBuf;
@@ -11,9 +11,10 @@ pub enum Step {
     EndTasks,
     /// Make a restore: its answer says where the job begins again.
     Restore,
-    /// Delete the files of the storage that [`Store::unknown`] returns.
+    /// Call [`Store::sweep`](super::Store::sweep), or delete the files of the storage that [`Store::unknown`](super::Store::unknown) returns.
     Sweep,
-    /// Start tasks, a timer and a discarder.
+    /// Start tasks, a timer and a discarder. The term of the tasks is [`Made::term`](super::Made::term) of the restore, or that of the report
+    /// if the job is new.
     StartTasks,
     /// Start a discarder alone: the job is cancelled.
     Discard,
@@ -31,6 +32,8 @@ pub struct Options {
     pub only_create: bool,
     pub adopt: bool,
     pub earlier_image: bool,
+    /// A job that is made has no names: the engine gives out the numbers of files. A recovered job keeps what it has.
+    pub plain: bool,
     /// Milliseconds for which a commit is tried again.
     pub patience: u32,
     /// An image after so many calls; `None`: no images.
@@ -49,6 +52,7 @@ impl Options {
             only_create: false,
             adopt: false,
             earlier_image: false,
+            plain: false,
             patience: 0,
             image_calls: Some(10_000),
             most_ahead: 0,
@@ -61,6 +65,7 @@ impl Options {
             | flag(self.only_create, sys::store::RELKVANU_STORE_CREATE_ONLY)
             | flag(self.adopt, sys::store::RELKVANU_STORE_ADOPT)
             | flag(self.earlier_image, sys::store::RELKVANU_STORE_EARLIER_IMAGE)
+            | flag(self.plain, sys::store::RELKVANU_STORE_PLAIN)
     }
 }
 
@@ -78,6 +83,8 @@ pub struct Report {
     pub moment: u64,
     pub mode: Mode,
     pub choice: Choice,
+    /// The term that runs, and the next name; `None`: the job has no names.
+    pub names: Option<RunningTerm>,
 }
 
 pub(super) fn step(number: &u32) -> Step {

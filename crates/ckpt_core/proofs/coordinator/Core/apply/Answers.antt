@@ -1,18 +1,6 @@
 -- The parts are sound again after a call, and a call that was not tested first names a refusal exactly if it is refused.
-use Rattle.std.proofs.Common.{◌≡◌, sym, ap, subst, ◌∙◌, Some}
-use Rattle.std.specs.Prelude.{Result, Ok, Err, IfOk, IfErr}
-use Rattle.std.specs.Result.{MatchResult, IsErrAnd}
-use Rattle.std.proofs.lemmas.Result.{err_from_is_err_and}
-use Rattle.ckpt_ids.specs.declared.call.Call.{Call}
-use Rattle.ckpt_ids.specs.declared.call.Call.TheVariants.{Deleted, Dispose, Undeleted}
-use Rattle.ckpt_ids.specs.declared.reply.Reply.{Reply}
-use Rattle.ckpt_ids.specs.declared.reply.Refusal.{Refusal}
-use Rattle.ckpt_model.specs.declared.faults.CoreFault.{CoreFault}
-use Rattle.ckpt_model.specs.declared.faults.CoreFault.TheVariants.{Refused}
-use Rattle.ckpt_core.specs.declared.parts.Parts.{Parts}
-use Rattle.ckpt_core.specs.Inside.Parts.{Answers, state_of}
-use Rattle.ckpt_model.specs.Refusals.{refusal}
-use Rattle.ckpt_model.specs.State.{State}
+use Rattle.ckpt_core.proofs.Names.{◌≡◌, sym, ap, subst, ◌∙◌, Some, Result, Ok, Err, IfOk, IfErr, MatchResult, IsErrAnd, err_from_is_err_and, Call, Deleted, Dispose, Undeleted, Reply, Refusal}
+use Rattle.ckpt_core.proofs.Names.{CoreFault, Refused, Parts, Answers, state_of, refusal, State}
 use Rattle.ckpt_core.proofs.Answering.Calls.{sound_after}
 use Rattle.ckpt_core.proofs.Answering.Reports.{NamesRefusal, accepted_done, names_it, names_none}
 use Rattle.ckpt_core.proofs.coordinator.Core.apply.Goals as goal

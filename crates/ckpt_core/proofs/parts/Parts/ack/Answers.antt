@@ -1,10 +1,5 @@
 -- The record at the place is that of the number, and it lacks an acknowledgement.
-use Rattle.std.proofs.Common.{◌≡◌, ◌<◌, ◌≤◌, ◌∙◌, Some, sym, arith}
-use Rattle.std.specs.Prelude.{find}
-use Rattle.ckpt_ids.specs.Records.{missing}
-use Rattle.ckpt_ids.proofs.ResultLemmas.{on_each_error}
-use Rattle.ckpt_store.specs.Storing.{has_id}
-use Rattle.ckpt_store.proofs.RowLemmas.{find-place}
+use Rattle.ckpt_core.proofs.Names.{◌≡◌, ◌<◌, ◌≤◌, ◌∙◌, Some, sym, arith, find, missing, on_each_error, has_id, find-place}
 use Rattle.ckpt_core.proofs.Acknowledging.States.{IsTaking, acked_wants, it_lacks}
 use Rattle.ckpt_core.proofs.parts.Parts.ack.Goals as goal
 use Rattle.ckpt_core.proofs.parts.Parts.ack.Goals.{After-missing-missing}

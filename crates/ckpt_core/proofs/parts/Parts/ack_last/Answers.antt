@@ -1,18 +1,6 @@
 -- The parts after each call are those of the lemmas.
-use Rattle.std.proofs.Common.{◌≡◌, ◌∙◌, ap, sym, subst}
-use Rattle.std.proofs.lemmas.Option.{same_Some}
-use Rattle.std.specs.Prelude.{find, slice_get}
-use Rattle.ckpt_ids.specs.Ordered.{IsInOrder}
-use Rattle.ckpt_ids.specs.Places.{LiesAt}
-use Rattle.ckpt_ids.specs.Records.{missing}
-use Rattle.ckpt_store.specs.Storing.{has_id, id_of}
-use Rattle.ckpt_store.proofs.RowLemmas.{find-place}
-use Rattle.ckpt_core.specs.Inside.Completing.{IsMissing}
-use Rattle.ckpt_model.specs.Soundness.{id_before}
-use Rattle.ckpt_ids.specs.declared.reply.Reply.TheVariants.{AckCompleted}
-use Rattle.ckpt_core.specs.declared.parts.Parts.{Parts}
-use Rattle.ckpt_core.specs.Inside.Parts.{Stays}
-use Rattle.ckpt_ids.proofs.ResultLemmas.{on_each_error}
+use Rattle.ckpt_core.proofs.Names.{◌≡◌, ◌∙◌, ap, sym, subst, same_Some, find, slice_get, IsInOrder, LiesAt, missing, has_id, id_of, find-place, IsMissing, id_before, AckCompleted, Parts, Stays}
+use Rattle.ckpt_core.proofs.Names.{on_each_error}
 use Rattle.ckpt_core.proofs.Acknowledging.States.{IsRoomier, roomier_accepted, roomier_sound, roomier_stays, taking_from}
 use Rattle.ckpt_core.proofs.Completing.Answers.{checkpoint_answers, savepoint_answers}
 use Rattle.ckpt_core.proofs.Completing.Calls.{IsLast, CanComplete, can_complete, last_above, last_made, last_new, lies_taken, made_place, none_missing, order_taken}

@@ -1,9 +1,6 @@
 -- The unknown files are those of the step, and memory is wanted only if there are any.
-use Rattle.std.proofs.Common.{◌∙◌, ap, sym, length, arith}
-use Rattle.ckpt_model.proofs.Answering.Accepted.{accepted_ack}
-use Rattle.ckpt_core.specs.Inside.Parts.{state_of}
+use Rattle.ckpt_core.proofs.Names.{◌∙◌, ap, sym, length, arith, accepted_ack, state_of, on_each_error}
 use Rattle.ckpt_core.proofs.Acknowledging.Late.{late_wants, unknown_counted, unknown_distinct, unknown_new, late_answers}
-use Rattle.ckpt_ids.proofs.ResultLemmas.{on_each_error}
 use Rattle.ckpt_core.proofs.parts.Parts.ack_late.Goals as goal
 
 pub returns-in_err-unknown-clause-memory : goal.returns-in_err-unknown-clause-memory

@@ -1,11 +1,5 @@
 -- Making room leaves the state as it is, and so does what fails; what was taken is the step.
-use Rattle.std.proofs.Common.{◌+◌, ◌≤◌, sym, subst, length, arith}
-use Rattle.ckpt_ids.specs.Places.{LiesAt}
-use Rattle.ckpt_store.specs.Storing.{id_of}
-use Rattle.ckpt_core.specs.declared.parts.Parts.{Parts}
-use Rattle.ckpt_core.specs.Inside.Parts.{Stays}
-use Rattle.ckpt_model.specs.Reads.{present_in}
-use Rattle.ckpt_ids.proofs.ResultLemmas.{on_each_error}
+use Rattle.ckpt_core.proofs.Names.{◌+◌, ◌≤◌, sym, subst, length, arith, LiesAt, id_of, Parts, Stays, present_in, on_each_error}
 use Rattle.ckpt_core.proofs.Acknowledging.States.{made_room, room_made, roomier_accepted, roomier_sound, roomier_stays, taking_from, waiting_answers}
 use Rattle.ckpt_core.proofs.parts.Parts.ack_waiting.Goals as goal
 

@@ -1,11 +1,5 @@
 -- Answers the goals of `Parts::add`.
-use Rattle.std.proofs.Common.{◌≡◌, ℕ, ◌+◌, ◌<◌, not, eqb, List, [], ◌∷◌, ◌++◌, refl, sym, ap, subst, ◌∙◌, arith}
-use Rattle.std.specs.List.{filter}
-use Rattle.ckpt_ids.specs.Records.{Record}
-use Rattle.ckpt_core.specs.declared.parts.Parts.{Parts}
-use Rattle.ckpt_core.specs.Inside.Parts.{state_of, AreTied}
-use Rattle.ckpt_core.specs.Inside.Starting.{files_chosen, pinned}
-use Rattle.ckpt_model.specs.Soundness.{IsSound}
+use Rattle.ckpt_core.proofs.Names.{◌≡◌, ℕ, ◌+◌, ◌<◌, not, eqb, List, [], ◌∷◌, ◌++◌, refl, sym, ap, subst, ◌∙◌, arith, filter, Record, Parts, state_of, AreTied, files_chosen, pinned, IsSound}
 use Rattle.ckpt_core.proofs.Using.CountBound.{registry_bound}
 use Rattle.ckpt_core.proofs.Triggering.Chosen.{files_chosen-pins}
 use Rattle.ckpt_core.proofs.Triggering.TriggerParts.{made_record, older_pending, older_uses, triggered_state, triggered_tied, undone_state}

@@ -1,8 +1,5 @@
 -- The calls that always take memory may take it.
-use Rattle.std.proofs.Common.{ℕ, Option, Some, rules, subst}
-use Rattle.ckpt_ids.specs.declared.call.Call.{Call}
-use Rattle.ckpt_ids.specs.declared.call.Call.TheVariants.{Ack, Savepoint, Restore, Take}
-use Rattle.ckpt_core.specs.Inside.Parts.{IsPlaceIn, state_of}
+use Rattle.ckpt_core.proofs.Names.{ℕ, Option, Some, rules, subst, Call, Ack, Savepoint, Restore, Take, IsPlaceIn, state_of}
 use Rattle.ckpt_core.proofs.Answering.Calls.{wants_here, savepoint_wants, restore_wants, take_wants}
 use Rattle.ckpt_core.proofs.parts.Parts.answer.Goals as goal
 

@@ -1,12 +1,5 @@
 -- Answers the goals of `Parts::begun`.
-use Rattle.std.proofs.Common.{◌≡◌, ℕ, ◌+◌, List, [], refl, ap, ◌∙◌, arith}
-use Rattle.ckpt_ids.specs.Records.{Record}
-use Rattle.ckpt_outbox.specs.Queues.{Queues}
-use Rattle.ckpt_rules.specs.FailureCount.{FailureCount}
-use Rattle.ckpt_rules.specs.Moments.{Moments}
-use Rattle.ckpt_store.specs.Storing.{Stored}
-use Rattle.ckpt_core.specs.Inside.Grouped.{records_of}
-use Rattle.ckpt_core.specs.Inside.Parts.{state_of}
+use Rattle.ckpt_core.proofs.Names.{◌≡◌, ℕ, ◌+◌, List, [], refl, ap, ◌∙◌, arith, Record, Queues, FailureCount, Moments, Stored, records_of, state_of}
 use Rattle.ckpt_core.proofs.Loaded.Reopened.{state_same}
 use Rattle.ckpt_core.proofs.parts.Parts.begun.Goals as goal
 

@@ -1,6 +1,5 @@
 -- After the drop the job has no base, and ends.
-use Rattle.ckpt_core.specs.Inside.Parts.{state_of}
-use Rattle.ckpt_model.proofs.Answering.Accepted.{accepted_cancel}
+use Rattle.ckpt_core.proofs.Names.{state_of, accepted_cancel}
 use Rattle.ckpt_core.proofs.Ending.Moves.{cancelled_answers}
 use Rattle.ckpt_core.proofs.parts.Parts.cancel.Goals as goal
 

@@ -1,12 +1,8 @@
 -- The numbers that were noted are those of what is superseded.
-use Rattle.std.proofs.Common.{◌≡◌, ◌∙◌, ◌++◌, [], ap, sym, List, ℕ, length, Some, arith}
-use Rattle.ckpt_ids.specs.declared.reply.Reply.TheVariants.{AckCompleted}
-use Rattle.ckpt_ids.specs.Records.{Record, Use, released}
-use Rattle.ckpt_registry.specs.Uses.{after_end}
-use Rattle.ckpt_core.specs.Inside.Completing.{superseded, surplus, earlier}
+use Rattle.ckpt_core.proofs.Names.{◌≡◌, ◌∙◌, ◌++◌, [], ap, sym, List, ℕ, length, Some, arith, AckCompleted, Record, Use, released, after_end, surplus, earlier, handed_after, left_pending}
+use Rattle.ckpt_core.specs.Inside.Completing.{superseded}
 use Rattle.ckpt_core.proofs.Completing.Parts.{checkpoint_parts, few_earlier, few_superseded}
 use Rattle.ckpt_core.proofs.parts.Parts.complete_checkpoint.Goals as goal
-use Rattle.ckpt_core.specs.Inside.Moving.{handed_after, left_pending}
 
 noted : (done : Record) (pending : List Record) (id : ℕ) (old new : List ℕ) → id ≡ done.id → old ≡ [] → new ≡ old ++ earlier id pending → new ≡ earlier done.id pending
 noted done pending id old new same none e = e ∙ ap (λ i. old ++ earlier i pending) same ∙ ap (λ ids. ids ++ earlier done.id pending) none

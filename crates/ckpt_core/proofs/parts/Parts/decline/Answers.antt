@@ -1,25 +1,9 @@
 -- A late decline changes only the moment; a decline of a pending record is a step of the state, whether the job fails over or not.
-use Rattle.std.proofs.Common.{◌≡◌, ◌+◌, Bool, true, false, ◌&&◌, cond, ltb, Some, None, refl, ap, sym, subst, ◌∙◌, arith}
-use Rattle.std.specs.Prelude.{find}
-use Rattle.std.proofs.lemmas.Bool.{eqb-true}
-use denote.Enum.Bare.{sameb}
-use Rattle.ckpt_ids.specs.contracts.numbers.Kind.{the_type}
+use Rattle.ckpt_core.proofs.Names.{◌≡◌, ◌+◌, Bool, true, false, ◌&&◌, cond, ltb, Some, None, refl, ap, sym, subst, ◌∙◌, arith, find, eqb-true, sameb, the_type, LiesAt, Record, Moments, id_of}
+use Rattle.ckpt_core.proofs.Names.{find-place, Parts, with_pins, IsPlaceOf, records_in, state_of, Answers, pending_of, is_checkpoint, failures_with, fails_the_job, accepted_decline, IsIn-from_find}
 use Rattle.ckpt_ids.specs.declared.numbers.Kind.TheVariants as kind
 use Rattle.ckpt_ids.specs.declared.call.Call.TheVariants as call
 use Rattle.ckpt_ids.specs.declared.reply.Reply.TheVariants as reply
-use Rattle.ckpt_ids.specs.Places.{LiesAt}
-use Rattle.ckpt_ids.specs.Records.{Record}
-use Rattle.ckpt_rules.specs.Moments.{Moments}
-use Rattle.ckpt_store.specs.Storing.{id_of}
-use Rattle.ckpt_store.proofs.RowLemmas.{find-place}
-use Rattle.ckpt_core.specs.declared.parts.Parts.{Parts}
-use Rattle.ckpt_core.specs.Inside.Grouped.{with_pins}
-use Rattle.ckpt_core.specs.Inside.Parts.{IsPlaceOf, records_in, state_of, Answers}
-use Rattle.ckpt_model.specs.Refusals.{pending_of}
-use Rattle.ckpt_model.specs.State.{is_checkpoint}
-use Rattle.ckpt_model.specs.Steps.{failures_with, fails_the_job}
-use Rattle.ckpt_model.proofs.Answering.Accepted.{accepted_decline}
-use Rattle.ckpt_model.proofs.Records.Counts.{IsIn-from_find}
 use Rattle.ckpt_core.proofs.Records.Lookups.{has_number}
 use Rattle.ckpt_core.proofs.Ending.Drops.{groups_of}
 use Rattle.ckpt_core.proofs.Ending.Moves.{late_answers, pending_there, few_failed, failed_answers, aborted_answers, declined_as, kind_test, are_too_many}

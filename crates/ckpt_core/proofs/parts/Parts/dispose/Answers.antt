@@ -1,14 +1,8 @@
 -- A savepoint that is there and not the base is let go; the table refuses the other disposals.
-use Rattle.std.proofs.Common.{◌≡◌, ℕ, ◌++◌, ◌∷◌, [], true, false, eqb, refl, ap, ◌∙◌, arith, Option, Some, None, Result, Ok, Err}
-use Rattle.std.proofs.lemmas.Bool.{eqb-true, eq-eqb, true_from_ne_false, false_from_ne_true}
-use Rattle.ckpt_ids.specs.declared.call.Call.TheVariants.{Dispose}
+use Rattle.ckpt_core.proofs.Names.{◌≡◌, ℕ, ◌++◌, ◌∷◌, [], true, false, eqb, refl, ap, ◌∙◌, arith, Option, Some, None, Result, Ok, Err, eqb-true, eq-eqb, true_from_ne_false, false_from_ne_true}
+use Rattle.ckpt_core.proofs.Names.{Dispose, Disposed, DisposeFault, has_savepoint, Drops, state_of, is_number, refusal}
 use Rattle.ckpt_ids.specs.declared.reply.Refusal.TheVariants as refusals
-use Rattle.ckpt_ids.specs.declared.reply.Reply.TheVariants.{Disposed}
-use Rattle.ckpt_store.specs.declared.store.DisposeFault.{DisposeFault}
 use Rattle.ckpt_store.specs.declared.store.DisposeFault.TheVariants.{NoSuchSavepoint, InUse}
-use Rattle.ckpt_store.specs.Storing.{has_savepoint}
-use Rattle.ckpt_core.specs.Inside.Parts.{Drops, state_of}
-use Rattle.ckpt_model.specs.Refusals.{is_number, refusal}
 use Rattle.ckpt_core.proofs.Answering.RefusalLookups.{done_savepoint-parts}
 use Rattle.ckpt_core.proofs.Answering.Reports.{names_it, names_none, refusal_dispose}
 use Rattle.ckpt_core.proofs.Ending.Drops.{none_known, room_to_note}

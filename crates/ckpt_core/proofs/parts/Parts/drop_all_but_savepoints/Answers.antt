@@ -1,9 +1,6 @@
 -- All numbers but those of the savepoints are noted, and each of these records is gone.
-use Rattle.std.proofs.Common.{◌≡◌, ℕ, ◌+◌, true, false, ◌++◌, length, sym, ap, subst, ◌∙◌, arith, length-append}
-use Rattle.std.proofs.lemmas.List.{length-map}
-use Rattle.ckpt_ids.specs.Records.{Record, is_present}
-use Rattle.ckpt_outbox.specs.Queues.{is_known}
-use Rattle.ckpt_core.specs.declared.parts.Parts.{Parts}
+use Rattle.ckpt_core.proofs.Names.{◌≡◌, ℕ, ◌+◌, true, false, ◌++◌, length, sym, ap, subst, ◌∙◌, arith, length-map, Record, is_present, is_known, Parts}
+use Rattle.std.proofs.Common.{length-append}
 use Rattle.ckpt_core.proofs.Ending.Drops.{numbers, staying, groups_of, none_known, room_to_note}
 use Rattle.ckpt_core.proofs.Ending.DropDone.{emptied, others_dropped}
 use Rattle.ckpt_core.proofs.parts.Parts.drop_all_but_savepoints.Goals as goal

@@ -1,8 +1,5 @@
 -- What a cancelled job drops, by its configuration, is counted in the groups.
-use Rattle.std.proofs.Common.{◌+◌, ◌||◌, length, ap, sym, ◌∙◌, arith}
-use Rattle.ckpt_core.specs.Inside.Parts.{state_of}
-use Rattle.ckpt_model.specs.State.{is_pending, is_done_checkpoint}
-use Rattle.ckpt_model.specs.Steps.{cancelled}
+use Rattle.ckpt_core.proofs.Names.{◌+◌, ◌||◌, length, ap, sym, ◌∙◌, arith, state_of, is_pending, is_done_checkpoint, cancelled}
 use Rattle.ckpt_core.proofs.Ending.Drops.{groups_of, drops_same}
 use Rattle.ckpt_core.proofs.Ending.Counts.{few_pending, few_done, kept_tests, all_tests, pending_counted, all_counted}
 use Rattle.ckpt_core.proofs.parts.Parts.drop_cancelled.Goals as goal

@@ -1,7 +1,5 @@
 -- The base is set first: it is a savepoint that is there, so the state stays sound, and the drop leaves it.
-use Rattle.std.proofs.Common.{◌||◌, sym, ◌∙◌}
-use Rattle.ckpt_core.specs.Inside.Parts.{state_of}
-use Rattle.ckpt_model.specs.State.{is_pending, is_done_checkpoint}
+use Rattle.ckpt_core.proofs.Names.{◌||◌, sym, ◌∙◌, state_of, is_pending, is_done_checkpoint}
 use Rattle.ckpt_core.proofs.Ending.Drops.{groups_of}
 use Rattle.ckpt_core.proofs.Ending.Moves.{based_sound, based_state, based_count}
 use Rattle.ckpt_core.proofs.Records.GroupLookups.{done_savepoint-groups}

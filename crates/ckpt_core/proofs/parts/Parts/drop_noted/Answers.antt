@@ -1,17 +1,7 @@
 -- Dropping the noted records is a drop by number; the done ones stay, since none of them is noted.
-use Rattle.std.proofs.Common.{◌≡◌, ℕ, not, List, [], ◌++◌, length, refl, sym, ap, subst, ◌∙◌, None}
-use Rattle.std.specs.List.{filter}
-use Rattle.std.specs.Vec.{vec_len}
-use Rattle.std.proofs.lemmas.Bool.{eqb-true}
-use Rattle.std.proofs.lemmas.List.{append-nil, nil_from_length}
-use Rattle.ckpt_ids.specs.Records.{Record, released, uses}
-use Rattle.ckpt_ids.proofs.OrderedLemmas.{filter-all}
-use Rattle.ckpt_core.specs.declared.parts.Parts.{Parts}
-use Rattle.ckpt_core.specs.Inside.Parts.{AreTied, Drops, is_noted, state_of}
-use Rattle.ckpt_model.specs.State.{State, drop, kept, unpinned}
-use Rattle.ckpt_model.proofs.Records.Counts.{map_itself}
+use Rattle.ckpt_core.proofs.Names.{◌≡◌, ℕ, not, List, [], ◌++◌, length, refl, sym, ap, subst, ◌∙◌, None, filter, vec_len, eqb-true, append-nil, nil_from_length, Record, released, uses, filter-all}
+use Rattle.ckpt_core.proofs.Names.{Parts, AreTied, Drops, is_noted, state_of, State, drop, kept, unpinned, map_itself, grouped}
 use Rattle.ckpt_core.proofs.Ending.HandOut.{nothing_released}
-use Rattle.ckpt_core.specs.Inside.Grouped.{grouped}
 use Rattle.ckpt_core.proofs.Ending.Drops.{left, staying, drops_from, staying_done}
 use Rattle.ckpt_core.proofs.Records.Grouped.{apart-from_in_order}
 use Rattle.ckpt_core.proofs.parts.Parts.drop_noted.Goals as goal

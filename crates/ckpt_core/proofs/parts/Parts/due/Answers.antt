@@ -1,8 +1,5 @@
 -- Answers the goals of `Parts::due`.
-use Rattle.std.proofs.Common.{◌≡◌, sym, subst}
-use Rattle.ckpt_core.specs.Inside.Parts.{state_of}
-use Rattle.ckpt_model.specs.Reads.{NoneIsEarlyFrom, NoneTriggersBefore, next_due}
-use Rattle.ckpt_model.proofs.Due.{none_before, none_early}
+use Rattle.ckpt_core.proofs.Names.{◌≡◌, sym, subst, state_of, NoneIsEarlyFrom, NoneTriggersBefore, next_due, none_before, none_early}
 use Rattle.ckpt_core.proofs.parts.Parts.due.Goals as goal
 
 is_due : (c : goal.After-due) → c.due.result ≡ next_due (state_of c.args.self.now)

@@ -1,15 +1,9 @@
 -- Answers the goals of `Parts::expire`.
-use Rattle.std.proofs.Common.{◌≡◌, true, sym, ap, subst, ◌∙◌}
-use Rattle.std.specs.Prelude.{IfOk, OnErr}
+use Rattle.ckpt_core.proofs.Names.{◌≡◌, true, sym, ap, subst, ◌∙◌, IfOk, OnErr, state_of, answer_wants, IsSound, State, tick}
 use Rattle.ckpt_ids.specs.declared.call.Call.TheVariants as call
 use Rattle.ckpt_ids.specs.declared.reply.Answer.TheVariants as answer
 use Rattle.ckpt_ids.specs.declared.reply.Reply.TheVariants as reply
 use Rattle.ckpt_core.specs.declared.triggers.Ticked.{Ticked}
-use Rattle.ckpt_core.specs.Inside.Parts.{state_of}
-use Rattle.ckpt_model.specs.Memory.{answer_wants}
-use Rattle.ckpt_model.specs.Soundness.{IsSound}
-use Rattle.ckpt_model.specs.State.{State}
-use Rattle.ckpt_model.specs.Steps.{tick}
 use Rattle.ckpt_core.proofs.parts.Parts.expire.Goals as goal
 
 pub fail_expired-requires-clause-sound : goal.fail_expired-requires-clause-sound

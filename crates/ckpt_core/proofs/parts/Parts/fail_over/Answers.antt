@@ -1,9 +1,5 @@
 -- Only the mode changes after the drop.
-use Rattle.std.proofs.Common.{ap}
-use Rattle.ckpt_model.specs.declared.mode.Mode.TheVariants.{Failed}
-use Rattle.ckpt_core.specs.Inside.Parts.{state_of}
-use Rattle.ckpt_model.specs.State.{State}
-use Rattle.ckpt_model.specs.Steps.{failed_over}
+use Rattle.ckpt_core.proofs.Names.{ap, Failed, state_of, State, failed_over}
 use Rattle.ckpt_core.proofs.parts.Parts.fail_over.Goals as goal
 
 pub returns-clause-state : goal.returns-clause-state

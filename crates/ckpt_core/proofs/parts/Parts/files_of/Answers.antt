@@ -1,11 +1,5 @@
 -- The files of a pending record, of a stored one, or of none.
-use Rattle.std.proofs.Common.{◌≡◌, ◌∙◌, Some, None, sym, ap}
-use Rattle.std.specs.Prelude.{find}
-use Rattle.std.specs.Option.{option_and_then, option_copied}
-use Rattle.ckpt_ids.specs.Records.{Record}
-use Rattle.ckpt_pending.specs.Acknowledging.{files_from}
-use Rattle.ckpt_core.specs.Inside.Parts.{state_of}
-use Rattle.ckpt_model.specs.State.{record_of}
+use Rattle.ckpt_core.proofs.Names.{◌≡◌, ◌∙◌, Some, None, sym, ap, find, option_and_then, option_copied, Record, files_from, state_of, record_of}
 use Rattle.ckpt_core.proofs.Answering.Reads.{pending_live, stored_record}
 use Rattle.ckpt_core.proofs.Reading.Live.{live_in_order}
 use Rattle.ckpt_core.proofs.Records.Lookups.{has_number}

@@ -1,6 +1,5 @@
 -- The record that is taken out lacks no acknowledgement, so it finishes.
-use Rattle.std.proofs.Common.{◌≡◌, ◌∙◌}
-use Rattle.ckpt_ids.specs.Records.{missing}
+use Rattle.ckpt_core.proofs.Names.{◌≡◌, ◌∙◌, missing}
 use Rattle.ckpt_core.proofs.parts.Parts.finish.Goals as goal
 
 pub unwrap-requires : goal.unwrap-requires

@@ -1,6 +1,5 @@
 -- The first of the pending ones, of the checkpoints or of the savepoints.
-use Rattle.std.proofs.Common.{◌∙◌, ap}
-use Rattle.ckpt_model.specs.Reads.{sooner}
+use Rattle.ckpt_core.proofs.Names.{◌∙◌, ap, sooner}
 use Rattle.ckpt_core.proofs.Reading.Live.{first_live}
 use Rattle.ckpt_core.proofs.parts.Parts.first_from.Goals as goal
 

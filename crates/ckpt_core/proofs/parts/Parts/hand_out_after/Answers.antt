@@ -1,7 +1,5 @@
 -- What is released can be put: it was in use, so it has room and is unknown, and it is ascending.
-use Rattle.std.proofs.Common.{◌≡◌, ◌∙◌, List, ap}
-use Rattle.ckpt_ids.specs.Records.{Use, released}
-use Rattle.ckpt_registry.specs.Uses.{after_end}
+use Rattle.ckpt_core.proofs.Names.{◌≡◌, ◌∙◌, List, ap, Use, released, after_end}
 use Rattle.ckpt_core.proofs.Ending.HandOut.{CanBePut, can_be_put}
 use Rattle.ckpt_core.proofs.parts.Parts.hand_out_after.Goals as goal
 

@@ -1,15 +1,9 @@
 -- Answers the goals of `Parts::has_room_for`.
-use Rattle.std.proofs.Common.{rules, ◌≡◌, ◌+◌, ◌<◌, not, eqb, sym, ap, ◌∙◌, arith}
-use Rattle.std.proofs.lemmas.Bool.{both_ways, ltb-true, ltb-false, and_from}
-use Rattle.ckpt_ids.specs.Records.{Record}
-use Rattle.ckpt_core.specs.declared.parts.Parts.{Parts}
-use Rattle.ckpt_model.specs.Images.{record_in}
-use Rattle.ckpt_core.specs.Inside.Parts.{opening_of, records_in}
-use Rattle.ckpt_model.specs.State.{is_checkpoint, is_pending}
+use Rattle.ckpt_core.proofs.Names.{rules, ◌≡◌, ◌+◌, ◌<◌, not, eqb, sym, ap, ◌∙◌, arith, both_ways, ltb-true, ltb-false, and_from, Record, Parts, record_in, opening_of, records_in, is_checkpoint}
+use Rattle.ckpt_core.proofs.Names.{is_pending, is_checkpoint-kind, is_savepoint-kind}
 use Rattle.ckpt_core.proofs.Ending.Drops.{groups_of}
 use Rattle.ckpt_core.proofs.Loaded.Loads.{done_checkpoints-groups, room_done, room_pending, room_savepoint}
 use Rattle.ckpt_core.proofs.Records.GroupLookups.{pending_checkpoints-groups, savepoints-groups}
-use Rattle.ckpt_model.proofs.Records.Lists.{is_checkpoint-kind, is_savepoint-kind}
 use Rattle.ckpt_core.proofs.parts.Parts.has_room_for.Goals as goal
 
 pub overflow_add-savepoints : goal.overflow_add-savepoints

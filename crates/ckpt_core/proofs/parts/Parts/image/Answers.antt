@@ -1,10 +1,6 @@
 -- Answers the goals of `Parts::image`.
-use Rattle.std.proofs.Common.{ℕ, List, refl, sym, ap, subst, ◌∙◌}
-use Rattle.ckpt_model.specs.Images.{CanHold}
-use Rattle.ckpt_core.specs.Inside.Parts.{state_of}
-use Rattle.ckpt_model.specs.State.{State}
+use Rattle.ckpt_core.proofs.Names.{ℕ, List, refl, sym, ap, subst, ◌∙◌, CanHold, state_of, State, settled_can_hold}
 use Rattle.ckpt_core.proofs.Loaded.Reopened.{state_same}
-use Rattle.ckpt_model.proofs.Images.Settled.{settled_can_hold}
 use Rattle.ckpt_core.proofs.parts.Parts.image.Goals as goal
 
 pub returns-clause-value : goal.returns-clause-value

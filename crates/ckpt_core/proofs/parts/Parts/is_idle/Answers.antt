@@ -1,7 +1,5 @@
 -- Answers the goals of `Parts::is_idle`.
-use Rattle.std.proofs.Common.{◌≡◌, eqb, length, sym, ap, ◌∙◌}
-use Rattle.std.proofs.lemmas.Bool.{both_ways, eqb-true}
-use Rattle.ckpt_core.specs.declared.parts.Parts.{Parts}
+use Rattle.ckpt_core.proofs.Names.{◌≡◌, eqb, length, sym, ap, ◌∙◌, both_ways, eqb-true, Parts}
 use Rattle.ckpt_core.proofs.Loaded.Reopened.{all_done, not_all_done}
 use Rattle.ckpt_core.proofs.parts.Parts.is_idle.Goals as goal
 

@@ -1,10 +1,5 @@
 -- At each turn as many records are below the number as turns were made.
-use Rattle.std.proofs.Common.{rules, ◌≡◌, ◌∙◌, ◌+◌, ◌<◌, ◌^◌, Some, None, sym, ap, arith}
-use Rattle.std.specs.Prelude.{count_by, find}
-use Rattle.std.specs.Option.{option_map}
-use Rattle.ckpt_model.specs.declared.reads.Live.{Live}
-use Rattle.ckpt_core.specs.Inside.Parts.{records_in}
-use Rattle.ckpt_model.specs.Reads.{live_of}
+use Rattle.ckpt_core.proofs.Names.{rules, ◌≡◌, ◌∙◌, ◌+◌, ◌<◌, ◌^◌, Some, None, sym, ap, arith, count_by, find, option_map, Live, records_in, live_of}
 use Rattle.ckpt_core.proofs.Reading.Live.{is_below, is_from, live_bound, live_in_order, none_below_zero, walk_ended, walk_goes_on, walk_stopped}
 use Rattle.ckpt_core.proofs.parts.Parts.live.Goals as goal
 

@@ -1,10 +1,5 @@
 -- Answers the goals of `Parts::load_acknowledged`.
-use Rattle.std.proofs.Common.{◌≡◌, ◌<◌, List, [], ◌∷◌, ◌++◌, refl, sym, ap, subst, ◌∙◌, arith}
-use Rattle.ckpt_ids.specs.Records.{Record, count, uses}
-use Rattle.ckpt_model.specs.declared.image.Saved.{Saved}
-use Rattle.ckpt_model.specs.Images.{record_in}
-use Rattle.ckpt_core.specs.Inside.Parts.{opening_of, records_in}
-use Rattle.ckpt_core.specs.Inside.SoundRecords.{Joins}
+use Rattle.ckpt_core.proofs.Names.{◌≡◌, ◌<◌, List, [], ◌∷◌, ◌++◌, refl, sym, ap, subst, ◌∙◌, arith, Record, count, uses, Saved, record_in, opening_of, records_in, Joins}
 use Rattle.ckpt_core.proofs.Loaded.Bounds.{few_records, few_uses}
 use Rattle.ckpt_core.proofs.Loaded.Joining.{joined_records}
 use Rattle.ckpt_core.proofs.Loaded.Loads.{not_full, pending_is_record, pending_same, state_pending}

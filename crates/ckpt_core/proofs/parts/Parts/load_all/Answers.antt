@@ -1,13 +1,7 @@
 -- Answers the goals of `Parts::load_all`.
-use Rattle.std.proofs.Common.{rules, ◌≡◌, ℕ, ◌+◌, ◌<◌, Err, List, [], ◌∷◌, ◌++◌, length, map, take, drop, get_or, refl, sym, ap, subst, ◌∙◌}
-use Rattle.std.proofs.lemmas.List.{append_assoc, map-append, take-append-drop, take_all, take_more}
-use Rattle.ckpt_ids.specs.Records.{Record}
-use Rattle.ckpt_core.specs.declared.image.ImageFault.TheVariants.{Damaged}
-use Rattle.ckpt_model.specs.declared.image.Saved.{Saved}
-use Rattle.ckpt_core.specs.declared.parts.Parts.{Parts}
-use Rattle.ckpt_model.specs.Images.{record_in}
-use Rattle.ckpt_core.specs.Inside.Parts.{opening_of, state_of}
-use Rattle.ckpt_model.specs.Soundness.{AreSoundRecords}
+use Rattle.ckpt_core.proofs.Names.{rules, ◌≡◌, ℕ, ◌+◌, ◌<◌, Err, List, [], ◌∷◌, ◌++◌, length, map, take, get_or, refl, sym, ap, subst, ◌∙◌, append_assoc, map-append, take-append-drop, take_all}
+use Rattle.ckpt_core.proofs.Names.{take_more, Record, Damaged, Saved, Parts, record_in, opening_of, state_of, AreSoundRecords}
+use Rattle.std.proofs.Common.{drop}
 use Rattle.ckpt_core.proofs.Loaded.Joining.{joined_records}
 use Rattle.ckpt_core.proofs.Loaded.Reopened.{beside, beside_itself, joins_before, joins_beside, joins_in_list, more_beside, no_records_sound, sound_beside}
 use Rattle.ckpt_core.proofs.parts.Parts.load_all.Goals as goal

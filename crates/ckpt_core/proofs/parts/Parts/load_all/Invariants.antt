@@ -1,8 +1,5 @@
 -- The loop invariants of `Parts::load_all`.
-use Rattle.std.proofs.Common.{◌≡◌, map, take}
-use Rattle.ckpt_model.specs.Images.{record_in}
-use Rattle.ckpt_core.specs.Inside.Parts.{AreTied, opening_of, state_of}
-use Rattle.ckpt_model.specs.Soundness.{AreSoundRecords}
+use Rattle.ckpt_core.proofs.Names.{◌≡◌, map, take, record_in, AreTied, opening_of, state_of, AreSoundRecords}
 use Rattle.ckpt_core.proofs.parts.Parts.load_all.Given as goal
 
 abbrev pub invariant-loop-saved : goal.invariant-loop-saved

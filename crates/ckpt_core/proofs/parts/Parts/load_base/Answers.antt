@@ -1,10 +1,5 @@
 -- Answers the goals of `Parts::load_base`.
-use Rattle.std.proofs.Common.{rules, ◌≡◌, ℕ, true, sym, ap, subst, ◌∙◌, Option, Some, None}
-use Rattle.std.proofs.lemmas.Bool.{both_ways}
-use Rattle.ckpt_store.specs.Storing.{has_savepoint}
-use Rattle.ckpt_core.specs.declared.parts.Parts.{Parts}
-use Rattle.ckpt_core.specs.Inside.Parts.{state_of}
-use Rattle.ckpt_model.specs.Refusals.{is_done_savepoint}
+use Rattle.ckpt_core.proofs.Names.{rules, ◌≡◌, ℕ, true, sym, ap, subst, ◌∙◌, Option, Some, None, both_ways, has_savepoint, Parts, state_of, is_done_savepoint}
 use Rattle.ckpt_core.proofs.Answering.RefusalLookups.{done_savepoint-parts}
 use Rattle.ckpt_core.proofs.Loaded.Reopened.{set_state, with_base}
 use Rattle.ckpt_core.proofs.parts.Parts.load_base.Goals as goal

@@ -1,21 +1,12 @@
 -- Answers the goals of `Parts::load_done`.
-use Rattle.std.proofs.Common.{◌≡◌, true, ◌&&◌, [], ◌∷◌, ◌++◌, OnOk, Result, Ok, Err, ap, subst, ◌∙◌, arith}
-use Rattle.ckpt_ids.specs.declared.ack.Acked.{Acked}
+use Rattle.ckpt_core.proofs.Names.{◌≡◌, true, ◌&&◌, [], ◌∷◌, ◌++◌, OnOk, Result, Ok, Err, ap, subst, ◌∙◌, arith, Acked, IsAscendingSet, IsIn, Record, Parts, record_in, with_done, records_in}
+use Rattle.ckpt_core.proofs.Names.{is_checkpoint, is_checkpoint-kind}
 use Rattle.ckpt_ids.specs.declared.numbers.Kind.TheVariants as kind
-use Rattle.ckpt_ids.specs.Ascending.{IsAscendingSet}
-use Rattle.ckpt_ids.specs.Ordered.{IsIn}
-use Rattle.ckpt_ids.specs.Records.{Record}
-use Rattle.ckpt_core.specs.declared.parts.Parts.{Parts}
-use Rattle.ckpt_model.specs.Images.{record_in}
-use Rattle.ckpt_core.specs.Inside.Moving.{with_done}
-use Rattle.ckpt_core.specs.Inside.Parts.{records_in}
-use Rattle.ckpt_model.specs.State.{is_checkpoint}
 use Rattle.ckpt_core.proofs.Ending.Drops.{groups_of}
 use Rattle.ckpt_core.proofs.Loaded.Bounds.{few_records, few_uses}
 use Rattle.ckpt_core.proofs.Loaded.Joining.{joined_records}
 use Rattle.ckpt_core.proofs.Loaded.Loads.{done_checkpoints-groups, state_done}
 use Rattle.ckpt_core.proofs.Records.GroupLookups.{savepoints-groups}
-use Rattle.ckpt_model.proofs.Records.Lists.{is_checkpoint-kind}
 use Rattle.ckpt_core.proofs.parts.Parts.load_done.Goals as goal
 
 -- what holds after a success follows from what does

@@ -1,13 +1,7 @@
 -- Answers the goals of `Parts::load_files`.
-use Rattle.std.proofs.Common.{rules, ◌≡◌, ℕ, ◌≤◌, false, Err, List, [], ◌++◌, length, take, drop, sym, ap, subst, ◌∙◌, ⊎_elim, arith}
-use Rattle.std.proofs.lemmas.List.{append-nil, drop_all, take_all}
-use Rattle.ckpt_ids.specs.Ordered.{AreDistinct, IsIn}
-use Rattle.ckpt_ids.specs.Records.{Use, is_present}
-use Rattle.ckpt_ids.proofs.OrderedLemmas.{IsIn-append_cases}
-use Rattle.ckpt_outbox.specs.Queues.{Queues}
-use Rattle.ckpt_core.specs.declared.image.ImageFault.TheVariants.{Damaged}
-use Rattle.ckpt_core.specs.declared.parts.Parts.{Parts}
-use Rattle.ckpt_core.specs.Inside.Loading.{AreFilesApart}
+use Rattle.ckpt_core.proofs.Names.{rules, ◌≡◌, ℕ, ◌≤◌, false, Err, List, [], ◌++◌, length, take, sym, ap, subst, ◌∙◌, ⊎_elim, arith, append-nil, drop_all, take_all, AreDistinct, IsIn, Use, is_present}
+use Rattle.ckpt_core.proofs.Names.{IsIn-append_cases, Queues, Damaged, Parts, AreFilesApart}
+use Rattle.std.proofs.Common.{drop}
 use Rattle.ckpt_core.proofs.Loaded.Reopened.{apart_behind, state_files}
 use Rattle.ckpt_core.proofs.parts.Parts.load_files.Goals as goal
 

@@ -1,19 +1,6 @@
 -- Answers the goals of `Parts::load_pending`.
-use Rattle.std.proofs.Common.{◌≡◌, ℕ, ◌+◌, ◌≤◌, max, [], ◌∷◌, ◌++◌, List, length, map, refl, ap, subst, ◌∙◌, arith}
-use Rattle.std.specs.Result.{OnOk}
-use Rattle.std.proofs.lemmas.Result.{on_ok_weaker}
-use Rattle.std.specs.Vec.{vec_capacity}
-use Rattle.ckpt_ids.specs.declared.ack.Acked.{Acked}
-use Rattle.ckpt_ids.specs.Ordered.{IsIn}
-use Rattle.ckpt_ids.specs.Records.{Record}
-use Rattle.ckpt_ids.proofs.OrderedLemmas.{IsIn-append_left, IsIn-in_order, IsIn-map}
-use Rattle.ckpt_core.specs.declared.parts.Parts.{Parts}
-use Rattle.ckpt_core.specs.Inside.Grouped.{grouped, with_pins}
-use Rattle.ckpt_core.specs.Inside.Loading.{uses_held}
-use Rattle.ckpt_core.specs.Inside.Moving.{with_room}
-use Rattle.ckpt_core.specs.Inside.Parts.{records_in}
-use Rattle.ckpt_model.specs.Reads.{present_in}
-use Rattle.ckpt_model.specs.Soundness.{id_before}
+use Rattle.ckpt_core.proofs.Names.{◌≡◌, ℕ, ◌+◌, ◌≤◌, max, [], ◌∷◌, ◌++◌, List, length, map, refl, ap, subst, ◌∙◌, arith, OnOk, on_ok_weaker, vec_capacity, Acked, IsIn, Record, IsIn-append_left}
+use Rattle.ckpt_core.proofs.Names.{IsIn-in_order, IsIn-map, Parts, grouped, with_pins, uses_held, with_room, records_in, present_in, id_before}
 use Rattle.ckpt_core.proofs.Loaded.Groups.{HasMore, records-more, tied-more, few_registered, older_registered}
 use Rattle.ckpt_core.proofs.parts.Parts.load_pending.Goals as goal
 

@@ -1,21 +1,6 @@
 -- Answers the goals of `Parts::load_savepoint`.
-use Rattle.std.proofs.Common.{◌≡◌, false, eqb, ℕ, ◌+◌, ◌<◌, ◌≤◌, ◌^◌, max, ◌++◌, List, length, map, refl, sym, ap, subst, ◌∙◌, arith}
-use Rattle.std.specs.Result.{OnOk}
-use Rattle.std.proofs.lemmas.Result.{on_ok_weaker}
-use Rattle.std.specs.Vec.{vec_capacity}
-use Rattle.ckpt_ids.specs.declared.ack.Acked.{Acked}
-use Rattle.ckpt_ids.specs.Records.{Record}
-use Rattle.ckpt_ids.proofs.OrderedLemmas.{IsIn-append_right, IsIn-in_order}
-use Rattle.std.specs.List.{list_any}
-use Rattle.ckpt_ids.specs.Ordered.{put}
-use Rattle.ckpt_store.specs.Storing.{Stored}
-use Rattle.ckpt_core.specs.declared.parts.Parts.{Parts}
-use Rattle.ckpt_core.specs.Inside.Grouped.{grouped, with_pins}
-use Rattle.ckpt_core.specs.Inside.Loading.{uses_held}
-use Rattle.ckpt_core.specs.Inside.Moving.{with_room}
-use Rattle.ckpt_core.specs.Inside.Parts.{records_in}
-use Rattle.ckpt_model.specs.Reads.{present_in}
-use Rattle.ckpt_model.specs.Soundness.{id_before}
+use Rattle.ckpt_core.proofs.Names.{◌≡◌, false, eqb, ℕ, ◌+◌, ◌<◌, ◌≤◌, ◌^◌, max, ◌++◌, List, length, map, refl, sym, ap, subst, ◌∙◌, arith, OnOk, on_ok_weaker, vec_capacity, Acked, Record}
+use Rattle.ckpt_core.proofs.Names.{IsIn-append_right, IsIn-in_order, list_any, put, Stored, Parts, grouped, with_pins, uses_held, with_room, records_in, present_in, id_before}
 use Rattle.ckpt_core.proofs.Loaded.Groups.{HasSavepoint, absent_newest, records-savepoint, tied-savepoint, few_registered, held_is, none_pinned, older_registered}
 use Rattle.ckpt_core.proofs.parts.Parts.load_savepoint.Goals as goal
 

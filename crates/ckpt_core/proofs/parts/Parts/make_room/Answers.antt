@@ -1,6 +1,5 @@
 -- Answers the goals of `Parts::make_room`.
-use Rattle.std.proofs.Common.{arith}
-use Rattle.std.proofs.lemmas.Result.{on_ok_weaker}
+use Rattle.ckpt_core.proofs.Names.{arith, on_ok_weaker}
 use Rattle.ckpt_core.proofs.Records.Lookups.{length-records_of}
 use Rattle.ckpt_core.proofs.parts.Parts.make_room.Goals as goal
 use Rattle.ckpt_core.proofs.Triggering.TriggerParts.{state-ended}

@@ -1,9 +1,5 @@
 -- Answers the goals of `Parts::may_join`.
-use Rattle.std.proofs.Common.{◌∙◌, sym, List}
-use Rattle.std.proofs.lemmas.Bool.{both_ways}
-use Rattle.ckpt_ids.specs.Records.{Record}
-use Rattle.ckpt_model.specs.Images.{record_in}
-use Rattle.ckpt_core.specs.Inside.Parts.{records_in}
+use Rattle.ckpt_core.proofs.Names.{◌∙◌, sym, List, both_ways, Record, record_in, records_in}
 use Rattle.ckpt_core.proofs.Loaded.Loads.{above_all, no_live, not_above_all, some_live}
 use Rattle.ckpt_core.proofs.parts.Parts.may_join.Goals as goal
 

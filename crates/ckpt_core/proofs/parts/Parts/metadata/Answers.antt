@@ -1,12 +1,6 @@
 -- A live record is pending or stored, and its metadata does not have its pins.
-use Rattle.std.proofs.Common.{◌≡◌, Some, None, sym, ap, ◌∙◌}
-use Rattle.std.specs.Prelude.{find, IsSome}
-use Rattle.std.specs.Option.{option_copied, option_map}
-use Rattle.ckpt_ids.specs.Records.{metadata_of}
-use Rattle.ckpt_ids.proofs.ResultLemmas.{on_each_error}
+use Rattle.ckpt_core.proofs.Names.{◌≡◌, Some, None, sym, ap, ◌∙◌, find, IsSome, option_copied, option_map, metadata_of, on_each_error, state_of, record_of}
 use Rattle.ckpt_store.specs.Storing as storing
-use Rattle.ckpt_core.specs.Inside.Parts.{state_of}
-use Rattle.ckpt_model.specs.State.{record_of}
 use Rattle.ckpt_core.proofs.Loaded.Saving.{some_there}
 use Rattle.ckpt_core.proofs.Records.Lookups.{has_number}
 use Rattle.ckpt_core.proofs.Answering.Reads.{pending_live, pending_metadata, stored_metadata, stored_record}

@@ -1,9 +1,5 @@
 -- Empty parts stand for the state of an opening.
-use Rattle.std.proofs.Common.{refl, sym, ap, subst, ◌∙◌, arith}
-use Rattle.ckpt_store.specs.Storing.{Stored}
-use Rattle.ckpt_core.specs.Inside.Parts.{state_of}
-use Rattle.ckpt_model.specs.Soundness.{IsSound}
-use Rattle.ckpt_model.proofs.Soundness.Opening.{opened_is_sound}
+use Rattle.ckpt_core.proofs.Names.{refl, sym, ap, subst, ◌∙◌, arith, Stored, state_of, IsSound, opened_is_sound}
 use Rattle.ckpt_core.proofs.parts.Parts.new.Goals as goal
 
 pub returns-clause-state : goal.returns-clause-state

@@ -1,9 +1,6 @@
 -- There was room for the numbers of all checkpoints, and there still is for those that are left.
-use Rattle.std.proofs.Common.{◌≡◌, ◌+◌, ℕ, ◌<◌, ◌≤◌, ◌++◌, List, [], ◌∷◌, length, ap, arith, Some, length-append}
-use Rattle.std.proofs.lemmas.List.{length-map}
-use Rattle.std.specs.Vec.{vec_capacity}
-use Rattle.ckpt_ids.specs.Records.{Record}
-use Rattle.ckpt_store.specs.Storing.{lowest}
+use Rattle.ckpt_core.proofs.Names.{◌≡◌, ◌+◌, ℕ, ◌<◌, ◌≤◌, ◌++◌, List, [], ◌∷◌, length, ap, arith, Some, length-map, vec_capacity, Record, lowest}
+use Rattle.std.proofs.Common.{length-append}
 use Rattle.ckpt_core.proofs.Ending.Drops.{numbers}
 use Rattle.ckpt_core.proofs.parts.Parts.note_and_pop_checkpoints.Goals as goal
 

@@ -1,11 +1,5 @@
 -- Answers the goals of `Parts::note_expired`.
-use Rattle.std.proofs.Common.{◌≡◌, ℕ, ◌+◌, ◌-◌, ◌&&◌, ◌++◌, Bool, ltb, length, ap, sym, ◌∙◌, arith}
-use Rattle.std.specs.Prelude.{count_by}
-use Rattle.std.specs.List.{filter}
-use Rattle.std.proofs.lemmas.Bool.{lt-ltb}
-use Rattle.std.proofs.lemmas.List.{length-map}
-use Rattle.ckpt_core.specs.declared.triggers.Expiry.{Expiry}
-use Rattle.ckpt_model.specs.State.{is_checkpoint}
+use Rattle.ckpt_core.proofs.Names.{◌≡◌, ℕ, ◌+◌, ◌-◌, ◌&&◌, ◌++◌, Bool, ltb, length, ap, sym, ◌∙◌, arith, count_by, filter, lt-ltb, length-map, Expiry, is_checkpoint}
 use Rattle.ckpt_core.proofs.Ending.Drops.{groups_of, numbers, room_to_note}
 use Rattle.ckpt_core.proofs.Ending.Moves.{are_too_many}
 use Rattle.ckpt_core.proofs.Triggering.TickParts.{expiry_is, few_checkpoints, few_expired, few_failures, is_old, late_at_most}

@@ -1,14 +1,6 @@
 -- Answers the goals of `Parts::of_image`.
-use Rattle.std.proofs.Common.{rules, ◌≡◌, true, Err, List, [], ◌++◌, map, sym, ap, subst, ◌∙◌}
-use Rattle.ckpt_ids.specs.Records.{Use, uses}
-use Rattle.ckpt_core.specs.declared.image.ImageFault.TheVariants.{Damaged}
-use Rattle.ckpt_core.specs.declared.parts.Parts.{Parts}
-use Rattle.ckpt_model.specs.Images.{CanHold, record_in, state_in}
-use Rattle.ckpt_core.specs.Inside.Loading.{AreFilesApart, emptied}
-use Rattle.ckpt_core.specs.Inside.Parts.{state_of}
-use Rattle.ckpt_model.specs.Refusals.{is_done_savepoint}
-use Rattle.ckpt_model.specs.Soundness.{IsSound}
-use Rattle.ckpt_model.specs.State.{State}
+use Rattle.ckpt_core.proofs.Names.{rules, ◌≡◌, true, Err, List, [], ◌++◌, map, sym, ap, subst, ◌∙◌, Use, uses, Damaged, Parts, CanHold, record_in, state_in, AreFilesApart, emptied, state_of}
+use Rattle.ckpt_core.proofs.Names.{is_done_savepoint, IsSound, State}
 use Rattle.ckpt_core.proofs.Loaded.Reopened.{IsTold, after_files, can_hold_from, files_held, idle_held, idle_loaded, records_held, records_loaded, told, state_with_base, state_with_records}
 use Rattle.ckpt_core.proofs.parts.Parts.of_image.Goals as goal
 

@@ -1,7 +1,5 @@
 -- The least moment at which a pending record started, and the timeout.
-use Rattle.std.proofs.Common.{rules, ◌≡◌, ◌+◌, ◌<◌, ◌≤◌, ◌^◌, ℕ, Option, Some, None, sym, subst, arith}
-use Rattle.ckpt_core.specs.Inside.Parts.{state_of}
-use Rattle.ckpt_model.specs.Reads.{IsNextExpiry}
+use Rattle.ckpt_core.proofs.Names.{rules, ◌≡◌, ◌+◌, ◌<◌, ◌≤◌, ◌^◌, ℕ, Option, Some, None, sym, subst, arith, state_of, IsNextExpiry}
 use Rattle.ckpt_core.proofs.Reading.Expiry.{TellsLeast, next_expiry, started_bound}
 use Rattle.ckpt_core.proofs.parts.Parts.oldest_expiry.Goals as goal
 

@@ -1,11 +1,5 @@
 -- Answers the goals of `Parts::pin`.
-use Rattle.std.proofs.Common.{◌≡◌, List, [], ◌++◌, sym, ap, subst, ◌∙◌}
-use Rattle.std.proofs.lemmas.List.{append-nil}
-use Rattle.ckpt_ids.specs.declared.reply.Choice.{Choice}
-use Rattle.ckpt_ids.specs.Ordered.{IsIn, in_order_once}
-use Rattle.ckpt_ids.specs.Records.{Use, Pin, use_before}
-use Rattle.ckpt_registry.specs.Uses.{triples}
-use Rattle.ckpt_core.specs.Inside.Starting.{files_chosen}
+use Rattle.ckpt_core.proofs.Names.{◌≡◌, List, [], ◌++◌, sym, ap, subst, ◌∙◌, append-nil, Choice, IsIn, in_order_once, Use, Pin, use_before, triples, files_chosen}
 use Rattle.ckpt_core.proofs.Using.Order.{in_order_once-itself}
 use Rattle.ckpt_core.proofs.parts.Parts.pin.Goals as goal
 

@@ -1,9 +1,5 @@
 -- Answers the goals of `Parts::pins_of`.
-use Rattle.std.proofs.Common.{◌≡◌, ℕ, List, sym, ap, ◌∙◌}
-use Rattle.std.proofs.lemmas.Result.{IfOk-weaker}
-use Rattle.ckpt_ids.specs.Ascending.{ascending}
-use Rattle.ckpt_registry.specs.Uses.{pins_by}
-use Rattle.ckpt_core.specs.declared.parts.Parts.{Parts}
+use Rattle.ckpt_core.proofs.Names.{◌≡◌, ℕ, List, sym, ap, ◌∙◌, IfOk-weaker, ascending, pins_by, Parts}
 use Rattle.ckpt_core.proofs.Loaded.Saving.{none_pinned, pins_registered}
 use Rattle.ckpt_core.proofs.parts.Parts.pins_of.Goals as goal
 

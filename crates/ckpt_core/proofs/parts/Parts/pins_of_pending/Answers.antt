@@ -1,8 +1,5 @@
 -- The registry has the pins of a pending record.
-use Rattle.std.proofs.Common.{◌∙◌, ap}
-use Rattle.std.specs.Prelude.{not}
-use Rattle.std.proofs.lemmas.Result.{IfOk-weaker}
-use Rattle.ckpt_ids.proofs.ResultLemmas.{on_each_error}
+use Rattle.ckpt_core.proofs.Names.{◌∙◌, ap, not, IfOk-weaker, on_each_error}
 use Rattle.ckpt_core.proofs.Reading.Numbers.{is_pending_there, pins_found}
 use Rattle.ckpt_core.proofs.parts.Parts.pins_of_pending.Goals as goal
 

@@ -1,11 +1,6 @@
 -- Answers the goals of `Parts::put_back`.
-use Rattle.std.proofs.Common.{◌≡◌, ℕ, ◌+◌, Bool, true, false, ◌||◌, List, [], ◌∷◌, ◌++◌, take, refl, sym, ap, subst, ◌∙◌, ⊎_elim}
-use Rattle.std.proofs.lemmas.List.{take_all, take_more}
-use Rattle.ckpt_ids.specs.Ordered.{IsIn}
-use Rattle.ckpt_ids.specs.Records.{is_present}
-use Rattle.ckpt_ids.proofs.OrderedLemmas.{IsIn-append_cases, only_one}
-use Rattle.ckpt_core.specs.declared.parts.Parts.{Parts}
-use Rattle.ckpt_core.specs.Inside.Parts.{is_known_in}
+use Rattle.ckpt_core.proofs.Names.{◌≡◌, ℕ, ◌+◌, Bool, true, false, ◌||◌, List, [], ◌∷◌, ◌++◌, take, refl, sym, ap, subst, ◌∙◌, ⊎_elim, take_all, take_more, IsIn, is_present, IsIn-append_cases}
+use Rattle.ckpt_core.proofs.Names.{only_one, Parts, is_known_in}
 use Rattle.ckpt_core.proofs.Loaded.Reopened.{known_twice, one_more_waits}
 use Rattle.ckpt_core.proofs.parts.Parts.put_back.Goals as goal
 

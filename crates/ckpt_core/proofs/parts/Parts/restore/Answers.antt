@@ -1,10 +1,6 @@
 -- After the drop the job begins again at the moment of the call.
-use Rattle.std.proofs.Common.{None, subst}
-use Rattle.ckpt_ids.specs.declared.call.Target.{Target}
+use Rattle.ckpt_core.proofs.Names.{None, subst, Target, Parts, state_of, AreTied, IsAccepted, accepted_restore, accepted_restore_savepoint}
 use Rattle.ckpt_ids.specs.declared.call.Call.TheVariants as call
-use Rattle.ckpt_core.specs.declared.parts.Parts.{Parts}
-use Rattle.ckpt_core.specs.Inside.Parts.{state_of, AreTied, IsAccepted}
-use Rattle.ckpt_model.proofs.Answering.Accepted.{accepted_restore, accepted_restore_savepoint}
 use Rattle.ckpt_core.proofs.Ending.Moves.{rolled_back_in_order, restarted_clock, restored_answers}
 use Rattle.ckpt_core.proofs.parts.Parts.restore.Goals as goal
 

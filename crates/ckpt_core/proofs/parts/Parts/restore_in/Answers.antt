@@ -1,7 +1,6 @@
 -- No refusal looks at the shape, and of the state a restore sets only the shape by it.
-use Rattle.std.proofs.Common.{ℕ, List, Some, sym, subst}
+use Rattle.ckpt_core.proofs.Names.{ℕ, List, Some, sym, subst, state_of, Answers}
 use Rattle.ckpt_ids.specs.declared.call.Call.TheVariants as call
-use Rattle.ckpt_core.specs.Inside.Parts.{state_of, Answers}
 use Rattle.ckpt_core.proofs.Ending.Moves.{same_refusal, reshaped_answers}
 use Rattle.ckpt_core.proofs.parts.Parts.restore_in.Goals as goal
 

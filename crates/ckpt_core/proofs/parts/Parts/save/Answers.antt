@@ -1,8 +1,5 @@
 -- Answers the goals of `Parts::save`.
-use Rattle.std.proofs.Common.{◌∙◌, sym}
-use Rattle.ckpt_core.specs.declared.parts.Parts.{Parts}
-use Rattle.ckpt_core.specs.Inside.Parts.{state_of}
-use Rattle.ckpt_model.specs.State.{record_of}
+use Rattle.ckpt_core.proofs.Names.{◌∙◌, sym, Parts, state_of, record_of}
 use Rattle.ckpt_core.proofs.Loaded.Saving.{looked_up, saved_record}
 use Rattle.ckpt_core.proofs.Reading.Live.{live_in_order}
 use Rattle.ckpt_core.proofs.parts.Parts.save.Goals as goal

@@ -1,15 +1,6 @@
 -- Answers the goals of `Parts::saved`.
-use Rattle.std.proofs.Common.{◌≡◌, ℕ, ◌+◌, ◌<◌, ◌≤◌, ◌^◌, None, List, [], ◌∷◌, ◌++◌, map, take, sym, ap, ◌∙◌, arith}
-use Rattle.std.specs.Prelude.{count_by, find}
-use Rattle.std.specs.Option.{option_map}
-use Rattle.std.proofs.lemmas.List.{map-append}
-use Rattle.ckpt_ids.specs.Records.{Record}
-use Rattle.ckpt_core.specs.declared.parts.Parts.{Parts}
-use Rattle.ckpt_model.specs.declared.reads.Live.{Live}
-use Rattle.ckpt_model.specs.Images.{record_in}
-use Rattle.ckpt_core.specs.Inside.Parts.{records_in, state_of}
-use Rattle.ckpt_model.specs.Reads.{live_of}
-use Rattle.ckpt_model.specs.State.{record_of}
+use Rattle.ckpt_core.proofs.Names.{◌≡◌, ℕ, ◌+◌, ◌<◌, ◌≤◌, ◌^◌, None, List, [], ◌∷◌, ◌++◌, map, take, sym, ap, ◌∙◌, arith, count_by, find, option_map, map-append, Record, Parts, Live, record_in}
+use Rattle.ckpt_core.proofs.Names.{records_in, state_of, live_of, record_of}
 use Rattle.ckpt_core.proofs.Loaded.Saving.{found_from, found_next, saved_all, saved_next, some_there}
 use Rattle.ckpt_core.proofs.Reading.Live.{is_below, is_from, live_bound, live_in_order, none_below_zero}
 use Rattle.ckpt_core.proofs.parts.Parts.saved.Goals as goal

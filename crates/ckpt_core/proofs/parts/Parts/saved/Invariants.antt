@@ -1,8 +1,5 @@
 -- The loop invariants of `Parts::saved`.
-use Rattle.std.proofs.Common.{◌≡◌, ◌-◌, ◌≤◌, ◌^◌, map, nat_lt, take}
-use Rattle.std.specs.Prelude.{count_by}
-use Rattle.ckpt_model.specs.Images.{record_in}
-use Rattle.ckpt_core.specs.Inside.Parts.{records_in}
+use Rattle.ckpt_core.proofs.Names.{◌≡◌, ◌-◌, ◌≤◌, ◌^◌, map, nat_lt, take, count_by, record_in, records_in}
 use Rattle.ckpt_core.proofs.parts.Parts.saved.Given as goal
 
 abbrev pub invariant-loop-live : goal.invariant-loop-live

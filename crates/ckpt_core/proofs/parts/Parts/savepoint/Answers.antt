@@ -1,10 +1,5 @@
 -- Answers the goals of `Parts::savepoint`.
-use Rattle.ckpt_core.specs.Inside.Parts.{state_of}
-use Rattle.ckpt_model.specs.Soundness.{IsSound}
-use Rattle.std.proofs.Common.{sym, subst, ◌∙◌}
-use Rattle.ckpt_model.specs.State.{State}
-use Rattle.ckpt_model.proofs.Answering.Accepted.{accepted_savepoint}
-use Rattle.ckpt_model.proofs.Soundness.Drops.{moment_is_sound}
+use Rattle.ckpt_core.proofs.Names.{state_of, IsSound, sym, subst, ◌∙◌, State, accepted_savepoint, moment_is_sound}
 use Rattle.ckpt_core.proofs.Triggering.TickParts.{clock_back, savepoint_answers, seen_state, tied_clock}
 use Rattle.ckpt_core.proofs.parts.Parts.savepoint.Goals as goal
 

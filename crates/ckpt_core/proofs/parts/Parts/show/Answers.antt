@@ -1,10 +1,5 @@
 -- A show is refused exactly if no live record has the number.
-use Rattle.std.proofs.Common.{◌∙◌, refl, sym, Ok, Err}
-use Rattle.ckpt_ids.specs.declared.call.Call.TheVariants.{Show}
-use Rattle.ckpt_ids.specs.declared.reply.Refusal.TheVariants.{NoSuchRecord}
-use Rattle.ckpt_ids.specs.declared.reply.Reply.TheVariants.{Shown}
-use Rattle.ckpt_model.specs.declared.faults.CoreFault.TheVariants.{Memory}
-use Rattle.ckpt_core.specs.Inside.Parts.{state_of}
+use Rattle.ckpt_core.proofs.Names.{◌∙◌, refl, sym, Ok, Err, Show, NoSuchRecord, Shown, Memory, state_of}
 use Rattle.ckpt_core.proofs.Answering.Calls.{show_wants}
 use Rattle.ckpt_core.proofs.Answering.Reads.{show_absent, show_live, show_told, shown_answers}
 use Rattle.ckpt_core.proofs.Answering.Reports.{names_it, names_none}

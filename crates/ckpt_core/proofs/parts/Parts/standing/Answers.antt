@@ -1,6 +1,5 @@
 -- The number of a pending record, of a stored one, or of none.
-use Rattle.std.proofs.Common.{◌≡◌, ◌∙◌, None, sym}
-use Rattle.std.specs.Prelude.{find}
+use Rattle.ckpt_core.proofs.Names.{◌≡◌, ◌∙◌, None, sym, find}
 use Rattle.ckpt_core.proofs.Answering.Reads.{stored_record}
 use Rattle.ckpt_core.proofs.Reading.Live.{live_in_order}
 use Rattle.ckpt_core.proofs.Reading.Numbers.{none_copied, standing_done, standing_of_none, standing_pending}

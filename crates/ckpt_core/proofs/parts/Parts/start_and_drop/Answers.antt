@@ -1,6 +1,5 @@
 -- Answers the goals of `Parts::start_and_drop`.
-use Rattle.std.proofs.Common.{ap, ◌∙◌}
-use Rattle.ckpt_core.specs.Inside.Parts.{is_noted, state_of}
+use Rattle.ckpt_core.proofs.Names.{ap, ◌∙◌, is_noted, state_of}
 use Rattle.ckpt_core.proofs.Ending.Drops.{groups_of}
 use Rattle.ckpt_core.proofs.Triggering.TickStates.{starts_in_order}
 use Rattle.ckpt_core.proofs.Triggering.TickParts.{done_not_dropped, expiry_goes, expiry_wants, started_tolerable, tied_failures, unknown_after}

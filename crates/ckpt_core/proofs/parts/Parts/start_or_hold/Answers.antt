@@ -1,9 +1,6 @@
 -- Answers the goals of `Parts::start_or_hold`.
 use Rattle.ckpt_rules.specs.declared.hold.Hold.TheVariants as hold
-use Rattle.ckpt_ids.proofs.ResultLemmas.{on_each_error}
-use Rattle.ckpt_core.specs.Inside.Parts.{state_of}
-use Rattle.std.proofs.Common.{ap}
-use Rattle.ckpt_model.specs.Steps.{start_or_hold}
+use Rattle.ckpt_core.proofs.Names.{on_each_error, state_of, ap, start_or_hold}
 use Rattle.ckpt_core.proofs.Triggering.TickParts.{held_result, starts_now}
 use Rattle.ckpt_core.proofs.parts.Parts.start_or_hold.Goals as goal
 

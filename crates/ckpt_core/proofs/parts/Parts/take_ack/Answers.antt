@@ -1,13 +1,5 @@
 -- The call was accepted, so the acknowledgement can be taken; taken back, nothing has changed.
-use Rattle.std.proofs.Common.{◌≡◌, ◌∙◌, List, ap, rules, subst, sym}
-use Rattle.ckpt_ids.specs.Ordered.{IsInOrder}
-use Rattle.ckpt_ids.specs.Places.{LiesAt}
-use Rattle.ckpt_ids.specs.Records.{Record}
-use Rattle.ckpt_store.specs.Storing.{id_of}
-use Rattle.ckpt_store.proofs.RowLemmas.{find-place}
-use Rattle.ckpt_model.specs.Soundness.{id_before}
-use Rattle.ckpt_core.specs.Inside.Moving.{taken_in}
-use Rattle.ckpt_core.specs.Inside.PendingRecords.{acked, retracted}
+use Rattle.ckpt_core.proofs.Names.{◌≡◌, ◌∙◌, List, ap, rules, subst, sym, IsInOrder, LiesAt, Record, id_of, find-place, id_before, taken_in, acked, retracted}
 use Rattle.ckpt_core.proofs.Acknowledging.Takes.{CanTake, IsFoundAcked, acked_in_order, can_take, is_found_acked, lies_in_new, some_from}
 use Rattle.ckpt_core.proofs.Records.Pending.{retracted-acked}
 use Rattle.ckpt_core.proofs.parts.Parts.take_ack.Goals as goal

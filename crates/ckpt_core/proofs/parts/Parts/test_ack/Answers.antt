@@ -1,8 +1,5 @@
 -- Answers the goals of `Parts::test_ack`.
-use Rattle.std.proofs.Common.{rules, refl, ◌∙◌}
-use Rattle.ckpt_core.specs.Inside.Parts.{state_of}
-use Rattle.ckpt_model.specs.Refusals.{refusal}
-use Rattle.ckpt_model.proofs.Answering.RefusalRows.{row_holds, row_fails, row_last, rows_hold, rows_fail}
+use Rattle.ckpt_core.proofs.Names.{rules, refl, ◌∙◌, state_of, refusal, row_holds, row_fails, row_last, rows_hold, rows_fail}
 use Rattle.ckpt_core.proofs.Answering.RefusalLookups.{part_rows, no_part_rows}
 use Rattle.ckpt_core.proofs.parts.Parts.test_ack.Goals as goal
 

@@ -1,9 +1,5 @@
 -- Answers the goals of `Parts::test_decline`.
-use Rattle.std.proofs.Common.{rules, ◌∙◌, ap, refl, sym, Option}
-use Rattle.ckpt_ids.specs.Records.{Record}
-use Rattle.ckpt_core.specs.Inside.Parts.{state_of}
-use Rattle.ckpt_model.specs.Refusals.{refusal, is_foreign}
-use Rattle.ckpt_model.proofs.Answering.RefusalRows.{row_holds, row_fails, row_last}
+use Rattle.ckpt_core.proofs.Names.{rules, ◌∙◌, ap, refl, sym, Option, Record, state_of, refusal, is_foreign, row_holds, row_fails, row_last}
 use Rattle.ckpt_core.proofs.parts.Parts.test_decline.Goals as goal
 
 pub returns-in_err-test_moment : goal.returns-in_err-test_moment

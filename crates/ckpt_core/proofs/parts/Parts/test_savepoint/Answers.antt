@@ -1,8 +1,5 @@
 -- Answers the goals of `Parts::test_savepoint`.
-use Rattle.std.proofs.Common.{rules}
-use Rattle.ckpt_core.specs.Inside.Parts.{state_of}
-use Rattle.ckpt_model.specs.Refusals.{refusal}
-use Rattle.ckpt_model.proofs.Answering.RefusalRows.{row_holds, row_fails, row_last}
+use Rattle.ckpt_core.proofs.Names.{rules, state_of, refusal, row_holds, row_fails, row_last}
 use Rattle.ckpt_core.proofs.parts.Parts.test_savepoint.Goals as goal
 
 pub returns-in_err-test_moment : goal.returns-in_err-test_moment

@@ -1,13 +1,5 @@
 -- Answers the goals of `Parts::tick`.
-use Rattle.ckpt_core.specs.Inside.Parts.{Answers, state_of}
-use Rattle.ckpt_model.specs.Soundness.{IsSound}
-use Rattle.std.proofs.Common.{sym, subst}
-use Rattle.std.proofs.lemmas.Result.{IfOk-weaker, on_err_weaker}
-use Rattle.ckpt_ids.specs.declared.call.Call.TheVariants.{Tick}
-use Rattle.ckpt_ids.specs.declared.reply.Reply.TheVariants.{Ticked}
-use Rattle.ckpt_model.specs.State.{State}
-use Rattle.ckpt_model.proofs.Answering.Accepted.{accepted_tick}
-use Rattle.ckpt_model.proofs.Soundness.Drops.{moment_is_sound}
+use Rattle.ckpt_core.proofs.Names.{Answers, state_of, IsSound, sym, subst, IfOk-weaker, on_err_weaker, Tick, Ticked, State, accepted_tick, moment_is_sound}
 use Rattle.ckpt_core.proofs.Triggering.TickParts.{clock_back, seen_state, tick_answers, tick_wants_memory, tied_clock}
 use Rattle.ckpt_core.proofs.parts.Parts.tick.Goals as goal
 

@@ -1,9 +1,5 @@
 -- Answers the goals of `Parts::trigger`.
-use Rattle.std.proofs.Common.{◌∙◌, sym, ap, subst, arith}
-use Rattle.std.proofs.lemmas.Result.{on_ok_weaker, on_err_weaker}
-use Rattle.ckpt_ids.proofs.ResultLemmas.{on_each_error}
-use Rattle.ckpt_model.specs.Soundness.{IsSound}
-use Rattle.ckpt_model.specs.Steps.{triggered}
+use Rattle.ckpt_core.proofs.Names.{◌∙◌, sym, ap, subst, arith, on_ok_weaker, on_err_weaker, on_each_error, IsSound, triggered}
 use Rattle.ckpt_core.proofs.Triggering.TriggerParts.{live_records}
 use Rattle.ckpt_core.proofs.parts.Parts.trigger.Goals as goal
 

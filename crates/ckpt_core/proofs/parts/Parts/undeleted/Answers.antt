@@ -1,7 +1,5 @@
 -- The outbox itself finds whether the file was fetched.
-use Rattle.std.proofs.Common.{true, false, refl}
-use Rattle.ckpt_outbox.specs.Queues.{is_taken}
-use Rattle.ckpt_core.specs.Inside.Parts.{state_of}
+use Rattle.ckpt_core.proofs.Names.{true, false, refl, is_taken, state_of}
 use Rattle.ckpt_core.proofs.Answering.Reads.{undeleted_answers}
 use Rattle.ckpt_core.proofs.Answering.Reports.{refusal_undeleted, taken_if}
 use Rattle.ckpt_core.proofs.parts.Parts.undeleted.Goals as goal

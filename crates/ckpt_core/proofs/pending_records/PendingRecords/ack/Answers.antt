@@ -1,14 +1,6 @@
 -- Answers the goals of `PendingRecords::ack`.
-use Rattle.std.proofs.Common.{◌≡◌, ◌∙◌, ◌<◌, ℕ, List, Some, Result, Ok, Err, OnOk, OnErr, find, length, refl, sym, ap, subst}
-use Rattle.std.specs.Prelude.{slice_get}
-use Rattle.std.specs.List.{slice_set}
-use Rattle.ckpt_ids.specs.Places.{LiesAt}
-use Rattle.ckpt_ids.specs.Records.{Record, acknowledged}
-use Rattle.ckpt_pending.specs.Acknowledging.{IsPending}
-use Rattle.ckpt_pending.proofs.PendingLemmas.{IsPending-put}
-use Rattle.ckpt_store.specs.Storing.{has_id, id_of}
-use Rattle.ckpt_store.proofs.RowLemmas.{find-place}
-use Rattle.ckpt_model.proofs.Records.Counts.{IsIn-from_find}
+use Rattle.ckpt_core.proofs.Names.{◌≡◌, ◌∙◌, ◌<◌, ℕ, List, Some, Result, Ok, Err, OnOk, OnErr, find, length, refl, sym, ap, subst, slice_get, slice_set, LiesAt, Record, acknowledged, IsPending}
+use Rattle.ckpt_core.proofs.Names.{IsPending-put, has_id, id_of, find-place, IsIn-from_find}
 use Rattle.ckpt_core.proofs.Records.Pending.{AreKept-changed, changed, its_place, set-place}
 use Rattle.ckpt_core.proofs.pending_records.PendingRecords.ack.Goals as goal
 use Rattle.ckpt_core.proofs.pending_records.PendingRecords.ack.Goals.{in-Ok, in-Err}

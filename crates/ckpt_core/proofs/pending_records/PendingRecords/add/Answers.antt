@@ -1,8 +1,5 @@
 -- Answers the goals of `PendingRecords::add`.
-use Rattle.std.proofs.Common.{◌≡◌, ◌∙◌, ◌<◌, Bool, cond, List, ℕ, ap, subst, sym}
-use Rattle.ckpt_ids.specs.Ordered.{IsIn}
-use Rattle.ckpt_ids.specs.Records.{Record}
-use Rattle.ckpt_model.specs.State.{is_checkpoint}
+use Rattle.ckpt_core.proofs.Names.{◌≡◌, ◌∙◌, ◌<◌, Bool, cond, List, ℕ, ap, subst, sym, IsIn, Record, is_checkpoint}
 use Rattle.ckpt_core.proofs.Records.Pending.{from_bool-cond, AreKept-added}
 use Rattle.ckpt_core.proofs.pending_records.PendingRecords.add.Goals as goal
 

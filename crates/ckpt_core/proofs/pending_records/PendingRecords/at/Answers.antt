@@ -1,8 +1,5 @@
 -- Answers the goals of `PendingRecords::at`.
-use Rattle.std.proofs.Common.{◌∙◌, ◌<◌, List, Some, ap, length, subst, sym}
-use Rattle.std.specs.Prelude.{slice_get}
-use Rattle.std.proofs.lemmas.Option.{slice_get-get_or}
-use Rattle.ckpt_ids.specs.Records.{Record}
+use Rattle.ckpt_core.proofs.Names.{◌∙◌, ◌<◌, List, Some, ap, length, subst, sym, slice_get, slice_get-get_or, Record}
 use Rattle.ckpt_core.proofs.pending_records.PendingRecords.at.Goals as goal
 
 pub returns : goal.returns

@@ -1,11 +1,6 @@
 -- Answers the goals of `PendingRecords::first_from`.
-use Rattle.std.proofs.Common.{◌≡◌, ◌∙◌, ap, sym, ltb, leb, rules, List, Some, true, false, find}
-use Rattle.std.specs.List.Sorted.{IsPartitionPoint}
-use Rattle.std.specs.Option.{option_copied, option_map}
-use Rattle.std.proofs.lemmas.List.Sorted.{IsPartitionPoint-from_clause}
-use Rattle.ckpt_ids.specs.Records.{Record}
-use Rattle.ckpt_store.proofs.RowLemmas.{copied_from_get, find-partition, partitioned}
-use Rattle.ckpt_model.specs.Reads.{live_of}
+use Rattle.ckpt_core.proofs.Names.{◌≡◌, ◌∙◌, ap, sym, ltb, leb, rules, List, Some, true, false, find, IsPartitionPoint, option_copied, option_map, IsPartitionPoint-from_clause, Record}
+use Rattle.ckpt_core.proofs.Names.{copied_from_get, find-partition, partitioned, live_of}
 use Rattle.ckpt_core.proofs.pending_records.PendingRecords.first_from.Goals as goal
 
 pub returns-in_err-pending-clause-value : goal.returns-in_err-pending-clause-value

@@ -1,11 +1,5 @@
 -- Answers the goals of `PendingRecords::get`.
-use Rattle.std.proofs.Common.{◌≡◌, ◌∙◌, ap, sym, List, find}
-use Rattle.std.specs.Prelude.{slice_get}
-use Rattle.std.specs.Option.{option_copied}
-use Rattle.ckpt_ids.specs.Records.{Record}
-use Rattle.ckpt_store.specs.Storing.{has_id}
-use Rattle.ckpt_ids.proofs.PlaceLemmas.{find-none}
-use Rattle.ckpt_store.proofs.RowLemmas.{copied_from_get, find-place, none_place}
+use Rattle.ckpt_core.proofs.Names.{◌≡◌, ◌∙◌, ap, sym, List, find, slice_get, option_copied, Record, has_id, find-none, copied_from_get, find-place, none_place}
 use Rattle.ckpt_core.proofs.pending_records.PendingRecords.get.Goals as goal
 
 pub returns-in-Ok-clause-value : goal.returns-in-Ok-clause-value

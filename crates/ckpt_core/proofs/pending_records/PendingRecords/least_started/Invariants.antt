@@ -1,8 +1,5 @@
 -- The loop invariants of `PendingRecords::least_started`.
-use Rattle.std.proofs.Common.{◌≡◌, ℕ, ◌||◌, nat_le}
-use Rattle.std.specs.List.{list_any}
-use Rattle.ckpt_model.specs.Reads.{has_come}
-use Rattle.std.specs.VecDeque.Iter.{deque_iter_rest}
+use Rattle.ckpt_core.proofs.Names.{◌≡◌, ℕ, ◌||◌, nat_le, list_any, has_come, deque_iter_rest}
 use Rattle.ckpt_core.proofs.pending_records.PendingRecords.least_started.Given as goal
 
 abbrev pub invariant-loop-pending : goal.invariant-loop-pending

@@ -1,10 +1,5 @@
 -- Answers the goals of `PendingRecords::place`.
-use Rattle.std.proofs.Common.{◌∙◌, List, ap, subst, sym}
-use Rattle.std.specs.List.{list_any}
-use Rattle.ckpt_ids.specs.Places.{LiesAt}
-use Rattle.ckpt_ids.specs.Records.{Record}
-use Rattle.ckpt_store.specs.Storing.{has_id, id_of}
-use Rattle.ckpt_store.proofs.RowLemmas.{none_place}
+use Rattle.ckpt_core.proofs.Names.{◌∙◌, List, ap, subst, sym, list_any, LiesAt, Record, has_id, id_of, none_place}
 use Rattle.ckpt_core.proofs.pending_records.PendingRecords.place.Goals as goal
 
 pub returns-in-Ok-clause-found : goal.returns-in-Ok-clause-found

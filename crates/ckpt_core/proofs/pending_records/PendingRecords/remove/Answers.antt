@@ -1,9 +1,5 @@
 -- Answers the goals of `PendingRecords::remove`.
-use Rattle.std.proofs.Common.{Bool, not, sym, ap}
-use Rattle.ckpt_store.specs.Storing.{has_id}
-use Rattle.ckpt_ids.specs.Records.{Record}
-use Rattle.ckpt_ids.proofs.OrderedLemmas.{fails-from_list_any, filter-all}
-use Rattle.ckpt_ids.proofs.PlaceLemmas.{find-none}
+use Rattle.ckpt_core.proofs.Names.{Bool, not, sym, ap, has_id, Record, fails-from_list_any, filter-all, find-none}
 use Rattle.ckpt_core.proofs.pending_records.PendingRecords.remove.Goals as goal
 
 pub returns-in-Some-clause-value : goal.returns-in-Some-clause-value

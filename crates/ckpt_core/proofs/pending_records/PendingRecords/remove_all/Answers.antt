@@ -1,12 +1,7 @@
 -- Answers the goals of `PendingRecords::remove_all`.
-use Rattle.std.proofs.Common.{◌≡◌, ◌∙◌, ◌+◌, ◌++◌, ◌∷◌, [], ℕ, List, not, filter, take, eqb, refl, ap, sym}
-use Rattle.std.specs.List.{list_any}
-use Rattle.std.proofs.lemmas.List.{take_more}
-use Rattle.ckpt_ids.specs.Records.{Record}
-use Rattle.ckpt_store.specs.Storing.{has_id}
+use Rattle.ckpt_core.proofs.Names.{◌≡◌, ◌∙◌, ◌+◌, ◌++◌, ◌∷◌, [], ℕ, List, not, filter, take, eqb, refl, ap, sym, list_any, take_more, Record, has_id, filter-all}
 use Rattle.ckpt_core.proofs.Records.Pending.{filter-one_more}
 use Rattle.ckpt_core.proofs.pending_records.PendingRecords.remove_all.Goals as goal
-use Rattle.ckpt_ids.proofs.OrderedLemmas.{filter-all}
 
 pub loop-id-init : goal.loop-id-init
 loop-id-init c = sym (filter-all (λ r. not (list_any (λ i. eqb r.id i) [])) c.args.self.now (λ r h. refl))

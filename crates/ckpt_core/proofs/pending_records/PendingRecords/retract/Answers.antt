@@ -1,13 +1,5 @@
 -- Answers the goals of `PendingRecords::retract`.
-use Rattle.std.proofs.Common.{◌∙◌, ◌<◌, List, Some, length, refl, sym, ap, subst}
-use Rattle.std.specs.Prelude.{slice_get}
-use Rattle.std.proofs.lemmas.Option.{slice_get-get_or}
-use Rattle.ckpt_ids.specs.Places.{LiesAt}
-use Rattle.ckpt_ids.specs.Records.{Record}
-use Rattle.ckpt_pending.specs.Acknowledging.{without_ack}
-use Rattle.ckpt_pending.proofs.PendingLemmas.{IsPending-without}
-use Rattle.ckpt_store.specs.Storing.{has_id, id_of}
-use Rattle.ckpt_model.proofs.Records.Counts.{IsIn-from_find}
+use Rattle.ckpt_core.proofs.Names.{◌∙◌, ◌<◌, List, Some, length, refl, sym, ap, subst, slice_get, slice_get-get_or, LiesAt, Record, without_ack, IsPending-without, has_id, id_of, IsIn-from_find}
 use Rattle.ckpt_core.proofs.Records.Pending.{AreKept-changed, changed, its_place, set-place}
 use Rattle.ckpt_core.proofs.pending_records.PendingRecords.retract.Goals as goal
 

@@ -1,12 +1,6 @@
 -- Answers the goals of `PendingRecords::take_out`.
-use Rattle.std.proofs.Common.{◌≡◌, ◌∙◌, ◌+◌, ◌-◌, ◌<◌, not, Bool, ℕ, Some, cond, List, length, ap, sym, subst, find, filter, arith}
-use Rattle.std.specs.Prelude.{slice_get}
-use Rattle.std.proofs.lemmas.Option.{slice_get-get_or}
-use Rattle.ckpt_ids.specs.Places.{LiesAt}
-use Rattle.ckpt_ids.specs.Records.{Record}
-use Rattle.ckpt_store.specs.Storing.{has_id, id_of}
-use Rattle.ckpt_store.proofs.RowLemmas.{remove-place}
-use Rattle.ckpt_model.specs.State.{is_checkpoint}
+use Rattle.ckpt_core.proofs.Names.{◌≡◌, ◌∙◌, ◌+◌, ◌-◌, ◌<◌, not, Bool, ℕ, Some, cond, List, length, ap, sym, subst, find, filter, arith, slice_get, slice_get-get_or, LiesAt, Record, has_id, id_of}
+use Rattle.ckpt_core.proofs.Names.{remove-place, is_checkpoint}
 use Rattle.ckpt_core.proofs.Records.Pending.{AreKept-removed, count-removed, found_at, from_bool-cond, its_place}
 use Rattle.ckpt_core.proofs.pending_records.PendingRecords.take_out.Goals as goal
 

@@ -1,8 +1,5 @@
 -- Answers the goals of `Files::of`.
-use Rattle.std.proofs.Common.{subst}
-use Rattle.std.proofs.lemmas.Bool.{MatchBool-at_true}
-use Rattle.std.proofs.lemmas.List.Sorted.{non_decreasing_from_is_sorted}
-use Rattle.ckpt_ids.specs.Ascending.{IsAscending}
+use Rattle.ckpt_ids.proofs.Names.{subst, MatchBool-at_true, non_decreasing_from_is_sorted, IsAscending}
 use Rattle.ckpt_ids.proofs.AscendingLemmas.{IsAscending-from_non_decreasing, IsAscending-from_sorted, ascending-from_sort, ascending_already}
 use Rattle.ckpt_ids.proofs.files.Files.of.Goals as goal
 use Rattle.ckpt_ids.proofs.files.Files.of.Goals.{then-not-is_sorted, else-not-is_sorted}

@@ -1,7 +1,5 @@
 -- Answers the goals of `Shape::contains`.
-use Rattle.std.proofs.Common.{◌∙◌, sym, arith, length, refl, ◌≤◌}
-use Rattle.std.proofs.lemmas.List.{get_or_past}
-use Rattle.std.proofs.lemmas.Bool.{le-ltb}
+use Rattle.ckpt_ids.proofs.Names.{◌∙◌, sym, arith, length, refl, ◌≤◌, get_or_past, le-ltb}
 use Rattle.ckpt_ids.proofs.ShapeLemmas.{is_subtask_is}
 use Rattle.ckpt_ids.proofs.shape.Shape.contains.Goals as goal
 

@@ -1,6 +1,5 @@
 -- The loop invariants of `Shape::new`.
-use Rattle.std.proofs.Common.{◌≡◌, sum, take}
-use Rattle.ckpt_ids.specs.Shapes.{IsShape}
+use Rattle.ckpt_ids.proofs.Names.{◌≡◌, sum, take, IsShape}
 use Rattle.ckpt_ids.proofs.shape.Shape.new.Given as goal
 
 abbrev pub invariant-loop-parallelism : goal.invariant-loop-parallelism

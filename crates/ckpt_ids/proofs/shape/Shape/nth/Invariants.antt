@@ -1,7 +1,5 @@
 -- The loop invariants of `Shape::nth`.
-use Rattle.std.proofs.Common.{◌≡◌, drop}
-use Rattle.std.specs.Prelude.{slice_get}
-use Rattle.ckpt_ids.specs.Shapes.{subtasks, subtasks_from}
+use Rattle.ckpt_ids.proofs.Names.{◌≡◌, drop, slice_get, subtasks, subtasks_from}
 use Rattle.ckpt_ids.proofs.shape.Shape.nth.Given as goal
 
 abbrev pub invariant-loop-vertex : goal.invariant-loop-vertex

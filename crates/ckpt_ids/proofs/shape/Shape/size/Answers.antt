@@ -1,6 +1,5 @@
 -- Answers the goals of `Shape::size`.
-use Rattle.std.proofs.Common.{◌∙◌, sym}
-use Rattle.std.specs.Arc.{arc_slice_items}
+use Rattle.ckpt_ids.proofs.Names.{◌∙◌, sym, arc_slice_items}
 use Rattle.ckpt_ids.proofs.ShapeLemmas.{length-subtasks_from}
 use Rattle.ckpt_ids.proofs.shape.Shape.size.Goals as goal
 

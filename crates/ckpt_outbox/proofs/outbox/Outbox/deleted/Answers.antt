@@ -1,12 +1,9 @@
 -- Answers the goals of `Outbox::deleted`.
-use Rattle.std.proofs.Common.{◌≡◌, ◌∙◌, ◌+◌, ℕ, List, ◌++◌, None, is_some, cond, true, false, length, nat_eq, refl, sym, ap, arith}
-use Rattle.std.proofs.lemmas.Bool.{both_ways}
+use Rattle.ckpt_outbox.proofs.Names.{◌≡◌, ◌∙◌, ◌+◌, ℕ, List, ◌++◌, None, is_some, cond, true, false, length, nat_eq, refl, sym, ap, arith, both_ways, is_in, is_taken, AreDistinct-right}
 use Rattle.std.specs.HashMap as hash
-use Rattle.ckpt_outbox.specs.Queues.{is_in, is_taken}
 use Rattle.ckpt_outbox.proofs.QueueLemmas.{distinct_deleted, is_in-deleted, length-without, taken_waits_not}
 use Rattle.ckpt_outbox.proofs.TicketLemmas.{none_if, tells_is_taken, tells_taken, ticketed_apart}
 use Rattle.ckpt_outbox.proofs.outbox.Outbox.deleted.Goals as goal
-use Rattle.ckpt_ids.proofs.OrderedLemmas.{AreDistinct-right}
 
 pub returns-then-not-is_taken-clause-refused : goal.returns-then-not-is_taken-clause-refused
 returns-then-not-is_taken-clause-refused c =

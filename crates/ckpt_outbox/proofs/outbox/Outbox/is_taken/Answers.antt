@@ -1,7 +1,6 @@
 -- Answers the goals of `Outbox::is_taken`.
-use Rattle.std.proofs.Common.{◌∙◌, ap, nat_eq}
+use Rattle.ckpt_outbox.proofs.Names.{◌∙◌, ap, nat_eq, is_taken}
 use Rattle.std.specs.HashMap as hash
-use Rattle.ckpt_outbox.specs.Queues.{is_taken}
 use Rattle.ckpt_outbox.proofs.TicketLemmas.{tells_is_taken}
 use Rattle.ckpt_outbox.proofs.outbox.Outbox.is_taken.Goals as goal
 

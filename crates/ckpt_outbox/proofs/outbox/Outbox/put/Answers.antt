@@ -1,12 +1,7 @@
 -- Answers the goals of `Outbox::put`.
-use Rattle.std.proofs.Common.{◌≡◌, ◌∙◌, ◌+◌, ℕ, List, [], ◌∷◌, ◌++◌, true, false, nat_eq, take, get_or, sym, ap, subst}
-use Rattle.std.proofs.lemmas.List.{take_more}
-use Rattle.std.proofs.lemmas.List.Folds.{list_any_at}
-use Rattle.std.proofs.lemmas.Bool.{eq-eqb}
-use Rattle.ckpt_outbox.specs.Queues.{is_in, is_known}
+use Rattle.ckpt_outbox.proofs.Names.{◌≡◌, ◌∙◌, ◌+◌, ℕ, List, [], ◌∷◌, ◌++◌, true, false, nat_eq, take, get_or, sym, ap, subst, take_more, list_any_at, eq-eqb, is_in, is_known, AreDistinct}
 use Rattle.ckpt_outbox.proofs.QueueLemmas.{AreDistinct-take, last_is_new, not_in-parts, not_in-append}
 use Rattle.ckpt_outbox.proofs.outbox.Outbox.put.Goals as goal
-use Rattle.ckpt_ids.specs.Ordered.{AreDistinct}
 
 pub put_one-requires-clause-unknown : goal.put_one-requires-clause-unknown
 put_one-requires-clause-unknown c =

@@ -1,8 +1,6 @@
 -- Answers the goals of `Outbox::put_one`.
-use Rattle.std.proofs.Common.{◌≡◌, ◌∙◌, ◌+◌, ℕ, List, [], ◌∷◌, ◌++◌, Some, is_some, cond, true, false, length, length-append, nat_eq, sym, ap, arith}
+use Rattle.ckpt_outbox.proofs.Names.{◌≡◌, ◌∙◌, ◌+◌, ℕ, List, [], ◌∷◌, ◌++◌, Some, is_some, cond, true, false, length, length-append, nat_eq, sym, ap, arith, is_in, is_known, ticket}
 use Rattle.std.specs.HashMap as hash
-use Rattle.ckpt_outbox.specs.Queues.{is_in, is_known}
-use Rattle.ckpt_outbox.specs.Places.{ticket}
 use Rattle.ckpt_outbox.proofs.QueueLemmas.{distinct_put, is_in-put, not_in-parts}
 use Rattle.ckpt_outbox.proofs.TicketLemmas.{some_if, ticketed_put}
 use Rattle.ckpt_outbox.proofs.outbox.Outbox.put_one.Goals as goal

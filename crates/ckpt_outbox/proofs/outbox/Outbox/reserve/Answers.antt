@@ -1,6 +1,5 @@
 -- Answers the goals of `Outbox::reserve`.
-use Rattle.std.proofs.Common.{◌≡◌, ◌∙◌, ◌++◌, ℕ, List, is_some, get_or, sym, ap, arith}
-use Rattle.ckpt_outbox.specs.Queues.{is_in}
+use Rattle.ckpt_outbox.proofs.Names.{◌≡◌, ◌∙◌, ◌++◌, ℕ, List, is_some, get_or, sym, ap, arith, is_in}
 use Rattle.ckpt_outbox.proofs.outbox.Outbox.reserve.Goals as goal
 
 pub invariant_of-self-2 : goal.invariant_of-self-2

@@ -1,7 +1,6 @@
 -- Answers the goals of `Outbox::take`.
-use Rattle.std.proofs.Common.{◌≡◌, ◌∙◌, ◌+◌, ◌<◌, ℕ, List, [], ◌∷◌, ◌++◌, take, drop, min, length, get_or, append_assoc, sym, ap, arith}
-use Rattle.std.proofs.lemmas.List.{length-drop, take_more, drop_more, take_min, drop_min}
-use Rattle.ckpt_outbox.specs.Queues.{Queues}
+use Rattle.ckpt_outbox.proofs.Names.{◌≡◌, ◌∙◌, ◌+◌, ◌<◌, ℕ, List, [], ◌∷◌, ◌++◌, take, drop, min, length, get_or, sym, ap, arith, length-drop, take_more, drop_more, take_min, drop_min, Queues}
+use Rattle.std.proofs.Common.{append_assoc}
 use Rattle.ckpt_outbox.proofs.outbox.Outbox.take.Goals as goal
 
 pub take_one-requires : goal.take_one-requires

@@ -1,8 +1,7 @@
 -- Answers the goals of `Outbox::take_one`.
-use Rattle.std.proofs.Common.{◌≡◌, ◌∙◌, ◌+◌, ℕ, List, [], ◌∷◌, ◌++◌, length, length-append, nat_eq, sym, ap, subst, arith}
+use Rattle.ckpt_outbox.proofs.Names.{◌≡◌, ◌∙◌, ◌+◌, ℕ, List, [], ◌∷◌, ◌++◌, length, length-append, nat_eq, sym, ap, subst, arith, is_in, IsTicketed}
 use Rattle.std.specs.HashMap as hash
-use Rattle.ckpt_outbox.specs.Queues.{AreDistinct, is_in}
-use Rattle.ckpt_outbox.specs.Places.{IsTicketed}
+use Rattle.ckpt_outbox.specs.Queues.{AreDistinct}
 use Rattle.ckpt_outbox.proofs.QueueLemmas.{distinct_taken, is_in-taken}
 use Rattle.ckpt_outbox.proofs.TicketLemmas.{ticketed_taken}
 use Rattle.ckpt_outbox.proofs.outbox.Outbox.take_one.Goals as goal

@@ -1,8 +1,6 @@
 -- Answers the goals of `Outbox::taken_files`.
-use Rattle.std.proofs.Common.{◌∙◌, ap, nat_eq}
+use Rattle.ckpt_outbox.proofs.Names.{◌∙◌, ap, nat_eq, ascending, Queues}
 use Rattle.std.specs.HashMap as hash
-use Rattle.ckpt_ids.specs.Ascending.{ascending}
-use Rattle.ckpt_outbox.specs.Queues.{Queues}
 use Rattle.ckpt_outbox.proofs.TakenLemmas.{taken-from_index}
 use Rattle.ckpt_outbox.proofs.outbox.Outbox.taken_files.Goals as goal
 

@@ -1,14 +1,10 @@
 -- Answers the goals of `Outbox::undeleted`.
-use Rattle.std.proofs.Common.{◌≡◌, ◌∙◌, ◌+◌, ℕ, List, [], ◌∷◌, ◌++◌, Some, is_some, get_or, cond, true, false, length, length-append, nat_eq, refl, sym, ap, arith}
-use Rattle.std.proofs.lemmas.Bool.{both_ways}
+use Rattle.ckpt_outbox.proofs.Names.{◌≡◌, ◌∙◌, ◌+◌, ℕ, List, [], ◌∷◌, ◌++◌, Some, is_some, get_or, cond, true, false, length, length-append, nat_eq, refl, sym, ap, arith, both_ways, is_in, is_taken}
+use Rattle.ckpt_outbox.proofs.Names.{without, ticket, lookup, AreDistinct-right}
 use Rattle.std.specs.HashMap as hash
-use Rattle.ckpt_outbox.specs.Queues.{is_in, is_taken, without}
 use Rattle.ckpt_outbox.proofs.QueueLemmas.{distinct_undeleted, is_in-returned, length-without, taken_waits_not}
 use Rattle.ckpt_outbox.proofs.TicketLemmas.{some_if, tells_is_taken, tells_taken, ticketed_put}
-use Rattle.ckpt_outbox.specs.Places.{ticket}
-use Rattle.std.specs.Map.{lookup}
 use Rattle.ckpt_outbox.proofs.outbox.Outbox.undeleted.Goals as goal
-use Rattle.ckpt_ids.proofs.OrderedLemmas.{AreDistinct-right}
 
 pub returns-then-not-draw_again-clause-refused : goal.returns-then-not-draw_again-clause-refused
 returns-then-not-draw_again-clause-refused c =

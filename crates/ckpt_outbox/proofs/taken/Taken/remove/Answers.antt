@@ -1,8 +1,5 @@
 -- Answers the goals of `Taken::remove`.
-use Rattle.std.proofs.Common.{◌≡◌, ◌∙◌, ℕ, false, List, length, ap, arith}
-use Rattle.std.specs.Option.{option_map_or}
-use Rattle.ckpt_outbox.specs.Changes.{Changed, changed, unchanged}
-use Rattle.ckpt_outbox.specs.Queues.{without}
+use Rattle.ckpt_outbox.proofs.Names.{◌≡◌, ◌∙◌, ℕ, false, List, length, ap, arith, option_map_or, Changed, changed, unchanged, without}
 use Rattle.ckpt_outbox.proofs.QueueLemmas.{length-without}
 use Rattle.ckpt_outbox.proofs.taken.Taken.remove.Goals as goal
 

@@ -1,9 +1,5 @@
 -- Answers the goals of `Done::files`.
-use Rattle.std.proofs.Common.{◌≡◌, ◌∙◌, ◌∷◌, [], sym, ap, map}
-use Rattle.std.specs.List.{flat_map}
-use Rattle.std.proofs.lemmas.Result.{IfOk-weaker}
-use Rattle.ckpt_ids.specs.Ascending.{ascending_set}
-use Rattle.ckpt_ids.specs.Records.{uses}
+use Rattle.ckpt_pending.proofs.Names.{◌≡◌, ◌∙◌, ◌∷◌, [], sym, ap, map, flat_map, IfOk-weaker, ascending_set, uses}
 use Rattle.ckpt_pending.proofs.FileLemmas.{files_of_uses}
 use Rattle.ckpt_pending.proofs.done.Done.files.Goals as goal
 

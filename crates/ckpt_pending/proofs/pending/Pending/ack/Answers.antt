@@ -1,11 +1,6 @@
 -- Answers the goals of `Pending::ack`.
-use Rattle.std.proofs.Common.{◌≡◌, ◌∙◌, ◌+◌, ◌-◌, true, false, sym, ap, subst, refl, List, arith}
-use Rattle.std.proofs.lemmas.Bool.{both_ways}
-use Rattle.ckpt_ids.specs.declared.ack.Acked.{Acked}
-use Rattle.ckpt_ids.specs.Records.{Record, missing, has_acknowledged}
-use Rattle.ckpt_ids.specs.Shapes.{is_subtask}
-use Rattle.ckpt_ids.proofs.ResultLemmas.{on_ok}
-use Rattle.ckpt_pending.specs.Acknowledging.{pending_record, without_ack, IsCounted}
+use Rattle.ckpt_pending.proofs.Names.{◌≡◌, ◌∙◌, ◌+◌, ◌-◌, true, false, sym, ap, subst, refl, List, arith, both_ways, Acked, Record, missing, has_acknowledged, is_subtask, on_ok, pending_record}
+use Rattle.ckpt_pending.proofs.Names.{without_ack, IsCounted}
 use Rattle.ckpt_pending.proofs.PendingLemmas.{with_ack, IsCounted-put, missing-with_ack, without-with_ack}
 use Rattle.ckpt_pending.proofs.PlaceLemmas.{acked_at, acked_nowhere, insert_at}
 use Rattle.ckpt_pending.proofs.pending.Pending.ack.Goals as goal

@@ -1,8 +1,5 @@
 -- Answers the goals of `Pending::files`.
-use Rattle.std.proofs.Common.{◌≡◌, ◌∙◌, ap}
-use Rattle.std.specs.List.{flat_map}
-use Rattle.ckpt_ids.specs.Ascending.{ascending_set}
-use Rattle.ckpt_ids.proofs.SetLemmas.{ascending-from_dedup}
+use Rattle.ckpt_pending.proofs.Names.{◌≡◌, ◌∙◌, ap, flat_map, ascending_set, ascending-from_dedup}
 use Rattle.ckpt_pending.proofs.pending.Pending.files.Goals as goal
 
 pub returns : goal.returns

@@ -1,15 +1,6 @@
 -- The acknowledgement at the place that the search finds.
-use Rattle.std.proofs.Common.{◌≡◌, ◌∙◌, ℕ, List, Some, None, Result, Ok, Err, IfOk, IfErr, sym, ap, subst}
-use Rattle.std.specs.Prelude.{find}
-use Rattle.std.specs.Option.{option_copied, option_map}
-use Rattle.std.specs.Result.{result_ok}
-use Rattle.ckpt_ids.specs.declared.subtask.SubtaskId.{SubtaskId}
-use Rattle.ckpt_ids.specs.declared.ack.Acked.{Acked}
-use Rattle.ckpt_ids.specs.Shapes.{same_subtask}
-use Rattle.ckpt_ids.specs.Acknowledged.{is_before}
-use Rattle.ckpt_ids.specs.Places.{BelongsAt, LiesAt}
-use Rattle.ckpt_ids.proofs.PlaceLemmas.{find-none}
-use Rattle.ckpt_pending.specs.Acknowledging.{files_from, subtask_of}
+use Rattle.ckpt_pending.proofs.Names.{◌≡◌, ◌∙◌, ℕ, List, Some, None, Result, Ok, Err, IfOk, IfErr, sym, ap, subst, find, option_copied, option_map, result_ok, SubtaskId, Acked, same_subtask}
+use Rattle.ckpt_pending.proofs.Names.{is_before, BelongsAt, LiesAt, find-none, files_from, subtask_of}
 use Rattle.ckpt_pending.proofs.PlaceLemmas.{acked_nowhere, found_at}
 use Rattle.ckpt_pending.proofs.pending.Pending.files_of.Goals as goal
 

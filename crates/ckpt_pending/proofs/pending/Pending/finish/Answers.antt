@@ -1,6 +1,5 @@
 -- Answers the goals of `Pending::finish`.
-use Rattle.std.proofs.Common.{◌≡◌, ◌∙◌, sym, ap, arith}
-use Rattle.ckpt_ids.specs.Records.{missing}
+use Rattle.ckpt_pending.proofs.Names.{◌≡◌, ◌∙◌, sym, ap, arith, missing}
 use Rattle.ckpt_pending.proofs.pending.Pending.finish.Goals as goal
 
 pub returns-then-self-eq0-clause-missing : goal.returns-then-self-eq0-clause-missing

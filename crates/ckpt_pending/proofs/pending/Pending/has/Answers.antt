@@ -1,12 +1,5 @@
 -- Answers the goals of `Pending::has`.
-use Rattle.std.proofs.Common.{◌≡◌, ◌∙◌, ℕ, List, Result, Ok, Err, IfOk, IfErr, sym, ap}
-use Rattle.std.specs.Result.{is_ok}
-use Rattle.ckpt_ids.specs.declared.subtask.SubtaskId.{SubtaskId}
-use Rattle.ckpt_ids.specs.declared.ack.Acked.{Acked}
-use Rattle.ckpt_ids.specs.Records.{has_acknowledged}
-use Rattle.ckpt_ids.specs.Acknowledged.{is_before}
-use Rattle.ckpt_ids.specs.Places.{BelongsAt, LiesAt}
-use Rattle.ckpt_pending.specs.Acknowledging.{subtask_of}
+use Rattle.ckpt_pending.proofs.Names.{◌≡◌, ◌∙◌, ℕ, List, Result, Ok, Err, IfOk, IfErr, sym, ap, is_ok, SubtaskId, Acked, has_acknowledged, is_before, BelongsAt, LiesAt, subtask_of}
 use Rattle.ckpt_pending.proofs.AckLemmas.{acked}
 use Rattle.ckpt_pending.proofs.PlaceLemmas.{acked_at, acked_nowhere}
 use Rattle.ckpt_pending.proofs.pending.Pending.has.Goals as goal

@@ -1,7 +1,5 @@
 -- Answers the goals of `Pending::new`.
-use Rattle.std.proofs.Common.{sym, subst, List}
-use Rattle.ckpt_ids.specs.declared.ack.Acked.{Acked}
-use Rattle.ckpt_pending.specs.Acknowledging.{pending_record, IsCounted}
+use Rattle.ckpt_pending.proofs.Names.{sym, subst, List, Acked, pending_record, IsCounted}
 use Rattle.ckpt_pending.proofs.PendingLemmas.{IsCounted-new}
 use Rattle.ckpt_pending.proofs.pending.Pending.new.Goals as goal
 

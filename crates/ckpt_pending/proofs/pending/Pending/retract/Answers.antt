@@ -1,15 +1,7 @@
 -- Answers the goals of `Pending::retract`.
-use Rattle.std.proofs.Common.{◌≡◌, ◌∙◌, ℕ, ◌+◌, ◌<◌, ◌≤◌, ◌↔◌, true, not, refl, sym, ap, subst, List, length, Option, IsSome, OnSome, Result, Ok, Err, IfOk, IfErr, IsOk, arith, rules}
-use Rattle.std.specs.List.{filter, remove}
-use Rattle.std.proofs.lemmas.Bool.{both_ways}
-use Rattle.ckpt_ids.specs.declared.subtask.SubtaskId.{SubtaskId}
-use Rattle.ckpt_ids.specs.Acknowledged.{AreInSubtaskOrder, is_before}
-use Rattle.ckpt_ids.specs.Places.{BelongsAt, LiesAt}
-use Rattle.ckpt_ids.specs.Shapes.{same_subtask}
-use Rattle.ckpt_ids.specs.declared.ack.Acked.{Acked}
-use Rattle.ckpt_ids.specs.Records.{Record, missing, has_acknowledged}
-use Rattle.ckpt_ids.proofs.ResultLemmas.{on_some}
-use Rattle.ckpt_pending.specs.Acknowledging.{pending_record, subtask_of, without_ack, IsCounted}
+use Rattle.ckpt_pending.proofs.Names.{◌≡◌, ◌∙◌, ℕ, ◌+◌, ◌<◌, ◌≤◌, ◌↔◌, true, not, refl, sym, ap, subst, List, length, Option, IsSome, OnSome, Result, Ok, Err, IfOk, IfErr, IsOk, arith, rules, filter}
+use Rattle.ckpt_pending.proofs.Names.{remove, both_ways, SubtaskId, AreInSubtaskOrder, is_before, BelongsAt, LiesAt, same_subtask, Acked, Record, missing, has_acknowledged, on_some, pending_record}
+use Rattle.ckpt_pending.proofs.Names.{subtask_of, without_ack, IsCounted}
 use Rattle.ckpt_pending.proofs.AckLemmas.{acked}
 use Rattle.ckpt_pending.proofs.PendingLemmas.{IsCounted-without, missing-without_ack, missing_bound}
 use Rattle.ckpt_pending.proofs.PlaceLemmas.{acked_nowhere, remove_at}

@@ -1,8 +1,5 @@
 -- Answers the goals of `Parts::files_of_first`.
-use Rattle.std.proofs.Common.{◌≡◌, ◌≤◌, ◌<◌, ◌-◌, ◌+◌, ℕ, List, length, take, get_or, sym, ap, ◌∙◌, arith}
-use Rattle.std.proofs.lemmas.List.{length-take-le}
-use Rattle.ckpt_registry.specs.declared.parts.Cut.{Cut}
-use Rattle.ckpt_registry.specs.Parts.{Part, files_in}
+use Rattle.ckpt_registry.proofs.Names.{◌≡◌, ◌≤◌, ◌<◌, ◌-◌, ◌+◌, ℕ, List, length, take, get_or, sym, ap, ◌∙◌, arith, length-take-le, Cut, Part, files_in}
 use Rattle.ckpt_registry.proofs.CutLemmas.{end_of, end_of-more, ends_within, files_of_first, places}
 use Rattle.ckpt_registry.proofs.parts.Parts.files_of_first.Goals as goal
 

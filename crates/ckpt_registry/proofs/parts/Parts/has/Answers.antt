@@ -1,11 +1,6 @@
 -- Answers the goals of `Parts::has`.
-use Rattle.std.proofs.Common.{◌≡◌, ◌≤◌, ◌<◌, ◌∙◌, ℕ, List, length, get_or, take, ltb, sym, ap, arith, refl}
-use Rattle.std.specs.List.{between}
-use Rattle.std.proofs.lemmas.Bool.{ltb-true, ltb-false, lt-ltb}
-use Rattle.std.proofs.lemmas.List.{length-take-le}
-use Rattle.ckpt_ids.specs.Counting.{times}
-use Rattle.ckpt_registry.specs.declared.parts.Cut.{Cut}
-use Rattle.ckpt_registry.specs.Parts.{Part, files_in, parts_from}
+use Rattle.ckpt_registry.proofs.Names.{◌≡◌, ◌≤◌, ◌<◌, ◌∙◌, ℕ, List, length, get_or, take, ltb, sym, ap, arith, refl, between, ltb-true, ltb-false, lt-ltb, length-take-le, times, Cut, Part, files_in}
+use Rattle.ckpt_registry.proofs.Names.{parts_from}
 use Rattle.ckpt_registry.proofs.CutLemmas.{next_among, next_cut, next_end, next_times, places}
 use Rattle.ckpt_registry.proofs.parts.Parts.has.Goals as goal
 

@@ -1,7 +1,5 @@
 -- The loop invariants of `Parts::has`.
-use Rattle.std.proofs.Common.{◌≡◌, take}
-use Rattle.ckpt_ids.specs.Counting.{times}
-use Rattle.ckpt_registry.specs.Parts.{files_in, parts_from}
+use Rattle.ckpt_registry.proofs.Names.{◌≡◌, take, times, files_in, parts_from}
 use Rattle.ckpt_registry.proofs.CutLemmas.{end_of}
 use Rattle.ckpt_registry.proofs.parts.Parts.has.Given as goal
 

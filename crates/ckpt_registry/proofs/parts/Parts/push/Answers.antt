@@ -1,8 +1,5 @@
 -- Answers the goals of `Parts::push`.
-use Rattle.std.proofs.Common.{◌≡◌, ℕ, List, ◌+◌, ◌∷◌, ◌++◌, [], length, ap, sym, subst, ◌∙◌, arith, append_assoc}
-use Rattle.ckpt_ids.specs.Ascending.{IsAscending}
-use Rattle.ckpt_registry.specs.declared.parts.Cut.{Cut}
-use Rattle.ckpt_registry.specs.Parts.{AreCut, Part, parts_from}
+use Rattle.ckpt_registry.proofs.Names.{◌≡◌, ℕ, List, ◌+◌, ◌∷◌, ◌++◌, [], length, ap, sym, subst, ◌∙◌, arith, append_assoc, IsAscending, Cut, AreCut, Part, parts_from}
 use Rattle.ckpt_registry.proofs.CutLemmas.{AreCut-push, parts_from-push}
 use Rattle.ckpt_registry.proofs.parts.Parts.push.Goals as goal
 

@@ -1,8 +1,5 @@
 -- Answers the goals of `Pins::settle`.
-use Rattle.std.proofs.Common.{◌≡◌, ap, take, arith}
-use Rattle.ckpt_ids.specs.Counting.{times}
-use Rattle.ckpt_ids.proofs.CountLemmas.{times-from_IsIn, IsIn-from_times}
-use Rattle.ckpt_registry.specs.Parts.{files_in, files_of}
+use Rattle.ckpt_registry.proofs.Names.{◌≡◌, ap, take, arith, times, times-from_IsIn, IsIn-from_times, files_in, files_of}
 use Rattle.ckpt_registry.proofs.PartLemmas.{times_of_take}
 use Rattle.ckpt_registry.proofs.pins.Pins.settle.Goals as goal
 

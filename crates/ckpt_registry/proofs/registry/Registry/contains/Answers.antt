@@ -1,7 +1,5 @@
 -- Answers the goals of `Registry::contains`.
-use Rattle.std.proofs.Common.{List, ap, ◌∙◌}
-use Rattle.std.specs.Vec.{vec_capacity}
-use Rattle.ckpt_ids.specs.Records.{Use, is_present}
+use Rattle.ckpt_registry.proofs.Names.{List, ap, ◌∙◌, vec_capacity, Use, is_present}
 use Rattle.ckpt_registry.proofs.CounterLemmas.{is_some-get}
 use Rattle.ckpt_registry.proofs.RegistryLemmas.{is_present-in_use}
 use Rattle.ckpt_registry.proofs.registry.Registry.contains.Goals as goal

@@ -1,11 +1,6 @@
 -- Answers the goals of `Registry::count`.
-use Rattle.std.proofs.Common.{◌≡◌, ℕ, ◌+◌, ◌<◌, ◌^◌, Option, List, unwrap_or, sym, ap, subst, ◌∙◌, arith, rules}
-use Rattle.std.specs.Vec.{vec_capacity}
-use Rattle.ckpt_ids.specs.Ordered.{IsInOrder}
-use Rattle.ckpt_ids.specs.Records.{Use, count, use_before}
-use Rattle.ckpt_registry.specs.Counters.{counter}
-use Rattle.ckpt_registry.specs.Pins.{AreKept, pins_of_records}
-use Rattle.ckpt_registry.specs.Sound.{in_use}
+use Rattle.ckpt_registry.proofs.Names.{◌≡◌, ℕ, ◌+◌, ◌<◌, ◌^◌, Option, List, unwrap_or, sym, ap, subst, ◌∙◌, arith, rules, vec_capacity, IsInOrder, Use, count, use_before, counter, AreKept}
+use Rattle.ckpt_registry.proofs.Names.{pins_of_records, in_use}
 use Rattle.ckpt_registry.proofs.RegistryLemmas.{below-in_use, count-in_use, in_use-in_order}
 use Rattle.ckpt_registry.proofs.registry.Registry.count.Goals as goal
 

@@ -1,14 +1,6 @@
 -- Answers the goals of `Registry::end`.
-use Rattle.std.proofs.Common.{◌≡◌, ℕ, ◌+◌, ◌≤◌, List, [], ◌∷◌, not, ltb, refl, ap, ◌∙◌, arith}
-use Rattle.std.specs.Vec.{vec_capacity}
-use Rattle.indexmap.specs.IndexMap.{index_map_len}
-use Rattle.ckpt_ids.specs.Counting.{times}
-use Rattle.ckpt_ids.specs.Records.{Use, is_present}
-use Rattle.ckpt_registry.specs.declared.pins.Pinner.{Pinner}
-use Rattle.ckpt_registry.specs.Counters.{counter, counted_once}
-use Rattle.ckpt_registry.specs.Pins.{pins_in}
-use Rattle.ckpt_registry.specs.Sound.{IsSound, in_use}
-use Rattle.ckpt_registry.specs.Uses.{is_ended, without, after_end}
+use Rattle.ckpt_registry.proofs.Names.{◌≡◌, ℕ, ◌+◌, ◌≤◌, List, [], ◌∷◌, not, ltb, refl, ap, ◌∙◌, arith, vec_capacity, index_map_len, times, Use, is_present, Pinner, counter, counted_once, pins_in}
+use Rattle.ckpt_registry.proofs.Names.{IsSound, in_use, is_ended, without, after_end}
 use Rattle.ckpt_registry.proofs.PinLemmas.{pins_in-filter}
 use Rattle.ckpt_registry.proofs.RegistryLemmas.{stored-after_end, in_use-filtered, is_present-in_use, IsSound-filtered, released-sorted}
 use Rattle.ckpt_registry.proofs.SoundLemmas.{AreCounted-unpinned}

@@ -1,20 +1,6 @@
 -- Answers the goals of `Registry::hold_files`.
-use Rattle.std.proofs.Common.{◌≡◌, ℕ, ◌+◌, ◌<◌, ◌≤◌, ◌++◌, ◌^◌, List, [], length, sym, ap, subst, ◌∙◌, arith}
-use Rattle.std.specs.Vec.{vec_capacity}
-use Rattle.std.proofs.lemmas.List.{append-nil}
-use Rattle.indexmap.specs.IndexMap.{index_map_len}
-use Rattle.ckpt_ids.specs.Ascending.{ascending}
-use Rattle.ckpt_ids.specs.Counting.{times}
-use Rattle.ckpt_ids.specs.Ordered.{IsIn, in_order_once}
-use Rattle.ckpt_ids.specs.Records.{Use, Subtask, count, use_before}
-use Rattle.ckpt_ids.proofs.CountLemmas.{times_at_most_once}
-use Rattle.ckpt_ids.proofs.ResultLemmas.{on_each_error}
-use Rattle.ckpt_registry.specs.declared.pins.Pinner.{Pinner}
-use Rattle.ckpt_registry.specs.Counters.{counter}
-use Rattle.ckpt_registry.specs.Holdings.{uses_in, Adds}
-use Rattle.ckpt_registry.specs.Pins.{pins_in}
-use Rattle.ckpt_registry.specs.Sound.{in_use}
-use Rattle.ckpt_registry.specs.Uses.{HasNoUse, triples}
+use Rattle.ckpt_registry.proofs.Names.{◌≡◌, ℕ, ◌+◌, ◌<◌, ◌≤◌, ◌++◌, ◌^◌, List, [], length, sym, ap, subst, ◌∙◌, arith, vec_capacity, append-nil, index_map_len, ascending, times, IsIn, in_order_once}
+use Rattle.ckpt_registry.proofs.Names.{Use, Subtask, count, use_before, times_at_most_once, on_each_error, Pinner, counter, uses_in, Adds, pins_in, in_use, HasNoUse, triples}
 use Rattle.ckpt_registry.proofs.CounterLemmas.{counter-unchanged}
 use Rattle.ckpt_registry.proofs.PinLemmas.{pins_in-extended}
 use Rattle.ckpt_registry.proofs.RegistryLemmas.{IsSound-acknowledged, IsSound-kept, below-in_use, below_more, count-in_use, in_use-added, in_use-kept, stored-acknowledged}

@@ -1,20 +1,7 @@
 -- Answers the goals of `Registry::pin_files`.
-use Rattle.std.proofs.Common.{◌≡◌, ℕ, ◌+◌, ◌<◌, ◌≤◌, ◌^◌, ◌++◌, List, [], length, sym, ap, subst, ◌∙◌, arith}
-use Rattle.std.specs.Vec.{vec_capacity}
-use Rattle.indexmap.specs.IndexMap.{index_map_len}
-use Rattle.ckpt_ids.specs.Counting.{times}
-use Rattle.ckpt_ids.specs.Ordered.{IsIn, in_order_once}
-use Rattle.ckpt_ids.specs.Records.{Use, Pin, count, use_before}
-use Rattle.ckpt_registry.specs.declared.pins.Pinner.{Pinner}
-use Rattle.ckpt_registry.specs.declared.pins.Pins.TheVariants.{Files}
-use Rattle.ckpt_registry.specs.Counters.{counter}
-use Rattle.ckpt_registry.specs.Holdings.{Acknowledged}
-use Rattle.ckpt_registry.specs.Sound.{IsSound, in_use}
-use Rattle.ckpt_registry.specs.Uses.{HasNoUse, IsEachOnce, triples}
+use Rattle.ckpt_registry.proofs.Names.{◌≡◌, ℕ, ◌+◌, ◌<◌, ◌≤◌, ◌^◌, ◌++◌, List, [], length, sym, ap, subst, ◌∙◌, arith, vec_capacity, index_map_len, times, IsIn, in_order_once, Use, Pin, count}
+use Rattle.ckpt_registry.proofs.Names.{use_before, Pinner, Files, counter, Acknowledged, IsSound, in_use, HasNoUse, IsEachOnce, triples, numbers_in_order, times_at_most_once, AreDistinct-from_order}
 use Rattle.ckpt_registry.proofs.CounterLemmas.{AreInRange-unchanged, counter-unchanged}
-use Rattle.ckpt_ids.proofs.AscendingLemmas.{numbers_in_order}
-use Rattle.ckpt_ids.proofs.CountLemmas.{times_at_most_once}
-use Rattle.ckpt_ids.proofs.OrderedLemmas.{AreDistinct-from_order}
 use Rattle.ckpt_registry.proofs.RegistryLemmas.{IsSound-pinned, below-in_use, below_more, count-in_use, in_use-pinned}
 use Rattle.ckpt_registry.proofs.registry.Registry.pin_files.Goals as goal
 

@@ -1,18 +1,6 @@
 -- Answers the goals of `Registry::pin_record`.
-use Rattle.std.proofs.Common.{◌≡◌, ℕ, ◌+◌, ◌<◌, ◌^◌, ◌-◌, ◌++◌, List, [], ◌∷◌, sym, ap, subst, ◌∙◌, arith}
-use Rattle.std.specs.Vec.{vec_capacity}
-use Rattle.std.specs.declared.alloc.Global.{Global}
-use Rattle.std.specs.declared.vec.Vec.{Vec}
-use Rattle.ckpt_ids.specs.Counting.{times}
-use Rattle.ckpt_ids.specs.Ordered.{IsIn, in_order_once}
-use Rattle.ckpt_ids.specs.Records.{Use, Pin, count, use_before}
-use Rattle.ckpt_ids.proofs.CountLemmas.{times-from_IsIn}
-use Rattle.ckpt_registry.specs.declared.pins.Pinner.{Pinner}
-use Rattle.ckpt_registry.specs.Holdings.{Acknowledged, parts_of}
-use Rattle.ckpt_registry.specs.Pins.{each_file, pinned_by}
-use Rattle.ckpt_registry.specs.Sound.{IsSound, in_use}
-use Rattle.ckpt_registry.specs.Uses.{HasNoUse, files_by, triples}
-use Rattle.ckpt_registry.specs.Parts.{Part, files_in}
+use Rattle.ckpt_registry.proofs.Names.{◌≡◌, ℕ, ◌+◌, ◌<◌, ◌^◌, ◌-◌, ◌++◌, List, [], ◌∷◌, sym, ap, subst, ◌∙◌, arith, vec_capacity, Global, Vec, times, IsIn, in_order_once, Use, Pin, count, use_before}
+use Rattle.ckpt_registry.proofs.Names.{times-from_IsIn, Pinner, Acknowledged, parts_of, each_file, pinned_by, IsSound, in_use, HasNoUse, files_by, triples, Part, files_in}
 use Rattle.ckpt_registry.proofs.HoldingLemmas.{count-parts_of}
 use Rattle.ckpt_registry.proofs.RegistryLemmas.{IsEachOnce-files_by, IsSound-pinned, below-in_use, below_more, count-in_use, files_by-in_use, in_use-none, in_use-pinned}
 use Rattle.ckpt_registry.proofs.registry.Registry.pin_record.Goals as goal

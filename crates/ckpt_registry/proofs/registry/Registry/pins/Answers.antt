@@ -1,8 +1,5 @@
 -- Answers the goals of `Registry::pins`.
-use Rattle.std.proofs.Common.{List, ℕ, sym, ap, subst, ◌∙◌}
-use Rattle.std.specs.List.Sorted.{IsPermutation}
-use Rattle.ckpt_registry.specs.Pins.{AreKept, named_by}
-use Rattle.ckpt_registry.specs.Uses.{pins_by}
+use Rattle.ckpt_registry.proofs.Names.{List, ℕ, sym, ap, subst, ◌∙◌, IsPermutation, AreKept, named_by, pins_by}
 use Rattle.ckpt_registry.proofs.PinnedLemmas.{pins-from_dedup}
 use Rattle.ckpt_registry.proofs.registry.Registry.pins.Goals as goal
 

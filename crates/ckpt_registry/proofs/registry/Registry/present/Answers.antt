@@ -1,10 +1,5 @@
 -- Answers the goals of `Registry::present`.
-use Rattle.std.proofs.Common.{◌≡◌, List, map, length, ap, subst, ◌∙◌, arith}
-use Rattle.std.specs.Vec.{vec_capacity}
-use Rattle.ckpt_ids.specs.Ascending.{ascending_set}
-use Rattle.ckpt_ids.specs.Ordered.{IsInOrder}
-use Rattle.ckpt_ids.specs.Records.{Use, count, use_before}
-use Rattle.ckpt_registry.specs.Sound.{in_use}
+use Rattle.ckpt_registry.proofs.Names.{◌≡◌, List, map, length, ap, subst, ◌∙◌, arith, vec_capacity, ascending_set, IsInOrder, Use, count, use_before, in_use}
 use Rattle.ckpt_registry.proofs.RegistryLemmas.{below-in_use, in_use-in_order, index_map_len-in_use}
 use Rattle.ckpt_registry.proofs.registry.Registry.present.Goals as goal
 

@@ -1,12 +1,5 @@
 -- Answers the goals of `Registry::release`.
-use Rattle.std.proofs.Common.{◌≡◌, ℕ, ◌≤◌, List, not, ltb, refl, ap, ◌∙◌, arith}
-use Rattle.std.specs.Vec.{vec_capacity}
-use Rattle.indexmap.specs.IndexMap.{index_map_len}
-use Rattle.ckpt_ids.specs.Records.{Use, is_present}
-use Rattle.ckpt_registry.specs.declared.pins.Pinner.{Pinner}
-use Rattle.ckpt_registry.specs.Counters.{counter}
-use Rattle.ckpt_registry.specs.Sound.{IsSound, in_use}
-use Rattle.ckpt_registry.specs.Uses.{is_owned, without}
+use Rattle.ckpt_registry.proofs.Names.{◌≡◌, ℕ, ◌≤◌, List, not, ltb, refl, ap, ◌∙◌, arith, vec_capacity, index_map_len, Use, is_present, Pinner, counter, IsSound, in_use, is_owned, without}
 use Rattle.ckpt_registry.proofs.RegistryLemmas.{stored-without, in_use-filtered, is_present-in_use, IsSound-filtered, released-sorted}
 use Rattle.ckpt_registry.proofs.registry.Registry.release.Goals as goal
 

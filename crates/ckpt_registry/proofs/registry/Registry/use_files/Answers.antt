@@ -1,23 +1,11 @@
 -- Answers the goals of `Registry::use_files`.
-use Rattle.std.proofs.Common.{◌≡◌, ℕ, ◌+◌, ◌<◌, ◌≤◌, ◌++◌, ◌^◌, true, List, length, sym, ap, subst, ◌∙◌, arith}
-use Rattle.std.specs.Vec.{vec_capacity}
-use Rattle.std.proofs.lemmas.Bool.{ltb-true, ltb-false}
-use Rattle.indexmap.specs.IndexMap.{index_map_len}
-use Rattle.ckpt_ids.specs.Ordered.{AreDistinct, IsIn, in_order_once}
-use Rattle.ckpt_ids.specs.Records.{Use, Subtask, count, is_present, use_before}
-use Rattle.ckpt_registry.specs.Counters.{counter}
-use Rattle.ckpt_registry.specs.Pins.{pins_in}
-use Rattle.ckpt_registry.specs.declared.pins.Pinner.{Pinner}
-use Rattle.ckpt_registry.specs.Sound.{in_use}
-use Rattle.ckpt_registry.specs.Uses.{HasNoUse, triples}
+use Rattle.ckpt_registry.proofs.Names.{◌≡◌, ℕ, ◌+◌, ◌<◌, ◌≤◌, ◌++◌, ◌^◌, true, List, length, sym, ap, subst, ◌∙◌, arith, vec_capacity, ltb-true, ltb-false, index_map_len, AreDistinct, IsIn}
+use Rattle.ckpt_registry.proofs.Names.{in_order_once, Use, Subtask, count, is_present, use_before, counter, pins_in, Pinner, in_use, HasNoUse, triples, on_each_error, times, times-append}
+use Rattle.ckpt_registry.proofs.Names.{times_at_most_once, AreDistinct-left}
 use Rattle.ckpt_registry.proofs.CounterLemmas.{counter-unchanged}
-use Rattle.ckpt_ids.proofs.ResultLemmas.{on_each_error}
 use Rattle.ckpt_registry.proofs.RegistryLemmas.{IsSound-acknowledged, IsSound-kept, below-in_use, below_more, count-in_use, in_use-added, in_use-kept, is_present-in_use, stored-acknowledged}
 use Rattle.ckpt_registry.proofs.PinLemmas.{pins_in-extended}
 use Rattle.ckpt_registry.proofs.registry.Registry.use_files.Goals as goal
-use Rattle.ckpt_ids.specs.Counting.{times}
-use Rattle.ckpt_ids.proofs.CountLemmas.{times-append, times_at_most_once}
-use Rattle.ckpt_ids.proofs.OrderedLemmas.{AreDistinct-left}
 
 pub count_fresh-requires-clause-each_once : goal.count_fresh-requires-clause-each_once
 count_fresh-requires-clause-each_once c = subst AreDistinct (sym c.as_slice-fresh.ensures.files) (AreDistinct-left c.args.fresh.now c.args.reused.now c.requires.each_once)

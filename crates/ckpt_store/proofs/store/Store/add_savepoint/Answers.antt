@@ -1,10 +1,6 @@
 -- Answers the goals of `Store::add_savepoint`.
-use Rattle.std.proofs.Common.{◌≡◌, ◌∙◌, ◌≤◌, ◌<◌, ◌-◌, ◌+◌, ◌^◌, Result, Ok, Err, OnOk, OnErr, min, length, refl, ap, arith, List}
-use Rattle.std.specs.VecDeque.{deque_len, deque_capacity}
-use Rattle.ckpt_ids.specs.Ordered.{put}
-use Rattle.ckpt_ids.specs.Records.{Record}
-use Rattle.ckpt_store.specs.Storing.{by_id, has_savepoint}
-use Rattle.ckpt_ids.proofs.PlaceLemmas.{insert-put}
+use Rattle.ckpt_store.proofs.Names.{◌≡◌, ◌∙◌, ◌≤◌, ◌<◌, ◌-◌, ◌+◌, ◌^◌, Result, Ok, Err, OnOk, OnErr, min, length, refl, ap, arith, List, deque_len, deque_capacity, put, Record, by_id, has_savepoint}
+use Rattle.ckpt_store.proofs.Names.{insert-put}
 use Rattle.ckpt_store.proofs.StoreLemmas.{IsStored-add}
 use Rattle.ckpt_store.proofs.store.Store.add_savepoint.Goals as goal
 

@@ -1,6 +1,5 @@
 -- Answers the goals of `Store::complete`.
-use Rattle.std.proofs.Common.{◌≡◌, ◌∙◌, ◌≤◌, drop, length, sym, ap, subst, arith, None}
-use Rattle.ckpt_store.specs.Storing.{Stored, IsStored, IsAbove}
+use Rattle.ckpt_store.proofs.Names.{◌≡◌, ◌∙◌, ◌≤◌, drop, length, sym, ap, subst, arith, None, Stored, IsStored, IsAbove}
 use Rattle.ckpt_store.proofs.StoreLemmas.{IsStored-spare, IsStored-complete, AreRising-drop, IsIn-from_drop, length-drop_one}
 use Rattle.ckpt_store.proofs.store.Store.complete.Goals as goal
 use Rattle.ckpt_store.proofs.store.Store.complete.Goals.{then-len-self, else-len-self}

@@ -1,10 +1,5 @@
 -- Answers the goals of `Store::dispose`.
-use Rattle.std.proofs.Common.{◌≡◌, ◌∙◌, ◌<◌, true, false, sym, ap, Some, refl}
-use Rattle.std.specs.List.{remove}
-use Rattle.std.specs.VecDeque.{deque_len}
-use Rattle.std.proofs.lemmas.Bool.{both_ways, eq-eqb}
-use Rattle.ckpt_ids.proofs.ResultLemmas.{on_some}
-use Rattle.ckpt_store.specs.Storing.{has_savepoint}
+use Rattle.ckpt_store.proofs.Names.{◌≡◌, ◌∙◌, ◌<◌, true, false, sym, ap, Some, refl, remove, deque_len, both_ways, eq-eqb, on_some, has_savepoint}
 use Rattle.ckpt_store.proofs.RowLemmas.{has_place, none_place, remove-place}
 use Rattle.ckpt_store.proofs.StoreLemmas.{IsStored-dispose}
 use Rattle.ckpt_store.proofs.store.Store.dispose.Goals as goal

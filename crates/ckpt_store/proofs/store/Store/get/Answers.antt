@@ -1,10 +1,5 @@
 -- Answers the goals of `Store::get`.
-use Rattle.std.proofs.Common.{◌≡◌, ◌∙◌, sym, ap, false}
-use Rattle.std.specs.Prelude.{slice_get}
-use Rattle.std.specs.List.{list_any}
-use Rattle.std.specs.Option.{option_copied}
-use Rattle.ckpt_store.specs.Storing.{Stored, has_id, record_of}
-use Rattle.ckpt_ids.proofs.PlaceLemmas.{find-none}
+use Rattle.ckpt_store.proofs.Names.{◌≡◌, ◌∙◌, sym, ap, false, slice_get, list_any, option_copied, Stored, has_id, record_of, find-none}
 use Rattle.ckpt_store.proofs.RowLemmas.{copied_from_get, find-place, none_place}
 use Rattle.ckpt_store.proofs.StoreLemmas.{record_of_place, record_of_later}
 use Rattle.ckpt_store.proofs.store.Store.get.Goals as goal

@@ -1,10 +1,5 @@
 -- Answers the goals of `Store::has_savepoint`.
-use Rattle.std.proofs.Common.{◌≡◌, ◌∙◌, ℕ, List, Result, Ok, Err, IfOk, IfErr, ltb, sym, ap}
-use Rattle.std.specs.Result.{is_ok}
-use Rattle.std.specs.List.{list_any}
-use Rattle.ckpt_ids.specs.Places.{BelongsAt, LiesAt}
-use Rattle.ckpt_ids.specs.Records.{Record}
-use Rattle.ckpt_store.specs.Storing.{has_id, has_savepoint, id_of}
+use Rattle.ckpt_store.proofs.Names.{◌≡◌, ◌∙◌, ℕ, List, Result, Ok, Err, IfOk, IfErr, ltb, sym, ap, is_ok, list_any, BelongsAt, LiesAt, Record, has_id, has_savepoint, id_of}
 use Rattle.ckpt_store.proofs.RowLemmas.{has_place, none_place}
 use Rattle.ckpt_store.proofs.store.Store.has_savepoint.Goals as goal
 

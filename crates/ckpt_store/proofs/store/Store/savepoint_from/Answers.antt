@@ -1,11 +1,5 @@
 -- Answers the goals of `Store::savepoint_from`.
-use Rattle.std.proofs.Common.{◌≡◌, ◌∙◌, ap, ltb, leb, rules, List, true, false}
-use Rattle.std.specs.Prelude.{slice_get}
-use Rattle.std.specs.List.{find}
-use Rattle.std.specs.List.Sorted.{IsPartitionPoint}
-use Rattle.std.specs.Option.{option_copied}
-use Rattle.std.proofs.lemmas.List.Sorted.{IsPartitionPoint-from_clause}
-use Rattle.ckpt_ids.specs.Records.{Record}
+use Rattle.ckpt_store.proofs.Names.{◌≡◌, ◌∙◌, ap, ltb, leb, rules, List, true, false, slice_get, find, IsPartitionPoint, option_copied, IsPartitionPoint-from_clause, Record}
 use Rattle.ckpt_store.proofs.RowLemmas.{copied_from_get, find-partition, partitioned}
 use Rattle.ckpt_store.proofs.store.Store.savepoint_from.Goals as goal
 

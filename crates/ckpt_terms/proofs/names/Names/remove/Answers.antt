@@ -14,4 +14,4 @@ returns-in_default c =
     let None_has : List Span → Type 0 = λ ys. list_any (in_span n) ys ≡ false in
     let At : ℕ → Type 0 = λ m. names_in xs ≡ without_all (m ∷ []) (names_in xs) in
     let Of : List ℕ → Type 0 = λ names. names ≡ without_all (c.args.name ∷ []) names in
-    subst Of c.self.view_is (subst At c.name.view_is (absent_stays xs n (subst None_has c.deref.ensures.value (c.range_with.ensures.none c.in_default.is))))
+    subst Of c.self.view_is (subst At c.name.view_is (absent_stays xs n (subst None_has c.deref.ensures.value (c.range_near.ensures.none c.in_default.is))))

@@ -3,7 +3,7 @@ use Rattle.std.proofs.Common.{◌≤◌, ◌<◌, List, get_or, arith}
 use Rattle.ckpt_terms.specs.declared.names.Span.{Span}
 use Rattle.ckpt_terms.proofs.SpanLemmas.{span}
 use Rattle.ckpt_terms.proofs.Counted.{none_counted, more_counted, all_counted, is_some, is_behind, ends_within}
-use Rattle.ckpt_terms.proofs.names.count_names.Goals as goal
+use Rattle.ckpt_terms.proofs.image.count_names.Goals as goal
 
 pub loop-span-init : goal.loop-span-init
 loop-span-init c = none_counted

@@ -1,7 +1,7 @@
 -- The loop of `count_names`.
 use Rattle.std.proofs.Common.{take}
 use Rattle.ckpt_terms.proofs.Counted.{AreCounted}
-use Rattle.ckpt_terms.proofs.names.count_names.Given as goal
+use Rattle.ckpt_terms.proofs.image.count_names.Given as goal
 
 abbrev pub invariant-loop-span : goal.invariant-loop-span
 invariant-loop-span l = AreCounted (take l.span-index l.ranges) l.last l.held

@@ -1,0 +1,135 @@
+package relkvanu
+
+// #include <relkvanu.h>
+import "C"
+
+import "unsafe"
+
+// Terms and names. A coordinator with names gives out the numbers of the files that tasks will write, each once, and counts the terms of the
+// job. Each accepted restore and cancel ends the term. What a task of an ended term sends returns FencedOldTerm, and changes nothing. A
+// coordinator without names returns FencedNoNames for each of these calls, except Fence.
+
+// OpenFenced opens a coordinator with names as Open opens one without, in term 1. The first name that it gives out is firstName, 1 to 2^62: all
+// numbers of files that were used before are below it. Ack and Decline return FencedOldTerm then: its tasks call AckIn and DeclineIn. A
+// BadArgument is of the settings first, then of the shape, the first name, the moment and the first number.
+func OpenFenced(settings Settings, shape []uint64, now, first, firstName uint64) (*Coordinator, error) {
+	own := settings.inC()
+	return opened(now, func(o *owner, one, two C.uint64_t) C.relkvanu_answer {
+		at, length := list(shape)
+		return C.relkvanu_open_fenced(o.handle, &own, at, length, C.uint64_t(now), C.uint64_t(first), C.uint64_t(firstName), one, two)
+	})
+}
+
+// Fence gives the coordinator names, from firstName on, in term 1. All numbers of files that were used before are below it, those of files that
+// nobody acknowledged too. Call it between the end of all tasks and their restart, since a task that began before it has no term. The
+// error is FencedHasNames, BadName, or FencedNameInUse if a known file has this number or a greater one.
+func (c *Coordinator) Fence(firstName uint64) error {
+	return c.named(C.RELKVANU_NAMED, func(handle *C.relkvanu) C.relkvanu_answer { return C.relkvanu_fence(handle, C.uint64_t(firstName)) })
+}
+
+// named makes a call that no timer waits for, and whose only answer is this one, without numbers.
+func (c *Coordinator) named(what C.uint32_t, call func(handle *C.relkvanu) C.relkvanu_answer) error {
+	_, err := c.only(what, call)
+	return err
+}
+
+// only makes a call that no timer waits for, and whose only answer is this one.
+func (c *Coordinator) only(what C.uint32_t, call func(handle *C.relkvanu) C.relkvanu_answer) (C.relkvanu_answer, error) {
+	answer, err := c.called(call)
+	if err == nil && answer.what != what {
+		err = unknown(answer)
+	}
+	return answer, err
+}
+
+// RunningTerm is the term that runs, and the next name that is given out.
+type RunningTerm struct{ Term, NextName uint64 }
+
+// Term is the term that runs, and the next name. Whoever restarts the tasks reads it after the restore, and tells each of them once the restore
+// is durable. A task never asks for it: one that should be dead would learn the new term.
+func (c *Coordinator) Term() (RunningTerm, error) {
+	return runningTerm(c.only(C.RELKVANU_TERM, func(handle *C.relkvanu) C.relkvanu_answer { return C.relkvanu_term(handle) }))
+}
+
+func runningTerm(answer C.relkvanu_answer, err error) (RunningTerm, error) {
+	if err != nil {
+		return RunningTerm{}, err
+	}
+	return RunningTerm{Term: uint64(answer.a), NextName: uint64(answer.b)}, nil
+}
+
+// Reserve reserves names for files that a task of this term will write, 1 to 65536. The reservation is in the durable log before the task uses
+// one of them.
+func (c *Coordinator) Reserve(term, count uint64) (Reserved, error) {
+	answer, err := c.only(C.RELKVANU_RESERVED, func(handle *C.relkvanu) C.relkvanu_answer {
+		return C.relkvanu_reserve(handle, C.uint64_t(term), C.uint64_t(count))
+	})
+	if err != nil {
+		return Reserved{}, err
+	}
+	return Reserved{First: uint64(answer.a), Count: uint64(answer.b)}, nil
+}
+
+// Forfeit gives up names that a task of this term will not acknowledge, such as those of a failed upload: their files are garbage then. Names
+// that the term does not hold are passed over, so the call can be repeated.
+func (c *Coordinator) Forfeit(term uint64, names []uint64) error {
+	return c.named(C.RELKVANU_FORFEITED, func(handle *C.relkvanu) C.relkvanu_answer {
+		at, length := list(names)
+		return C.relkvanu_forfeit(handle, C.uint64_t(term), at, length)
+	})
+}
+
+// AckIn is the Ack of a task of this term. If it is accepted, it spends the names of the fresh files. The same acknowledgement once more returns
+// FencedSpent, if it has fresh files: a task deletes no file for that answer.
+func (c *Coordinator) AckIn(term, now, id uint64, subtask Subtask, fresh, reused []uint64) (Acked, error) {
+	return replied(c, now, acked, func(handle *C.relkvanu) C.relkvanu_answer {
+		freshAt, freshLength := list(fresh)
+		reusedAt, reusedLength := list(reused)
+		return C.relkvanu_ack_in(handle, C.uint64_t(term), C.uint64_t(now), C.uint64_t(id), C.uint16_t(subtask.Vertex),
+			C.uint16_t(subtask.Index), freshAt, freshLength, reusedAt, reusedLength)
+	})
+}
+
+// DeclineIn is the Decline of a task of this term.
+func (c *Coordinator) DeclineIn(term, now, id uint64, subtask Subtask) (Declined, error) {
+	return replied(c, now, declined, func(handle *C.relkvanu) C.relkvanu_answer {
+		return C.relkvanu_decline_in(handle, C.uint64_t(term), C.uint64_t(now), C.uint64_t(id), C.uint16_t(subtask.Vertex), C.uint16_t(subtask.Index))
+	})
+}
+
+// Garbage is what Coordinator.Garbage tells of some files, in their order.
+type Garbage struct {
+	Garbage  []uint64 // garbage for good, so it may be deleted at any time
+	Unissued []uint64 // their names were not given out. They are another job's, or a log was lost: nobody deletes them
+}
+
+// Garbage sorts files of a storage, at any time, also while tasks run: those that may be deleted, and those that nobody deletes. It changes
+// nothing. Ask a coordinator whose calls are durable: one that forgot a call also forgets which files are in use.
+func (c *Coordinator) Garbage(files []uint64) (Garbage, error) {
+	rooms := newSorting(files)
+	return rooms.sorted(c.only(C.RELKVANU_GARBAGE, func(handle *C.relkvanu) C.relkvanu_answer {
+		return C.relkvanu_garbage(handle, rooms.at(rooms.files), rooms.length, rooms.at(rooms.garbage), rooms.length, rooms.at(rooms.unissued), rooms.length)
+	}))
+}
+
+// sorting has files, and room for those that are garbage and for those that were not given out. Each has a place more, so that it has an address.
+type sorting struct {
+	files, garbage, unissued []uint64
+	length                   C.size_t
+}
+
+func newSorting(files []uint64) sorting {
+	room := func() []uint64 { return make([]uint64, len(files)+1) }
+	it := sorting{room(), room(), room(), C.size_t(len(files))}
+	copy(it.files, files)
+	return it
+}
+
+func (s sorting) at(room []uint64) *C.uint64_t { return (*C.uint64_t)(unsafe.Pointer(&room[0])) }
+
+func (s sorting) sorted(answer C.relkvanu_answer, err error) (Garbage, error) {
+	if err != nil {
+		return Garbage{}, err
+	}
+	return Garbage{Garbage: s.garbage[:answer.a], Unissued: s.unissued[:answer.b]}, nil
+}

@@ -1,0 +1,449 @@
+package relkvanu;
+
+import static org.junit.jupiter.api.Assertions.assertArrayEquals;
+import static org.junit.jupiter.api.Assertions.assertEquals;
+import static org.junit.jupiter.api.Assertions.assertFalse;
+import static org.junit.jupiter.api.Assertions.assertSame;
+import static org.junit.jupiter.api.Assertions.assertThrows;
+import static org.junit.jupiter.api.Assertions.assertTrue;
+
+import java.util.ArrayList;
+import java.util.Arrays;
+import java.util.List;
+import java.util.concurrent.Callable;
+import java.util.concurrent.ExecutorService;
+import java.util.concurrent.Executors;
+import java.util.concurrent.Future;
+import java.util.stream.LongStream;
+import org.junit.jupiter.api.Test;
+import org.junit.jupiter.api.function.Executable;
+
+/** Terms and names, with values that are worked out from the rules (docs/RULES.md, docs/LOGS.md). */
+class NamesTest {
+    private static final long DAY = 24 * 60 * 60 * 1000;
+    private static final long END = 1L << 62;
+    private static final Settings SETTINGS = Settings.every(1000);
+    private static final long[] ONE = {1};
+    private static final long[] FILES = {9, 7, 4, 5, 6, 8, 7};
+
+    private static Coordinator named(long firstName) {
+        return Coordinator.openFenced(SETTINGS, ONE, 0, 1, firstName);
+    }
+
+    private static void fenced(Fenced reason, long file, Executable call) {
+        CoordinatorException.Fenced told = assertThrows(CoordinatorException.Fenced.class, call);
+        assertEquals(List.of(reason, file), List.of(told.reason(), told.file()));
+    }
+
+    private static void fenced(Fenced reason, Executable call) {
+        fenced(reason, 0, call);
+    }
+
+    private static void refused(Refusal refusal, Executable call) {
+        assertSame(refusal, assertThrows(CoordinatorException.Refused.class, call).refusal());
+    }
+
+    private static void bad(Argument argument, Executable call) {
+        assertSame(argument, assertThrows(CoordinatorException.BadArgument.class, call).argument());
+    }
+
+    private static Reply.Ack ack(Coordinator job, long term, long now, long id, long... fresh) {
+        return job.ackIn(term, now, id, 0, 0, fresh);
+    }
+
+    /** All that can be seen of a job with names: no refused call may change it. */
+    private static List<Object> seen(Coordinator job) {
+        return List.of(job.term(), job.garbage(LongStream.range(0, 16).toArray()), job.mode(), job.moment(), job.due(), job.fileCounts(), Lines.text(job.save()));
+    }
+
+    /** A task reserves the names 5 to 7, and acknowledges checkpoint 1 with 5 and 6. Checkpoint 2 is pending. */
+    static Coordinator withCheckpoint1() {
+        Coordinator job = named(5);
+        assertEquals(new RunningTerm(1, 5), job.term());
+        assertEquals(new Reply.Reserved(5, 3), job.reserve(1, 3));
+        assertEquals(new Reply.Triggered(0, 1), job.tick(1000));
+        assertEquals(new Reply.AckCompleted(0, 0), ack(job, 1, 1000, 1, 6, 5));
+        assertEquals(new Reply.Triggered(0, 2), job.tick(2000));
+        return job;
+    }
+
+    /** The first bad argument decides. */
+    @Test
+    void openings() {
+        Settings bad = Settings.every(0);
+        bad(Argument.BAD_CONFIG, () -> Coordinator.openFenced(bad, new long[] {}, END, 0, 0));
+        bad(Argument.BAD_SHAPE, () -> Coordinator.openFenced(SETTINGS, new long[] {}, END, 0, 0));
+        bad(Argument.BAD_NAME, () -> Coordinator.openFenced(SETTINGS, ONE, END, 0, 0));
+        bad(Argument.BAD_NAME, () -> Coordinator.openFenced(SETTINGS, ONE, END, 0, END + 1));
+        bad(Argument.BAD_NAME, () -> Coordinator.openFenced(SETTINGS, ONE, END, 0, -1));
+        bad(Argument.BAD_MOMENT, () -> Coordinator.openFenced(SETTINGS, ONE, END, 0, END));
+        bad(Argument.BAD_FIRST, () -> Coordinator.openFenced(SETTINGS, ONE, 0, 0, 1));
+        try (Coordinator job = Coordinator.openFenced(SETTINGS, new long[] {1, 2}, 50, 7, 5)) {
+            assertEquals(new RunningTerm(1, 5), job.term());
+            assertEquals(50, job.moment());
+            assertEquals(new Reply.Triggered(0, 7), job.tick(1050));
+            assertEquals(3, job.missing(7).orElseThrow());
+        }
+    }
+
+    /** A coordinator without names makes no call with a term, and all others as ever. */
+    @Test
+    void noNames() {
+        try (Coordinator job = Jobs.opened(SETTINGS, 1)) {
+            byte[] image = job.save();
+            List<Executable> calls = List.of(job::term, () -> job.reserve(0, 0), () -> job.forfeit(0, 5), () -> ack(job, 0, END, 1, 5), () -> job.declineIn(0, END, 1, 0, 0), () -> job.garbage(5));
+            calls.forEach(it -> fenced(Fenced.NO_NAMES, it));
+            assertArrayEquals(image, job.save());
+            job.tick(1000);
+            assertEquals(new Reply.AckCompleted(0, 0), job.ack(1000, 1, 0, 0, Jobs.files(5)));
+            assertEquals(new Reply.Cancelled(1, 1), job.cancel(1000));
+        }
+    }
+
+    /** The first refusal of the table decides, and none changes anything. */
+    @Test
+    void refusals() {
+        long last = END - 1;
+        try (Coordinator job = named(last)) {
+            List<Object> before = seen(job);
+            fenced(Fenced.OLD_TERM, () -> job.reserve(0, 0));
+            fenced(Fenced.OLD_TERM, () -> job.reserve(2, 0));
+            fenced(Fenced.BAD_COUNT, () -> job.reserve(1, 0));
+            fenced(Fenced.BAD_COUNT, () -> job.reserve(1, 65537));
+            fenced(Fenced.BAD_COUNT, () -> job.reserve(1, -1));
+            fenced(Fenced.NAMES_USED_UP, () -> job.reserve(1, 65536));
+            fenced(Fenced.NAMES_USED_UP, () -> job.reserve(1, 2));
+            assertEquals(before, seen(job));
+            assertArrayEquals(new long[] {last}, job.reserve(1, 1).names());
+            fenced(Fenced.NAMES_USED_UP, () -> job.reserve(1, 1));
+            fenced(Fenced.OLD_TERM, () -> job.forfeit(2, last));
+            fenced(Fenced.OLD_TERM, () -> ack(job, 2, END, 1, 7));
+            fenced(Fenced.SPENT, 7, () -> ack(job, 1, END, 1, 7));
+            fenced(Fenced.OLD_TERM, () -> job.declineIn(2, END, 1, 0, 0));
+            refused(Refusal.MOMENT_TOO_LARGE, () -> ack(job, 1, END, 1, last));
+            refused(Refusal.UNKNOWN_CHECKPOINT, () -> job.declineIn(1, 0, 9, 0, 0));
+            assertEquals(new Reply.Triggered(0, 1), job.tick(1000));
+            assertEquals(new Reply.DeclineFailed(0), job.declineIn(1, 1000, 1, 0, 0));
+            assertEquals(new Reply.Cancelled(0, 0), job.cancel(2000));
+            assertEquals(new RunningTerm(2, END), job.term());
+            fenced(Fenced.OLD_TERM, () -> job.reserve(1, 0));
+            fenced(Fenced.ENDED, () -> job.reserve(2, 0));
+            refused(Refusal.NOT_RUNNING, () -> job.cancel(2000));
+            assertEquals(new RunningTerm(2, END), job.term());
+        }
+    }
+
+    /** The old task can do nothing more after the restore, and its third file is garbage: from the restore on, and for good. */
+    @Test
+    void tasksThatShouldBeDead() {
+        try (Coordinator job = withCheckpoint1()) {
+            fenced(Fenced.NEVER_RESERVED, 8, () -> ack(job, 1, 2000, 2, 7, 8));
+            fenced(Fenced.SPENT, 5, () -> ack(job, 1, 1000, 1, 6, 5));
+            assertEquals(new Garbage(new long[] {4}, new long[] {9, 8}), job.garbage(FILES));
+            assertEquals(new Reply.RestoredCheckpoint(1, 0), job.restoreLatest(2100));
+            assertEquals(new RunningTerm(2, 8), job.term());
+            List<Object> before = seen(job);
+            List<Executable> calls = List.of(() -> ack(job, 1, 2200, 2, 7), () -> ack(job, 1, 2200, 2), () -> job.declineIn(1, 2200, 2, 0, 0), () -> job.reserve(1, 1), () -> job.forfeit(1, FILES),
+                () -> job.ack(2200, 2, 0, 0, Jobs.files(7)), () -> job.decline(2200, 2, 0, 0), () -> job.line(Jobs.line("ack 2200 2 0.0 +7")));
+            calls.forEach(it -> fenced(Fenced.OLD_TERM, it));
+            fenced(Fenced.SPENT, 7, () -> ack(job, 2, 2200, 2, 7));
+            assertEquals(before, seen(job));
+            assertEquals(new Reply.Reserved(8, 1), job.reserve(2, 1));
+            assertEquals(new Reply.AckLate(1), ack(job, 2, 2300, 2, 8));
+            assertEquals(new Reply.Taken(Jobs.files(8)), job.take(2));
+            assertEquals(new Garbage(new long[] {7, 4, 7}, new long[] {9}), job.garbage(FILES));
+        }
+    }
+
+    /** Each of the two lists reaches its place: a name is reused only if it is in use. */
+    @Test
+    void freshAndReusedFiles() {
+        try (Coordinator job = withCheckpoint1()) {
+            CoordinatorException.Refused gone = assertThrows(CoordinatorException.Refused.class, () -> job.ackIn(1, 2000, 2, 0, 0, Jobs.files(7), 4));
+            assertEquals(List.of(Refusal.FILE_GONE, 4L), List.of(gone.refusal(), gone.file()));
+            assertEquals(new Reply.AckCompleted(1, 1), job.ackIn(1, 2000, 2, 0, 0, Jobs.files(7), 5));
+            assertArrayEquals(Jobs.files(5, 7), job.filesOf(2, 0, 0).orElseThrow());
+        }
+    }
+
+    /** Each argument reaches its place: the subtask, and the record. */
+    @Test
+    void theSubtaskAndTheRecord() {
+        try (Coordinator job = Coordinator.openFenced(SETTINGS.withAtOnce(2).withTolerable(5), new long[] {1, 3}, 0, 1, 1)) {
+            job.reserve(1, 100);
+            job.tick(1000);
+            job.tick(2000);
+            assertEquals(new Reply.AckPending(3), job.ackIn(1, 2100, 2, 1, 2, Jobs.files(10)));
+            assertArrayEquals(Jobs.files(10), job.filesOf(2, 1, 2).orElseThrow());
+            refused(Refusal.UNKNOWN_SUBTASK, () -> job.ackIn(1, 2100, 2, 2, 1, Jobs.files(11)));
+            refused(Refusal.UNKNOWN_SUBTASK, () -> job.declineIn(1, 2100, 1, 2, 1));
+            assertEquals(2100, job.moment());
+            assertEquals(new Reply.DeclineAborted(0), job.declineIn(1, 2200, 1, 1, 2));
+            assertEquals(2200, job.moment());
+            assertEquals(List.of(Standing.ENDED, Standing.PENDING), List.of(job.standing(1), job.standing(2)));
+        }
+    }
+
+    @Test
+    void namesThatAreGivenUp() {
+        try (Coordinator job = named(1)) {
+            assertEquals(new Reply.Reserved(1, 3), job.reserve(1, 3));
+            assertEquals(new Garbage(new long[] {}, new long[] {}), job.garbage(2, 3));
+            for (int time = 0; time < 2; time++) {
+                assertEquals(new Reply.Forfeited(), job.forfeit(1, 7, 2, 9, 2));
+                assertEquals(new Garbage(new long[] {2}, new long[] {}), job.garbage(2, 3));
+            }
+            assertEquals(new Reply.Forfeited(), job.forfeit(1));
+            assertEquals(new Garbage(new long[] {}, new long[] {}), job.garbage());
+            job.tick(1000);
+            fenced(Fenced.SPENT, 2, () -> ack(job, 1, 1000, 1, 2));
+            assertEquals(new Reply.AckCompleted(0, 0), ack(job, 1, 1000, 1, 3));
+        }
+    }
+
+    /** A job that is older than its names gets them above each file that it knows: in use, waiting for deletion, or fetched for it. */
+    @Test
+    void namesThatComeLater() {
+        try (Coordinator job = Jobs.opened(SETTINGS, 1)) {
+            job.tick(1000);
+            job.ack(1000, 1, 0, 0, Jobs.files(3, 9));
+            bad(Argument.BAD_NAME, () -> job.fence(0));
+            bad(Argument.BAD_NAME, () -> job.fence(END + 1));
+            fenced(Fenced.NAME_IN_USE, () -> job.fence(9));
+            job.tick(2000);
+            job.ack(2000, 2, 0, 0, Jobs.files(4), 3);
+            fenced(Fenced.NAME_IN_USE, () -> job.fence(9));
+            assertEquals(new Reply.Taken(Jobs.files(9)), job.take(1));
+            fenced(Fenced.NAME_IN_USE, () -> job.fence(9));
+            job.deleted(9);
+            fenced(Fenced.NAME_IN_USE, () -> job.fence(4));
+            fenced(Fenced.NO_NAMES, job::term);
+            assertEquals(new Reply.Named(), job.fence(5));
+            assertEquals(new RunningTerm(1, 5), job.term());
+            fenced(Fenced.HAS_NAMES, () -> job.fence(0));
+            assertEquals(new Reply.Reserved(5, 2), job.reserve(1, 2));
+            assertEquals(new Garbage(new long[] {2}, new long[] {8}), job.garbage(2, 3, 4, 5, 6, 8));
+        }
+    }
+
+    /** The example of docs/LOGS.md. */
+    @Test
+    void theExampleOfThePage() {
+        try (Coordinator job = Coordinator.open(SETTINGS, ONE, 0)) {
+            assertEquals(new Reply.Triggered(0, 1), job.tick(1000));
+            assertEquals(new Reply.AckCompleted(0, 0), job.ack(1000, 1, 0, 0, Jobs.files(11, 12)));
+            fenced(Fenced.NAME_IN_USE, () -> job.fence(12));
+            job.fence(20);
+            assertEquals(1, job.term().term());
+            assertEquals(20, job.reserve(1, 3).first());
+            assertEquals(new Reply.Triggered(0, 2), job.tick(2000));
+            assertEquals(new Reply.AckCompleted(1, 1), job.ackIn(1, 2000, 2, 0, 0, Jobs.files(20), 11));
+            fenced(Fenced.SPENT, 20, () -> job.ackIn(1, 2000, 2, 0, 0, Jobs.files(20), 11));
+            assertEquals(new Reply.Triggered(0, 3), job.tick(3000));
+            assertEquals(new Reply.RestoredCheckpoint(2, 0), job.restoreLatest(3100));
+            assertEquals(2, job.term().term());
+            fenced(Fenced.OLD_TERM, () -> ack(job, 1, 3200, 3, 21));
+            assertEquals(23, job.reserve(2, 2).first());
+            assertEquals(new Reply.AckLate(1), ack(job, 2, 3200, 3, 23));
+            job.forfeit(2, 24);
+            assertEquals(new Reply.Taken(Jobs.files(12, 23)), job.take(9));
+            assertEquals(new Reply.Cancelled(1, 2), job.cancel(4000));
+            assertEquals(3, job.term().term());
+        }
+    }
+
+    @Test
+    void aMomentThatIsFarAheadIsRefused() {
+        try (Coordinator job = withCheckpoint1()) {
+            long late = 2000 + SETTINGS.timeout() + DAY + 1; // a timer may wait until checkpoint 2 expires
+            refused(Refusal.MOMENT_TOO_LARGE, () -> ack(job, 1, late, 2, 7));
+            refused(Refusal.MOMENT_TOO_LARGE, () -> job.declineIn(1, late, 2, 0, 0));
+            assertEquals(2000, job.moment());
+            assertEquals(new Reply.AckCompleted(1, 2), ack(job, 1, late - 1, 2, 7));
+        }
+    }
+
+    @Test
+    void whichCallsWakeATimer() {
+        try (Coordinator job = withCheckpoint1()) {
+            long seen = job.calls();
+            job.reserve(1, 1);
+            job.forfeit(1, 8);
+            job.garbage(8);
+            job.term();
+            assertEquals(seen, job.calls());
+            ack(job, 1, 2000, 2, 7);
+            assertEquals(seen + 1, job.calls());
+            fenced(Fenced.OLD_TERM, () -> job.declineIn(2, 2000, 2, 0, 0));
+            assertEquals(seen + 2, job.calls());
+        }
+    }
+
+    @Test
+    void aNumberThatDoesNotFitIsNotCut() {
+        try (Coordinator job = withCheckpoint1()) {
+            List<Object> before = seen(job);
+            List<Executable> calls = List.of(() -> job.ackIn(1, 2000, 2, 1 << 16, 0, Jobs.files(7)), () -> job.ackIn(1, 2000, 2, 0, -1, Jobs.files(7)),
+                () -> job.declineIn(1, 2000, 2, -1, 0), () -> job.declineIn(1, 2000, 2, 0, 1 << 16));
+            calls.forEach(it -> assertThrows(CoordinatorException.OutOfRange.class, it));
+            List<Executable> nulls = List.of(() -> job.ackIn(1, 2000, 2, 0, 0, null), () -> job.ackIn(1, 2000, 2, 0, 0, Jobs.files(7), (long[]) null), () -> job.forfeit(1, (long[]) null),
+                () -> job.garbage((long[]) null), () -> Coordinator.openFenced(SETTINGS, null, 0, 1, 1), () -> Coordinator.openFenced(null, ONE, 0, 1, 1));
+            nulls.forEach(it -> assertThrows(NullPointerException.class, it));
+            fenced(Fenced.NEVER_RESERVED, -1, () -> ack(job, 1, 2000, 2, -1));
+            assertEquals(before, seen(job));
+            assertEquals("Garbage[garbage=[], unissued=[18446744073709551615]]", job.garbage(-1).toString());
+        }
+    }
+
+    @Test
+    void aClosedOneStaysClosed() {
+        Coordinator job = withCheckpoint1();
+        job.close();
+        List<Executable> calls = List.of(job::term, () -> job.fence(1), () -> job.reserve(1, 1), () -> job.forfeit(1, 7), () -> ack(job, 1, 2000, 2, 7), () -> job.declineIn(1, 2000, 2, 0, 0),
+            () -> job.garbage(7));
+        calls.forEach(it -> assertThrows(CoordinatorException.Closed.class, it));
+    }
+
+    /**
+     * Term 1 reserved 5 to 9 and acknowledged with 5 and 6. Term 2 holds 10 and 12, has given up 11, and acknowledged with 13. Then 6 was
+     * fetched for deletion, and checkpoint 3 is pending. So 7, 8, 9 and 11 are garbage.
+     */
+    static Coordinator busy() {
+        Coordinator job = named(5);
+        job.reserve(1, 5);
+        job.tick(1000);
+        ack(job, 1, 1000, 1, 5, 6);
+        job.restoreLatest(1500);
+        job.reserve(2, 4);
+        job.forfeit(2, 11);
+        job.tick(2500);
+        assertEquals(new Reply.AckCompleted(1, 1), job.ackIn(2, 2500, 2, 0, 0, Jobs.files(13), 5));
+        assertEquals(new Reply.Taken(Jobs.files(6)), job.take(1));
+        job.tick(3500);
+        return job;
+    }
+
+    private static void hasTheGarbage(Coordinator job) {
+        assertEquals(new Garbage(new long[] {4, 7, 8, 9, 11}, new long[] {14}), job.garbage(LongStream.rangeClosed(4, 14).toArray()));
+        assertEquals(new RunningTerm(2, 14), job.term());
+    }
+
+    @Test
+    void anImageWithNamesIsOpened() {
+        try (Coordinator job = busy(); Coordinator again = Coordinator.openSaved(job.save())) {
+            hasTheGarbage(job);
+            hasTheGarbage(again);
+            assertTrue(Lines.text(job.save()).contains("\"names\":{\"next\":14,\"term\":2,\"unspent\":[[10,11],[12,13]]}"));
+            assertEquals(seen(job), seen(again));
+            fenced(Fenced.OLD_TERM, () -> again.ack(3600, 3, 0, 0, Jobs.files()));
+            fenced(Fenced.OLD_TERM, () -> ack(again, 1, 3600, 3, 7));
+            fenced(Fenced.SPENT, 11, () -> ack(again, 2, 3600, 3, 11));
+            fenced(Fenced.NEVER_RESERVED, 14, () -> ack(again, 2, 3600, 3, 14));
+            assertEquals(seen(job), seen(again));
+            for (Coordinator it : List.of(job, again)) {
+                assertEquals(new Reply.Reserved(14, 1), it.reserve(2, 1));
+                assertEquals(new Reply.AckCompleted(1, 2), ack(it, 2, 3600, 3, 12));
+                assertEquals(new Reply.RestoredCheckpoint(3, 0), it.restoreLatest(3700));
+                assertEquals(new RunningTerm(3, 15), it.term());
+            }
+            assertEquals(seen(job), seen(again));
+        }
+    }
+
+    @Test
+    void imagesWithDamagedNames() {
+        byte[] image;
+        try (Coordinator job = busy()) {
+            image = job.save();
+        }
+        String text = Lines.text(image);
+        for (String[] it : new String[][] {{"\"term\":2", "\"term\":0"}, {"\"next\":14,\"term\"", "\"next\":13,\"term\""}, {"[10,11]", "[11,10]"}, {"[12,13]", "[12,14]"},
+            {",\"unspent\":[[10,11],[12,13]]", ""}, {"\"names\":{", "\"named\":{"}, {"\"version\":2", "\"version\":3"}}) {
+            String damaged = text.replace(it[0], it[1]);
+            assertFalse(damaged.equals(text), it[0]);
+            bad(Argument.BAD_IMAGE, () -> Coordinator.openSaved(Jobs.line(damaged)));
+        }
+        for (int end = 0; end < image.length; end++) {
+            byte[] cut = Arrays.copyOf(image, end);
+            bad(Argument.BAD_IMAGE, () -> Coordinator.openSaved(cut));
+        }
+        try (Coordinator job = Coordinator.openSaved(Jobs.line(text.replace("\"version\":2", "\"version\":1")))) {
+            fenced(Fenced.NO_NAMES, job::term);
+        }
+    }
+
+    @Test
+    void theLastTerm() {
+        String text;
+        try (Coordinator job = busy()) {
+            text = Lines.text(job.save()).replace("\"term\":2", "\"term\":" + END);
+        }
+        try (Coordinator job = Coordinator.openSaved(Jobs.line(text))) {
+            List<Object> before = seen(job);
+            fenced(Fenced.TERMS_USED_UP, () -> job.restoreLatest(4000));
+            fenced(Fenced.TERMS_USED_UP, () -> job.cancel(4000));
+            assertEquals(before, seen(job));
+            assertEquals(new RunningTerm(END, 14), job.term());
+            assertEquals(new Reply.AckCompleted(1, 2), ack(job, END, 4000, 3, 12));
+        }
+    }
+
+    /** Threads that reserve, give up, sort and read in one coordinator: no name is given out twice, and each gets its own answer. */
+    @Test
+    void eightThreads() throws Exception {
+        ExecutorService pool = Executors.newFixedThreadPool(8);
+        try (Coordinator job = named(1)) {
+            List<Callable<List<Long>>> tasks = new ArrayList<>();
+            for (int thread = 0; thread < 8; thread++) {
+                tasks.add(() -> {
+                    List<Long> own = new ArrayList<>();
+                    for (int round = 0; round < 500; round++) {
+                        long[] names = job.reserve(1, 3).names();
+                        Arrays.stream(names).forEach(own::add);
+                        job.forfeit(1, names[1]);
+                        assertEquals(new Garbage(new long[] {names[1]}, new long[] {END}), job.garbage(names[0], names[1], names[2], END));
+                        assertEquals(1, job.term().term());
+                        fenced(Fenced.OLD_TERM, () -> job.reserve(2, 3));
+                    }
+                    return own;
+                });
+            }
+            List<Long> all = new ArrayList<>();
+            for (Future<List<Long>> it : pool.invokeAll(tasks)) {
+                all.addAll(it.get());
+            }
+            assertEquals(LongStream.rangeClosed(1, 12_000).boxed().toList(), all.stream().sorted().toList());
+            assertEquals(new RunningTerm(1, 12_001), job.term());
+        } finally {
+            pool.shutdown();
+        }
+    }
+
+    /** The names are those of the library, and no number is beyond them. */
+    @Test
+    void everyReasonHasItsName() {
+        Library.need();
+        int what = 0;
+        for (Fenced it : Fenced.values()) {
+            byte[] text = new byte[32];
+            int length = (int) Native.fencedText(++what, text);
+            assertEquals(Lines.text(Arrays.copyOf(text, length)), it.text());
+            assertSame(it, Fenced.of(what));
+        }
+        assertEquals(0, Native.fencedText(what + 1, new byte[32]));
+        assertEquals("Spent 18446744073709551615", new CoordinatorException.Fenced(Fenced.SPENT, -1).getMessage());
+        assertEquals("OldTerm", new CoordinatorException.Fenced(Fenced.OLD_TERM, 0).getMessage());
+    }
+
+    @Test
+    void whatIsToldDoesNotChange() {
+        long[] files = {1, 2};
+        Garbage told = new Garbage(files, files);
+        files[0] = 7;
+        told.garbage()[0] = 8;
+        told.unissued()[1] = 8;
+        assertEquals(new Garbage(new long[] {1, 2}, new long[] {1, 2}), told);
+        assertFalse(told.equals(new Garbage(new long[] {1, 2}, new long[] {1})));
+        assertEquals(told.hashCode(), new Garbage(new long[] {1, 2}, new long[] {1, 2}).hashCode());
+    }
+}

@@ -1,0 +1,250 @@
+"""Deletes the garbage of a storage: the files whose names a coordinator gave out, and that nobody will ever use. It may run at any time, beside
+tasks, beside another sweeper, or late, since garbage stays garbage for good. For coordinators with names alone."""
+import argparse
+import contextlib
+import importlib
+import posixpath
+import re
+import sys
+import time
+from dataclasses import dataclass, field
+from typing import Any, Callable, Dict, Iterator, List, Optional, Sequence
+
+from relkvanu.coordinator import Error
+from relkvanu.reads import Garbage
+from relkvanu.storage import MARKER, PAGE, Folder, KeepsVersions, Marker, Names, NotThere, OtherJob, SizedStorage
+
+# Of a list of files: which are garbage, and which have names that were not given out. A coordinator whose calls are durable has to answer.
+Ask = Callable[[Sequence[int]], Garbage]
+
+FAILED, UNISSUED, LOOK_FIRST = 1, 3, 78  # exit statuses, beside 2 of a wrong word
+USAGE = """exit status:
+  0   all garbage was deleted, or without --delete was printed
+  1   garbage is left, or the storage or the service did not answer: another run may go on
+  2   a word is wrong
+  3   all garbage was deleted or printed, and there are files whose names were never given out. They are another
+      job's, or calls of this one were lost, as by a restored backup. They are not touched
+  78  somebody has to look first, and nothing was deleted: the place is not that of the job, or the job has no names"""
+
+
+@dataclass(frozen=True)
+class Page:
+    """What was found on a page of the listing, each with its bytes, and which of the garbage may be there still."""
+
+    listed: int
+    garbage: Dict[int, int]
+    unissued: Dict[int, int]
+    failed: Dict[int, str] = field(default_factory=dict)
+
+
+@dataclass
+class Swept:
+    """The sums of a sweep. `deleted` files are gone for good; `failed` may be there still, each with the reason."""
+
+    listed: int = 0
+    garbage: int = 0
+    garbage_bytes: int = 0
+    deleted: int = 0
+    unissued: int = 0
+    failed: Dict[int, str] = field(default_factory=dict)
+
+    def add(self, page: Page, delete: bool) -> None:
+        self.listed += page.listed
+        self.garbage += len(page.garbage)
+        self.garbage_bytes += sum(page.garbage.values())
+        self.deleted += len(page.garbage) - len(page.failed) if delete else 0
+        self.unissued += len(page.unissued)
+        self.failed.update(page.failed)
+
+
+def pages(storage: SizedStorage, ask: Ask, delete: bool = False, most: int = PAGE) -> Iterator[Page]:
+    """Sweeps page by page. Raises StorageError if the storage is not there, is another job's, or was not listed to its end."""
+    storage.check()
+    for sizes in storage.sizes(most):
+        told = ask(list(sizes))
+        strangers = {*told.garbage, *told.unissued} - set(sizes)
+        if strangers:
+            raise Error(f"the answer has file {min(strangers)}, which was not in the question")
+        garbage = {file: sizes[file] for file in told.garbage}
+        failed = storage.delete(list(garbage)) if delete and garbage else {}
+        yield Page(len(sizes), garbage, {file: sizes[file] for file in told.unissued}, failed)
+
+
+def sweep(storage: SizedStorage, ask: Ask, delete: bool = False) -> Swept:
+    """Finds the garbage of a storage, and deletes it if `delete` says so. Files whose names were never given out are counted, and not
+    touched. `ask` is the `garbage` of a coordinator whose calls are durable, or of_service()."""
+    swept = Swept()
+    for page in pages(storage, ask, delete):
+        swept.add(page, delete)
+    return swept
+
+
+def of_service(job: Any) -> Ask:
+    """Asks a job of the service (relkvanu_service.Job), which answers from what is committed."""
+
+    def ask(files: Sequence[int]) -> Garbage:
+        garbage, unissued = job.garbage(files)
+        return Garbage(tuple(garbage), tuple(unissued))
+
+    return ask
+
+
+# The command.
+
+
+class Stop(Exception):
+    """Why a run ends, and the status of the program."""
+
+    def __init__(self, status: int, why: str) -> None:
+        super().__init__(why)
+        self.status = status
+
+
+def seconds(text: str) -> float:
+    """A time, as 90, 90s, 15m, 1h or 1d."""
+    found = re.fullmatch(r"([0-9]{1,9})(s|m|h|d|)", text)
+    if found is None or int(found[1]) == 0:
+        raise argparse.ArgumentTypeError(f"{text!r} is no time, as 90s, 15m, 1h or 1d")
+    return int(found[1]) * {"": 1, "s": 1, "m": 60, "h": 3600, "d": 86400}[found[2]]
+
+
+def parser() -> argparse.ArgumentParser:
+    it = argparse.ArgumentParser(
+        prog="python3 -m relkvanu.sweep", description=__doc__, epilog=USAGE, formatter_class=argparse.RawDescriptionHelpFormatter)
+    it.add_argument("--job", metavar="NAME", required=True, help="the job of the service")
+    it.add_argument("--service", metavar="URL", action="append", required=True, help="the service, as http://127.0.0.1:7780; again: its next address")
+    it.add_argument("--token-file", metavar="FILE", help="a file whose first line is a token")
+    it.add_argument("--ca", metavar="FILE", help="certificates that https trusts, by default the system's")
+    place = it.add_mutually_exclusive_group(required=True)
+    place.add_argument("--folder", metavar="DIR", help="the folder of the files, which has the file .relkvanu-NAME of relkvanu discard")
+    place.add_argument("--bucket", metavar="NAME", help="the bucket of the files, which has the object .relkvanu-NAME beside them")
+    it.add_argument("--prefix", default="", help="the part of a file's name before its number; in a bucket of its key")
+    it.add_argument("--suffix", default="", help="the part of a file's name after its number")
+    it.add_argument("--endpoint", metavar="URL", help="another S3 server than that of AWS")
+    it.add_argument("--region", help="its region")
+    it.add_argument("--keeps-versions", action="store_true", help="the bucket keeps versions, and its lifecycle rules delete old ones")
+    it.add_argument("--delete", action="store_true", help="delete the garbage; otherwise it is printed alone")
+    it.add_argument("--every", metavar="TIME", type=seconds, help="begin again after this time, as 15m or 1h, until the command is ended")
+    it.add_argument("--patience", metavar="TIME", type=seconds, default=60.0, help="make a request to the service again for this time, by default 60s")
+    it.add_argument("--quiet", action="store_true", help="print no names, only the sums of each sweep")
+    return it
+
+
+def token(path: Optional[str]) -> Optional[str]:
+    if path is None:
+        return None
+    try:
+        with open(path, encoding="utf-8") as file:
+            return file.readline().strip()
+    except OSError as error:
+        raise Stop(FAILED, f"--token-file: {error}") from error
+
+
+def module(name: str, what: str) -> Any:
+    """A module that not each sweep needs."""
+    try:
+        return importlib.import_module(name)
+    except ImportError as error:
+        raise Stop(FAILED, f"{what}: {error}") from error
+
+
+@contextlib.contextmanager
+def place(given: argparse.Namespace, marker: Marker) -> Iterator[SizedStorage]:
+    """The storage, if it has the marker."""
+    if given.folder is not None:
+        with Folder(given.folder, given.job, prefix=given.prefix, suffix=given.suffix, marker=marker) as folder:
+            yield folder
+        return
+    s3 = module("relkvanu.s3", "--bucket needs boto3, python3-boto3 of Debian")
+    yield s3.Bucket(given.bucket, given.job, prefix=given.prefix, suffix=given.suffix, s3=s3.client(given.endpoint, given.region),
+                    keeps_versions=given.keeps_versions, marker=marker)
+
+
+def check_names(storage: SizedStorage, given: argparse.Namespace) -> None:
+    """Without a prefix and a suffix a file of another job beside those of this one would be taken for one of this job."""
+    if posixpath.basename(given.prefix) or given.suffix:
+        return
+    own = (MARKER, f".relkvanu-{given.job}")
+    others = [name for name in storage.beside(".relkvanu-") if name not in own and not name.startswith(own[1] + ".")]
+    if others:
+        raise Stop(LOOK_FIRST, f"other jobs have files in the same place, as {others[0]} says: so --prefix or --suffix is needed")
+
+
+def lines(page: Page, names: Names, delete: bool) -> Iterator[str]:
+    for file, size in page.garbage.items():
+        reason = page.failed.get(file)
+        word = "failed" if reason else "deleted" if delete else "garbage"
+        yield f"{word} {names.of(file)} {size}" + (f" {reason}" if reason else "")
+    for file, size in page.unissued.items():
+        yield f"unissued {names.of(file)} {size}"
+
+
+def summary(swept: Swept, took: float) -> str:
+    sums = {"listed": swept.listed, "garbage": swept.garbage, "bytes": swept.garbage_bytes, "deleted": swept.deleted, "failed": len(swept.failed),
+            "unissued": swept.unissued}
+    return " ".join([*(f"{name}={value}" for name, value in sums.items()), f"seconds={took:.1f}"])
+
+
+def sweep_place(given: argparse.Namespace, service: Any) -> Iterator[Page]:
+    """Each sweep opens the storage anew, so a disk that is mounted again is found."""
+    job = service.job(given.job)
+    with place(given, Marker(*job.marker())) as storage:
+        check_names(storage, given)
+        yield from pages(storage, of_service(job), given.delete)
+
+
+def run_once(given: argparse.Namespace, client: Any) -> int:
+    """One sweep, which prints what it does."""
+    began, swept, names = time.monotonic(), Swept(), Names(given.prefix, given.suffix)
+    service = client.Service(*given.service, token=token(given.token_file), patience=given.patience, ca=given.ca)
+    try:
+        for page in sweep_place(given, service):
+            swept.add(page, given.delete)
+            if not given.quiet:
+                print("".join(f"{line}\n" for line in lines(page, names, given.delete)), end="", flush=True)
+    except (NotThere, OtherJob, KeepsVersions) as error:
+        raise Stop(LOOK_FIRST, str(error)) from error
+    except client.Fenced as error:
+        raise Stop(LOOK_FIRST, f"{error}: the job {given.job} has no names, so its garbage can't be told. It gets names by the call fence, once, "
+                               "between the end of its tasks and their restart") from error
+    except (client.Failed, Error, OSError) as error:  # those of requests are OSErrors
+        raise Stop(FAILED, str(error)) from error
+    finally:
+        if swept.listed:
+            print(summary(swept, time.monotonic() - began), flush=True)
+    return FAILED if swept.failed else UNISSUED if swept.unissued else 0
+
+
+def run(given: argparse.Namespace) -> int:
+    """Sweeps once, or again and again until somebody has to look."""
+    client = module("relkvanu_service", "the client of the service is service/client/python/relkvanu_service.py, and needs python3-requests")
+    while True:
+        began = time.monotonic()
+        try:
+            status = run_once(given, client)
+        except Stop as stop:
+            if given.every is None or stop.status == LOOK_FIRST:
+                raise
+            print(f"sweep: it tries again later: {stop}", file=sys.stderr, flush=True)
+        else:
+            if given.every is None:
+                return status
+        time.sleep(max(began + given.every - time.monotonic(), 0.0))
+
+
+def main(arguments: Optional[List[str]] = None) -> int:
+    it = parser()
+    given = it.parse_args(arguments)
+    if given.folder is not None and "/" in given.prefix + given.suffix:
+        it.error("--prefix and --suffix: a '/' would name another folder")
+    try:
+        return run(given)
+    except Stop as stop:
+        print(f"sweep: {stop}", file=sys.stderr)
+        return stop.status
+    except KeyboardInterrupt:
+        return 130
+
+
+if __name__ == "__main__":
+    sys.exit(main())

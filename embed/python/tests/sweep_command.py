@@ -1,0 +1,164 @@
+"""The command python3 -m relkvanu.sweep over a folder, and a stand-in for the service: what it prints, deletes and refuses, and its status. It
+needs python3-requests."""
+import contextlib
+import io
+import pathlib
+import subprocess
+import sys
+import tempfile
+import unittest
+from unittest import mock
+
+import relkvanu_service
+from relkvanu import Coordinator, Settings
+from relkvanu.sweep import main
+from served import MARKER, job_with_files, served
+
+
+class Command(unittest.TestCase):
+    """Files are state-N.bin, and the marker is that of relkvanu discard."""
+
+    def setUp(self):
+        temporary = tempfile.TemporaryDirectory()
+        self.addCleanup(temporary.cleanup)
+        self.path = pathlib.Path(temporary.name) / "state"
+        self.path.mkdir()
+        self.job = job_with_files()
+        self.addCleanup(self.job.close)
+        for file in range(4, 10):
+            (self.path / f"state-{file}.bin").write_bytes(b"x" * file)
+        (self.path / ".relkvanu-orders").write_text(MARKER, encoding="utf-8")
+        (self.path / ".relkvanu-orders.begun").write_text("4 8\n", encoding="utf-8")
+        stack = contextlib.ExitStack()
+        self.addCleanup(stack.close)
+        url = stack.enter_context(served(self.job))
+        self.words = ["--service", url, "--job", "orders", "--folder", str(self.path), "--prefix", "state-", "--suffix", ".bin", "--patience", "1s"]
+
+    def names(self):
+        return sorted(path.name for path in self.path.iterdir() if not path.name.startswith("."))
+
+    def run_it(self, *words, given=None):
+        """Its status, what it printed, and its errors."""
+        out, errors = io.StringIO(), io.StringIO()
+        with contextlib.redirect_stdout(out), contextlib.redirect_stderr(errors):
+            try:
+                status = main([*(given or self.words), *words])
+            except SystemExit as end:
+                status = end.code
+        return status, out.getvalue().split("\n")[:-1], errors.getvalue()
+
+    def all_there(self):
+        self.assertEqual(self.names(), [f"state-{file}.bin" for file in range(4, 10)])
+
+    def test_it_prints_and_deletes_nothing(self):
+        status, told, _ = self.run_it()
+        self.assertEqual((status, sorted(told[:-1])), (3, ["garbage state-4.bin 4", "garbage state-8.bin 8", "unissued state-9.bin 9"]))
+        self.assertRegex(told[-1], r"^listed=6 garbage=2 bytes=12 deleted=0 failed=0 unissued=1 seconds=[0-9]+\.[0-9]$")
+        self.all_there()
+
+    def test_it_deletes(self):
+        status, told, _ = self.run_it("--delete")
+        self.assertEqual((status, sorted(told[:-1])), (3, ["deleted state-4.bin 4", "deleted state-8.bin 8", "unissued state-9.bin 9"]))
+        self.assertEqual(self.names(), [f"state-{file}.bin" for file in (5, 6, 7, 9)])
+        (self.path / "state-9.bin").unlink()
+        status, told, errors = self.run_it("--delete")
+        self.assertEqual((status, len(told), errors), (0, 1, ""))
+
+    def test_quiet(self):
+        _, told, _ = self.run_it("--quiet")
+        self.assertEqual(len(told), 1)
+
+    def test_what_it_can_not_delete(self):
+        with mock.patch("os.unlink", side_effect=PermissionError(1, "planted")):
+            status, told, _ = self.run_it("--delete")
+        self.assertEqual(status, 1)
+        self.assertRegex(sorted(told)[0], "^failed state-4.bin 4 .*planted$")
+
+    def test_a_place_that_is_not_the_job_s(self):
+        marker = self.path / ".relkvanu-orders"
+        for text in (None, MARKER.replace("1795", "1796"), MARKER.replace("orders", "others")):
+            marker.unlink()
+            if text is not None:
+                marker.write_text(text, encoding="utf-8")
+            status, told, errors = self.run_it("--delete")
+            self.assertEqual((status, told), (78, []), text)
+            self.assertIn("orders", errors)
+            self.all_there()
+            marker.touch()
+
+    def test_a_missing_folder(self):
+        status, told, _ = self.run_it("--folder", str(self.path / "missing"), "--delete")
+        self.assertEqual((status, told), (78, []))
+
+    def test_files_of_another_job_beside_them(self):
+        (self.path / ".relkvanu-others").write_text("", encoding="utf-8")
+        (self.path / "4").write_bytes(b"of the other job")
+        status, told, errors = self.run_it("--delete", "--prefix", "", "--suffix", "")
+        self.assertEqual((status, told), (78, []))
+        self.assertIn(".relkvanu-others", errors)
+        self.assertTrue((self.path / "4").exists())
+        status, told, _ = self.run_it("--delete")
+        self.assertEqual((status, len(told)), (3, 4))
+
+    def test_a_job_without_names(self):
+        with Coordinator(Settings(interval=10), [1], 0) as plain, served(plain) as url:
+            status, told, errors = self.run_it("--delete", given=["--service", url, *self.words[2:]])
+        self.assertEqual((status, told), (78, []))
+        self.assertIn("has no names", errors)
+        self.all_there()
+
+    def test_a_service_that_is_away(self):
+        status, told, _ = self.run_it("--delete", given=["--service", "http://127.0.0.1:9", *self.words[2:]])
+        self.assertEqual((status, told), (1, []))
+        self.all_there()
+
+    def test_a_job_that_is_not_there(self):
+        status, _, errors = self.run_it("--delete", "--job", "other")
+        self.assertEqual(status, 1)
+        self.assertIn("404", errors)
+
+    def test_a_token(self):
+        token = self.path.parent / "token"
+        token.write_text("a-token\nanother line\n", encoding="utf-8")
+        with served(self.job, "a-token") as url:
+            given = ["--service", url, *self.words[2:]]
+            self.assertEqual(self.run_it(given=given)[0], 1)
+            self.assertEqual(self.run_it("--token-file", str(token), given=given)[0], 3)
+        self.assertEqual(self.run_it("--token-file", str(token) + ".missing")[0], 1)
+
+    def test_wrong_words(self):
+        for words in (["--prefix", "a/"], ["--suffix", "/b"], ["--every", "0"], ["--every", "1w"], ["--bucket", "b"], ["--deleet"]):
+            status, told, _ = self.run_it(*words)
+            self.assertEqual((status, told), (2, []), words)
+        self.assertEqual(self.run_it(given=["--service", "http://127.0.0.1:9", "--job", "orders"])[0], 2)
+        self.all_there()
+
+    def test_again_and_again(self):
+        """A process of its own: it begins again after a second, though the storage was not read in between, and ends with its signal."""
+        sweeper = subprocess.Popen([sys.executable, "-m", "relkvanu.sweep", *self.words, "--delete", "--every", "1s", "--quiet"],
+                                   stdout=subprocess.PIPE, stderr=subprocess.PIPE, text=True)
+        try:
+            self.assertIn("deleted=2", sweeper.stdout.readline())
+            self.job.restore(20)
+            while "deleted=1" not in (line := sweeper.stdout.readline()):
+                self.assertIn("deleted=0", line)
+            (self.path / ".relkvanu-orders").unlink()
+            self.assertEqual(sweeper.wait(30), 78, "somebody has to look")
+        finally:
+            sweeper.kill()
+            sweeper.communicate()
+        self.assertEqual(self.names(), [f"state-{file}.bin" for file in (5, 6, 9)])
+
+
+class Markers(unittest.TestCase):
+    def test_the_marker_of_the_client_is_that_of_the_discarder(self):
+        with job_with_files() as job, served(job) as url:
+            job = relkvanu_service.Service(url).job("orders")
+            self.assertEqual(job.marker(), (".relkvanu-orders", MARKER))
+            with tempfile.TemporaryDirectory() as folder:
+                (pathlib.Path(folder) / ".relkvanu-orders").write_text(MARKER, encoding="utf-8")
+                job.claim(folder)
+
+
+if __name__ == "__main__":
+    unittest.main()

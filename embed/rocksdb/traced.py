@@ -1,0 +1,131 @@
+#!/usr/bin/env python3
+"""traced.py FOLDER TRACE: puts the lines of the log of FOLDER/job.db into what the engine has told of itself (trace.h), and has relkvanu-conform judge
+the whole: it obeys the rules. Then one line is left out or added in turn, and the rule is named that is broken then. Prints how many lines there are.
+
+The engine tells before a step or after an answer, and notes how much of the log it was answered by then. More of the log may have been
+committed: where a step rests on that, as the deletion of a file that was taken, lines are put in until it does."""
+import pathlib
+import sqlite3
+import sys
+
+from relkvanu import Coordinator, Error, Fenced, Refused, lines
+from relkvanu.conform import check
+
+AHEAD = 200  # lines that may be committed, and that nobody has told an answer of
+
+
+class Merged:
+    """The trace so far, and a coordinator that has made the calls of its lines."""
+
+    def __init__(self, opening, log):
+        self.trace, self.log, self.opening, self.next = [], log, opening.splitlines(), 0
+        settings, shape, start, *named = (line.encode() for line in self.opening)
+        self.core = Coordinator(lines.line_says(settings), lines.line_says(shape).shape, lines.line_says(start).now)
+        for line in named:
+            self.core.line(line)
+        self.process = None
+
+    def put_line(self):
+        """The next line of the log. A task's message says in its line whose it is: a subtask's start has the number of its term."""
+        line = self.log[self.next]
+        self.next += 1
+        words = line.split(" ")
+        if words[0] == "in":
+            self.trace.append(f"from {words[5]} {words[1]}")
+        self.trace += [line, "log synced"]
+        self.core.line(line.encode())
+
+    def put_until(self, place):
+        while self.next < place:
+            self.put_line()
+
+    def put_until_so(self, holds):
+        for _ in range(AHEAD):
+            if self.next == len(self.log) or holds():
+                return
+            self.put_line()
+
+    def is_refused(self, line):
+        with Coordinator.open_saved(self.core.save()) as copy:
+            try:
+                copy.line(line.encode())
+            except (Refused, Fenced):
+                return True
+            except Error as fault:
+                raise AssertionError(f"{line}: {fault}") from fault
+            return False
+
+    def start_process(self, text):
+        if self.process is not None:  # it was killed
+            self.trace += [f"process {self.process} ends", "log cut"]
+        self.trace.append(text)
+        if self.process is None and self.opening:
+            self.trace += [*self.opening, "log synced"]
+            self.opening = []
+        self.process = text.split(" ")[1]
+
+    def put(self, place, text):
+        self.put_until(place)
+        words = text.split(" ")
+        if words[0] == "process" and words[2] == "starts":
+            return self.start_process(text)
+        if words[0] == "process":
+            self.process = None
+        elif words[0] == "discarder":
+            self.put_until_so(lambda: int(words[2]) in self.core.taken_files())
+        elif words[0] == "sweeper":
+            self.put_until_so(lambda: self.core.garbage([int(words[2])]).garbage)
+        elif words[0] == "refused":
+            self.put_until_so(lambda: self.is_refused(text.partition(" ")[2]))
+        self.trace.append(text)
+
+
+def merged(folder, told):
+    with sqlite3.connect(f"file:{folder}/job.db?mode=ro", uri=True) as database:
+        ((opening,),) = database.execute("SELECT opening FROM job")
+        rows = database.execute("SELECT place, line FROM log ORDER BY place").fetchall()
+    assert [place for place, _ in rows] == list(range(1, len(rows) + 1)), "the log was cut"
+    it = Merged(opening, [line for _, line in rows])
+    events = [(int(place), text) for place, _, text in (line.partition(" ") for line in told)]
+    for at, (place, text) in enumerate(events):
+        if text.startswith("process ") and text.endswith(" ends"):  # with all lines of its log
+            place = next((then for then, other in events[at:] if other.endswith(" starts") and other.startswith("process ")), len(rows))
+        it.put(place, text)
+    it.put_until(len(rows))
+    return it.trace
+
+
+def find(trace, begins):
+    return next(place for place, line in enumerate(trace) if line.startswith(begins))
+
+
+def broken(trace):
+    """For a rule a trace that breaks it, by a file of the first message that has some."""
+    sent = next(place for place, line in enumerate(trace) if line.startswith("task ") and " sends ack " in line and "+" in line)
+    task, file = trace[sent].partition(" sends")[0], trace[sent].split("+")[1].split(" ")[0]
+    _, subtask, start = task.split(" ")
+    synced, reserved = find(trace, f"{task} syncs {file}"), find(trace, f"reserve {start} ")
+    accepted = sent + find(trace[sent:], f"answer to {subtask} {start} accepted") + 1
+    yield 1, trace[:reserved + 1] + trace[reserved + 2:]
+    yield 2, trace[:synced] + trace[synced + 1:]
+    yield 4, trace[:accepted] + [f"task {subtask} 1000000 starts"] + trace[accepted:]
+    yield 5, trace[:accepted] + ["process 1000000 starts"] + trace[accepted:]
+    yield 6, trace[:accepted] + [f"{task} unlinks {file}"] + trace[accepted:]
+    yield 7, trace[:accepted] + [f"task {subtask} 1000000 writes {file}"] + trace[accepted:]
+    yield 8, trace[:accepted] + [f"sweeper unlinks {file}"] + trace[accepted:]
+    yield 10, trace[:synced] + ["storage away", f"{task} writes {file}", "storage back"] + trace[synced:]
+
+
+def main(folder, told):
+    trace = merged(folder, pathlib.Path(told).read_text(encoding="utf-8").splitlines())
+    assert any(line.startswith("refused in ") for line in trace) and any(line.startswith("sweeper unlinks") for line in trace)
+    findings = check(trace)
+    assert not findings, "\n".join(map(str, findings[:20]))
+    for rule, lines_of in broken(trace):
+        rules = [it.rule for it in check(lines_of) if it.rule is not None]
+        assert rules and rules[0] == rule, (rule, rules[:5])
+    print(f"rocksdb: relkvanu-conform found that a trace of {len(trace)} lines obeys the rules, and which rule is broken where one line is changed")
+
+
+if __name__ == "__main__":
+    main(*sys.argv[1:])

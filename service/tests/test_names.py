@@ -1,0 +1,533 @@
+"""Terms and names: zombies after a restore, names that are given out once, what is garbage, and jobs that are turned."""
+import http.client
+import json
+import os
+import random
+import re
+import signal
+import sqlite3
+import subprocess
+import threading
+import time
+
+import kills
+from harness import HERE, PROGRAM, WHOLE, Archive, Server, caught_up, check_log, configured, folder, leader_and_standby, served, until
+from postgres import postgres
+from relkvanu_service import Failed, Fenced, OldTerm, Refused, Service, ack, cancel, decline, deleted, dispose, reserve, restore, savepoint
+
+SETTINGS = {"interval": 1 << 40}
+JOB = {"name": "orders", "settings": SETTINGS, "shape": [1]}
+
+
+def over_both(test):
+    """What the test says of a service over each kind of database."""
+    said = []
+    with folder() as at:
+        said.append(f"SQLite: {test(at, f'{at}/relkvanu.db')}")
+    with postgres() as database, folder() as at:
+        said.append(f"PostgreSQL: {test(at, database.url)}")
+    return "; ".join(said)
+
+
+def refused(error, call):
+    try:
+        call()
+    except error as why:
+        return why
+    raise AssertionError(f"it is no {error.__name__}")
+
+
+def test_a_new_job_has_names_unless_it_says_otherwise():
+    def names(server, given):
+        status, _, told = server.request("POST", "/v1/jobs", {**JOB, **given})
+        return status, told.get("names", told.get("field"))
+
+    with served(names=True) as server:
+        assert names(server, {}) == (201, True) and names(server, {}) == (200, True) and names(server, {"names": True}) == (200, True)
+        assert names(server, {"names": False}) == (409, "names")
+        assert names(server, {"name": "old", "names": False}) == (201, False) and names(server, {"name": "old"}) == (200, False)
+        assert names(server, {"name": "old", "names": True}) == (409, "names")
+        jobs = {job["name"]: job for job in server.get("/v1/jobs")[2]["jobs"]}
+        assert (jobs["orders"]["names"], jobs["orders"]["next_name"], jobs["orders"]["seq"]) == (True, "1", 1)
+        assert (jobs["old"]["names"], jobs["old"]["next_name"], jobs["old"]["seq"]) == (False, None, 0)
+        (first,) = server.get("/v1/jobs/orders/log")[2]["calls"]
+        assert (first["line"], first["answer"]) == ("fence 1", "term 1")
+        # the engines of before go on
+        old = Service(server.url).job("old")
+        assert old.call(savepoint())["id"] == 1 and old.call(ack(1, "0.0", [7]))["ack"] == "completed" and "term" not in old.call(restore())
+        assert refused(Fenced, lambda: old.call(reserve(1, 5))).name == "NoNames"
+        assert refused(Fenced, lambda: old.call(ack(1, "0.0", [8], term=1))).name == "NoNames"
+        for ask in (old.term, lambda: old.garbage([7]), lambda: old.session(1).name()):
+            assert refused(Fenced, ask).name == "NoNames"
+        assert old.begin().term is None and refused(Fenced, old.begin().session)
+    with served(names=False) as server:
+        assert names(server, {}) == (201, False) and names(server, {"name": "new", "names": True}) == (201, True)
+    return "the default, the setting, and what a job says"
+
+
+def test_a_zombie_after_a_restore():
+    def zombies(at, url):
+        server = Server(at, url, names=True).start()
+        job = Service(server.url).open("orders", SETTINGS, [1])
+        old = job.begin().session(block=10)
+        names = [old.name() for _ in range(3)]
+        assert job.call(savepoint())["id"] == 1 and old.ack(1, "0.0", names[:1])["ack"] == "completed"
+        job.call(savepoint())
+        start = job.begin(1)
+        before = job.state()
+        assert start.term == old.term + 1 and start.files == {"0.0": names[:1]}
+        zombie = job.session(old.term)
+        late = [
+            lambda it: it.ack(2, "0.0", names[1:2]), lambda it: it.ack(2, "0.0"), lambda it: it.ack(1, "0.0", [], names[:1]), lambda it: it.decline(2, "0.0"),
+            lambda it: it.forfeit(names), lambda it: it.name(),
+        ]
+        for call in late:
+            assert refused(OldTerm, lambda: call(job.session(old.term))).name == "OldTerm"
+            assert refused(OldTerm, lambda: call(zombie))
+        # one without a term is refused too, and one of a term that has not begun
+        for answer in job.calls([ack(2, "0.0", names[1:2]), decline(2, "0.0"), ack(2, "0.0", term=start.term + 1)]):
+            assert answer == {"fenced": "OldTerm"}, answer
+        assert job.state()["seq"] == before["seq"] and job.state()["files"] == before["files"]
+        # in one request the term of all calls, and one of its own
+        path, calls = "/v1/jobs/orders/calls", [reserve(old.term, 1), {"call": "reserve", "count": 2}, {"call": "decline", "id": 1, "subtask": "0.0"}]
+        answers = server.request("POST", path, {"term": start.term, "calls": calls})[2]["answers"]
+        assert [answer.get("fenced", answer.get("reserve", answer.get("decline"))) for answer in answers] == ["OldTerm", "reserved", "late"], answers
+        new = start.session()
+        name = new.name()
+        assert job.call(savepoint())["id"] == 3 and new.ack(3, "0.0", [name], names[:1])["ack"] == "completed"
+        spent = refused(Fenced, lambda: new.ack(3, "0.0", [name]))
+        assert (spent.name, spent.file) == ("Spent", name)
+        never = refused(Fenced, lambda: new.ack(3, "0.0", [10**6]))
+        assert (never.name, never.file) == ("NeverReserved", 10**6)
+        # one that was suspended beside a service that was killed
+        server.kill()
+        server.start()
+        assert refused(OldTerm, lambda: job.session(old.term).ack(3, "0.0"))
+        told = job.call(cancel())
+        assert told["term"] == start.term + 1 and refused(OldTerm, lambda: new.ack(3, "0.0"))
+        assert refused(Fenced, lambda: job.session(told["term"]).name()).name == "Ended" and refused(Refused, job.begin).name == "NotRunning"
+        log = list(job.log(terms=True))
+        answered = check_log(job.state(), [1], log)
+        assert server.stop() == 0
+        return f"{2 * len(late) + 3} calls of an ended term changed nothing; {answered} answers as the proved program's"
+
+    return over_both(zombies)
+
+
+TERM = re.compile(r"\bin [0-9]+ |\b(reserve|forfeit) [0-9]+( |$)")
+
+
+def terms_in(told):
+    """What of an answer has a term: a member of that name, or a line."""
+    if isinstance(told, dict):
+        return [name for name in told if name in ("term", "terms")] + [it for value in told.values() for it in terms_in(value)]
+    if isinstance(told, list):
+        return [it for value in told for it in terms_in(value)]
+    return [told] if isinstance(told, str) and TERM.search(told) else []
+
+
+def test_no_event_no_list_and_no_stream_has_the_term():
+    with served(names=True) as server:
+        service = Service(server.url)
+        job = service.open("orders", SETTINGS, [1])
+        for base in ("latest", 1, 2):
+            task = job.begin(base).session(block=4)
+            task.ack(job.call(savepoint())["id"], "0.0", [task.name()])
+            task.forfeit([task.name()])
+        job.call(dispose(1))
+        file = job.take(1)[0]
+        job.call(deleted(file))
+        caught_up(job)
+        paths = [
+            "/v1/jobs", "/v1/jobs/orders", "/v1/view", "/v1/view/orders", *(f"/v1/jobs/orders/{rest}" for rest in (
+                "records", "records/3", "records/3/acks", "files", f"files/{file}", "log?limit=1000", "events", "samples")),
+        ]
+        for path in paths:
+            status, _, told = server.get(path)
+            assert status == 200 and not terms_in(told), (path, terms_in(told))
+        events = server.get("/v1/jobs/orders/events")[2]["events"]
+        triggered = [event for event in events if event["event"] == "triggered"]
+        bases = [{"kind": "fresh"}, {"kind": "savepoint", "id": 1}, {"kind": "savepoint", "id": 2}]
+        assert [event["base"] for event in triggered] == bases, triggered
+        stream = streamed(server, "/v1/jobs/orders/stream?after=0", len(events))
+        assert len(stream) >= len(events) and not terms_in(stream), terms_in(stream)
+        # the lines of the log have them for a write token alone
+        whole = list(job.log(terms=True))
+        assert [entry["line"].split(" ")[0] for entry in whole if terms_in(entry["line"])].count("in") == 3, whole
+        assert [entry["line"] for entry in job.log()] == [re.sub(r"^(in|reserve|forfeit) \d+", r"\1 *", entry["line"]) for entry in whole]
+        assert job.term() == {"term": 4, "next_name": int(job.state()["next_name"])} == {"term": 4, "next_name": 13}
+        return f"{len(paths)} reads and a stream of {len(stream)} messages"
+
+
+def streamed(server, path, count):
+    """The first messages of a stream."""
+    connection = http.client.HTTPConnection("127.0.0.1", server.port, timeout=20)
+    connection.request("GET", path)
+    lines, found = connection.getresponse(), []
+    while len(found) < count:
+        line = lines.readline().decode()
+        assert line, "the stream has ended"
+        if line.startswith("data: "):
+            found.append(json.loads(line.removeprefix("data: ")))
+    connection.close()
+    return found
+
+
+def test_tokens_for_terms():
+    with folder() as at:
+        with open(f"{at}/tokens", "w", encoding="utf-8") as it:
+            it.write(f"read {'r' * 20}\nwrite {'w' * 20}\nwrite {'o' * 20} jobs=other\n")
+        server = Server(at, args=["--token-file", f"{at}/tokens"], names=True).start()
+        read, write, other = "r" * 20, "w" * 20, "o" * 20
+        assert server.request("POST", "/v1/jobs", JOB, token=write)[0] == 201
+        job = "/v1/jobs/orders"
+        asked = [("GET", f"{job}/term", None), ("POST", f"{job}/garbage", {"files": ["1"]}), ("POST", f"{job}/fence", {"first_name": 9})]
+        for method, path, body in asked:
+            assert [server.request(method, path, body, token)[0] for token in (None, read, other)] == [401, 401, 403], path
+        assert [server.request("GET", f"{job}/log?terms=1", token=token)[0] for token in (read, write)] == [403, 200]
+        assert server.get(f"{job}/log", read)[0] == 200 and server.get(f"{job}/log?terms=2", write)[0] == 400
+        assert server.get(f"{job}/term", write)[2]["term"] == 1
+        bad = [("garbage", {}, "files"), ("garbage", {"files": [7]}, "files[0]"), ("garbage", {"files": ["1"] * 10_001}, "files"), ("fence", {"first_name": 0}, "first_name"),
+               ("fence", {"first_name": str(2**62 + 1)}, "first_name"), ("fence", {}, "first_name"), ("garbage", {"files": [], "job": 1}, "job")]
+        for word, body, field in bad:
+            status, _, told = server.request("POST", f"{job}/{word}", body, token=write)
+            assert (status, told.get("field")) == (400, field), (word, body, told)
+        assert server.request("POST", "/v1/jobs/none/garbage", {"files": []}, token=write)[0] == 404 and server.get("/v1/jobs/none/term", write)[0] == 404
+        told = server.request("POST", f"{job}/fence", {"first_name": "9"}, write, [("Accept", "application/problem+json")])
+        assert told[0] == 409 and told[2]["type"] == "urn:relkvanu:problem:fenced" and told[2]["fenced"] == "HasNames", told
+        server.stop()
+        return f"{len(asked)} routes, {len(bad)} bad bodies"
+
+
+def test_a_reserve_is_durable_before_it_is_told():
+    """The service is killed right after answers, over and over. Each name was given out once, and the log has what was told."""
+
+    def reserves(at, url):
+        server = Server(at, url, configured(at, "lease_seconds = 1\n"), names=True).start()
+        service, chance = Service(server.url), random.Random(7)
+        job = service.open("orders", SETTINGS, [1])
+        term, told, over = job.begin().term, [], threading.Event()
+
+        def task(number):
+            mine = random.Random(number)
+            while not over.is_set():
+                answer = job.call(reserve(term, mine.randint(1, 20)))
+                told.append((answer["seq"], int(answer["first"]), answer["count"]))
+
+        tasks = [threading.Thread(target=task, args=(number,)) for number in range(4)]
+        for one in tasks:
+            one.start()
+        for _ in range(12):
+            count = len(told)
+            until(lambda: len(told) > count + 2)
+            # as soon as an answer is here
+            count = len(told)
+            until(lambda: len(told) > count, each=0.0005)
+            server.kill()
+            time.sleep(chance.uniform(0, 0.1))
+            server.start()
+        over.set()
+        for one in tasks:
+            one.join(60)
+        names = [name for _, first, count in told for name in range(first, first + count)]
+        assert len(names) == len(set(names)), "a name was given out twice"
+        log = {entry["seq"]: entry for entry in job.log(terms=True)}
+        for seq, first, count in told:
+            entry = log[seq]
+            assert (entry["line"], entry["answer"]) == (f"reserve {term} {count}", f"reserved {first}"), entry
+        assert job.term()["next_name"] > max(names)
+        check_log(job.state(), [1], list(log.values()))
+        server.stop()
+        return f"{len(told)} reserves over 12 kills, {len(names)} names"
+
+    return over_both(reserves)
+
+
+def test_kills_with_names():
+    return kills.run(int(os.environ.get("RELKVANU_KILLS", "10")), names=True)
+
+
+def test_kills_with_names_over_postgresql():
+    with postgres() as database:
+        return kills.run(int(os.environ.get("RELKVANU_KILLS_PG", "6")), database, "lease_seconds = 1\n" + kills.KEEPING, names=True)
+
+
+def uses(log):
+    """When each file was in use, by the log: from the place of the acknowledgement that named it to that at which its record ended."""
+    live, found = {}, []
+    for entry in log:
+        words = entry["line"].split(" ")
+        if words[0] == "in":
+            words = words[2:]
+        if words[0] == "ack" and not entry["answer"].startswith("ack late"):
+            live.setdefault(int(words[2]), []).extend((int(word[1:]), entry["seq"]) for word in words[4:])
+        for record in entry["ended"]:
+            found += [(file, since, entry["seq"]) for file, since in live.pop(record, [])]
+    return found + [(file, since, float("inf")) for held in live.values() for file, since in held]
+
+
+def test_garbage_is_never_in_use():
+    """Tasks, restores, a discarder, kills and a sweeper, all at once. What was told to be garbage was in use at no later place of the log."""
+    seconds = 6
+    with folder() as at:
+        server = Server(at, args=configured(at, kills.KEEPING), names=True).start()
+        service, over, errors, told = Service(server.url), threading.Event(), [], []
+        job = service.open("orders", {"interval": 30, "retained": 2, "timeout": 1000, "tolerable": 5}, [2])
+        keeps = Archive(server.database)
+        current = [job.begin()]
+
+        def task(number):
+            chance = random.Random(number)
+            start, session, kept, done = None, None, [], set()
+            while not over.is_set():
+                if start is not current[0]:
+                    # one in four goes on in its ended term for a while, as one that was suspended
+                    if session is None or chance.random() < 0.25:
+                        start, kept, done = current[0], [], set()
+                        session = job.session(start.term, block=chance.randint(1, 9))
+                try:
+                    pending = [it["id"] for it in job.state()["live"] if not it["done"] and it["id"] not in done]
+                    for record in pending:
+                        fresh = [session.name() for _ in range(2)]
+                        if chance.random() < 0.2:
+                            session.forfeit(fresh[:1])
+                            fresh = fresh[1:]
+                        session.ack(record, f"0.{number}", fresh, kept[-1:])
+                        done.add(record)
+                        kept = fresh
+                except OldTerm:
+                    start, session = None, None
+                except (Refused, Fenced):
+                    kept = []
+                except Failed as failed:
+                    errors.append(failed)
+                    return
+                time.sleep(0.003)
+
+        def sweeper():
+            while not over.is_set():
+                next_name = int(job.state()["next_name"])
+                garbage, unissued = job.garbage(range(0, next_name + 3))
+                after = job.state()["seq"]
+                if unissued and min(unissued) < next_name or 0 not in garbage:
+                    errors.append((garbage, unissued, next_name))
+                told.append((after, garbage))
+                time.sleep(0.01)
+
+        def discarder():
+            while not over.is_set():
+                for file in job.take(20):
+                    job.call(deleted(file))
+                time.sleep(0.02)
+
+        threads = [threading.Thread(target=task, args=(number,)) for number in range(2)]
+        threads += [threading.Thread(target=it) for it in (sweeper, sweeper, discarder)]
+        for thread in threads:
+            thread.start()
+        for _ in range(4):
+            time.sleep(seconds / 4)
+            current[0] = job.begin()
+            server.kill()
+            server.start()
+        over.set()
+        for thread in threads:
+            thread.join(60)
+        assert not errors, errors[:3]
+        with keeps.base() as base:
+            rows = base.execute(f"select seq, line, answer, ended from {WHOLE} order by seq").fetchall()
+        log = [{"seq": seq, "line": line, "answer": answer, "ended": [int(it) for it in (ended or "").split()]} for seq, line, answer, ended in rows]
+        assert [entry["seq"] for entry in log] == list(range(1, len(log) + 1)), "the log has gaps"
+        last = {}
+        for file, _, end in uses(log):
+            last[file] = max(last.get(file, 0), end)
+        wrong = [(after, file) for after, garbage in told for file in garbage if last.get(file, 0) > after]
+        assert not wrong, wrong[:5]
+        # after a restore without tasks each name is known, or garbage
+        job.begin()
+        next_name = int(job.state()["next_name"])
+        garbage = set(job.garbage(range(1, next_name))[0])
+        known = {file for file, _, end in uses(log) if end == float("inf")}
+        assert garbage and not garbage & known, garbage & known
+        server.stop()
+        return f"{len(told)} answers beside {len(log)} calls and 4 kills, {len(garbage)} of {next_name - 1} names garbage at the end"
+
+
+def test_a_job_is_turned():
+    def turned(at, url):
+        server = Server(at, url, names=False).start()
+        job = Service(server.url).open("orders", SETTINGS, [1])
+        job.calls([savepoint(), ack(1, "0.0", [5, 7])])
+        assert [refused(Fenced, lambda: job.fence(first)).name for first in (1, 5, 7)] == ["NameInUse"] * 3
+        before = job.state()["seq"]
+        told = job.fence(8, key="turn")
+        assert (told["term"], told["first_name"], told["seq"]) == (1, "8", before + 1), told
+        assert job.fence(8, key="turn") == told and refused(Fenced, lambda: job.fence(8)).name == "HasNames"
+        try:
+            job.fence(9, key="turn")
+            raise AssertionError("the key was used with another body")
+        except Failed as failed:
+            assert failed.status == 422
+        # the tasks of before are refused, and those of the restart go on with the files of before
+        assert job.calls([ack(1, "0.0", [9])]) == [{"fenced": "OldTerm"}]
+        server.kill()
+        server.start()
+        start = job.begin(1)
+        assert (start.term, start.files) == (2, {"0.0": [5, 7]})
+        task = start.session(block=3)
+        assert task.name() == 8 and job.call(savepoint())["id"] == 2 and task.ack(2, "0.0", [8], [5])["ack"] == "completed"
+        garbage, unissued = job.garbage([0, 4, 5, 6, 7, 8, 9, 10, 11, 2**64 - 1])
+        assert (garbage, unissued) == ([0, 4, 6], [11, 2**64 - 1]), (garbage, unissued)
+        assert job.begin(2).term == 3 and job.garbage([8, 9, 10])[0] == [9, 10]
+        job.call(dispose(1))
+        (released,) = job.take(5)
+        assert released == 7 and job.garbage([7]) == ([], [])
+        job.call(deleted(7))
+        assert job.garbage([7]) == ([7], [])
+        check_log(job.state(), [1], list(job.log(terms=True)))
+        server.stop()
+        return "refused at a known file, then turned once"
+
+    return over_both(turned)
+
+
+def test_a_database_of_before():
+    """A database that an earlier version made (`before_names.sql`) is served as it was, and its job is turned."""
+    with folder() as at:
+        with open(f"{HERE}/before_names.sql", encoding="utf-8") as it, sqlite3.connect(f"{at}/relkvanu.db") as base:
+            base.executescript(it.read())
+        with open(f"{HERE}/before_names.json", encoding="utf-8") as it:
+            before = json.load(it)
+        words = [PROGRAM, "check", "--database", f"{at}/relkvanu.db"]
+        assert subprocess.run(words, stdout=subprocess.DEVNULL, check=False).returncode == 0
+        server = Server(at, f"{at}/relkvanu.db", ["--accept-clock"], names=True).start()
+        service = Service(server.url)
+        job = service.job("orders")
+        caught_up(job)
+        told = {"state": job.state(), "log": list(job.log()), "record": job.record(5), "users": service.job("users").state(), "file": job.file(1)}
+        for state in (told["state"], told["users"]):
+            assert state.pop("names") is False and state.pop("next_name") is None
+        for name in ("now", "log"):
+            for it in (told, before):
+                it["state"].pop(name), it["users"].pop(name)
+        assert told == before, [(name, told[name], before[name]) for name in told if told[name] != before[name]]
+        # an engine of before finds its job, and goes on
+        again = service.open("orders", {"interval": 1 << 40, "retained": 2}, [1, 1])
+        assert again.call(ack(6, "1.0", [101]))["ack"] == "pending" and again.begin(5).files["1.0"] == [15]
+        files = job.state()["files"]
+        assert refused(Fenced, lambda: job.fence(100)).name == "NameInUse" and job.fence(1000)["term"] == 1
+        start = job.begin(5)
+        task = start.session(block=2)
+        assert (start.term, task.name(), job.state()["files"]) == (2, 1000, files)
+        known = {file for file in range(1, 1002) if file not in job.garbage(range(1, 1002))[0]}
+        assert len(known) == sum(files.values()) + 2, (known, files)
+        check_log(job.state(), [1, 1], list(job.log(terms=True)))
+        server.stop()
+        assert subprocess.run(words, stdout=subprocess.DEVNULL, check=False).returncode == 0
+        return f"{before['state']['seq']} calls, an image after {before['state']['image']['seq']}, {len(known)} files known after the turn"
+
+
+def test_images_and_checks_of_a_job_with_names():
+    """A start goes on from an image with names, and `check` compares images and answers."""
+    with folder() as at:
+        server = Server(at, args=configured(at, "image_calls = 10\nkeep_calls = 10\n"), names=True).start()
+        job = Service(server.url).open("orders", SETTINGS, [1])
+        for _ in range(30):
+            task = job.begin().session(block=5)
+            record = job.call(savepoint())["id"]
+            task.ack(record, "0.0", [task.name(), task.name()])
+            if record > 3 and record % 2:
+                job.call(dispose(record))
+        until(lambda: job.state()["image"] and job.state()["first"] > 1)
+        state, term = job.state(), job.term()
+        kept = task.name()
+        server.kill()
+        server.start()
+        after = job.state()
+        assert job.term() == term and after["next_name"] == state["next_name"] and after["files"] == state["files"]
+        assert task.ack(job.call(savepoint())["id"], "0.0", [kept])["ack"] == "completed"
+        server.stop()
+        told = subprocess.run([PROGRAM, "check", "--database", server.database], stdout=subprocess.PIPE, text=True, check=False)
+        assert told.returncode == 0 and "orders" in told.stdout, told
+        return f"term {term['term']} and name {term['next_name']} over an image, {told.stdout.strip()}"
+
+
+def test_a_leader_that_is_over_answers_no_garbage():
+    """Requests reach a leader that is suspended, and another takes over. The old one answers none of them when it goes on."""
+    rounds = 3
+    with postgres() as database, folder() as at:
+        first, second = leader_and_standby(at, database.url, "lease_seconds = 1\n")
+        Service(first.url).open("orders", SETTINGS, [1], names=True)
+        old, new, later = first, second, []
+        for _ in range(rounds):
+            # each is in the socket of the old leader before it is suspended, or comes while it is
+            answers = []
+
+            def ask(server, answers=answers):
+                answers.append(server.request("POST", "/v1/jobs/orders/garbage", {"files": [str(file) for file in range(2000)]})[0])
+
+            old.process.send_signal(signal.SIGSTOP)
+            asked = [threading.Thread(target=ask, args=(old,)) for _ in range(4)]
+            for one in asked:
+                one.start()
+            until(lambda: new.get("/readyz")[0] == 200, 20, 0.01)
+            start = Service(new.url).job("orders").begin()
+            Service(new.url).job("orders").session(start.term, 100).name()
+            old.process.send_signal(signal.SIGCONT)
+            for one in asked:
+                one.join(30)
+            later += answers
+            assert old.process.wait(20) == 75
+            assert new.request("POST", "/v1/jobs/orders/garbage", {"files": ["0"]})[2]["garbage"] == ["0"]
+            old.stand_by()
+            assert old.request("POST", "/v1/jobs/orders/garbage", {"files": ["0"]})[0] == 503
+            old, new = new, old
+        assert len(later) == 4 * rounds and not [status for status in later if status not in (0, 503)], later
+        for server in (old, new):
+            server.stop()
+        return f"{len(later)} requests to leaders that were suspended: {later.count(503)} were answered 503, {later.count(0)} not at all"
+
+
+def test_the_session_of_the_client():
+    with served(names=True) as server:
+        job = Service(server.url).open("orders", SETTINGS, [2])
+        start = job.begin()
+        session, found = start.session(block=10), []
+
+        def some():
+            for _ in range(25):
+                found.append(session.name())
+
+        threads = [threading.Thread(target=some) for _ in range(4)]
+        for thread in threads:
+            thread.start()
+        for thread in threads:
+            thread.join()
+        assert sorted(found) == list(range(1, 101)), "names of threads"
+        assert [entry["line"] for entry in job.log(terms=True)].count(f"reserve {start.term} 10") == 10
+        session.forfeit(range(1, 6000))
+        assert job.garbage(found)[0] == found
+        names = session.names()
+        record = job.call(savepoint())["id"]
+        assert session.ack(record, "0.0", [next(names)], sizes=[100])["ack"] == "pending" and session.decline(record, "0.1")["decline"] == "aborted"
+        record, name = job.call(savepoint())["id"], next(names)
+        both = session.calls([ack(record, "0.0", [name]), ack(99, "0.1"), decline(record, "0.1")])
+        assert [both[0]["ack"], both[1], both[2]["decline"]] == ["pending", {"refused": "UnknownCheckpoint"}, "aborted"], both
+        # a refusal leaves the name with the task, until it is given up
+        name = next(names)
+        assert refused(Refused, lambda: session.ack(99, "0.0", [name])).name == "UnknownCheckpoint" and job.garbage([name])[0] == []
+        session.forfeit([name])
+        assert job.garbage([name])[0] == [name]
+        job.call(restore())
+        before = sum(value for name, value in counted(server).items() if "reserve" in name)
+        for _ in range(3):
+            assert refused(OldTerm, lambda: [session.name() for _ in range(20)]) and refused(OldTerm, lambda: session.calls([decline(record, "0.1")]))
+        assert sum(value for name, value in counted(server).items() if "reserve" in name) == before + 1, "it asks once, and then knows"
+        assert counted(server)['relkvanu_calls_total{call="reserve",job_name="orders",outcome="fenced"}'] == 1
+        gauges = counted(server)
+        assert gauges['relkvanu_term{job_name="orders"}'] == 3 and gauges['relkvanu_next_name{job_name="orders"}'] == int(job.state()["next_name"])
+        return f"{len(found)} names of 4 threads, refusals, and the end of a term"
+
+
+def counted(server):
+    lines = (line for line in server.get("/metrics")[2].splitlines() if not line.startswith("#"))
+    return {line.rsplit(" ", 1)[0]: float(line.rsplit(" ", 1)[1]) for line in lines}

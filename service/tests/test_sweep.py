@@ -1,0 +1,306 @@
+"""`relkvanu sweep`, `term` and `fence`: garbage of a folder is deleted beside tasks, and nothing else."""
+import json
+import os
+import re
+import shutil
+import subprocess
+import threading
+import time
+import urllib.request
+from contextlib import contextmanager
+
+from harness import PROGRAM, SERVICE, folder, free_port, served, until
+from relkvanu_service import Fenced, OldTerm, Refused, Service, deleted, dispose, savepoint
+from run import Skipped
+
+SETTINGS = {"interval": 1 << 40}
+
+
+def swept(server, place, *more, job="a", prefix="s-", url=None):
+    """The status, the lines by their first word and the sums of a sweep."""
+    words = [PROGRAM, "sweep", job, "--folder", place, "--url", url or server.url, "--within", "5", *(["--prefix", prefix] if prefix else []), *more]
+    told = subprocess.run(words, stdout=subprocess.PIPE, stderr=subprocess.PIPE, text=True, timeout=60, check=False)
+    lines, sums = {}, {}
+    for line in told.stdout.splitlines():
+        if "=" in line.split(" ")[0]:
+            sums = {name: float(value) for name, value in (word.split("=") for word in line.split(" "))}
+        else:
+            word, name, size = line.split(" ")[:3]
+            lines.setdefault(word, {})[name] = int(size)
+    return told.returncode, lines, sums, told.stderr
+
+
+def write(place, name, size=5):
+    with open(f"{place}/{name}", "xb") as it:
+        it.write(b"x" * size)
+
+
+def names_in(place):
+    return sorted(name for name in os.listdir(place) if not name.startswith("."))
+
+
+@contextmanager
+def a_job(**given):
+    with served(names=True, **given) as server:
+        place = f"{server.folder}/files"
+        os.mkdir(place)
+        job = Service(server.url).open("a", SETTINGS, [1])
+        job.claim(place)
+        yield server, job, place
+
+
+def test_what_is_garbage_and_what_is_not():
+    with a_job() as (server, job, place):
+        old = job.begin().session(block=10)
+        names = [old.name() for _ in range(6)]
+        for name in names:
+            write(place, f"s-{name}", 10 * name)
+        old.ack(job.call(savepoint())["id"], "0.0", names[:2])
+        old.forfeit(names[2:3])
+        old.ack(job.call(savepoint())["id"], "0.0", names[3:4])
+        job.call(dispose(2))
+        # in use: 1 and 2. Given up: 3. Waits: 4. May be acknowledged yet: 5 and 6. Never given out: 11
+        for name in ("s-5.part", "s-3.part", "s-11", "s-x", "s-07", "other", "s-12.part"):
+            write(place, name)
+        os.mkdir(f"{place}/s-0")
+        os.symlink("s-1", f"{place}/s-8")
+        before = names_in(place)
+        status, lines, sums, _ = swept(server, place)
+        assert status == 3 and lines == {"garbage": {"s-3": 30, "s-3.part": 5}, "unissued": {"s-11": 5, "s-12.part": 5}}, (status, lines)
+        assert (sums["listed"], sums["garbage"], sums["bytes"], sums["deleted"], sums["unissued"]) == (10, 2, 35, 0, 2) and names_in(place) == before
+        status, lines, sums, _ = swept(server, place, "--delete")
+        assert status == 3 and lines["deleted"] == {"s-3": 30, "s-3.part": 5} and sums["deleted"] == 2, lines
+        assert names_in(place) == sorted(set(before) - {"s-3", "s-3.part"})
+        # the term has ended: what it may have written is garbage, and its file that is in use is not
+        job.begin(1)
+        status, lines, sums, _ = swept(server, place, "--delete", "--quiet")
+        assert status == 3 and lines == {} and sums["deleted"] == 3, (status, lines, sums)
+        assert names_in(place) == sorted(set(before) - {"s-3", "s-3.part", "s-5", "s-5.part", "s-6"})
+        for name in ("s-11", "s-12.part"):
+            os.remove(f"{place}/{name}")
+        assert job.take(5) == [4] and swept(server, place, "--delete")[:2] == (0, {})
+        # a file that was told to be deleted, and is there
+        job.call(deleted(4))
+        assert swept(server, place, "--delete")[:2] == (0, {"deleted": {"s-4": 40}})
+        assert {"s-1", "s-2", "s-8", "s-0"} <= set(names_in(place))
+        return "in use, waiting, taken, given up, of ended terms, parts, links and folders"
+
+
+def test_folders_that_are_not_the_jobs():
+    with a_job() as (server, job, place):
+        with folder() as other:
+            write(other, "s-1")
+            status, _, sums, told = swept(server, other, "--delete")
+            assert status == 78 and ".relkvanu-a" in told and not sums and names_in(other) == ["s-1"], told
+            with open(f"{place}/.relkvanu-a", encoding="utf-8") as it:
+                text = it.read()
+            with open(f"{other}/.relkvanu-a", "w", encoding="utf-8") as it:
+                it.write(re.sub(r"opened at \d+", "opened at 7", text))
+            assert swept(server, other, "--delete")[0] == 78 and names_in(other) == ["s-1"]
+        # files of another job beside those of this one, without a prefix
+        Service(server.url).open("b", SETTINGS, [1])
+        with open(f"{place}/.relkvanu-b", "w", encoding="utf-8") as it:
+            it.write("another job")
+        status, _, _, told = swept(server, place, "--delete", prefix="")
+        assert status == 78 and "--prefix" in told, told
+        os.remove(f"{place}/.relkvanu-b")
+        assert swept(server, place, "--delete", prefix="")[0] == 0
+        assert swept(server, f"{place}/none")[0] == 1 and swept(server, place, prefix="x/")[0] == 1
+        # a job without names
+        old = Service(server.url).open("old", SETTINGS, [1], names=False)
+        with folder() as at:
+            old.claim(at)
+            write(at, "s-5")
+            status, _, _, told = swept(server, at, "--delete", job="old")
+            assert status == 78 and "relkvanu fence JOB N" in told and names_in(at) == ["s-5"], told
+            assert subprocess.run([PROGRAM, "fence", "old", "6", "--url", server.url], check=False, stdout=subprocess.DEVNULL).returncode == 0
+            assert swept(server, at, "--delete", job="old")[:2] == (0, {"deleted": {"s-5": 5}})
+        assert swept(server, place, job="none")[0] == 1 and swept(server, place, url="http://127.0.0.1:1")[0] == 1
+        assert not job.garbage([1])[0]
+        return "no marker, another job's, two jobs, no names, no service"
+
+
+def test_sweeps_beside_tasks():
+    """Two sweepers that delete all the time, tasks that fail, are replaced and go on, and a discarder. No file in use is ever missing, and at the
+    end the folder has exactly the files in use."""
+    with a_job() as (server, job, place):
+        job = Service(server.url).open("fast", {"interval": 20, "timeout": 500, "tolerable": 1000}, [2])
+        at = f"{server.folder}/fast"
+        os.mkdir(at)
+        job.claim(at)
+        over, errors, current, used = threading.Event(), [], [job.begin()], [0]
+
+        def task(number):
+            start, session, kept, round_ = None, None, [], 0
+            while not over.is_set():
+                round_ += 1
+                if session is None or start is not current[0] and round_ % 5 == 0:
+                    start, kept = current[0], []
+                    session = job.session(start.term, 5)
+                try:
+                    for record in [it["id"] for it in job.state()["live"] if not it["done"]]:
+                        name = session.name()
+                        write(at, f"s-{name}.part")
+                        os.rename(f"{at}/s-{name}.part", f"{at}/s-{name}")
+                        if round_ % 7 == 0:
+                            session.forfeit([name])
+                        else:
+                            session.ack(record, f"0.{number}", [name], kept)
+                            kept = [name]
+                except (OldTerm, FileNotFoundError):
+                    session = None  # a sweep may delete what a task of an ended term writes
+                except (Refused, Fenced):
+                    kept = []
+                time.sleep(0.002)
+
+        def discarder():
+            while not over.is_set():
+                for file in job.take(20):
+                    if os.path.exists(f"{at}/s-{file}"):
+                        os.remove(f"{at}/s-{file}")
+                    job.call(deleted(file))
+                time.sleep(0.01)
+
+        def checker():
+            while not over.is_set():
+                state = job.state()
+                if latest := state["choice"].get("id"):
+                    held = job._held(latest)
+                    missing = [file for files in (held or {}).values() for file in files if not os.path.exists(f"{at}/s-{file}")]
+                    # it may have ended since
+                    if missing and job.state()["choice"].get("id") == latest and job._held(latest):
+                        errors.append((latest, missing))
+                    used[0] += bool(held)
+
+        threads = [threading.Thread(target=task, args=(number,)) for number in range(2)]
+        threads += [threading.Thread(target=it) for it in (discarder, checker)]
+        sweepers = [
+            subprocess.Popen([PROGRAM, "sweep", "fast", "--folder", at, "--url", server.url, "--prefix", "s-", "--delete", "--every", "1s"], stdout=subprocess.PIPE, text=True)
+            for _ in range(2)
+        ]
+        extra = threading.Thread(target=lambda: [swept(server, at, "--delete", job="fast") for _ in iter(over.is_set, True)])
+        for thread in [*threads, extra]:
+            thread.start()
+        for _ in range(6):
+            time.sleep(1)
+            current[0] = job.begin()
+        over.set()
+        for thread in [*threads, extra]:
+            thread.join(60)
+        lines = []
+        for sweeper in sweepers:
+            sweeper.terminate()
+            lines += sweeper.communicate(timeout=20)[0].splitlines()
+        assert not errors, errors[:3]
+        assert used[0] > 20 and [line for line in lines if line.startswith("listed=")], (used, lines[-3:])
+        start = job.begin()
+        while files := job.take(100):
+            for file in files:
+                if os.path.exists(f"{at}/s-{file}"):
+                    os.remove(f"{at}/s-{file}")
+                job.call(deleted(file))
+        assert swept(server, at, "--delete", job="fast")[0] == 0
+        in_use = {f"s-{file}" for record in job.state()["live"] for files in job._held(record["id"]).values() for file in files}
+        assert set(names_in(at)) == in_use and in_use, (names_in(at), in_use)
+        return f"looked {used[0]} times at the files of a checkpoint, term {start.term}, {len(in_use)} files at the end"
+
+
+def test_every_and_metrics():
+    with a_job() as (server, job, place):
+        task, port = job.begin().session(block=5), free_port()
+        write(place, f"s-{task.name()}", 7)
+        words = [PROGRAM, "sweep", "a", "--folder", place, "--prefix", "s-", "--url", server.url, "--delete", "--every", "1s", "--within", "1", "--metrics", f"127.0.0.1:{port}"]
+        run = subprocess.Popen(words, stdout=subprocess.PIPE, stderr=subprocess.PIPE, text=True)
+
+        def value(name):
+            try:
+                with urllib.request.urlopen(f"http://127.0.0.1:{port}/metrics", timeout=5) as told:
+                    found = re.search(rf"^{re.escape(name)} (.*)$", told.read().decode(), re.M)
+            except OSError:
+                return None
+            return found and float(found[1])
+
+        ended = 'relkvanu_sweep_timestamp_seconds{job_name="a"}'
+        until(lambda: value(ended))
+        first = value(ended)
+        task.forfeit([1])
+        until(lambda: names_in(place) == [])
+        until(lambda: value('relkvanu_sweep_deleted_bytes_total{job_name="a"}') == 7)
+        write(place, "s-99")
+        until(lambda: value('relkvanu_sweep_unissued_files{job_name="a"}') == 1)
+        assert value('relkvanu_sweep_files_total{job_name="a",outcome="deleted"}') == 1 and value('relkvanu_sweep_interval_seconds{job_name="a"}') == 1
+        with open(f"{SERVICE}/deploy/alerts.yml", encoding="utf-8") as it:
+            for name in set(re.findall(r"relkvanu_sweep_[a-z_]+", it.read())):
+                labels = '{job_name="a",outcome="failed"}' if "files_total" in name else '{job_name="a"}'
+                assert value(name + labels) is not None, f"an alert uses {name}, which there is not"
+        # it goes on after the service was away
+        server.kill()
+        until(lambda: value('relkvanu_sweep_lost_requests_total{job_name="a"}') > 0)
+        server.start()
+        now = value(ended)
+        until(lambda: value(ended) > now)
+        # and ends if the folder is not the job's any more
+        os.remove(f"{place}/.relkvanu-a")
+        assert run.wait(20) == 78 and first < now
+        assert ".relkvanu-a" in run.stderr.read() and "s-99" in run.stdout.read() and names_in(place) == ["s-99"]
+        return "it sweeps again and again, also after the service was away"
+
+
+def test_commands():
+    with a_job() as (server, job, place):
+        def asked(*words):
+            told = subprocess.run([PROGRAM, *words, "--url", server.url], stdout=subprocess.PIPE, stderr=subprocess.PIPE, text=True, timeout=30, check=False)
+            return told.returncode, told.stdout, told.stderr
+
+        assert "the term is 2" in asked("restore", "a")[1]
+        assert json.loads(asked("term", "a", "--json")[1])["term"] == 2 and asked("term", "a")[1].split() == ["term", "2", "next", "name", "1"]
+        old = Service(server.url).open("old", SETTINGS, [1], names=False)
+        assert asked("term", "old")[0] == 1 and "term" not in asked("restore", "old")[1]
+        assert asked("fence", "old", "0")[0] == 2 and asked("fence", "none", "5")[0] == 1
+        status, told, _ = asked("fence", "old", "50")
+        assert status == 0 and "from 50 on" in told and old.term() == {"term": 1, "next_name": 50}
+        # names that its log does not know, after a backup was restored
+        status, told, _ = asked("fence", "old", "200000")
+        assert status == 0 and old.term() == {"term": 1, "next_name": 200000}, told
+        assert asked("fence", "old", "60")[0] == 0 and old.term()["next_name"] == 200000
+        assert old.garbage([50, 199999]) == ([], []) and old.begin().session().name() == 200000 and old.garbage([50, 199999])[0] == [50, 199999]
+        assert "reserve * 65536" in asked("log", "old")[1] and "reserve 1 65536" in asked("log", "old", "--terms")[1]
+        assert "next name" in asked("show", "a")[1]
+        return "restore, term, fence and log"
+
+
+def test_the_unit():
+    """The command of the unit sweeps, and the unit is hardened."""
+    unit = f"{SERVICE}/deploy/relkvanu-sweep@.service"
+    with open(unit, encoding="utf-8") as it:
+        text = it.read()
+    (line,) = re.findall(r"^ExecStart=/usr/local/bin/relkvanu (.*)$", text, re.M)
+    (every,) = re.findall(r"^Environment=EVERY=(.*)$", text, re.M)
+    with a_job() as (server, job, place):
+        with open(f"{place}/../token", "w", encoding="utf-8") as it:
+            it.write("w" * 20)
+        task = job.begin().session(block=3)
+        write(place, f"s-{task.name()}")
+        job.begin()
+        known = {"%i": "a", "%d": f"{place}/..", "${FOLDER}": place, "${EVERY}": every, "$OPTIONS": f"--prefix s- --url {server.url}"}
+        for name, value in known.items():
+            assert name in line, name
+            line = line.replace(name, value)
+        run = subprocess.Popen([PROGRAM, *line.split()], stdout=subprocess.PIPE, text=True)
+        until(lambda: names_in(place) == [])
+        time.sleep(0.3)
+        assert run.poll() is None, "it does not go on"
+        run.terminate()
+        told = run.communicate(timeout=20)[0]
+        assert told.startswith("deleted s-1 5\nlisted=1 garbage=1 bytes=5 deleted=1 failed=0 unissued=0"), told
+    if not shutil.which("systemd-analyze"):
+        raise Skipped("systemd-analyze is not here")
+    with folder() as at:
+        shutil.copy(unit, f"{at}/relkvanu-sweep@orders.service")
+        words = ["systemd-analyze", "security", "--offline=true", f"{at}/relkvanu-sweep@orders.service"]
+        told = subprocess.run(words, text=True, stdout=subprocess.PIPE, stderr=subprocess.STDOUT, check=False).stdout
+    found = re.search(r"Overall exposure level for relkvanu-sweep@orders.service: ([0-9.]+)", told)
+    if not found:
+        raise Skipped(f"systemd-analyze does not run here: {told.strip().splitlines()[-1:]}")
+    assert float(found[1]) < 3, found[0]
+    return f"it sweeps each {every}, exposure {found[1]}"
