@@ -6,7 +6,9 @@
  * call. While one of them commits, the calls of the others gather, and the first of them commits all of these together.
  *
  * Files: PATH (the log and the images), PATH-wal, PATH-shm and PATH.lock. Never delete one of them, also not when the store is closed.
- * While a store is open no other program or connection can read PATH, and nobody may copy it. Use a local file system, not NFS.
+ * While a store is open no other program or connection can read PATH, and nobody may copy it. PATH has to be on a local file system, not
+ * on NFS. The folder options.storage may be on another one, where a rename is atomic and fsync of a file and of a folder makes both durable. A
+ * network file system that promises this will do; none has been tested.
  *
  * A job has names unless it was made with RELKVANU_STORE_PLAIN. Then its files are safe as follows:
  * - A task is started with the term from the answer to the restore before it (relkvanu_store_call.term), or report.term if the job is new. It never
@@ -255,7 +257,8 @@ typedef void (*relkvanu_store_delete)(void *with, const uint64_t *files, size_t 
  * the marker names a later opening or another job: RELKVANU_STORE_STORAGE. Then another process has the folder: end this one. */
 int relkvanu_store_discard(relkvanu_store *store, size_t batch, relkvanu_store_delete delete_files, void *with);
 
-/* State files in the folder options.storage, by their numbers: file 7 has the name 7, and 7.part while it is not whole. An engine may name
+/* State files in the folder options.storage, by their numbers: file 7 has the name 7, and 7.part while it is not whole. A task in another process,
+ * which has no store, makes them in the same way (docs/EMBEDDING.md, section 14). An engine may name
  * its files otherwise, and then makes and deletes them itself. Several threads may put, delete and commit at once. Without a folder:
  * RELKVANU_STORE_BAD_ARGUMENT, and no file counts as gone. */
 
