@@ -46,7 +46,12 @@ class Storage:
 
     def numbers(self) -> Set[int]:
         """Of the files that are there. A name that is no number is no state file."""
-        return {int(name) for name in os.listdir(self.folder) if name.isdecimal()}
+        # opened once more: descriptors of one opening share their place in a listing, and threads that list at once would each see a part
+        folder = os.open(".", os.O_RDONLY | os.O_DIRECTORY | os.O_CLOEXEC, dir_fd=self.folder)
+        try:
+            return {int(name) for name in os.listdir(folder) if name.isdecimal()}
+        finally:
+            os.close(folder)
 
     def has(self, name: object) -> bool:
         try:

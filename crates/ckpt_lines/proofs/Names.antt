@@ -41,3 +41,4 @@ pub use Rattle.std.specs.Prelude.{IsTrue, codes, ◌↔◌}
 pub use Rattle.std.specs.Str.{all_ascii_digits, bytes_eq}
 pub use Rattle.std.specs.Str.Lines.{strip_carriage_return}
 pub use Rattle.std.specs.Str.Parse.{digits_value}
+pub use Rattle.std.proofs.lemmas.Grind.{common_steps}

@@ -1,5 +1,6 @@
 """Where a job's state files are: a folder, or with relkvanu.s3 a bucket. A file is whole or not there, and is durable before a task acknowledges
 it; a file counts as deleted only in a storage that is there, and that is the job's. docs/EMBEDDING.md has a worked example."""
+import contextlib
 import errno
 import itertools
 import os
@@ -207,13 +208,23 @@ class Folder:
     def beside(self, start: str) -> List[str]:
         """The names of files beside the marker that begin so."""
         try:
-            return sorted(name for name in os.listdir(self._folder) if name.startswith(start))
+            with self._listing() as folder:
+                return sorted(name for name in os.listdir(folder) if name.startswith(start))
         except OSError as error:
             raise StorageError(error.errno, error.strerror, self.path) from error
 
+    @contextlib.contextmanager
+    def _listing(self) -> Iterator[int]:
+        """The folder, opened once more: descriptors of one opening share their place in a listing, and two threads would each see a part."""
+        folder = os.open(".", os.O_RDONLY | os.O_DIRECTORY | os.O_CLOEXEC, dir_fd=self._folder)
+        try:
+            yield folder
+        finally:
+            os.close(folder)
+
     def _entries(self, most: int) -> Iterator[List[Tuple[int, "os.DirEntry[str]"]]]:
         try:
-            with os.scandir(self._folder) as entries:
+            with self._listing() as folder, os.scandir(folder) as entries:
                 found = self._files(entries)
                 while page := list(itertools.islice(found, most)):
                     yield page

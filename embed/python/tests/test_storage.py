@@ -220,6 +220,15 @@ class Listing(InFolder):
         self.assertEqual([len(page) for page in pages], [10, 10, 5])
         self.assertEqual(sorted(sum(pages, [])), list(range(25)))
 
+    def test_two_listings_at_once(self):
+        for file in range(25):
+            self.folder.put(file, b"")
+        first = self.folder.pages(10)
+        pages = [next(first)]
+        self.assertEqual(sorted(sum(self.folder.pages(10), [])), list(range(25)))
+        self.assertEqual(self.folder.beside(".relkvanu-"), [".relkvanu-storage"])
+        self.assertEqual(sorted(sum([*pages, *first], [])), list(range(25)))
+
     def test_only_files_of_the_job(self):
         for name in ("1.sst", "2.sst.part", "01.sst", "3", "x4.sst", "5.sst.old", "-6.sst", "7.SST", "184467440737095516150.sst"):
             (self.path / name).write_bytes(b"")
