@@ -142,6 +142,16 @@ static void without_memory(void) {
         uint64_t told_without = 0, written_without = 0;
         for (uint64_t nth = 1;; nth++) {
             heap_refuse_from(nth);
+            relkvanu_answer told = says(written[at]);
+            heap_refuse(0);
+            if (told.code != RELKVANU_NO_MEMORY) {
+                DONE(told, RELKVANU_LINE_CALL, 0, 0);
+                break;
+            }
+            CHECK(wanted.answer.a != 0); /* only lists take memory */
+        }
+        for (uint64_t nth = 1;; nth++) {
+            heap_refuse_from(nth);
             struct told it = tell(written[at], PLACES, PLACES);
             heap_refuse(0);
             if (it.answer.code != RELKVANU_NO_MEMORY) {

@@ -264,6 +264,9 @@ func TestNamesAndMomentsThatAreFarAhead(t *testing.T) {
 	equal(t, errors.Is(declineIn(job, 1, late, 2), relkvanu.MomentTooLarge), true)
 	equal(t, must(job.Moment()), 2000)
 	equal(t, must(ackIn(job, 1, late-1, 2, 7)), relkvanu.Acked{End: relkvanu.AckCompleted, Dropped: 1, Released: 2})
+	later := must(relkvanu.OpenFenced(relkvanu.Every(1000), one, 0, 1<<50, 1)) // the first number is no moment
+	defer later.Close()
+	equal(t, errors.Is(errorOf(later.Tick(1<<49)), relkvanu.MomentTooLarge), true)
 }
 
 func TestNamesAndWhoWaits(t *testing.T) {

@@ -81,10 +81,12 @@ func TestStoreNamesAndSweeps(t *testing.T) {
 		return nil
 	}))
 	equal(t, fmt.Sprint(must(store.Unknown([]uint64{1, 2, 3, 9}))), "[3]")
-	must(0, os.WriteFile(filepath.Join(folder.storage, "9"), nil, 0o600))
+	for _, name := range []string{"9", "10"} {
+		must(0, os.WriteFile(filepath.Join(folder.storage, name), nil, 0o600))
+	}
 	equal(t, must(store.Sweep()), 0)
-	equal(t, listed(t, folder), "[1 2 9]")
-	equal(t, fmt.Sprint(store.Counts().Swept, store.Counts().Unissued), "1 1")
+	equal(t, listed(t, folder), "[1 10 2 9]")
+	equal(t, fmt.Sprint(store.Counts().Swept, store.Counts().Unissued), "1 2")
 }
 
 // What a task sends after a restore changes nothing, in this opening and in the next one; and no name is given out again.

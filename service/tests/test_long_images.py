@@ -59,7 +59,12 @@ def test_other_jobs_are_called_while_an_image_is_made():
         assert len(parts) == -(-image["bytes"] // PART) and sum(parts) == image["bytes"] and max(parts) == PART, parts
         before = large.state()
         server.kill()
+        with sqlite3.connect(server.database) as base:
+            base.execute("insert into image_part select job, seq - 1, part, text from image_part where part < 2")
         server.start()
+        with sqlite3.connect(server.database) as base:
+            # those of an image that is not whole went at the start
+            assert base.execute(NOT_WHOLE).fetchone() == (0,) and base.execute("select count(*) from image_part").fetchone() == (len(parts),)
         assert server.replayed()[-1] == 1 + 3 * 50 and large.state()["files"] == before["files"], server.replayed()
         large.call(ack(1, "0.75", [1]))
         state, log = large.state(), list(large.log())

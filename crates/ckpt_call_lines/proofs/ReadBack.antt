@@ -183,7 +183,7 @@ says_config c is =
 sub : (s : SubtaskId) → subtask_bytes s ≡ subtask_word s
 sub s = append_assoc (decimal s.vertex) (codes ".") (decimal s.index)
 
-parts_4 : (a b c d : List ℕ) → a ++ b ++ c ++ d ≡ a ++ (b ++ (c ++ d))
+pub parts_4 : (a b c d : List ℕ) → a ++ b ++ c ++ d ≡ a ++ (b ++ (c ++ d))
 parts_4 a b c d = append_assoc (a ++ b) c d ∙ append_assoc a b (c ++ d)
 
 parts_5 : (a b c d e : List ℕ) → a ++ b ++ c ++ d ++ e ≡ a ++ (b ++ (c ++ (d ++ e)))

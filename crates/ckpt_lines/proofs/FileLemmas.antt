@@ -1,11 +1,6 @@
 -- New and reused files among file words.
-use Rattle.std.proofs.Common.{◌≡◌, ℕ, List, [], ◌∷◌, Option, Some, None, Ok, Err, Result, refl, ap, ◌∙◌}
-use Rattle.std.specs.List.{filter_map}
-use Rattle.ckpt_ids.specs.Ascending.{ascending}
-use Rattle.ckpt_lines.specs.declared.fault.LineFault.{LineFault}
-use Rattle.ckpt_lines.specs.declared.values.FileWord.{FileWord}
-use Rattle.ckpt_lines.specs.Reading.{each, file_place, file_places}
-use Rattle.ckpt_lines.specs.Values.{file_word, fresh_file, reused_file}
+use Rattle.ckpt_lines.proofs.Names.{◌≡◌, ℕ, List, [], ◌∷◌, Option, Some, None, Ok, Err, Result, refl, ap, ◌∙◌, filter_map, ascending, LineFault, FileWord, each, file_place, file_places, file_word}
+use Rattle.ckpt_lines.proofs.Names.{fresh_file, reused_file}
 
 pub files_fail : (words : List (List ℕ)) (why : LineFault) → each file_word words ≡ Err why → file_places words ≡ Err why
 unfolding file_places

@@ -1,17 +1,9 @@
 -- The number at a text's start, byte by byte.
-use Rattle.std.proofs.Common.{◌≡◌, ℕ, zero, suc, add-one, add-suc, add-zero, pow-suc, lt-ltb, ◌+◌, ◌-◌, ◌*◌, ◌^◌, ◌<◌, ◌≤◌, ◌==◌, Bool, true, false, ltb, if◌then◌else◌, Result, sym, List, [], ◌∷◌, length, take, drop, get_or, Option, Some, None, Ok, Err, refl, ap, ◌∙◌, arith, ltb-true}
-use Rattle.std.specs.Char.{is_ascii_digit}
-use Rattle.std.specs.Option.{option_map}
-use Rattle.std.proofs.lemmas.Bool.Decides.{nat_tests}
-use Rattle.std.proofs.lemmas.List.{get_or-take, length-take-le, take_all}
-use Rattle.std.proofs.lemmas.List.Sums.{passes_at_first, fails_before_first, prefix_len-le-length}
+use Rattle.ckpt_lines.proofs.Names.{◌≡◌, ℕ, zero, suc, add-one, add-suc, add-zero, pow-suc, lt-ltb, ◌+◌, ◌-◌, ◌*◌, ◌^◌, ◌<◌, ◌≤◌, ◌==◌, Bool, true, false, ltb, if◌then◌else◌, Result, sym, List, []}
+use Rattle.ckpt_lines.proofs.Names.{◌∷◌, length, take, drop, get_or, Option, Some, None, Ok, Err, refl, ap, ◌∙◌, arith, ltb-true, is_ascii_digit, option_map, nat_tests, get_or-take, length-take-le}
+use Rattle.ckpt_lines.proofs.Names.{take_all, passes_at_first, fails_before_first, prefix_len-le-length, LineFault, FileWord, Fresh, Reused, file_place, number_place, file_word, is_fresh, number_of}
+use Rattle.ckpt_lines.proofs.Names.{signed, with_digit, begins_with_space, first_length, is_space, words_of, common_steps}
 use Rattle.ckpt_lines.specs.declared.fault.LineFault.TheVariants as fault
-use Rattle.ckpt_lines.specs.declared.fault.LineFault.{LineFault}
-use Rattle.ckpt_lines.specs.declared.values.FileWord.{FileWord}
-use Rattle.ckpt_lines.specs.declared.values.FileWord.TheVariants.{Fresh, Reused}
-use Rattle.ckpt_lines.specs.Reading.{file_place, number_place}
-use Rattle.ckpt_lines.specs.Values.{file_word, is_fresh, number_of, signed, with_digit}
-use Rattle.ckpt_lines.specs.Words.{begins_with_space, first_length, is_space, words_of}
 use Rattle.ckpt_lines.proofs.NumberLemmas.{Spells, Spells-all, Spells-more, Spells-none}
 use Rattle.ckpt_lines.proofs.WordSplits.{one_more, words_of-split}
 
@@ -80,9 +72,7 @@ pub Short-none : (text : List ℕ) → Short text 0 0
 Short-none text = record { few = omega arith; reads = Reads-none text; below = omega arith }
 
 Short-bound : (text : List ℕ) (place number digit : ℕ) → place < 19 → Short text place number → digit ≤ 9 → number * 10 + digit < 10 ^ (place + 1)
-Short-bound text place number digit few short small =
-    let step : 10 ^ (place + 1) ≡ 10 ^ place * 10 = rw (add-one place, pow-suc 10 place) refl in
-    omega (arith, step, short.below)
+Short-bound text place number digit few short small = grind (arith, common_steps)
 
 pub Short-fits : (text : List ℕ) (place number digit : ℕ) → place < 19 → Short text place number → digit ≤ 9 → number * 10 + digit < 2 ^ 64
 Short-fits text place number digit few short small =
@@ -91,10 +81,7 @@ Short-fits text place number digit few short small =
     omega (arith, bound, most)
 
 with_digit-of : (number byte digit : ℕ) → digit ≤ 9 → byte ≡ 48 + digit → number * 10 + digit < 2 ^ 64 → with_digit number byte ≡ Some (number * 10 + digit)
-with_digit-of number byte digit small is fits =
-    let tested : is_ascii_digit byte ≡ true = grind (arith, nat_tests) in
-    let value : byte - 48 ≡ digit = omega arith in
-    rw (tested, value, lt-ltb (number * 10 + digit) (2 ^ 64) fits) refl
+with_digit-of number byte digit small is fits = grind (arith, common_steps)
 
 pub Short-more : (text : List ℕ) (place number digit : ℕ) → place < length text → place < 19 → Short text place number → digit ≤ 9 → get_or text place 0 ≡ 48 + digit → Short text (place + 1) (number * 10 + digit)
 Short-more text place number digit there few short small is =
@@ -162,8 +149,7 @@ number_at-None text some start is = rw (words_of-split text some start, answer-N
 
 pub number_at-empty : (text : List ℕ) → length text ≡ 0 → number_place (words_of text) ≡ Err fault.Missing
 unfolding number_place
-number_at-empty [] none = refl
-number_at-empty (byte ∷ bytes) none = absurd (omega (arith, none))
+number_at-empty text h1 = grind (arith, common_steps)
 
 -- what follows the first byte
 abbrev pub after_sign : List ℕ → List ℕ
@@ -230,5 +216,4 @@ file_at-Err (sign ∷ digits) why some start is = by (sign == 43) refl (sign == 
 
 pub file_at-empty : (text : List ℕ) → length text < 1 → file_place (words_of text) ≡ Ok (None, words_of text)
 unfolding file_place
-file_at-empty [] none = refl
-file_at-empty (byte ∷ bytes) none = absurd (omega (arith, none))
+file_at-empty text h1 = grind (arith, common_steps)

@@ -1,29 +1,11 @@
 -- What the first word says, once it is spelled as a keyword.
-use Rattle.std.proofs.Common.{◌≡◌, false, List, ℕ, ◌∷◌, Some, refl}
-use Rattle.ckpt_lines.specs.declared.keyword.Keyword.{Keyword}
-use Rattle.ckpt_lines.specs.declared.keyword.Keyword.TheVariants.{Config, Job, Start, Tick, Savepoint, Ack, Decline, Dispose, Restore, Cancel, Take, Deleted, Undeleted, Show, Count, All}
-use Rattle.ckpt_lines.specs.Keywords.{keyword_of, spelling, takes_memory}
-use Rattle.ckpt_lines.specs.Reading.{begins_with_a_list, is_comment, line_of, row}
+use Rattle.ckpt_lines.proofs.Names.{◌≡◌, false, List, ℕ, ◌∷◌, Some, refl, Keyword, Config, Job, Start, Tick, Savepoint, Ack, Decline, Dispose, Restore, Cancel, Take, Deleted, Undeleted, Show, Count}
+use Rattle.ckpt_lines.proofs.Names.{All, keyword_of, spelling, takes_memory, begins_with_a_list, is_comment, line_of, row, common_steps, arith}
 
 -- the spelling of a keyword is read as that keyword, and not as a comment
 pub found : (first : Keyword) → (keyword_of (spelling first) ≡ Some first) × (is_comment (spelling first) ≡ false)
 unfolding keyword_of
-found Config = (refl, refl)
-found Job = (refl, refl)
-found Start = (refl, refl)
-found Tick = (refl, refl)
-found Savepoint = (refl, refl)
-found Ack = (refl, refl)
-found Decline = (refl, refl)
-found Dispose = (refl, refl)
-found Restore = (refl, refl)
-found Cancel = (refl, refl)
-found Take = (refl, refl)
-found Deleted = (refl, refl)
-found Undeleted = (refl, refl)
-found Show = (refl, refl)
-found Count = (refl, refl)
-found All = (refl, refl)
+found first = grind (arith, common_steps)
 
 pub begins : (first : Keyword) (before after : List (List ℕ)) → before ≡ spelling first ∷ after → (line_of before ≡ row first after) × (begins_with_a_list before ≡ takes_memory first)
 unfolding line_of

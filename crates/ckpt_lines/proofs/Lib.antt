@@ -4,6 +4,7 @@ pub mod EachLemmas
 pub mod FileLemmas
 pub mod FirstNumbers
 pub mod KeywordLemmas
+mod Names
 pub mod NumberLemmas
 pub mod PlaceLemmas
 pub mod ReadingLaws

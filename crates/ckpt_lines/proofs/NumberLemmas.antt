@@ -1,14 +1,7 @@
 -- A number is read digit by digit.
-use Rattle.std.proofs.Common.{◌≡◌, ℕ, ◌+◌, ◌-◌, ◌*◌, ◌^◌, ◌<◌, ◌≤◌, Bool, true, false, ◌&&◌, cond, ltb, List, [], ◌∷◌, length, take, get_or, Option, Some, None, refl, sym, ap, ◌∙◌, arith, lt-ltb, ltb-true, zero, suc}
-use Rattle.std.specs.Char.{is_ascii_digit, digit_value}
-use Rattle.std.specs.Str.{all_ascii_digits}
-use Rattle.std.specs.Str.Parse.{digits_value}
-use Rattle.std.proofs.lemmas.Bool.{and_parts, and_from}
-use Rattle.std.proofs.lemmas.Bool.Decides.{nat_tests}
-use Rattle.std.proofs.lemmas.Int.Digits.{digits_value_more}
-use Rattle.std.proofs.lemmas.List.{take_all}
-use Rattle.std.proofs.lemmas.Str.Parse.{digits_value-take-le}
-use Rattle.ckpt_lines.specs.Values.{is_number, number_of, with_digit}
+use Rattle.ckpt_lines.proofs.Names.{◌≡◌, ℕ, ◌+◌, ◌-◌, ◌*◌, ◌^◌, ◌<◌, ◌≤◌, Bool, true, false, ◌&&◌, cond, ltb, List, [], ◌∷◌, length, take, get_or, Option, Some, None, refl, sym, ap, ◌∙◌, arith}
+use Rattle.ckpt_lines.proofs.Names.{lt-ltb, ltb-true, zero, suc, is_ascii_digit, digit_value, all_ascii_digits, digits_value, and_parts, and_from, nat_tests, digits_value_more, take_all}
+use Rattle.ckpt_lines.proofs.Names.{digits_value-take-le, is_number, number_of, with_digit, common_steps}
 
 -- this many bytes from the start are digits, and spell the number
 pub record Spells (word : List ℕ) (place number : ℕ) : Type 0 where
@@ -39,8 +32,7 @@ abbrev takes : ℕ → ℕ → Bool
 takes number byte = is_ascii_digit byte && ltb (more number byte) (2 ^ 64)
 
 value_more : (word : List ℕ) (i number : ℕ) → i < length word → Spells word i number → is_ascii_digit (get_or word i 0) ≡ true → more number (get_or word i 0) ≡ digits_value 10 (take (i + 1) word)
-value_more word i number within spells digit =
-    ap (λ n. n * 10 + (get_or word i 0 - 48)) spells.value ∙ ap (λ n. digits_value 10 (take i word) * 10 + n) (sym (digit_is (get_or word i 0) digit)) ∙ sym (digits_value_more 10 word i within)
+value_more word i number within spells digit = grind (arith, common_steps, digit_is, digits_value_more)
 
 pub Spells-none : (word : List ℕ) → Spells word 0 0
 Spells-none word = record { digits = refl; value = refl; fits = omega arith }
@@ -65,10 +57,7 @@ abbrev IsNumber : List ℕ → Type 0
 IsNumber word = (0 < length word) × (all_ascii_digits word ≡ true) × (digits_value 10 word < 2 ^ 64)
 
 is_number_to : (word : List ℕ) → is_number word ≡ true → IsNumber word
-is_number_to word e =
-    let outer : ((ltb 0 (length word) && all_ascii_digits word) ≡ true) × (ltb (digits_value 10 word) (2 ^ 64) ≡ true) = and_parts _ _ e in
-    let inner : (ltb 0 (length word) ≡ true) × (all_ascii_digits word ≡ true) = and_parts _ _ outer.0 in
-    (ltb-true 0 (length word) inner.0, inner.1, ltb-true (digits_value 10 word) (2 ^ 64) outer.1)
+is_number_to word e = grind (arith, common_steps)
 
 no_number : (word : List ℕ) → (IsNumber word → ⊥) → number_of word ≡ None
 unfolding number_of
@@ -94,9 +83,4 @@ Spells-stops word i number within spells is = no_number word (λ all.
 
 pub Spells-all : (word : List ℕ) (i number : ℕ) → 0 < length word → length word ≤ i → Spells word i number → Some number ≡ number_of word
 unfolding number_of
-Spells-all word i number some past spells =
-    let whole : take i word ≡ word = take_all i word past in
-    let value : number ≡ digits_value 10 word = spells.value ∙ ap (digits_value 10) whole in
-    let digits : all_ascii_digits word ≡ true = ap all_ascii_digits (sym whole) ∙ spells.digits in
-    let small : digits_value 10 word < 2 ^ 64 = omega (arith, value, spells.fits) in
-    rw (digits, lt-ltb 0 (length word) some, lt-ltb (digits_value 10 word) (2 ^ 64) small) (ap Some value)
+Spells-all word i number some past spells = grind (arith, common_steps)

@@ -1,49 +1,32 @@
 -- The reading of a line never says that memory ran out.
-use Rattle.std.proofs.Common.{◌≡◌, ◌≢◌, ℕ, Bool, true, false, cond, ◌==◌, List, [], ◌∷◌, Option, Some, None, Result, Ok, Err, IfErr, refl}
-use Rattle.std.specs.Prelude.{codes}
-use Rattle.std.specs.Option.{ok_or}
-use Rattle.std.specs.Str.{bytes_eq}
-use Rattle.std.specs.Str.Lines.{strip_carriage_return}
-use Rattle.ckpt_ids.specs.declared.subtask.SubtaskId.{SubtaskId}
-use Rattle.ckpt_lines.specs.declared.fault.LineFault.{LineFault}
+use Rattle.ckpt_lines.proofs.Names.{◌≡◌, ◌≢◌, ℕ, Bool, true, false, cond, ◌==◌, List, [], ◌∷◌, Option, Some, None, Result, Ok, Err, IfErr, refl, codes, ok_or, bytes_eq, strip_carriage_return}
+use Rattle.ckpt_lines.proofs.Names.{SubtaskId, LineFault, Keyword, Line, FileWord, Fresh, Reused, keyword_of, ◌>>=◌, is_memory, place, number_place, subtask_place, retention_place, target_place}
+use Rattle.ckpt_lines.proofs.Names.{ended, each, config_line, job_line, some_parallelisms, number_line, file_places, ack_line, decline_line, restore_line, all_line, row, row_of, line_of, is_comment}
+use Rattle.ckpt_lines.proofs.Names.{is_too_long, reading, number, subtask, retention, target_of, savepoint, file_word, signed, number_of, subtask_of, words_of, common_steps, arith}
 use Rattle.ckpt_lines.specs.declared.fault.LineFault.TheVariants as fault
-use Rattle.ckpt_lines.specs.declared.keyword.Keyword.{Keyword}
 use Rattle.ckpt_lines.specs.declared.keyword.Keyword.TheVariants as keyword
-use Rattle.ckpt_lines.specs.declared.line.Line.{Line}
 use Rattle.ckpt_lines.specs.declared.line.Line.TheVariants as line
-use Rattle.ckpt_lines.specs.declared.values.FileWord.{FileWord}
-use Rattle.ckpt_lines.specs.declared.values.FileWord.TheVariants.{Fresh, Reused}
-use Rattle.ckpt_lines.specs.Keywords.{keyword_of}
-use Rattle.ckpt_lines.specs.Reading.{◌>>=◌, is_memory, place, number_place, subtask_place, retention_place, target_place, ended, each, config_line, job_line, some_parallelisms, number_line, file_places, ack_line, decline_line, restore_line, all_line, row, row_of, line_of, is_comment, is_too_long, reading}
-use Rattle.ckpt_lines.specs.Values.{number, subtask, retention, target_of, savepoint, file_word, signed, number_of, subtask_of}
-use Rattle.ckpt_lines.specs.Words.{words_of}
 
 abbrev pub NoMemory : {X : Type 0} → Result X LineFault → Type 0
 NoMemory read = IfErr read (λ why. is_memory why ≡ false)
 
 pub bind : {A B : Type 0} (read : Result A LineFault) (f : A → Result B LineFault) → NoMemory read → ((x : A) → NoMemory (f x)) → NoMemory (read >>= f)
-bind (Ok x) f first next = next x
-bind (Err why) f first next = first
+bind read f h2 h3 = grind (arith, common_steps)
 
 pub either : {X : Type 0} (b : Bool) (x y : Result X LineFault) → NoMemory x → NoMemory y → NoMemory (cond b x y)
-either true x y p q = p
-either false x y p q = q
+either b x y h3 h4 = grind (arith, common_steps)
 
 number-no_memory : (found : Option ℕ) → NoMemory (ok_or found fault.Number)
-number-no_memory None = refl
-number-no_memory (Some n) = tt
+number-no_memory found = grind (arith, common_steps)
 
 subtask-no_memory : (found : Option SubtaskId) → NoMemory (ok_or found fault.Number)
-subtask-no_memory None = refl
-subtask-no_memory (Some s) = tt
+subtask-no_memory found = grind (arith, common_steps)
 
 savepoint-no_memory : (found : Option ℕ) → NoMemory (savepoint found)
-savepoint-no_memory None = refl
-savepoint-no_memory (Some id) = tt
+savepoint-no_memory found = grind (arith, common_steps)
 
 signed-no_memory : (sign : ℕ → FileWord) (found : Option ℕ) → NoMemory (signed sign found)
-signed-no_memory sign None = refl
-signed-no_memory sign (Some file) = tt
+signed-no_memory sign found = grind (arith, common_steps)
 
 target-no_memory : (word : List ℕ) → NoMemory (target_of word)
 unfolding target_of
@@ -54,12 +37,10 @@ retention-no_memory word = either (bytes_eq word (codes "keep")) _ _ tt (either 
 
 file_word-no_memory : (word : List ℕ) → NoMemory (file_word word)
 unfolding file_word
-file_word-no_memory [] = refl
-file_word-no_memory (sign ∷ word) = either (sign == 43) _ _ (signed-no_memory Fresh (number_of word)) (either (sign == 61) _ _ (signed-no_memory Reused (number_of word)) refl)
+file_word-no_memory word = grind (arith, common_steps, either, signed-no_memory)
 
 place-no_memory : {X : Type 0} (read : List ℕ → Result X LineFault) → ((word : List ℕ) → NoMemory (read word)) → (words : List (List ℕ)) → NoMemory (place read words)
-place-no_memory read one [] = refl
-place-no_memory read one (word ∷ words) = bind (read word) _ (one word) (λ x. tt)
+place-no_memory read h1 words = grind (arith, common_steps, bind)
 
 each-no_memory : {X : Type 0} (read : List ℕ → Result X LineFault) → ((word : List ℕ) → NoMemory (read word)) → (words : List (List ℕ)) → NoMemory (each read words)
 unfolding each
@@ -87,8 +68,7 @@ numbers-no_memory words = each-no_memory number (λ word. number-no_memory (numb
 
 pub ended-no_memory : (words : List (List ℕ)) → NoMemory (ended words)
 unfolding ended
-ended-no_memory [] = tt
-ended-no_memory (word ∷ words) = refl
+ended-no_memory words = grind (arith, common_steps)
 
 -- a number, and what is read after it
 pub number_then : {B : Type 0} (words : List (List ℕ)) (f : ℕ × List (List ℕ) → Result B LineFault) → ((x : ℕ × List (List ℕ)) → NoMemory (f x)) → NoMemory (number_place words >>= f)
@@ -106,8 +86,7 @@ config-no_memory words =
     bind (retention_place retained.1) _ (retention_place-no_memory retained.1) (λ keep. ended_then keep.1 _)))))))
 
 some-no_memory : (parallelisms : List ℕ) → NoMemory (some_parallelisms parallelisms)
-some-no_memory [] = refl
-some-no_memory (first ∷ others) = tt
+some-no_memory parallelisms = grind (arith, common_steps)
 
 job-no_memory : (words : List (List ℕ)) → NoMemory (job_line words)
 unfolding job_line
@@ -123,9 +102,7 @@ files-no_memory words = bind (each file_word words) _ (each-no_memory file_word 
 
 ack-no_memory : (words : List (List ℕ)) → NoMemory (ack_line words)
 unfolding ack_line
-ack-no_memory words =
-    number_then words _ (λ now. number_then now.1 _ (λ id. bind (subtask_place id.1) _ (subtask_place-no_memory id.1) (λ subtask.
-    bind (file_places subtask.1) _ (files-no_memory subtask.1) (λ files. tt))))
+ack-no_memory words = grind (arith, common_steps, bind, files-no_memory, number_then, subtask_place-no_memory)
 
 decline-no_memory : (words : List (List ℕ)) → NoMemory (decline_line words)
 unfolding decline_line
@@ -134,9 +111,7 @@ decline-no_memory words =
 
 restore-no_memory : (words : List (List ℕ)) → NoMemory (restore_line words)
 unfolding restore_line
-restore-no_memory words =
-    number_then words _ (λ now. bind (target_place now.1) _ (target_place-no_memory now.1) (λ target.
-    bind (each number target.1) _ (numbers-no_memory target.1) (λ ps. tt)))
+restore-no_memory words = grind (arith, common_steps, bind, number_then, numbers-no_memory, target_place-no_memory)
 
 all-no_memory : (words : List (List ℕ)) → NoMemory (all_line words)
 unfolding all_line
@@ -145,31 +120,14 @@ all-no_memory words =
 
 row-no_memory : (first : Keyword) (words : List (List ℕ)) → NoMemory (row first words)
 unfolding row
-row-no_memory keyword.Config words = config-no_memory words
-row-no_memory keyword.Job words = job-no_memory words
-row-no_memory keyword.Start words = number_line-no_memory line.Start words
-row-no_memory keyword.Tick words = number_line-no_memory line.Tick words
-row-no_memory keyword.Savepoint words = number_line-no_memory line.Savepoint words
-row-no_memory keyword.Ack words = ack-no_memory words
-row-no_memory keyword.Decline words = decline-no_memory words
-row-no_memory keyword.Dispose words = number_line-no_memory line.Dispose words
-row-no_memory keyword.Restore words = restore-no_memory words
-row-no_memory keyword.Cancel words = number_line-no_memory line.Cancel words
-row-no_memory keyword.Take words = number_line-no_memory line.Take words
-row-no_memory keyword.Deleted words = number_line-no_memory line.Deleted words
-row-no_memory keyword.Undeleted words = number_line-no_memory line.Undeleted words
-row-no_memory keyword.Show words = number_line-no_memory line.Show words
-row-no_memory keyword.Count words = number_line-no_memory line.Count words
-row-no_memory keyword.All words = all-no_memory words
+row-no_memory first words = grind (arith, common_steps, ack-no_memory, all-no_memory, config-no_memory, decline-no_memory, job-no_memory, number_line-no_memory, restore-no_memory)
 
 row_of-no_memory : (first : Option Keyword) (words : List (List ℕ)) → NoMemory (row_of first words)
-row_of-no_memory None words = refl
-row_of-no_memory (Some first) words = row-no_memory first words
+row_of-no_memory first words = grind (arith, common_steps, row-no_memory)
 
 pub line_of-no_memory : (words : List (List ℕ)) → NoMemory (line_of words)
 unfolding line_of
-line_of-no_memory [] = tt
-line_of-no_memory (word ∷ words) = either (is_comment word) _ _ tt (row_of-no_memory (keyword_of word) words)
+line_of-no_memory words = grind (arith, common_steps, either, row_of-no_memory)
 
 pub reading-known : (line : List ℕ) → NoMemory (reading line)
 unfolding reading

@@ -1,17 +1,7 @@
 -- What a line of a keyword and one number says.
-use Rattle.std.proofs.Common.{◌≡◌, ◌≤◌, ℕ, true, List, [], ◌∷◌, length, Ok, ap, ◌∙◌, refl, arith}
-use Rattle.std.proofs.lemmas.Bool.Decides.{nat_tests}
-use Rattle.std.specs.Prelude.{false}
-use Rattle.std.specs.Str.Lines.{strip_carriage_return}
-use Rattle.ckpt_ids.specs.declared.call.Call.{Call}
-use Rattle.ckpt_lines.specs.declared.keyword.Keyword.{Keyword}
-use Rattle.ckpt_lines.specs.declared.limits.TheConstants.{LONGEST_LINE}
-use Rattle.ckpt_lines.specs.declared.line.Line.{Line}
+use Rattle.ckpt_lines.proofs.Names.{◌≡◌, ◌≤◌, ℕ, true, List, [], ◌∷◌, length, Ok, ap, ◌∙◌, refl, arith, nat_tests, false, strip_carriage_return, Call, Keyword, LONGEST_LINE, Line, SaysCall, meaning}
+use Rattle.ckpt_lines.proofs.Names.{ended, is_too_long, number_line, number_place, reading, row, BeginsWith, IsUsual, is_usual, words_of, common_steps}
 use Rattle.ckpt_lines.specs.declared.meaning.Meaning.TheVariants as said
-use Rattle.ckpt_lines.specs.Meanings.{SaysCall, meaning}
-use Rattle.ckpt_lines.specs.Reading.{ended, is_too_long, number_line, number_place, reading, row}
-use Rattle.ckpt_lines.specs.Usual.{BeginsWith, IsUsual, is_usual}
-use Rattle.ckpt_lines.specs.Words.{words_of}
 use Rattle.ckpt_lines.proofs.BeginLemmas.{begins_once, words_of-begin}
 use Rattle.ckpt_lines.proofs.KeywordLemmas.{begins}
 
@@ -26,15 +16,12 @@ says_number first line call number words is means placed = (line number, is ∙ 
 pub reads_row : (line : List ℕ) (first : Keyword) (rest : List ℕ) → length line ≤ LONGEST_LINE
     → BeginsWith (strip_carriage_return line) first rest → reading line ≡ row first (words_of rest)
 unfolding reading
-reads_row line first rest short begin =
-    let within : is_too_long line ≡ false = grind (arith, nat_tests) in
-    (rw within refl) ∙ (begins first (words_of (strip_carriage_return line)) (words_of rest) (words_of-begin (strip_carriage_return line) first rest begin)).0
+reads_row line first rest short begin = grind (arith, common_steps, begins, nat_tests, words_of-begin)
 
 -- no word is left after the last
 none_left : (words : List (List ℕ)) → ended words ≡ Ok tt → words ≡ []
 unfolding ended
-none_left [] is = refl
-none_left (word ∷ words) is = absurd cc
+none_left words h1 = grind (arith, common_steps)
 
 -- nothing is left after a number that is the last word
 pub one_number : (words after : List (List ℕ)) (number : ℕ) → number_place words ≡ Ok (number, after) → ended after ≡ Ok tt → number_place words ≡ Ok (number, [])
@@ -43,16 +30,10 @@ one_number words after number placed end = placed ∙ ap (λ (left : List (List 
 -- what a usual line begins with is its own keyword, and its number follows
 pub usual_begin : (line : List ℕ) (first : Keyword) (rest : List ℕ) → BeginsWith (strip_carriage_return line) first rest → (is : IsUsual line)
     → (is_usual first ≡ true) × (number_place (words_of rest) ≡ Ok (is.number, []))
-usual_begin line first rest begin is =
-    let same = begins_once (strip_carriage_return line) first is.keyword rest is.rest begin is.begins in
-    (ap is_usual same.0 ∙ is.usual, ap (λ (after : List ℕ). number_place (words_of after)) same.1 ∙ is.numbered)
+usual_begin line first rest begin is = grind (arith, common_steps)
 
 -- so no word is left after that number
 pub usual_end : (line : List ℕ) (first : Keyword) (rest : List ℕ) (number : ℕ) (after : List (List ℕ)) → BeginsWith (strip_carriage_return line) first rest
     → number_place (words_of rest) ≡ Ok (number, after) → IsUsual line → ended after ≡ Ok tt
 unfolding ended
-usual_end line first rest number after begin placed is =
-    let whole : number_place (words_of rest) ≡ Ok (is.number, []) = (usual_begin line first rest begin is).1 in
-    let pair : ◌≡◌ {A = ℕ × List (List ℕ)} (number, after) (is.number, []) = cc in
-    let none : after ≡ [] = ap (λ (p : ℕ × List (List ℕ)). p.1) pair in
-    rw none refl
+usual_end line first rest number after begin placed is = grind (arith, common_steps)

@@ -21,11 +21,15 @@ pub record ReadsOn (old : Unread) (before : Option (List ℕ)) (new : Unread) (a
   pub ended : new.is_ended ≡ true → IsAtEnd after
   pub stays : new.is_ended ≡ false → old.is_ended ≡ false
 
+-- what holds if the source is asked: nothing is read ahead, and the script has not ended
+abbrev pub IfAsked : Unread → Type 0 → Type 0
+IfAsked ahead P = ahead.bytes ≡ [] → ahead.is_ended ≡ false → P
+
 -- Bytes are read ahead, unless the script has ended, and none was used.
 pub record IsFilled (old : Unread) (before : Asked) (new : Unread) (after : Asked) : Type 0 where
   pub filled : new.bytes ≡ [] → new.is_ended ≡ true
   -- if nothing was ahead, the source was read once
-  pub fewer : old.bytes ≡ [] → old.is_ended ≡ false → new.reads_left + 1 ≡ old.reads_left
+  pub fewer : IfAsked old (new.reads_left + 1 ≡ old.reads_left)
   pub counted : IsCounted after new
   pub bytes_used : used after new ≡ used before old
   pub bytes_given : before.bytes ≤ after.bytes

@@ -6,7 +6,7 @@ ghost use Rattle.ckpt_script.specs.Faults.{FailsBy};
 ghost use Rattle.ckpt_script.specs.Flushes.{EndsFlushed, StaysTied};
 ghost use Rattle.ckpt_script.specs.Known.{Prints};
 ghost use Rattle.ckpt_script.specs.Lines.{held, FindsNewline, Moves};
-ghost use Rattle.ckpt_script.specs.Reads.{FindsLine, IsFilled, IsFollowed, ReadsOn, ReadsPart, UsesBytes, left_by};
+ghost use Rattle.ckpt_script.specs.Reads.{FindsLine, IfAsked, IsFilled, IsFollowed, ReadsOn, ReadsPart, UsesBytes, left_by};
 
 use crate::fault::RunFault;
 use crate::limits::MOST_READS;
@@ -88,8 +88,8 @@ impl Ahead {
         requires going_on { K.failures sink.old ≡ 0 }
         ensures read { ReadsOn self.old (S.remaining source.old) self.new (S.remaining source.new) }
         ensures filled { OnOk result (IsFilled self.old (S.asked source.old) self.new (S.asked source.new)) }
-        ensures at_once { OnOk result (self.old.bytes ≡ [] → self.old.is_ended ≡ false → printed.new.bytes ≡ []) }
-        ensures flushed { self.old.bytes ≡ [] → self.old.is_ended ≡ false → EndsFlushed printed.old (K.unflushed sink.old) (K.failures sink.old) (K.unflushed sink.new) (K.failures sink.new) }
+        ensures at_once { OnOk result (IfAsked self.old (printed.new.bytes ≡ [])) }
+        ensures flushed { IfAsked self.old (EndsFlushed printed.old (K.unflushed sink.old) (K.failures sink.old) (K.unflushed sink.new) (K.failures sink.new)) }
         ensures shown { OnOk result (Prints (K.contents sink.old) (K.contents sink.new) printed.old.bytes [] printed.new.bytes (K.failures sink.new)) }
         ensures fault { IfErr result (FailsBy self.old (K.contents sink.old) (K.contents sink.new) printed.old.bytes printed.new.bytes) }
         ensures cause { IfErr result (IsCaused (S.asked source.new) (K.failures sink.new)) }

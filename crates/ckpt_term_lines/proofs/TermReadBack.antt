@@ -11,7 +11,7 @@ use Rattle.ckpt_texts.specs.Texts.{spaced}
 use Rattle.ckpt_call_lines.specs.CallTexts.{Fits, FitsCall, call_text, line_of_call}
 use Rattle.ckpt_call_lines.proofs.LineLemmas.{Each, IsWritten, each_next, from_all, next, no_strip, plain_by}
 use Rattle.ckpt_call_lines.proofs.NumberWords.{each-numbers, number_place-decimal, plain_number, plain_numbers, stays}
-use Rattle.ckpt_call_lines.proofs.ReadBack.{Says, one, says_call}
+use Rattle.ckpt_call_lines.proofs.ReadBack.{Says, one, parts_4, says_call}
 use Rattle.ckpt_ids.specs.Ascending.{IsAscending}
 use Rattle.ckpt_terms.specs.declared.call.FencedCall.{FencedCall}
 use Rattle.ckpt_terms.specs.declared.call.FencedCall.TheVariants as call
@@ -94,9 +94,6 @@ says_in term c fits call_fits =
       written = next (codes "in") (decimal term ++ 32 ∷ call_text c) (decimal term ∷ said.words) (plain_by (codes "in") refl) (next (decimal term) (call_text c) said.words (plain_number term fits) said.written);
       is = rw (number_place-decimal term said.words fits, some_words c said.words said.is) refl;
     }
-
-parts_4 : (a b c d : List ℕ) → a ++ b ++ c ++ d ≡ a ++ (b ++ (c ++ d))
-parts_4 a b c d = simp append_assoc
 
 says_made : (term : ℕ) (c : Call) → Fits term → FitsCall c → TermSays (line_of_term_call (call.Make term c)) (made_text term c)
 says_made term c fits call_fits = by (eqb term 0) refl

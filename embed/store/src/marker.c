@@ -27,8 +27,7 @@ bool rks_has_marker(const relkvanu_store *s) {
     return s->folder < 0 || faccessat(s->folder, MARKER, F_OK, 0) == 0;
 }
 
-/* Whether the name is that of the job's own files, which may be in the storage folder too. */
-static bool is_own(const relkvanu_store *s, const char *name) {
+bool rks_is_own(const relkvanu_store *s, const char *name) {
     static const char *const ends[] = {"", "-wal", "-shm", ".lock", "-journal"};
     const char *own = strrchr(s->path, '/') + 1;
     size_t len = strlen(own);
@@ -39,8 +38,7 @@ static bool is_own(const relkvanu_store *s, const char *name) {
     return is_found;
 }
 
-/* Whether the folder of the storage is also that of PATH. */
-static bool has_own(const relkvanu_store *s) {
+bool rks_has_own(const relkvanu_store *s) {
     char name[PATH_MAX];
     struct stat storage, other;
     snprintf(name, sizeof name, "%.*s/.", (int)(strrchr(s->path, '/') - s->path), s->path);
@@ -49,14 +47,14 @@ static bool has_own(const relkvanu_store *s) {
 
 static bool is_ignored(const relkvanu_store *s, bool has_own_files, const char *name) {
     return strcmp(name, ".") == 0 || strcmp(name, "..") == 0 || strcmp(name, "lost+found") == 0 || strcmp(name, UNFINISHED) == 0 ||
-           (has_own_files && is_own(s, name));
+           (has_own_files && rks_is_own(s, name));
 }
 
 /* A file of the folder that is no file of a new job; "" if there is none. Returns false if the folder can't be read. */
 static bool found_file(const relkvanu_store *s, char *name, size_t name_len) {
     int copy = openat(s->folder, ".", O_RDONLY | O_DIRECTORY | O_CLOEXEC);
     DIR *listing = copy < 0 ? NULL : fdopendir(copy);
-    bool has_own_files = has_own(s);
+    bool has_own_files = rks_has_own(s);
     struct dirent *entry;
     name[0] = 0;
     if (listing == NULL) {

@@ -143,6 +143,10 @@ int rks_write_marker(relkvanu_store *s, const char *folder, uint64_t epoch);
 int rks_check_marker(relkvanu_store *s, const char *folder, uint64_t epoch);
 bool rks_has_marker(const relkvanu_store *s);
 
+/* Whether the folder of the storage is also that of PATH; whether the name is that of one of the job's own files there. */
+bool rks_has_own(const relkvanu_store *s);
+bool rks_is_own(const relkvanu_store *s, const char *name);
+
 /* Whose folder it is: RELKVANU_STORE_OK: this opening's, or there is none; RELKVANU_STORE_NOT_NOW: the marker can't be read; RELKVANU_STORE_STORAGE: it
  * names another job or a later opening. */
 int rks_owner(const relkvanu_store *s);

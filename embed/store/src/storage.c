@@ -129,9 +129,10 @@ static int visit(relkvanu_store *s, struct pages *pages, DIR *listing) {
     uint64_t files[PAGE];
     size_t len = 0;
     int status = RELKVANU_STORE_OK;
+    bool has_own_files = rks_has_own(s);
     struct dirent *entry;
     while (status == RELKVANU_STORE_OK && (errno = 0, entry = readdir(listing)) != NULL) {
-        len += is_file(entry->d_name, &files[len]);
+        len += is_file(entry->d_name, &files[len]) && !(has_own_files && rks_is_own(s, entry->d_name));
         if (len == PAGE) {
             status = pages->each(s, pages, files, len);
             len = 0;

@@ -257,6 +257,19 @@ static void sweeps_at_any_time(void) {
     relkvanu_store_close(store);
 }
 
+/* The job's own file is in the folder, and its name is a number: no sweep deletes it. */
+static void its_own_file(void) {
+    relkvanu_store_options options = named_options(RELKVANU_STORE_CREATE, 0);
+    relkvanu_store *store;
+    size_t left;
+    CHECK(relkvanu_store_open(&store, in("storage/7"), &options, &report) == RELKVANU_STORE_OK, "%s", report.message);
+    CHECK(reserved(store, 1, 10) == 1, "the names");
+    CHECK(relkvanu_store_put(store, 7, "state", 5) == RELKVANU_STORE_PRESENT && relkvanu_store_put(store, 8, "state", 5) == RELKVANU_STORE_OK, "put");
+    made(store, (relkvanu_call){.kind = RELKVANU_CALL_RESTORE, .now = RELKVANU_STORE_NOW});
+    CHECK(relkvanu_store_sweep(store, &left) == RELKVANU_STORE_OK && left == 0 && has_file(7) && !has_file(8), "a sweep");
+    relkvanu_store_close(store);
+}
+
 /* Another process has opened a copy of the job over the folder: this one deletes and puts nothing more. */
 static void a_later_opening(void) {
     relkvanu_store *store = named_job();
@@ -579,5 +592,5 @@ static void a_sweeper_beside_tasks(void) {
 }
 
 const struct test name_cases[] = {{"terms_and_names", terms_and_names}, {"reserved_and_killed", reserved_and_killed}, {"by_an_earlier_image", by_an_earlier_image}, {"forfeits", forfeits}, {"no_names", no_names},
-    {"sweeps_at_any_time", sweeps_at_any_time}, {"a_later_opening", a_later_opening}, {"adopts", adopts}, {"a_fence", a_fence}, {"a_fence_without_a_folder", a_fence_without_a_folder},
+    {"sweeps_at_any_time", sweeps_at_any_time}, {"its_own_file", its_own_file}, {"a_later_opening", a_later_opening}, {"adopts", adopts}, {"a_fence", a_fence}, {"a_fence_without_a_folder", a_fence_without_a_folder},
     {"an_old_file", an_old_file}, {"a_sweeper_beside_tasks", a_sweeper_beside_tasks}, {NULL, NULL}};

@@ -9,7 +9,7 @@ use serde_json::{json, Value};
 pub type Reply = Response<Body>;
 
 /// How many headers most answers have at most.
-const HEADERS: usize = 8;
+const HEADERS: usize = 6;
 
 /// An answer of this type, with the headers that every answer has.
 pub fn with_type(status: u16, kind: &'static str, body: impl Into<Body>) -> Reply {

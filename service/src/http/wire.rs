@@ -60,10 +60,11 @@ impl Members<'_> {
 
     /// The term of the task, or what the request says of all its calls; 0: none.
     fn term(&mut self, of_all: u64) -> Checked<u64> {
-        if self.has("term") {
-            return self.number("term", 1, GREATEST);
-        }
-        Ok(of_all)
+        let Some(value) = self.take("term") else {
+            return Ok(of_all);
+        };
+        let term = read::<u64>(value).filter(|term| (1..=GREATEST).contains(term));
+        term.ok_or_else(|| self.wrong("term", "is no whole number from 1 to 2^53"))
     }
 
     /// Whether it is true; `None` if there is no such member.

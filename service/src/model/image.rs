@@ -77,7 +77,10 @@ impl Image {
         let shape = shape_words(shape);
         // a number alone could be one more of the shape
         let completed = last_completed.map_or("None".to_string(), |at| format!("Some({at})"));
-        sha256(format!("{job} {seq} {at} {shape} {completed} {last_event} {text}").as_bytes())
+        let mut hash = Sha256::new();
+        hash.update(format!("{job} {seq} {at} {shape} {completed} {last_event} "));
+        hash.update(text);
+        format!("{:x}", hash.finalize())
     }
 
     /// `None` if it is no image.

@@ -211,9 +211,11 @@ impl Job {
 
     /// What the answer of a call that was made tells beside its text: whoever restarts the tasks learns the term here.
     fn beside(&self, call: &Call) -> Beside {
-        match (call, self.engine.term()) {
-            (Call::Reserve { count, .. }, _) => Beside::Names(*count),
-            (Call::Restore { .. } | Call::Cancel | Call::Fence { .. }, Some(now)) => Beside::Term(now.term),
+        match call {
+            Call::Reserve { count, .. } => Beside::Names(*count),
+            Call::Restore { .. } | Call::Cancel | Call::Fence { .. } => {
+                self.engine.term().map_or(Beside::Nothing, |now| Beside::Term(now.term))
+            }
             _ => Beside::Nothing,
         }
     }

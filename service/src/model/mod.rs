@@ -25,6 +25,8 @@ pub use image::{sha256, Contents, Image, ImagePart, SavedRecord};
 pub use job::{Entry, Job, Logged, Opening};
 pub use kept::{Cut, Keeping, Kept, KeptImage, CALL_BYTES};
 pub use lines::{parse_line, without_term};
+#[cfg(test)]
+pub use outcome::Beside;
 pub use outcome::{Outcome, Reply};
 pub use parts::parts;
 pub use relkvanu::{Answer, Choice, FileCounts, Garbage, Kind, Live as LiveRecord, Mode, RunningTerm, Settings};

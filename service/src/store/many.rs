@@ -18,7 +18,7 @@ pub fn text(text: &str) -> Cell<'_> {
 }
 
 /// A cell, or null.
-pub fn maybe<'a>(cell: Option<Cell<'a>>) -> Cell<'a> {
+pub fn maybe(cell: Option<Cell<'_>>) -> Cell<'_> {
     cell.unwrap_or(Cell::Borrowed(ValueRef::Null))
 }
 

@@ -249,11 +249,13 @@ fn write_answer(body: &mut String, outcome: &Outcome) {
 #[cfg(test)]
 mod tests {
     use super::*;
+    use crate::model::Beside;
 
     #[test]
     fn all_answers_are_written_alike() {
         let reply = Reply::Answered(Answer::AckPending { missing: 3 });
-        let outcomes = [Outcome::Made { seq: Some(7), reply }, Outcome::NoMemory, Outcome::NotMade];
+        let made = Outcome::Made { seq: Some(7), reply, beside: Beside::Nothing };
+        let outcomes = [made, Outcome::NoMemory, Outcome::NotMade];
         let told = outcomes.each_ref().map(Outcome::json);
         let board = Board::new();
         board.lead(4, "a\"b".to_string());

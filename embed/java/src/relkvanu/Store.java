@@ -368,7 +368,8 @@ public final class Store implements AutoCloseable {
     }
 
     /**
-     * The job begins again from the latest record, in its shape.
+     * The job begins again from the latest record, in its shape. Who starts tasks in a job with names needs the term that the restore begins: that
+     * is in the outcome of {@code call(StoreCall.restoreLatest())}, and so for each other restore.
      *
      * @return the record
      */

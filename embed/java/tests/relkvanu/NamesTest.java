@@ -140,6 +140,8 @@ class NamesTest {
             fenced(Fenced.NEVER_RESERVED, 8, () -> ack(job, 1, 2000, 2, 7, 8));
             fenced(Fenced.SPENT, 5, () -> ack(job, 1, 1000, 1, 6, 5));
             assertEquals(new Garbage(new long[] {4}, new long[] {9, 8}), job.garbage(FILES));
+            assertArrayEquals(new long[] {4}, job.garbage(FILES).garbage());
+            assertArrayEquals(new long[] {9, 8}, job.garbage(FILES).unissued());
             assertEquals(new Reply.RestoredCheckpoint(1, 0), job.restoreLatest(2100));
             assertEquals(new RunningTerm(2, 8), job.term());
             List<Object> before = seen(job);
@@ -432,6 +434,7 @@ class NamesTest {
         }
         assertEquals(0, Native.fencedText(what + 1, new byte[32]));
         assertEquals("Spent 18446744073709551615", new CoordinatorException.Fenced(Fenced.SPENT, -1).getMessage());
+        assertEquals("NeverReserved 7", new CoordinatorException.Fenced(Fenced.NEVER_RESERVED, 7).getMessage());
         assertEquals("OldTerm", new CoordinatorException.Fenced(Fenced.OLD_TERM, 0).getMessage());
     }
 

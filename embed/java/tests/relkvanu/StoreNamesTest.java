@@ -113,9 +113,10 @@ class StoreNamesTest {
             assertEquals(new Garbage(Jobs.files(), Jobs.files()), job.garbage());
             assertArrayEquals(Jobs.files(3), job.unknown(1, 2, 3, 9));
             Files.createFile(storage.resolve("9"));
+            Files.createFile(storage.resolve("10"));
             assertEquals(0, job.sweep());
-            assertEquals(List.of("1", "2", "9"), listed());
-            assertEquals(List.of(1L, 1L), List.of(job.counts().swept(), job.counts().unissued()));
+            assertEquals(List.of("1", "10", "2", "9"), listed());
+            assertEquals(List.of(1L, 2L), List.of(job.counts().swept(), job.counts().unissued()));
         }
     }
 

@@ -1,7 +1,5 @@
 -- Answers the goals of `long_keyword`.
-use Rattle.std.proofs.Common.{ℕ, List, rules}
-use Rattle.ckpt_lines.specs.declared.keyword.Keyword.TheVariants.{Savepoint, Undeleted}
-use Rattle.ckpt_lines.specs.Usual.{BeginsWith}
+use Rattle.ckpt_lines.proofs.Names.{ℕ, List, rules, Savepoint, Undeleted, BeginsWith}
 use Rattle.ckpt_lines.proofs.BeginLemmas.{no_long}
 use Rattle.ckpt_lines.proofs.keyword.long_keyword.Goals as goal
 

@@ -1,7 +1,5 @@
 -- Answers the goals of `usual_keyword`.
-use Rattle.std.proofs.Common.{ℕ, List, rules}
-use Rattle.ckpt_lines.specs.declared.keyword.Keyword.TheVariants.{Tick, Ack, Take, Deleted, Dispose, Count}
-use Rattle.ckpt_lines.specs.Usual.{BeginsWith}
+use Rattle.ckpt_lines.proofs.Names.{ℕ, List, rules, Tick, Ack, Take, Deleted, Dispose, Count, BeginsWith}
 use Rattle.ckpt_lines.proofs.BeginLemmas.{none_begins}
 use Rattle.ckpt_lines.proofs.keyword.usual_keyword.Goals as goal
 

@@ -1,13 +1,6 @@
 -- Answers the goals of `files`.
-use Rattle.std.proofs.Common.{◌≡◌, ℕ, List, [], ◌∷◌, ◌++◌, Option, Some, Ok, Err, sym, ap, ◌∙◌}
-use Rattle.std.proofs.lemmas.Result.{err_from_is_err_and}
-use Rattle.std.proofs.lemmas.List.{append-nil}
-use Rattle.std.proofs.lemmas.List.Elements.{filter_map-append}
-use Rattle.std.specs.List.{filter_map}
-use Rattle.ckpt_lines.specs.declared.values.FileWord.{FileWord}
-use Rattle.ckpt_lines.specs.declared.values.FileWord.TheVariants.{Fresh, Reused}
-use Rattle.ckpt_lines.specs.Reading.{each, file_place}
-use Rattle.ckpt_lines.specs.Values.{file_word, fresh_file, reused_file}
+use Rattle.ckpt_lines.proofs.Names.{◌≡◌, ℕ, List, [], ◌∷◌, ◌++◌, Option, Some, Ok, Err, sym, ap, ◌∙◌, err_from_is_err_and, append-nil, filter_map-append, filter_map, FileWord, Fresh, Reused, each}
+use Rattle.ckpt_lines.proofs.Names.{file_place, file_word, fresh_file, reused_file}
 use Rattle.ckpt_lines.proofs.EachLemmas.{goes_on, fails, is_done, with_front-nil}
 use Rattle.ckpt_lines.proofs.FileLemmas.{files_fail, files_are, next_file, no_file, bad_file}
 use Rattle.ckpt_lines.proofs.WordSplits.{fewer}

@@ -1,9 +1,5 @@
 -- The loop invariants of `files`.
-use Rattle.std.proofs.Common.{◌≡◌, List, length}
-use Rattle.std.specs.List.{filter_map}
-use Rattle.ckpt_lines.specs.declared.values.FileWord.{FileWord}
-use Rattle.ckpt_lines.specs.Reading.{each}
-use Rattle.ckpt_lines.specs.Values.{file_word, fresh_file, reused_file}
+use Rattle.ckpt_lines.proofs.Names.{◌≡◌, List, length, filter_map, FileWord, each, file_word, fresh_file, reused_file}
 use Rattle.ckpt_lines.proofs.EachLemmas.{with_front}
 use Rattle.ckpt_lines.proofs.lists.files.Given as goal
 

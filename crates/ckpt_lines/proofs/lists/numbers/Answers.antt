@@ -1,10 +1,6 @@
 -- Answers the goals of `numbers`.
-use Rattle.std.proofs.Common.{◌≡◌, Err, sym, ap, ◌∙◌}
-use Rattle.std.specs.Option.{ok_or}
-use Rattle.std.proofs.lemmas.Result.{err_from_is_err_and}
+use Rattle.ckpt_lines.proofs.Names.{◌≡◌, Err, sym, ap, ◌∙◌, ok_or, err_from_is_err_and, each, number}
 use Rattle.ckpt_lines.specs.declared.fault.LineFault.TheVariants as fault
-use Rattle.ckpt_lines.specs.Reading.{each}
-use Rattle.ckpt_lines.specs.Values.{number}
 use Rattle.ckpt_lines.proofs.EachLemmas.{goes_on, fails, is_done}
 use Rattle.ckpt_lines.proofs.lists.numbers.Goals as goal
 

@@ -1,7 +1,5 @@
 -- The loop invariants of `numbers`.
-use Rattle.std.proofs.Common.{◌≡◌, length}
-use Rattle.ckpt_lines.specs.Reading.{each}
-use Rattle.ckpt_lines.specs.Values.{number}
+use Rattle.ckpt_lines.proofs.Names.{◌≡◌, length, each, number}
 use Rattle.ckpt_lines.proofs.EachLemmas.{with_front}
 use Rattle.ckpt_lines.proofs.lists.numbers.Given as goal
 

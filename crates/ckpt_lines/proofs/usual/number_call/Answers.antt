@@ -1,9 +1,7 @@
 -- Answers the goals of `number_call`.
-use Rattle.std.proofs.Common.{refl}
+use Rattle.ckpt_lines.proofs.Names.{refl, meaning, row}
 use Rattle.ckpt_ids.specs.declared.call.Call.TheVariants as call
 use Rattle.ckpt_lines.specs.declared.line.Line.TheVariants as line
-use Rattle.ckpt_lines.specs.Meanings.{meaning}
-use Rattle.ckpt_lines.specs.Reading.{row}
 use Rattle.ckpt_lines.proofs.UsualLemmas.{says_number}
 use Rattle.ckpt_lines.proofs.usual.number_call.Goals as goal
 

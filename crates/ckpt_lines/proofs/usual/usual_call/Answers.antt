@@ -1,14 +1,6 @@
 -- Answers the goals of `usual_call`.
-use Rattle.std.proofs.Common.{◌≡◌, ◌≤◌, length, Ok, sym, subst, rules, arith}
-use Rattle.std.proofs.lemmas.Option.{IfSome_then}
-use Rattle.std.proofs.lemmas.Bool.Decides.{nat_tests}
-use Rattle.std.specs.Prelude.{false}
-use Rattle.std.specs.Str.Lines.{strip_carriage_return}
-use Rattle.ckpt_lines.specs.declared.limits.TheConstants.{LONGEST_LINE}
-use Rattle.ckpt_lines.specs.Meanings.{SaysCall}
-use Rattle.ckpt_lines.specs.Reading.{ended, is_too_long, number_place, reading, row}
-use Rattle.ckpt_lines.specs.Usual.{BeginsWith}
-use Rattle.ckpt_lines.specs.Words.{words_of}
+use Rattle.ckpt_lines.proofs.Names.{◌≡◌, ◌≤◌, length, Ok, sym, subst, rules, arith, IfSome_then, nat_tests, false, strip_carriage_return, LONGEST_LINE, SaysCall, ended, is_too_long, number_place}
+use Rattle.ckpt_lines.proofs.Names.{reading, row, BeginsWith, words_of}
 use Rattle.ckpt_lines.proofs.UsualLemmas.{reads_row, one_number, usual_begin, usual_end}
 use Rattle.ckpt_lines.proofs.usual.usual_call.Goals as goal
 

@@ -1,8 +1,5 @@
 -- Answers the goals of `subtask_of`.
-use Rattle.std.proofs.Common.{◌≡◌, ℕ, ◌+◌, List, Option, Some, None, drop, refl, sym, ap, ◌∙◌, rules, tests}
-use Rattle.std.proofs.lemmas.Iterator.{YieldsList-from_slice}
-use Rattle.std.proofs.lemmas.Iterator.Search.{position_from_yields_List}
-use Rattle.ckpt_lines.specs.Values.{is_dot, joined, part_of}
+use Rattle.ckpt_lines.proofs.Names.{◌≡◌, ℕ, ◌+◌, List, Option, Some, None, drop, refl, sym, ap, ◌∙◌, rules, tests, YieldsList-from_slice, position_from_yields_List, is_dot, joined, part_of}
 use Rattle.ckpt_lines.proofs.SubtaskLemmas.{dot_found, subtask_without_dot, subtask_parts, whole_rest}
 use Rattle.ckpt_lines.proofs.values.subtask_of.Goals as goal
 

@@ -1,8 +1,5 @@
 -- Answers the goals of `Words::file`.
-use Rattle.std.proofs.Common.{◌≡◌, ℕ, ◌-◌, Err, List, length, take, drop, sym, ap, refl, arith}
-use Rattle.std.proofs.lemmas.Result.{err_from_is_err_and}
-use Rattle.ckpt_lines.specs.Reading.{file_place}
-use Rattle.ckpt_lines.specs.Words.{words_of}
+use Rattle.ckpt_lines.proofs.Names.{◌≡◌, ℕ, ◌-◌, Err, List, length, take, drop, sym, ap, refl, arith, err_from_is_err_and, file_place, words_of}
 use Rattle.ckpt_lines.proofs.FirstNumbers.{after_sign, file_at-Some, file_at-None, file_at-Err, file_at-empty}
 use Rattle.ckpt_lines.proofs.SubtaskLemmas.{whole_rest}
 use Rattle.ckpt_lines.proofs.words.Words.file.Goals as goal

@@ -1,7 +1,5 @@
 -- Answers the goals of `Words::number`.
-use Rattle.std.proofs.Common.{◌≡◌, ◌<◌, ℕ, ◌-◌, List, length, take, drop, ap, refl, arith}
-use Rattle.std.proofs.lemmas.Bool.Decides.{nat_tests}
-use Rattle.ckpt_lines.specs.Words.{words_of}
+use Rattle.ckpt_lines.proofs.Names.{◌≡◌, ◌<◌, ℕ, ◌-◌, List, length, take, drop, ap, refl, arith, nat_tests, words_of}
 use Rattle.ckpt_lines.proofs.FirstNumbers.{number_at-Some, number_at-None, number_at-empty}
 use Rattle.ckpt_lines.proofs.SubtaskLemmas.{whole_rest}
 use Rattle.ckpt_lines.proofs.words.Words.number.Goals as goal

@@ -1,6 +1,5 @@
 -- Answers the goals of `WordsIterator::next`.
-use Rattle.std.proofs.Common.{ℕ, ◌<◌, length, List, arith}
-use Rattle.std.proofs.lemmas.Bool.Decides.{nat_tests}
+use Rattle.ckpt_lines.proofs.Names.{ℕ, ◌<◌, length, List, arith, nat_tests}
 use Rattle.ckpt_lines.proofs.WordSplits.{words_of-split, fewer}
 use Rattle.ckpt_lines.proofs.words.WordsIterator.next.Goals as goal
 
