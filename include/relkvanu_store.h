@@ -140,7 +140,8 @@ typedef struct {
  *
  * With options.storage NULL none of this is there: no marker (a folder that is not mounted is not noticed), no refusal of an older copy, no
  * refusal to begin a new job over old files (RELKVANU_STORE_CREATE after PATH was lost begins at epoch 1, gives out names from 1 on, and without
- * names its sweep deletes all), and no sync of the folder in relkvanu_store_discard. The engine does each of them itself (docs/EMBEDDING.md, section 15). A
+ * names its sweep deletes all), and no sync of the folder in relkvanu_store_discard. The engine does each of them itself (docs/EMBEDDING.md, section 15,
+ * which has all but the refusal of an older copy: never put one back). A
  * job over a storage of the engine's own that has files is made with RELKVANU_STORE_PLAIN, and gets names above all of these by a fence. */
 int relkvanu_store_open(relkvanu_store **store, const char *path, const relkvanu_store_options *options, relkvanu_store_report *report);
 
