@@ -102,14 +102,35 @@ def find(trace, begins):
     return next(place for place, line in enumerate(trace) if line.startswith(begins))
 
 
+def first_message(trace):
+    """The place of the first message with new files that its task is told was accepted."""
+    for place, line in enumerate(trace):
+        if line.startswith("task ") and " sends ack " in line and "+" in line:
+            _, subtask, start, *_ = line.split(" ")
+            told = next((it for it in trace[place:] if it.startswith(f"answer to {subtask} {start} ")), "")
+            if told.endswith(" accepted"):
+                return place
+    raise AssertionError("no message was accepted")
+
+
+def reservation(trace, file):
+    """The place of the line that reserved the name."""
+    end = int(trace[find(trace, "fence ")].split(" ")[1])
+    for place, line in enumerate(trace):
+        end += int(line.split(" ")[2]) if line.startswith("reserve ") else 0
+        if int(file) < end:
+            return place
+    raise AssertionError(f"nobody reserved {file}")
+
+
 def broken(trace):
-    """For a rule a trace that breaks it, by a file of the first message that has some."""
-    sent = next(place for place, line in enumerate(trace) if line.startswith("task ") and " sends ack " in line and "+" in line)
+    """For a rule a trace that breaks it, by a file of a message."""
+    sent = first_message(trace)
     task, file = trace[sent].partition(" sends")[0], trace[sent].split("+")[1].split(" ")[0]
     _, subtask, start = task.split(" ")
-    synced, reserved = find(trace, f"{task} syncs {file}"), find(trace, f"reserve {start} ")
+    synced, reserved = find(trace, f"{task} syncs {file}"), reservation(trace, file) + 1
     accepted = sent + find(trace[sent:], f"answer to {subtask} {start} accepted") + 1
-    yield 1, trace[:reserved + 1] + trace[reserved + 2:]
+    yield 1, trace[:reserved] + [f"{task} writes {file}"] + trace[reserved:]
     yield 2, trace[:synced] + trace[synced + 1:]
     yield 4, trace[:accepted] + [f"task {subtask} 1000000 starts"] + trace[accepted:]
     yield 5, trace[:accepted] + ["process 1000000 starts"] + trace[accepted:]

@@ -6,7 +6,9 @@
  * call. While one of them commits, the calls of the others gather, and the first of them commits all of these together.
  *
  * Files: PATH (the log and the images), PATH-wal, PATH-shm and PATH.lock. Never delete one of them, also not when the store is closed.
- * While a store is open no other program or connection can read PATH, and nobody may copy it. Use a local file system, not NFS.
+ * While a store is open no other program or connection can read PATH, and nobody may copy it. PATH has to be on a local file system, not
+ * on NFS. The folder options.storage may be on another one, where a rename is atomic and fsync of a file and of a folder makes both durable. A
+ * network file system that promises this will do; none has been tested.
  *
  * A job has names unless it was made with RELKVANU_STORE_PLAIN. Then its files are safe as follows:
  * - A task is started with the term from the answer to the restore before it (relkvanu_store_call.term), or report.term if the job is new. It never
@@ -98,7 +100,7 @@ typedef struct {
 /* What an engine has to do after an opening, in this order. Before START_TASKS and DISCARD it also tells its sinks once more which record
  * is complete (the choice): the last process may have ended between the commit and the message. A sink takes the same message twice. A
  * savepoint publishes as a checkpoint does. What a sink prepared for records after the choice, or after that of a restore, is given up. */
-#define RELKVANU_STORE_END_TASKS 1u   /* make sure that no earlier task runs, and that no message of one arrives */
+#define RELKVANU_STORE_END_TASKS 1u   /* with names: tell the earlier tasks to end, and wait for none. Without: make sure that none runs, and that no message of one arrives */
 #define RELKVANU_STORE_RESTORE 2u     /* make a RELKVANU_CALL_RESTORE: its answer says where the job begins again */
 #define RELKVANU_STORE_SWEEP 3u       /* relkvanu_store_sweep; or delete the files that relkvanu_store_unknown returns */
 #define RELKVANU_STORE_START_TASKS 4u /* start tasks, a timer (relkvanu_store_await_tick) and a discarder (relkvanu_store_discard) */
@@ -218,7 +220,9 @@ int relkvanu_store_next_tick(relkvanu_store *store, uint64_t *wait);
 /* A timer, as a loop in a thread of the engine: sleeps until a tick is due, at most longest ms, and makes it. Each commit wakes it.
  * RELKVANU_STORE_TIMED_OUT: no tick was due. RELKVANU_STORE_STOPPED.
  * While the job is not running, no tick is due: then RELKVANU_STORE_TIMED_OUT comes with the answer RELKVANU_REFUSED, RELKVANU_NOT_RUNNING. It comes
- * at once when the job has failed or was cancelled, to one caller, and then after longest. Read the mode: a failed job is restored, a cancelled one swept. */
+ * at once when the job has failed or was cancelled, to one caller, and then after longest. Read the mode: a failed job is restored. A cancelled one is
+ * swept, and its discarder runs until no file waits or is taken (relkvanu_file_counts).
+ * If a decline fails the job just before the tick, the status is RELKVANU_STORE_OK and the answer RELKVANU_REFUSED, RELKVANU_NOT_RUNNING: call again. */
 int relkvanu_store_await_tick(relkvanu_store *store, uint64_t longest, relkvanu_store_call *tick);
 
 /* The term that runs, and the next name: RELKVANU_TERM, of what is committed. RELKVANU_FENCED with RELKVANU_NO_NAMES. Whoever starts tasks takes the term
@@ -253,7 +257,8 @@ typedef void (*relkvanu_store_delete)(void *with, const uint64_t *files, size_t 
  * the marker names a later opening or another job: RELKVANU_STORE_STORAGE. Then another process has the folder: end this one. */
 int relkvanu_store_discard(relkvanu_store *store, size_t batch, relkvanu_store_delete delete_files, void *with);
 
-/* State files in the folder options.storage, by their numbers: file 7 has the name 7, and 7.part while it is not whole. An engine may name
+/* State files in the folder options.storage, by their numbers: file 7 has the name 7, and 7.part while it is not whole. A task in another process,
+ * which has no store, makes them in the same way (docs/EMBEDDING.md, section 14). An engine may name
  * its files otherwise, and then makes and deletes them itself. Several threads may put, delete and commit at once. Without a folder:
  * RELKVANU_STORE_BAD_ARGUMENT, and no file counts as gone. */
 
