@@ -121,9 +121,12 @@ impl Folder {
         let name = owner.marker();
         let found = open_marker(&folder, &name);
         let is_ours = found.as_ref().is_ok_and(|marker| says(marker, owner));
-        let check = |need| match owner.has_names {
-            true => others::check(&folder, &path, &name, &given.names, need),
-            false => Ok(()),
+        let check = |need| {
+            if owner.has_names {
+                others::check(&folder, &path, &name, &given.names, need)
+            } else {
+                Ok(())
+            }
         };
         check(if is_ours || given.init { Need::Prefix } else { Need::Look })?;
         let marker = match found {
