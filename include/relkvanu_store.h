@@ -6,7 +6,9 @@
  * call. While one of them commits, the calls of the others gather, and the first of them commits all of these together.
  *
  * Files: PATH (the log and the images), PATH-wal, PATH-shm and PATH.lock. Never delete one of them, also not when the store is closed.
- * While a store is open no other program or connection can read PATH, and nobody may copy it. Use a local file system, not NFS.
+ * While a store is open no other program or connection can read PATH, and nobody may copy it. PATH has to be on a local file system, not
+ * on NFS. The folder options.storage may be on another one, where a rename is atomic and fsync of a file and of a folder makes both durable. A
+ * network file system that promises this will do; none has been tested.
  *
  * A job has names unless it was made with RELKVANU_STORE_PLAIN. Then its files are safe as follows:
  * - A task is started with the term from the answer to the restore before it (relkvanu_store_call.term), or report.term if the job is new. It never
@@ -43,11 +45,11 @@ typedef struct relkvanu_store relkvanu_store;
 
 /* Status. After the first group nothing was made, and the store is as it was. */
 #define RELKVANU_STORE_OK 0           /* it was done */
-#define RELKVANU_STORE_BAD_ARGUMENT 1 /* of a call: its kind, shape, number of files or a reserved field; of an opening: its settings */
+#define RELKVANU_STORE_BAD_ARGUMENT 1 /* of a call: its kind, shape, number of files or a reserved field; of an opening: its settings or shape, which have limits in relkvanu.h */
 #define RELKVANU_STORE_NO_MEMORY 2    /* make the same call again later */
 #define RELKVANU_STORE_IN_USE 3       /* open: another process, or this one, has the job open. The message names it */
 #define RELKVANU_STORE_ABSENT 4       /* open: there is no job, and the flags don't allow to make one */
-#define RELKVANU_STORE_PRESENT 5      /* open: there is a job, and RELKVANU_STORE_CREATE_ONLY forbids it */
+#define RELKVANU_STORE_PRESENT 5      /* open: there is a job, and RELKVANU_STORE_CREATE_ONLY forbids it; put: there is a file of this number, or a part of one */
 #define RELKVANU_STORE_NOT_A_STORE 6  /* open: another kind of file, or one of a later version */
 #define RELKVANU_STORE_DIFFERS 7      /* open: a call of the log gets another answer, or is refused. The message says which */
 #define RELKVANU_STORE_DAMAGED 8      /* open: an image, a call or the file is damaged. The message says which */
@@ -89,7 +91,7 @@ typedef struct {
     uint64_t image_calls;       /* an image after so many calls; 0: 10000. RELKVANU_STORE_NO_IMAGES: none, and the log is never cut */
     uint64_t most_ahead;        /* a moment may be so many ms ahead of the greatest one, or of what a timer waits for; 0: one day */
     const char *storage;        /* the folder of the state files, which has to exist; NULL: see relkvanu_store_open */
-    relkvanu_settings settings; /* of a new job. A recovered job keeps its own; report.settings_differ compares them */
+    relkvanu_settings settings; /* of a new job, within the limits of relkvanu.h (interval: 10 or more). A recovered job keeps its own; report.settings_differ compares them */
     const uint64_t *shape;
     size_t shape_len;
     uint64_t reserved[4]; /* 0 */
@@ -98,7 +100,7 @@ typedef struct {
 /* What an engine has to do after an opening, in this order. Before START_TASKS and DISCARD it also tells its sinks once more which record
  * is complete (the choice): the last process may have ended between the commit and the message. A sink takes the same message twice. A
  * savepoint publishes as a checkpoint does. What a sink prepared for records after the choice, or after that of a restore, is given up. */
-#define RELKVANU_STORE_END_TASKS 1u   /* make sure that no earlier task runs, and that no message of one arrives */
+#define RELKVANU_STORE_END_TASKS 1u   /* with names: tell the earlier tasks to end, and wait for none. Without: make sure that none runs, and that no message of one arrives */
 #define RELKVANU_STORE_RESTORE 2u     /* make a RELKVANU_CALL_RESTORE: its answer says where the job begins again */
 #define RELKVANU_STORE_SWEEP 3u       /* relkvanu_store_sweep; or delete the files that relkvanu_store_unknown returns */
 #define RELKVANU_STORE_START_TASKS 4u /* start tasks, a timer (relkvanu_store_await_tick) and a discarder (relkvanu_store_discard) */
@@ -138,7 +140,8 @@ typedef struct {
  *
  * With options.storage NULL none of this is there: no marker (a folder that is not mounted is not noticed), no refusal of an older copy, no
  * refusal to begin a new job over old files (RELKVANU_STORE_CREATE after PATH was lost begins at epoch 1, gives out names from 1 on, and without
- * names its sweep deletes all), and no sync of the folder in relkvanu_store_discard. The engine does each of them itself (docs/EMBEDDING.md, section 15). A
+ * names its sweep deletes all), and no sync of the folder in relkvanu_store_discard. The engine does each of them itself (docs/EMBEDDING.md, section 15,
+ * which has all but the refusal of an older copy: never put one back). A
  * job over a storage of the engine's own that has files is made with RELKVANU_STORE_PLAIN, and gets names above all of these by a fence. */
 int relkvanu_store_open(relkvanu_store **store, const char *path, const relkvanu_store_options *options, relkvanu_store_report *report);
 
@@ -218,7 +221,9 @@ int relkvanu_store_next_tick(relkvanu_store *store, uint64_t *wait);
 /* A timer, as a loop in a thread of the engine: sleeps until a tick is due, at most longest ms, and makes it. Each commit wakes it.
  * RELKVANU_STORE_TIMED_OUT: no tick was due. RELKVANU_STORE_STOPPED.
  * While the job is not running, no tick is due: then RELKVANU_STORE_TIMED_OUT comes with the answer RELKVANU_REFUSED, RELKVANU_NOT_RUNNING. It comes
- * at once when the job has failed or was cancelled, to one caller, and then after longest. Read the mode: a failed job is restored, a cancelled one swept. */
+ * at once when the job has failed or was cancelled, to one caller, and then after longest. Read the mode: a failed job is restored. A cancelled one is
+ * swept, and its discarder runs until no file waits or is taken (relkvanu_file_counts).
+ * If a decline fails the job just before the tick, the status is RELKVANU_STORE_OK and the answer RELKVANU_REFUSED, RELKVANU_NOT_RUNNING: call again. */
 int relkvanu_store_await_tick(relkvanu_store *store, uint64_t longest, relkvanu_store_call *tick);
 
 /* The term that runs, and the next name: RELKVANU_TERM, of what is committed. RELKVANU_FENCED with RELKVANU_NO_NAMES. Whoever starts tasks takes the term
@@ -253,7 +258,8 @@ typedef void (*relkvanu_store_delete)(void *with, const uint64_t *files, size_t 
  * the marker names a later opening or another job: RELKVANU_STORE_STORAGE. Then another process has the folder: end this one. */
 int relkvanu_store_discard(relkvanu_store *store, size_t batch, relkvanu_store_delete delete_files, void *with);
 
-/* State files in the folder options.storage, by their numbers: file 7 has the name 7, and 7.part while it is not whole. An engine may name
+/* State files in the folder options.storage, by their numbers: file 7 has the name 7, and 7.part while it is not whole. A task in another process,
+ * which has no store, makes them in the same way (docs/EMBEDDING.md, section 14). An engine may name
  * its files otherwise, and then makes and deletes them itself. Several threads may put, delete and commit at once. Without a folder:
  * RELKVANU_STORE_BAD_ARGUMENT, and no file counts as gone. */
 
@@ -278,7 +284,8 @@ void relkvanu_store_delete_files(void *store, const uint64_t *files, size_t file
  * read or synced. */
 int relkvanu_store_sweep(relkvanu_store *store, size_t *left);
 
-/* Lets relkvanu_store_await_tick and relkvanu_store_discard return RELKVANU_STORE_STOPPED, now and later. What was taken is reported first. */
+/* Lets relkvanu_store_await_tick and relkvanu_store_discard return RELKVANU_STORE_STOPPED, now and later. What was taken is reported first. What waits is
+ * left for the next opening: an engine that is to leave no file stops when relkvanu_file_counts in a read has no waiting and no taken ones. */
 void relkvanu_store_stop(relkvanu_store *store);
 
 /* Counts since the opening. */

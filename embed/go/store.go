@@ -43,7 +43,7 @@ type Step uint32
 
 // The steps, in the order in which a report has them.
 const (
-	EndTasks     Step = C.RELKVANU_STORE_END_TASKS   // make sure that no earlier task runs, and that no message of one arrives
+	EndTasks     Step = C.RELKVANU_STORE_END_TASKS   // with names: tell the earlier tasks to end, and wait for none. Without: make sure that none runs, and that no message of one arrives
 	RestoreJob   Step = C.RELKVANU_STORE_RESTORE     // call Restore: its reply says where the job begins again, and in which term
 	Sweep        Step = C.RELKVANU_STORE_SWEEP       // call Sweep, or delete the files of the storage that Unknown returns
 	StartTasks   Step = C.RELKVANU_STORE_START_TASKS // start tasks, a timer (AwaitTick) and a discarder (Discard)

@@ -2,22 +2,12 @@
 use libc::{getrlimit, rlimit, setrlimit, umask, RLIMIT_NOFILE};
 use std::thread::{Builder, JoinHandle};
 
-/// How much less: what a factor of three gives.
-const NICE: libc::c_int = 5;
-
 /// Starts a thread under a name of at most 15 bytes, which `top -H` shows. The process ends if there can be no thread.
 pub fn thread<T: Send + 'static>(name: &str, work: impl FnOnce() -> T + Send + 'static) -> JoinHandle<T> {
     match Builder::new().name(name.to_string()).spawn(work) {
         Ok(thread) => thread,
         Err(why) => panic!("there is no thread for {name}: {why}"),
     }
-}
-
-/// Gives this thread less of the processors where all are busy.
-pub fn yield_to_others() {
-    // SAFETY: the call takes any numbers and reads no memory of ours. On Linux it is about the thread that calls. If it fails, the thread has
-    // as much as the others.
-    unsafe { libc::setpriority(libc::PRIO_PROCESS, 0, NICE) };
 }
 
 /// Files that are made from now on are this user's alone: a database has the names of jobs and files, and a log may have more.

@@ -29,8 +29,8 @@ def present(folder):
     return sorted(int(name[2:]) for name in os.listdir(folder) if name.startswith("s-"))
 
 
-def discard(server, folder, *more, prefix="s-", before=()):
-    words = [PROGRAM, "discard", "--job", "a", "--folder", folder, "--url", server.url, "--prefix", prefix, *more]
+def discard(server, folder, *more, prefix="s-", before=(), job="a"):
+    words = [PROGRAM, "discard", "--job", job, "--folder", folder, "--url", server.url, "--prefix", prefix, *more]
     return subprocess.Popen([*before, *words], stderr=subprocess.PIPE, text=True)
 
 
@@ -113,6 +113,61 @@ def test_a_folder_without_the_marker():
             time.sleep(0.5)
             ended(discard(server, folder), 1, "another discarder")
         return "refused in 3 folders, and marked by --init"
+
+
+def test_two_jobs_in_a_folder():
+    """Their names begin with 1 both. A job that may name its files as another one does gets no folder, and the files stay."""
+    with served(names=True) as server:
+        folder = f"{server.folder}/files"
+        os.mkdir(folder)
+        jobs = [Service(server.url).open(name, SETTINGS, [1]) for name in ("a", "b")]
+
+        def released(job, prefix):
+            """A file of the job that waits for deletion, and one that stays in use."""
+            task = job.begin().session(block=10)
+            names = [task.name(), task.name()]
+            for name in names:
+                with open(f"{folder}/{prefix}{name}", "w", encoding="utf-8") as it:
+                    it.write(prefix)
+            for name in reversed(names):
+                task.ack(job.call(savepoint())["id"], "0.0", [name])
+            job.call(dispose(2))
+            return names
+
+        def there():
+            return sorted(name for name in os.listdir(folder) if not name.startswith("."))
+
+        assert released(jobs[0], "s-") == [1, 2]
+        ended(discard(server, folder, "--once"), 0, "deleted=1")
+        assert there() == ["s-2"]
+        # the other job would delete this file, which is in use
+        task = jobs[1].begin().session(block=10)
+        names = [task.name(), task.name()]
+        task.ack(jobs[1].call(savepoint())["id"], "0.0", names)
+        jobs[1].call(dispose(1))
+        for more, prefix in [([], "s-"), (["--init"], "s-"), ([], "s-0")]:
+            told = ended(discard(server, folder, "--once", *more, prefix=prefix, job="b"), 78, "another job has files in")
+            assert ".relkvanu-a" in told and "--prefix" in told, told
+        assert there() == ["s-2"] and not os.path.exists(f"{folder}/.relkvanu-b") and counts(jobs[1]) == (2, 0)
+        # one of another name does not
+        for name in names:
+            with open(f"{folder}/t-{name}", "w", encoding="utf-8"):
+                pass
+        ended(discard(server, folder, "--once", prefix="t-", job="b"), 0, "deleted=2")
+        ended(discard(server, folder, "--once"), 0, "")
+        assert there() == ["s-2"]
+        # an earlier version has not said how the files are named: somebody has to look at the first run
+        os.remove(f"{folder}/.relkvanu-a.names")
+        Service(server.url).open("c", SETTINGS, [1])
+        for more in ([], ["--init"]):
+            ended(discard(server, folder, "--once", *more, prefix="", job="c"), 78, "--prefix or --suffix is needed")
+        ended(discard(server, folder, "--once", prefix="u-", job="c"), 78, "--init")
+        assert not os.path.exists(f"{folder}/.relkvanu-c")
+        ended(discard(server, folder, "--once", "--init", prefix="u-", job="c"), 0, "is marked")
+        # and a sweeper heeds it
+        told = subprocess.run([PROGRAM, "sweep", "c", "--folder", folder, "--url", server.url, "--prefix", "t-", "--delete"], capture_output=True, text=True, timeout=30, check=False)
+        assert told.returncode == 78 and ".relkvanu-b" in told.stderr and there() == ["s-2"], told
+        return "refused with the same prefix, with a digit more and with none, also by --init and by the sweeper"
 
 
 def test_a_disk_that_goes():

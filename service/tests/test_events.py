@@ -11,7 +11,7 @@ import time
 
 from harness import PROGRAM, TOP, Server, configured, folder, served, until
 from postgres import postgres
-from relkvanu_service import Gone, OtherLog, Service, ack, cancel, deleted, dispose, restore, savepoint
+from relkvanu_service import Gone, OtherLog, Service, ack, cancel, deleted, dispose, reserve, restore, savepoint
 from run import Skipped
 
 SETTINGS = {"interval": 1 << 40}
@@ -229,7 +229,8 @@ def test_the_dask_engine_over_a_cut():
             until(lambda: (server.get("/v1/jobs/dask")[2] or {}).get("seq", 0) > 40, 90)
             os.kill(engine.pid, signal.SIGSTOP)
             until(lambda: job.state()["mode"] == "failed")
-            state = cut_behind(job, lambda: job.calls([ack(1, "0.0")] * 20))
+            term = job.term()["term"]
+            state = cut_behind(job, lambda: job.calls([reserve(term, 1)] * 20))
             before = state["choice"].get("id", 0)
             os.kill(engine.pid, signal.SIGCONT)
             after = until(lambda: (it := job.state()["choice"].get("id", 0)) > before and it, 60)
@@ -244,15 +245,18 @@ def test_the_dask_engine_over_a_cut():
 class Driver:
     """What the coordinator of embed/dask needs of its job: a job of one task, which acknowledges each barrier with a new file."""
 
-    def __init__(self, coordinator):
+    def __init__(self, coordinator, fenced):
         self.coordinator, self.lock, self.stream, self.is_over = coordinator, threading.RLock(), threading.Lock(), threading.Event()
-        self.channels, self.cuts, self.barriers, self.failures, self.file = [], {}, [], [], 0
+        self.channels, self.cuts, self.barriers, self.failures, self.fenced = [], {}, [], [], fenced
 
     def send_barriers(self, number, _channels):
         self.cuts[number] = {}
         self.barriers.append(number)
-        self.file += 1
-        self.coordinator.ack(number, (0, 0), [self.file], [])
+        term = self.coordinator.term
+        try:
+            self.coordinator.ack(term, number, (0, 0), list(self.coordinator.reserve(term, 1)), [])
+        except self.fenced:
+            pass  # somebody has restored the job, as the next event says
 
     def note(self, reply):
         self.failures.append(reply)
@@ -261,9 +265,10 @@ class Driver:
 def test_the_dask_engine_over_a_restored_backup():
     sys.path += [f"{TOP}/embed/dask", f"{TOP}/embed/python"]
     from over_service import OverService
+    from relkvanu import Fenced
 
     with served() as server:
-        driver = Driver(OverService(server.url, "dask", {"interval": 50, "retained": 2}, [1]))
+        driver = Driver(OverService(server.url, "dask", {"interval": 50, "retained": 2}, [1]), Fenced)
         copy, job, ended = Copy(server, None), Service(server.url).job("dask"), []
 
         def run():

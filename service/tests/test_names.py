@@ -411,7 +411,7 @@ def test_a_database_of_before():
                 it["state"].pop(name), it["users"].pop(name)
         assert told == before, [(name, told[name], before[name]) for name in told if told[name] != before[name]]
         # an engine of before finds its job, and goes on
-        again = service.open("orders", {"interval": 1 << 40, "retained": 2}, [1, 1])
+        again = service.open("orders", {"interval": 1 << 40, "timeout": 1 << 40, "retained": 2}, [1, 1])
         assert again.call(ack(6, "1.0", [101]))["ack"] == "pending" and again.begin(5).files["1.0"] == [15]
         files = job.state()["files"]
         assert refused(Fenced, lambda: job.fence(100)).name == "NameInUse" and job.fence(1000)["term"] == 1

@@ -30,8 +30,8 @@ def commands():
         text = it.read()
     places = {
         "install": "**systemd.**", "backup": "**SQLite**, while", "timer": "relkvanu-backup.timer) makes", "restore": "Here for SQLite and the job",
-        "savepoints": "**Find a record**", "orphans": "**Files that nobody acknowledged, of a job", "discard": "### As a service", "init": "For an option that is for one",
-        "upgrade": "### To upgrade", "way back": "If the start ends with 78 all the same",
+        "savepoints": "**Find a record**", "orphans": "**Files that nobody acknowledged, of a job", "discard": "### As a service",
+        "sweep": "runs the sweeper likewise", "init": "For an option that is for one", "upgrade": "### To upgrade", "way back": "If the start ends with 78 all the same",
     }
     return {name: text.partition(place)[2].split("```")[1] for name, place in places.items()}
 

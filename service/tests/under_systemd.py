@@ -144,7 +144,9 @@ def check_a_backup_is_restored():
     base.close()
     shutil.rmtree(f"/var/lib/relkvanu/{aside}")
     assert run("systemctl", "is-enabled", "relkvanu") == "enabled"
-    assert run("systemctl", "is-enabled", "relkvanu-discard@orders", check=False) == "disabled"
+    for unit in ("relkvanu-discard@orders", "relkvanu-sweep@orders", "relkvanu-backup.timer"):
+        assert run("systemctl", "is-enabled", unit, check=False) == "disabled"
+        assert run("systemctl", "is-active", unit, check=False) != "active"
     rows = [line.split()[:2] + line.split()[3:] for line in as_the_page_says("savepoints").splitlines()[1:]]
     assert rows == [[str(lost), "savepoint", "1", "1:", "31"], [str(kept), "savepoint", "1", "none"]], rows
     run("relkvanu", "restore", "orders", "--savepoint", str(kept), "--token-file", "write-token")
@@ -154,6 +156,9 @@ def check_a_backup_is_restored():
 def check_an_upgrade_and_its_way_back():
     """By the same program."""
     shutil.copy("/relkvanu", "relkvanu-new")
+    # an upgrade of before had a backup too, which is not the one to go back to
+    with open("before-upgrade-20200101T000000Z.db", "w", encoding="utf-8") as it:
+        it.write("old")
     seq = request("GET", "/v1/jobs/orders")[1]["seq"]
     as_the_page_says("upgrade")
     until(is_ready)
@@ -170,7 +175,14 @@ def check_backups_of_each_night():
     for day in range(10, 25):
         with open(f"/var/backups/relkvanu/202001{day}T000000Z.db", "w", encoding="utf-8") as it:
             it.write("old")
+    left, at_work = "/var/backups/relkvanu/20200101T000000Z.db.part", "/var/backups/relkvanu/20200102T000000Z.db.part"
+    for path in (left, at_work):
+        with open(path, "w", encoding="utf-8") as it:
+            it.write("old")
+    os.utime(left, (0, 0))
     run("systemctl", "start", "relkvanu-backup.service")
+    assert not os.path.exists(left)
+    os.remove(at_work)
     names = sorted(os.listdir("/var/backups/relkvanu"))
     assert len(names) == 14 and names[0] == "20200112T000000Z.db" and names[-1] > "2026", names
     assert run("relkvanu", "check", "--database", f"/var/backups/relkvanu/{names[-1]}").startswith("job orders: ")
@@ -207,6 +219,24 @@ def check_the_discarder():
     with open(f"/proc/{property_of('MainPID', unit)}/cmdline", encoding="utf-8") as it:
         assert "--init" not in it.read().split("\0")
     return exposure_of(unit)
+
+
+def check_the_sweeper():
+    """It has the token of its drop-in. The job gives out no names, so it ends: somebody has to look."""
+    unit, drop_in = "relkvanu-sweep@orders", "/etc/systemd/system/relkvanu-sweep@orders.service.d"
+    as_the_page_says("sweep")
+    until(lambda: property_of("ActiveState", unit) == "failed")
+    assert property_of("ExecMainStatus", unit) == "78" and property_of("NRestarts", unit) == "0", run("systemctl", "status", unit, check=False)
+    assert "fence JOB N" in run("journalctl", f"--unit={unit}", "--no-pager")
+    shutil.move("/etc/relkvanu/sweep-token", "/etc/relkvanu/token-orders")
+    with open("/etc/relkvanu/sweep-token", "w", encoding="utf-8") as it:
+        it.write("x" * 20)
+    with open(f"{drop_in}/token.conf", "w", encoding="utf-8") as it:
+        it.write("[Service]\nLoadCredential=token:/etc/relkvanu/token-orders\n")
+    run("systemctl", "daemon-reload")
+    run("systemctl", "restart", unit)
+    until(lambda: property_of("ActiveState", unit) == "failed")
+    assert property_of("ExecMainStatus", unit) == "78", run("systemctl", "status", unit, check=False)
 
 
 def exposure_of(unit):
@@ -278,6 +308,8 @@ def main():
     install()
     check_it_runs()
     discard_exposure = check_the_discarder()
+    check_the_sweeper()
+    as_the_page_says("timer")
     after_kill = after(signal.SIGKILL)
     with_watchdog(2)
     after_stop = after(signal.SIGSTOP)

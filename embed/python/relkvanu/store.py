@@ -42,7 +42,7 @@ class StoreError(Error):
 class Step(enum.Enum):
     """What an engine has to do after an opening, in the order of the report."""
 
-    END_TASKS = 1  # make sure that no earlier task runs, and that no message of one arrives
+    END_TASKS = 1  # with names: tell the earlier tasks to end, and wait for none. Without: make sure that none runs, and that no message of one arrives
     RESTORE = 2  # call restore(): its reply says where the job begins again
     SWEEP = 3  # call sweep(), or delete the files of the storage that unknown() returns
     START_TASKS = 4  # start tasks, a timer (await_tick) and a discarder (discard)

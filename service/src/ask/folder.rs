@@ -77,7 +77,7 @@ fn listed(folder: &Path, names: &Names) -> Result<BTreeSet<u64>, Ended> {
 
 fn is_marked(given: &Orphans, state: &Value) -> Result<(), Ended> {
     let opened = state["opened"].as_u64().unwrap_or_default();
-    let owner = Owner { job: given.job.clone(), opened, is_first: false };
+    let owner = Owner { job: given.job.clone(), opened, is_first: false, has_names: false };
     match owner.has(&given.folder) {
         Ok(true) => Ok(()),
         Ok(false) => Err(Ended::Unmarked(given.folder.clone(), owner.marker())),

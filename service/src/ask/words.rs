@@ -258,6 +258,18 @@ impl Names {
         self.number(name).or_else(|| self.number(name.strip_suffix(PART)?))
     }
 
+    /// Whether a file of these names, or a part of one, may have a name of the others too.
+    pub fn may_be_those_of(&self, other: &Names) -> bool {
+        let are_digits = |rest: Option<&str>| rest.is_some_and(|rest| rest.bytes().all(|byte| byte.is_ascii_digit()));
+        let begin = |one: &str, other: &str| are_digits(one.strip_prefix(other)) || are_digits(other.strip_prefix(one));
+        let end = |one: &str, other: &str| are_digits(one.strip_suffix(other)) || are_digits(other.strip_suffix(one));
+        let (part, others_part) = (format!("{}{PART}", self.suffix), format!("{}{PART}", other.suffix));
+        begin(&self.prefix, &other.prefix)
+            && [(&self.suffix, &other.suffix), (&part, &other.suffix), (&self.suffix, &others_part)]
+                .into_iter()
+                .any(|(one, other)| end(one, other))
+    }
+
     /// Refuses what would name files of another folder.
     pub fn check(&self) -> Result<(), String> {
         if self.prefix.contains('/') || self.suffix.contains('/') {
@@ -270,6 +282,25 @@ impl Names {
 #[cfg(test)]
 mod tests {
     use super::*;
+
+    #[test]
+    fn names_of_two_jobs_may_be_the_same() {
+        let of = |(prefix, suffix): (&str, &str)| Names { prefix: prefix.to_string(), suffix: suffix.to_string() };
+        for (one, other, may_be) in [
+            (("", ""), ("", ""), true),
+            (("s-", ".bin"), ("s-", ".bin"), true),
+            (("s-", ".bin"), ("t-", ".bin"), false),
+            (("s-", ".bin"), ("s-", ".txt"), false),
+            (("s-", ".bin"), ("s-", ".bin.part"), true),
+            (("a", ""), ("a1", ""), true),
+            (("", "2"), ("1", ""), true),
+            (("a", ""), ("ab", ""), false),
+            (("s-", ""), ("", ""), false),
+        ] {
+            let (one, other) = (of(one), of(other));
+            assert_eq!((one.may_be_those_of(&other), other.may_be_those_of(&one)), (may_be, may_be));
+        }
+    }
 
     #[test]
     fn a_name_has_one_number() {

@@ -1,4 +1,5 @@
 //! The folder of a job's files: held open, marked as the job's, and synced after deletions.
+use super::others::{self, Need};
 use crate::ask::Names;
 use crate::cli;
 use crate::log;
@@ -29,6 +30,8 @@ pub struct Owner {
     pub opened: u64,
     /// None of the job's files was taken before.
     pub is_first: bool,
+    /// Whether the job gives out the names of its files, from 1 on. Otherwise its engine sees to it that no other file has them.
+    pub has_names: bool,
 }
 
 impl Owner {
@@ -118,6 +121,14 @@ impl Folder {
         let name = owner.marker();
         let found = open_marker(&folder, &name);
         let is_ours = found.as_ref().is_ok_and(|marker| says(marker, owner));
+        let check = |need| {
+            if owner.has_names {
+                others::check(&folder, &path, &name, &given.names, need)
+            } else {
+                Ok(())
+            }
+        };
+        check(if is_ours || given.init { Need::Prefix } else { Need::Look })?;
         let marker = match found {
             Ok(marker) if is_ours => marker,
             Ok(_) if !given.init => return Err(Stop::Never(other_marker(&path, &name))),
@@ -130,6 +141,12 @@ impl Folder {
             }
         };
         lock(&marker, &path)?;
+        // on a full disk deletions matter most
+        if let Err(error) = others::say(&folder, &name, &given.names) {
+            log::warn(&format!("{}/{name}: how the files are named can't be written: {error}", path.display()));
+        }
+        // another discarder may have begun meanwhile
+        check(Need::Prefix)?;
         let (names, allow_absent) = (given.names.clone(), given.allow_absent);
         Ok(Folder { marked: Marked { path, folder, name, marker }, names, allow_absent })
     }
@@ -259,11 +276,19 @@ fn says(mut marker: &File, owner: &Owner) -> bool {
     marker.read_to_string(&mut text).is_ok() && text == owner.text()
 }
 
-/// Writes the marker whole, or not at all.
 fn write_marker(folder: &File, name: &str, owner: &Owner) -> std::io::Result<()> {
+    write_whole(folder, name, &owner.text())
+}
+
+pub fn open_to_read(folder: &File, name: &str) -> Result<File, Errno> {
+    open_in(folder, name, OFlags::RDONLY)
+}
+
+/// Writes a file whole, or not at all.
+pub fn write_whole(folder: &File, name: &str, text: &str) -> std::io::Result<()> {
     let new = format!("{name}.new");
     let mut file = open_in(folder, &new, OFlags::WRONLY | OFlags::CREATE | OFlags::TRUNC)?;
-    file.write_all(owner.text().as_bytes())?;
+    file.write_all(text.as_bytes())?;
     file.sync_all()?;
     renameat(folder, &new, folder, name)?;
     sync(folder)

@@ -1,6 +1,7 @@
 //! `relkvanu discard`: deletes the files that a job hands out. They are in a folder, with their numbers in their names.
 mod folder;
 mod metrics;
+pub mod others;
 
 pub use folder::{no_marker, Marked, Owner, Stop};
 
@@ -105,7 +106,8 @@ async fn owner(job: &Job, given: &cli::Discard) -> Result<Owner, Stop> {
         let is_read = number(&files, "upto") >= number(&state, "seq");
         if is_read || Instant::now() >= until {
             let is_first = is_read && number(&state, "first") == 1 && is_empty("taken") && is_empty("deleted");
-            return Ok(Owner { job: given.job.clone(), opened: number(&state, "opened"), is_first });
+            let has_names = state["names"] == true;
+            return Ok(Owner { job: given.job.clone(), opened: number(&state, "opened"), is_first, has_names });
         }
         tokio::time::sleep(Duration::from_millis(100)).await;
     }

@@ -51,11 +51,7 @@ impl Historian {
     pub fn start(mut self) {
         let (opened, is_opened) = channel();
         self.opened = Some(opened);
-        process::thread("historian", move || {
-            // calls do not wait for what it does
-            process::yield_to_others();
-            self.run();
-        });
+        process::thread("historian", move || self.run());
         let _ = is_opened.recv_timeout(OPEN_WITHIN);
     }
 

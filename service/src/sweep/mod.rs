@@ -4,6 +4,7 @@ mod metrics;
 mod pages;
 
 use crate::cli;
+use crate::discard::others::{self, Need};
 use crate::discard::{Marked, Owner, Stop};
 use crate::exit::NOT_TO_START;
 use crate::exposed;
@@ -96,14 +97,14 @@ async fn work(given: &cli::Sweep) -> Result<Swept, Stop> {
 async fn sweep(given: &cli::Sweep, job: &Job, metrics: &Metrics) -> Result<Swept, Stop> {
     let began = Instant::now();
     let state = job.state().await.map_err(stopped)?;
-    let owner = Owner { job: given.job.clone(), opened: state["opened"].as_u64().unwrap_or_default(), is_first: false };
+    let owner = Owner {
+        job: given.job.clone(),
+        opened: state["opened"].as_u64().unwrap_or_default(),
+        is_first: false,
+        has_names: true,
+    };
     let folder = Marked::open(&given.folder, &owner)?;
-    if given.names.prefix.is_empty() && given.names.suffix.is_empty() {
-        if let Some(other) = pages::other_job(&folder, &owner.marker())? {
-            let why = format!("another job has files in {}, as {other} says", folder.path.display());
-            return Err(Stop::Never(format!("{why}: so --prefix or --suffix is needed")));
-        }
-    }
+    others::check(&folder.folder, &folder.path, &owner.marker(), &given.names, Need::Prefix)?;
     // a job without names has no garbage to ask for, also if the folder has no file
     job.garbage(&[]).await.map_err(stopped)?;
     let mut sweep = Sweep { given, job, folder: &folder, metrics, swept: Swept::default() };

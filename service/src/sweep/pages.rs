@@ -82,16 +82,3 @@ pub fn delete(folder: &Marked, name: &str) -> Gone {
         Err(error) => Gone::Failed(std::io::Error::from(error).to_string()),
     }
 }
-
-/// A marker of another job in the folder. Without a prefix and a suffix its files would be taken for those of this one.
-pub fn other_job(folder: &Marked, own: &str) -> Result<Option<String>, Stop> {
-    let entries = Dir::read_from(&folder.folder).map_err(|error| unread(folder, error))?;
-    for entry in entries {
-        let entry = entry.map_err(|error| unread(folder, error))?;
-        let name = entry.file_name().to_string_lossy();
-        if name.starts_with(".relkvanu-") && name != own && !name.starts_with(&format!("{own}.")) {
-            return Ok(Some(name.into_owned()));
-        }
-    }
-    Ok(None)
-}

@@ -25,7 +25,7 @@ public record StoreReport(boolean isRecovered, boolean settingsDiffer, List<Step
     long term, long nextName) {
     /** What an engine has to do after an opening. */
     public enum Step {
-        /** Make sure that no earlier task runs, and that no message of one arrives. */
+        /** With names: tell the earlier tasks to end, and wait for none. Without: make sure that none runs, and that no message of one arrives. */
         END_TASKS,
         /** Make a {@link StoreCall#restoreLatest()}: its outcome says where the job begins again, and in which term. */
         RESTORE,

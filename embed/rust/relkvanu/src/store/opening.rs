@@ -7,7 +7,7 @@ use std::path::PathBuf;
 /// What an engine has to do after an opening, in the order of the report.
 #[derive(Clone, Copy, Debug, PartialEq, Eq, Hash)]
 pub enum Step {
-    /// Make sure that no earlier task runs, and that no message of one arrives.
+    /// With names: tell the earlier tasks to end, and wait for none. Without: make sure that none runs, and that no message of one arrives.
     EndTasks,
     /// Make a restore: its answer says where the job begins again.
     Restore,
