@@ -45,11 +45,11 @@ typedef struct relkvanu_store relkvanu_store;
 
 /* Status. After the first group nothing was made, and the store is as it was. */
 #define RELKVANU_STORE_OK 0           /* it was done */
-#define RELKVANU_STORE_BAD_ARGUMENT 1 /* of a call: its kind, shape, number of files or a reserved field; of an opening: its settings */
+#define RELKVANU_STORE_BAD_ARGUMENT 1 /* of a call: its kind, shape, number of files or a reserved field; of an opening: its settings or shape, which have limits in relkvanu.h */
 #define RELKVANU_STORE_NO_MEMORY 2    /* make the same call again later */
 #define RELKVANU_STORE_IN_USE 3       /* open: another process, or this one, has the job open. The message names it */
 #define RELKVANU_STORE_ABSENT 4       /* open: there is no job, and the flags don't allow to make one */
-#define RELKVANU_STORE_PRESENT 5      /* open: there is a job, and RELKVANU_STORE_CREATE_ONLY forbids it */
+#define RELKVANU_STORE_PRESENT 5      /* open: there is a job, and RELKVANU_STORE_CREATE_ONLY forbids it; put: there is a file of this number, or a part of one */
 #define RELKVANU_STORE_NOT_A_STORE 6  /* open: another kind of file, or one of a later version */
 #define RELKVANU_STORE_DIFFERS 7      /* open: a call of the log gets another answer, or is refused. The message says which */
 #define RELKVANU_STORE_DAMAGED 8      /* open: an image, a call or the file is damaged. The message says which */
@@ -91,7 +91,7 @@ typedef struct {
     uint64_t image_calls;       /* an image after so many calls; 0: 10000. RELKVANU_STORE_NO_IMAGES: none, and the log is never cut */
     uint64_t most_ahead;        /* a moment may be so many ms ahead of the greatest one, or of what a timer waits for; 0: one day */
     const char *storage;        /* the folder of the state files, which has to exist; NULL: see relkvanu_store_open */
-    relkvanu_settings settings; /* of a new job. A recovered job keeps its own; report.settings_differ compares them */
+    relkvanu_settings settings; /* of a new job, within the limits of relkvanu.h (interval: 10 or more). A recovered job keeps its own; report.settings_differ compares them */
     const uint64_t *shape;
     size_t shape_len;
     uint64_t reserved[4]; /* 0 */
@@ -140,7 +140,8 @@ typedef struct {
  *
  * With options.storage NULL none of this is there: no marker (a folder that is not mounted is not noticed), no refusal of an older copy, no
  * refusal to begin a new job over old files (RELKVANU_STORE_CREATE after PATH was lost begins at epoch 1, gives out names from 1 on, and without
- * names its sweep deletes all), and no sync of the folder in relkvanu_store_discard. The engine does each of them itself (docs/EMBEDDING.md, section 15). A
+ * names its sweep deletes all), and no sync of the folder in relkvanu_store_discard. The engine does each of them itself (docs/EMBEDDING.md, section 15,
+ * which has all but the refusal of an older copy: never put one back). A
  * job over a storage of the engine's own that has files is made with RELKVANU_STORE_PLAIN, and gets names above all of these by a fence. */
 int relkvanu_store_open(relkvanu_store **store, const char *path, const relkvanu_store_options *options, relkvanu_store_report *report);
 
@@ -283,7 +284,8 @@ void relkvanu_store_delete_files(void *store, const uint64_t *files, size_t file
  * read or synced. */
 int relkvanu_store_sweep(relkvanu_store *store, size_t *left);
 
-/* Lets relkvanu_store_await_tick and relkvanu_store_discard return RELKVANU_STORE_STOPPED, now and later. What was taken is reported first. */
+/* Lets relkvanu_store_await_tick and relkvanu_store_discard return RELKVANU_STORE_STOPPED, now and later. What was taken is reported first. What waits is
+ * left for the next opening: an engine that is to leave no file stops when relkvanu_file_counts in a read has no waiting and no taken ones. */
 void relkvanu_store_stop(relkvanu_store *store);
 
 /* Counts since the opening. */
