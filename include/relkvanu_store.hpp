@@ -275,8 +275,8 @@ public:
 
     [[nodiscard]] int folder() const noexcept { return relkvanu_store_folder(store_); }
 
-    /* A discarder in a thread of the engine, until stop: gone(file) says whether the file is not there any more. A file for which it throws
-     * is tried again. */
+    /* A discarder in a thread of the engine, until stop, which it returns as store_error::stopped: gone(file) says whether the file is not there any
+     * more. A file for which it throws is tried again. */
     template <class Gone> [[nodiscard]] std::error_code discard(Gone gone, std::size_t batch = 0) noexcept {
         auto delete_files = [](void *with, const std::uint64_t *list, std::size_t len, std::uint8_t *is_gone) noexcept {
             for (std::size_t place = 0; place < len; place++) {

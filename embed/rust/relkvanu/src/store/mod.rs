@@ -352,7 +352,7 @@ impl Store {
     }
 
     /// A discarder in a thread of the engine, until [`stop`](Self::stop): `gone(file)` says whether the file is not there any more, also if it
-    /// was not there before. A file for which it panics is tried again. Never gives up.
+    /// was not there before. A file for which it panics is tried again. Never gives up. `Ok` after a stop.
     pub fn discard<F: FnMut(u64) -> bool>(
         &self,
         batch: usize,
