@@ -245,9 +245,9 @@ def test_the_dask_engine_over_a_cut():
 class Driver:
     """What the coordinator of embed/dask needs of its job: a job of one task, which acknowledges each barrier with a new file."""
 
-    def __init__(self, coordinator, fenced):
+    def __init__(self, coordinator, refused):
         self.coordinator, self.lock, self.stream, self.is_over = coordinator, threading.RLock(), threading.Lock(), threading.Event()
-        self.channels, self.cuts, self.barriers, self.failures, self.fenced = [], {}, [], [], fenced
+        self.channels, self.cuts, self.barriers, self.failures, self.refused = [], {}, [], [], refused
 
     def send_barriers(self, number, _channels):
         self.cuts[number] = {}
@@ -255,8 +255,8 @@ class Driver:
         term = self.coordinator.term
         try:
             self.coordinator.ack(term, number, (0, 0), list(self.coordinator.reserve(term, 1)), [])
-        except self.fenced:
-            pass  # somebody has restored the job, as the next event says
+        except self.refused:
+            pass  # somebody has restored the job, or the service has another log, which has no such record. The next event says so
 
     def note(self, reply):
         self.failures.append(reply)
@@ -265,10 +265,10 @@ class Driver:
 def test_the_dask_engine_over_a_restored_backup():
     sys.path += [f"{TOP}/embed/dask", f"{TOP}/embed/python"]
     from over_service import OverService
-    from relkvanu import Fenced
+    from relkvanu import Fenced, Refused
 
     with served() as server:
-        driver = Driver(OverService(server.url, "dask", {"interval": 50, "retained": 2}, [1]), Fenced)
+        driver = Driver(OverService(server.url, "dask", {"interval": 50, "retained": 2}, [1]), (Fenced, Refused))
         copy, job, ended = Copy(server, None), Service(server.url).job("dask"), []
 
         def run():
