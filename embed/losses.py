@@ -26,6 +26,8 @@ from power import Journal, Kind, Loss, Record, Trials, read_tree, tell, write_tr
 HERE = pathlib.Path(__file__).resolve().parent
 SECONDS = 60
 ROUNDS = int(os.environ.get("ROUNDS", "1"))
+LEAST = 40  # losses of a sample that begins anew that have an effect
+CONTROLLED = 600  # losses from which one that does harm is looked for
 EACH_GOES_ON = 4  # one in so many losses of a job over the durable coordinator: the others are opened alone
 
 
@@ -92,7 +94,7 @@ def begins_anew(samples, name, command):
     trials.all(journal, some_of(journal, 600, chance), chance)
     for what, ignored in (("its state files", is_state), ("its folder", lambda path: path == "")):
         trials.control(what, journal, journal.points(), chance, ignored)
-    return trials.told(40)
+    return f"{trials.told(LEAST)}; both syncs are missed"
 
 
 # Jobs that go on.
@@ -132,10 +134,10 @@ class LogJob:
     syncs = (("the log", lambda path: path == "log"), ("the new log", lambda path: path == "log.new"), ("its state files", is_state),
              ("its folder", lambda path: path == ""))
     lives = ((["new"], None), ([], None))
-    most, controlled = 90, 400
 
-    def __init__(self, samples, name, command):
-        self.samples, self.name, self.command, self.env = samples, name, command, shimmed(samples, "/nowhere", "/nowhere")
+    def __init__(self, samples, name, command, most):
+        self.samples, self.name, self.command, self.most = samples, name, command, most
+        self.env = shimmed(samples, "/nowhere", "/nowhere")
         self.root, self.journal = samples.work / f"power-{name}", samples.work / f"journal-{name}"
         del self.env["LD_PRELOAD"]
 
@@ -168,15 +170,15 @@ class LogJob:
         trials.all(journal, some_of(journal, self.most, chance), chance)
         self.lose_again(trials, journal, chance)
         for name, ignored in self.syncs:
-            trials.control(name, journal, journal.some(self.controlled, chance), chance, ignored)
-        return trials.told(self.most // 3)
+            trials.control(name, journal, journal.some(CONTROLLED, chance), chance, ignored)
+        return f"{trials.told(self.most // 3)}; each of {len(self.syncs)} syncs is missed"
 
     def lose_again(self, trials, journal, chance):
         """Power is lost once more while the job recovers."""
-        for number, lost in enumerate(list(journal.losses(journal.some(len(Loss), chance), chance))):
+        for number, lost in enumerate(list(journal.losses(journal.some(len(Loss), chance)[::2], chance))):
             if "log" in lost.tree or "job.db" in lost.tree:
-                again = LogJob.again(self, lost, number)
-                trials.all(again, some_of(again, self.most // 10, chance), chance)
+                again = self.again(lost, number)
+                trials.all(again, some_of(again, len(Loss), chance), chance)
 
     def again(self, lost, number):
         root, path = self.root.with_name(f"{self.root.name}-{number}"), self.journal.with_name(f"{self.journal.name}-{number}")
@@ -193,10 +195,9 @@ class StoreJob(LogJob):
     syncs = (("the store's log", lambda path: path == "job.db-wal"), ("the store", lambda path: path == "job.db"),
              ("its state files", is_state), ("its storage", lambda path: path == "state"), ("its folder", lambda path: path == ""))
     lives = ((["12"], 0.6), (["20"], None))
-    most, controlled = 60, 600
 
-    def __init__(self, samples, name, command, is_marked=True):
-        super().__init__(samples, name, command)
+    def __init__(self, samples, name, command, most, is_marked=True):
+        super().__init__(samples, name, command, most)
         self.is_marked, self.numbers = is_marked, itertools.count()
 
     def prepare(self):
@@ -216,12 +217,12 @@ class StoreJob(LogJob):
 
 def jobs(samples):
     python = [sys.executable]
-    yield LogJob(samples, "log.c", ["stdbuf", "-oL", samples.work / "log"])
-    yield LogJob(samples, "loop.py", [*python, samples.work / "loop.py"])
-    yield LogJob(samples, "readme.py", [*python, samples.work / "readme.py"])
+    yield LogJob(samples, "log.c", ["stdbuf", "-oL", samples.work / "log"], 90)
+    yield LogJob(samples, "loop.py", [*python, samples.work / "loop.py"], 36)
+    yield LogJob(samples, "readme.py", [*python, samples.work / "readme.py"], 36)
     for name, command in samples.durable.items():
-        yield StoreJob(samples, name, command)
-    yield StoreJob(samples, "files.py", [*python, samples.work / "files.py"], is_marked=False)
+        yield StoreJob(samples, name, command, 60)
+    yield StoreJob(samples, "files.py", [*python, samples.work / "files.py"], 60, is_marked=False)
 
 
 def tests(samples):
