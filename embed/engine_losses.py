@@ -7,6 +7,8 @@ import itertools
 import os
 import pathlib
 import random
+import subprocess
+import time
 from typing import Callable, Dict
 
 import lost_jobs
@@ -19,7 +21,7 @@ SYNCS = (
     ("the storage", lambda path: path == "storage"),
     ("the job's folder", lambda path: path == ""),
 )
-MOST = 240  # losses
+MOST, CALLS, LONGEST = 240, 150, 300  # losses; calls of a process; seconds, on a busy machine
 
 
 def environment(shim: pathlib.Path, work: pathlib.Path) -> Dict[str, str]:
@@ -31,13 +33,28 @@ def environment(shim: pathlib.Path, work: pathlib.Path) -> Dict[str, str]:
     }
 
 
+def await_calls(work: pathlib.Path, process: "subprocess.Popen[bytes]") -> None:
+    """Until the engine has been answered some more calls."""
+    end, least = time.monotonic() + LONGEST, answered(work) + CALLS
+    while answered(work) < least:
+        assert process.poll() is None and time.monotonic() < end, f"{answered(work)} calls of {least}, status {process.poll()}"
+        time.sleep(0.02)
+
+
+def answered(work: pathlib.Path) -> int:
+    """The place that the last line of the trace has in front."""
+    told = work / "told"
+    lines = told.read_bytes().splitlines() if told.exists() else []
+    return int(lines[-1].split(b" ")[0]) if lines else 0
+
+
 def run(name: str, work: pathlib.Path, live: Callable[[pathlib.Path], None], go_on: Callable[[pathlib.Path], None], ends: int) -> None:
     """`live` runs the engine over a folder, and kills it. `go_on` runs it to its end: from one in so many losses that there are `ends`."""
     folder, rounds, chance = work / "job", int(os.environ.get("ROUNDS", "1")), random.Random(int(os.environ.get("SEED", "1")))
     start, numbers, most = read_tree(folder), itertools.count(1), MOST * max(rounds, 1)
     for _ in range(2):
         live(folder)
-    journal = Journal(work / "journal", folder, start)
+    journal = Journal.read(work / "journal", folder, start)
 
     def check(lost: Lost, left: pathlib.Path) -> None:
         if lost_jobs.check(lost, left, "storage") and next(numbers) % (most // ends) == 0:

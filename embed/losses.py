@@ -32,7 +32,10 @@ EACH_GOES_ON = 4  # one in so many losses of a job over the durable coordinator:
 
 
 def some_of(journal, most, chance):
-    return journal.points() if ROUNDS == 0 else journal.some(ROUNDS * most, chance)
+    """So many losses; None: at each call that writes one."""
+    if ROUNDS == 1 and most is None:
+        return journal.each()
+    return journal.points() if ROUNDS == 0 else journal.some(ROUNDS * (most or 200), chance)
 
 
 def shimmed(samples, root, journal, **more):
@@ -61,8 +64,7 @@ def keeps_acknowledged(lost, _):
 def journal_of_go(told):
     """What embed/go/traced tells, as a journal."""
     kinds = {"make": Kind.MAKES, "write": Kind.WRITES, "sync": Kind.SYNCS, "delete": Kind.REMOVES}
-    journal = Journal.__new__(Journal)
-    journal.start, journal.records = {}, []
+    records = []
     for place, line in enumerate(told):
         what, _, name = line.partition(" ")
         if line == "sync folder":
@@ -71,8 +73,8 @@ def journal_of_go(told):
             record = Record(place, kinds[what], name, place if what == "sync" else 0, b"state" if what == "write" else b"")
         else:
             record = Record(place, Kind.TELLS, "", 0, line.encode() + b"\n")
-        journal.records.append(record)
-    return journal
+        records.append(record)
+    return Journal(records)
 
 
 def begins_anew(samples, name, command):
@@ -88,9 +90,9 @@ def begins_anew(samples, name, command):
         path = samples.work / f"journal-{name}"
         known = shimmed(samples, folder, path, STORE_TOLD=str(told), **with_told)
         status = subprocess.run([*map(str, command), str(folder)], env=known, stdout=subprocess.DEVNULL, timeout=SECONDS).returncode
-        journal = Journal(path, folder)
+        journal = Journal.read(path, folder)
     assert status == 0, f"status {status}"
-    chance, trials = random.Random(name), Trials(samples.work, keeps_acknowledged, 1)
+    chance, trials = random.Random(name), Trials(samples.work / f"losses of {name}", keeps_acknowledged, 1)
     trials.all(journal, some_of(journal, 600, chance), chance)
     for what, ignored in (("its state files", is_state), ("its folder", lambda path: path == "")):
         trials.control(what, journal, journal.points(), chance, ignored)
@@ -99,33 +101,20 @@ def begins_anew(samples, name, command):
 
 # Jobs that go on.
 
-class Listener(threading.Thread):
-    """Notes in the journal what a process prints, when it does."""
-
-    def __init__(self, process, journal):
-        super().__init__(daemon=True)
-        self.process, self.journal, self.printed = process, journal, []
-        self.start()
-
-    def run(self):
-        for line in self.process.stdout:
-            tell(self.journal, line)
-            self.printed.append(line)
-
-
-def recorded(command, known, journal, lives):
-    """Runs processes of a job, one after the other. Each is killed after so many seconds; None: it comes to its end."""
-    for words, seconds in lives:
-        process = subprocess.Popen([*map(str, command), *map(str, words)], env=known, stdout=subprocess.PIPE, stderr=subprocess.STDOUT)
-        listener = Listener(process, journal)
-        try:
-            process.wait(SECONDS if seconds is None else seconds)
-        except subprocess.TimeoutExpired:
-            process.kill()
-            process.wait()
-        listener.join()
-        is_well = process.returncode == 0 or (seconds is not None and process.returncode == -signal.SIGKILL)
-        assert is_well, b"".join(listener.printed).decode()
+def life(command, known, journal, most):
+    """Runs a process of a job, and notes in the journal what it prints, when it does. After so many lines the process is killed; None: it
+    comes to its end."""
+    with subprocess.Popen([*map(str, command)], env=known, stdout=subprocess.PIPE, stderr=subprocess.STDOUT) as process:
+        watch, printed = threading.Timer(SECONDS, process.kill), []
+        watch.start()
+        for line in process.stdout:
+            tell(journal, line)
+            printed.append(line)
+            if len(printed) == most:
+                process.kill()
+        process.wait()
+        watch.cancel()
+    assert process.returncode == (0 if most is None else -signal.SIGKILL), b"".join(printed).decode()
 
 
 class LogJob:
@@ -133,7 +122,7 @@ class LogJob:
 
     syncs = (("the log", lambda path: path == "log"), ("the new log", lambda path: path == "log.new"), ("its state files", is_state),
              ("its folder", lambda path: path == ""))
-    lives = ((["new"], None), ([], None))
+    lives = ((["new"], None), ([], None))  # words of a process, and after how many lines it is killed
 
     def __init__(self, samples, name, command, most):
         self.samples, self.name, self.command, self.most = samples, name, command, most
@@ -164,14 +153,15 @@ class LogJob:
         chance = random.Random(self.name)
         self.prepare()
         start = read_tree(self.root)
-        recorded([*self.command, self.root], shimmed(self.samples, self.root, self.journal), self.journal, self.lives)
-        journal = Journal(self.journal, self.root, start)
+        for words, most in self.lives:
+            life([*self.command, self.root, *words], shimmed(self.samples, self.root, self.journal), self.journal, most)
+        journal = Journal.read(self.journal, self.root, start)
         trials = Trials(self.samples.work / f"losses of {self.name}", self.check)
         trials.all(journal, some_of(journal, self.most, chance), chance)
         self.lose_again(trials, journal, chance)
         for name, ignored in self.syncs:
             trials.control(name, journal, journal.some(CONTROLLED, chance), chance, ignored)
-        return f"{trials.told(self.most // 3)}; each of {len(self.syncs)} syncs is missed"
+        return f"{trials.told(trials.tried // 4)}; each of {len(self.syncs)} syncs is missed"
 
     def lose_again(self, trials, journal, chance):
         """Power is lost once more while the job recovers."""
@@ -185,8 +175,9 @@ class LogJob:
         write_tree(lost.tree, root)
         for told in lost.told:
             tell(path, told)
-        recorded([*self.command, root], shimmed(self.samples, root, path), path, self.lives[1:2])
-        return Journal(path, root, lost.tree)
+        words, _ = self.lives[1]
+        life([*self.command, root, *words], shimmed(self.samples, root, path), path, None)
+        return Journal.read(path, root, lost.tree)
 
 
 class StoreJob(LogJob):
@@ -194,7 +185,7 @@ class StoreJob(LogJob):
 
     syncs = (("the store's log", lambda path: path == "job.db-wal"), ("the store", lambda path: path == "job.db"),
              ("its state files", is_state), ("its storage", lambda path: path == "state"), ("its folder", lambda path: path == ""))
-    lives = ((["12"], 0.6), (["20"], None))
+    lives = ((["12"], 8), (["20"], None))
 
     def __init__(self, samples, name, command, most, is_marked=True):
         super().__init__(samples, name, command, most)
@@ -217,7 +208,7 @@ class StoreJob(LogJob):
 
 def jobs(samples):
     python = [sys.executable]
-    yield LogJob(samples, "log.c", ["stdbuf", "-oL", samples.work / "log"], 90)
+    yield LogJob(samples, "log.c", ["stdbuf", "-oL", samples.work / "log"], None)
     yield LogJob(samples, "loop.py", [*python, samples.work / "loop.py"], 36)
     yield LogJob(samples, "readme.py", [*python, samples.work / "readme.py"], 36)
     for name, command in samples.durable.items():

@@ -261,9 +261,14 @@ class Point(NamedTuple):
 
 
 class Journal:
-    def __init__(self, path: "str | pathlib.Path", root: "str | pathlib.Path", start: Optional[Tree] = None) -> None:
-        self.start = start or {}
-        self.records = list(records(pathlib.Path(path).read_bytes(), str(root)))
+    """What processes did to the files below a root, which had those of the tree `start` at first."""
+
+    def __init__(self, records: Iterable[Record], start: Optional[Tree] = None) -> None:
+        self.records, self.start = list(records), start or {}
+
+    @classmethod
+    def read(cls, path: "str | pathlib.Path", root: "str | pathlib.Path", start: Optional[Tree] = None) -> "Journal":
+        return cls(records(pathlib.Path(path).read_bytes(), str(root)), start)
 
     def points(self) -> List[Point]:
         """Each loss at each record. Without what was not synced, the last moment before a sync ends says most."""
@@ -274,6 +279,12 @@ class Journal:
                 found.append(Point(index, Loss.SYNCED))
             if record.kind is not Kind.TELLS:
                 found += [Point(index, loss) for loss in others]
+        return [*found, *(Point(len(self.records), loss) for loss in Loss)]
+
+    def each(self) -> List[Point]:
+        """At each record the next loss in turn, and at the end all."""
+        losses = itertools.cycle(Loss)
+        found = [Point(index, next(losses)) for index, record in enumerate(self.records) if record.kind is not Kind.TELLS]
         return [*found, *(Point(len(self.records), loss) for loss in Loss)]
 
     def some(self, most: int, chance: random.Random) -> List[Point]:

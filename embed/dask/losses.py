@@ -8,7 +8,7 @@ sys.path.insert(0, str(pathlib.Path(__file__).resolve().parent.parent))
 import engine_losses
 import kills
 
-SECONDS, ENDS = 7, 1
+ENDS = 1
 
 
 def main(shim: str) -> None:
@@ -22,9 +22,11 @@ def main(shim: str) -> None:
         def live(folder: pathlib.Path) -> None:
             with open(work / "printed", "w+", encoding="utf-8") as printed:
                 driver = kills.Driver(folder, 600, 1, printed, [], known)
-                assert driver.end(SECONDS) is None, (work / "printed").read_text()
-                driver.kill()
-                driver.end_workers()
+                try:
+                    engine_losses.await_calls(work, driver.process)
+                finally:
+                    driver.kill()
+                    driver.end_workers()
 
         engine_losses.run("dask", work, live, lambda folder: kills.run_to_the_end(folder, 0, 1, None), ENDS)
 

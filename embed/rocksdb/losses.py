@@ -5,13 +5,10 @@ import pathlib
 import subprocess
 import sys
 import tempfile
-import time
 
 sys.path.insert(0, str(pathlib.Path(__file__).resolve().parent.parent))
 import engine_losses
 
-SECONDS = 1.5  # of each process that is killed
-LONGEST = 300
 ENDS = 6
 
 
@@ -23,12 +20,14 @@ def main(engine, shim):
 
         def live(folder):
             with subprocess.Popen([engine, folder, "1", "600"], env=known, stdout=subprocess.DEVNULL) as process:
-                time.sleep(SECONDS)
-                assert process.poll() is None, "the engine has ended"
-                process.kill()
+                try:
+                    engine_losses.await_calls(work, process)
+                finally:
+                    process.kill()
 
         def go_on(folder):
-            ran = subprocess.run([engine, folder, "1", "0"], stdout=subprocess.PIPE, stderr=subprocess.STDOUT, text=True, timeout=LONGEST)
+            words, longest = [engine, folder, "1", "0"], engine_losses.LONGEST
+            ran = subprocess.run(words, stdout=subprocess.PIPE, stderr=subprocess.STDOUT, text=True, timeout=longest)
             assert ran.returncode == 0, ran.stdout
 
         engine_losses.run("rocksdb", work, live, go_on, ENDS)

@@ -18,8 +18,9 @@ import lost_jobs
 import sample
 from power import Journal, Trials, write_tree
 
-MOST, EACH_GOES_ON, EVERY = 180, 12, 10  # losses, one in so many of them, milliseconds
-LIVES = (0.9, 60)  # seconds
+MOST, EACH_GOES_ON, EVERY = 180, 30, 10  # losses, one in so many of them, milliseconds
+KILLED_AFTER = 8  # checkpoints
+SECONDS = 60
 STATES = "words/states"
 SYNCS = (
     ("the store's log", lambda path: path == "words/job.db-wal"),
@@ -56,16 +57,19 @@ def recorded(shim, work, text):
     told, journal, folder = work / "told", work / "journal", work / "job"
     folder.mkdir()
     known = {**os.environ, "LD_PRELOAD": shim, "STORE_IN": f"{folder}", "STORE_JOURNAL": str(journal), "STORE_TOLD": str(told)}
-    for seconds in LIVES:
-        words = [sys.executable, __file__, "--live", folder / "words", text, told]
-        with subprocess.Popen(words, env=known, stdout=subprocess.DEVNULL) as process:
-            try:
-                process.wait(seconds)
-            except subprocess.TimeoutExpired:
-                process.kill()
-        assert process.returncode in (0, -signal.SIGKILL), process.returncode
-    assert process.returncode == 0, "it did not come to its end"
-    return Journal(journal, folder)
+    words = [sys.executable, __file__, "--live", folder / "words", text, told]
+    with subprocess.Popen(words, env=known, stdout=subprocess.DEVNULL) as process:
+        while process.poll() is None and told_of(told) < KILLED_AFTER:
+            time.sleep(0.01)
+        process.kill()
+    assert process.returncode == -signal.SIGKILL, f"it came to its end after {told_of(told)} checkpoints"
+    subprocess.run(words, env=known, stdout=subprocess.DEVNULL, check=True, timeout=SECONDS)
+    return Journal.read(journal, folder)
+
+
+def told_of(told):
+    """How many checkpoints were told."""
+    return told.read_bytes().count(b"\n") if told.exists() else 0
 
 
 def goes_on(left, text, expected):

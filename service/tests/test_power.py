@@ -21,7 +21,7 @@ from power import Journal, Loss, Trials, read_tree, write_tree
 
 ROUNDS = int(os.environ.get("RELKVANU_LOSSES", "1"))
 KEEPING = ["--image-calls", "20", "--keep-calls", "30"]
-MOST, BEGINNINGS, AGAIN = 72, 36, 12  # losses: of a job at work, of a new database, and while a start recovers
+MOST, AGAIN = 72, 12  # losses: of a job at work, and while a start recovers
 WORKERS = 2
 EACH_GOES_ON = 8
 
@@ -77,7 +77,7 @@ class Recorded:
         return self.journal()
 
     def journal(self):
-        return Journal(self.path, self.root, self.start)
+        return Journal.read(self.path, self.root, self.start)
 
     def place(self):
         status, _, told = self.server.get("/v1/jobs/orders")
@@ -174,6 +174,10 @@ def points(journal, most, chance):
     return journal.points() if ROUNDS == 0 else journal.some(ROUNDS * most, chance)
 
 
+def each(journal, chance):
+    return journal.each() if ROUNDS == 1 else points(journal, 200, chance)
+
+
 def test_a_job_at_work():
     """It is killed and started again meanwhile. Power is lost once more while a start recovers. Each kind of sync is left out in turn, as it
     were: then a loss has to do harm."""
@@ -223,6 +227,6 @@ def test_a_new_database():
         journal = recorded.run(len(SUBTASKS) * 3)
         checks = Checks(at, has_archive=False)
         trials = Trials(f"{at}/losses", checks.check, WORKERS)
-        trials.all(journal, points(journal, BEGINNINGS, chance), chance)
-        trials.control("its folder", journal, journal.some(8 * BEGINNINGS, chance), chance, lambda path: path == "")
-        return f"{trials.told(BEGINNINGS // 3)}; the sync of its folder is missed"
+        trials.all(journal, each(journal, chance), chance)
+        trials.control("its folder", journal, journal.points(), chance, lambda path: path == "")
+        return f"{trials.told(40)}; the sync of its folder is missed"

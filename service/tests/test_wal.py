@@ -27,7 +27,7 @@ def journaled(library, server, **given):
 def after_power_loss(server, at):
     """A service over what a loss of power leaves: the bytes that were synced."""
     place = f"{at}/after-{random.randrange(1 << 30)}"
-    journal = Journal(f"{server.folder}/journal", os.path.realpath(server.folder))
+    journal = Journal.read(f"{server.folder}/journal", os.path.realpath(server.folder))
     (lost,) = journal.losses([(len(journal.records), Loss.SYNCED)], random.Random(1))
     return Server(write_tree(lost.tree, place))
 

@@ -80,7 +80,7 @@ class Run:
     def lose_power(self, loss, chance):
         """Returns whether that took anything."""
         self.journal.touch()
-        journal = Journal(self.journal, self.folder, self.on_disk)
+        journal = Journal.read(self.journal, self.folder, self.on_disk)
         (lost,) = journal.losses([(len(journal.records), loss)], chance)
         shutil.rmtree(self.folder)
         write_tree(lost.tree, self.folder)
