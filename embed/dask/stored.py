@@ -75,7 +75,8 @@ class Stored:
         with tempfile.TemporaryDirectory() as copy:
             bookkeeping.copy_job(folder, copy)
             try:
-                self.job = Store(folder / "job.db", Settings(**settings), shape, storage=storage.path, create=True, image_calls=None if tracing.PATH else IMAGE_CALLS)
+                image_calls = None if tracing.IS_WHOLE else IMAGE_CALLS
+                self.job = Store(folder / "job.db", Settings(**settings), shape, storage=storage.path, create=True, image_calls=image_calls)
             except StoreError as fault:
                 raise SystemExit(f"the job is not opened: {fault}") from None
             books = bookkeeping.of_job(pathlib.Path(copy))

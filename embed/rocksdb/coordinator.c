@@ -68,7 +68,8 @@ void coordinator_open(struct coordinator *c, const char *folder, uint32_t flags,
     memset(c, 0, sizeof *c);
     pthread_mutex_init(&c->lock, NULL);
     c->death = death;
-    relkvanu_store_options options = {.flags = RELKVANU_STORE_CREATE | flags, .image_calls = trace_is_on() ? RELKVANU_STORE_NO_IMAGES : IMAGE_CALLS, .storage = storage,
+    uint64_t image_calls = trace_is_whole() ? RELKVANU_STORE_NO_IMAGES : IMAGE_CALLS;
+    relkvanu_store_options options = {.flags = RELKVANU_STORE_CREATE | flags, .image_calls = image_calls, .storage = storage,
         .settings = {.interval = 100, .at_once = 2, .timeout = 20000, .tolerable = 2, .retained = 2}, .shape = &shape, .shape_len = 1};
     int status = relkvanu_store_open(&c->store, path, &options, &c->report);
     CHECK(status == RELKVANU_STORE_OK, "the job is not opened: status %d, %s", status, c->report.message);

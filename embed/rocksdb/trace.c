@@ -2,12 +2,12 @@
 #define _GNU_SOURCE
 #include "trace.h"
 
+#include <dlfcn.h>
 #include <errno.h>
 #include <fcntl.h>
 #include <pthread.h>
 #include <stdarg.h>
 #include <string.h>
-#include <sys/syscall.h>
 
 static pthread_mutex_t lock = PTHREAD_MUTEX_INITIALIZER;
 static uint64_t answered;
@@ -15,6 +15,10 @@ static _Thread_local const char *deleter;
 
 bool trace_is_on(void) {
     return getenv("ENGINE_TRACE") != NULL;
+}
+
+bool trace_is_whole(void) {
+    return trace_is_on() && getenv("ENGINE_CUTS") == NULL;
 }
 
 void trace_answered(uint64_t place) {
@@ -65,10 +69,11 @@ void trace_deletes_as(const char *who) {
     deleter = who;
 }
 
-/* In place of that of the C library, for the store too: a file that is deleted is told before. */
+/* Before that of the C library, or of a library that was loaded before it, for the store too: a file that is deleted is told before. */
 int unlinkat(int folder, const char *name, int flags) {
+    int (*real)(int, const char *, int) = (int (*)(int, const char *, int))dlsym(RTLD_NEXT, "unlinkat");
     if (deleter != NULL && *name != '\0' && name[strspn(name, "0123456789")] == '\0') {
         trace("%s unlinks %s", deleter, name);
     }
-    return (int)syscall(SYS_unlinkat, folder, name, flags);
+    return real(folder, name, flags);
 }

@@ -7,6 +7,9 @@
 
 bool trace_is_on(void);
 
+/* The log must not be cut, since the trace and the log are to be put together. With ENGINE_CUTS in the environment they are not. */
+bool trace_is_whole(void);
+
 /* A call at this place of the log was answered. */
 void trace_answered(uint64_t place);
 

@@ -128,4 +128,5 @@ def main(base, seconds, seed):
     assert ended == MOST and killed > 0
 
 
-main(*sys.argv[1:])
+if __name__ == "__main__":
+    main(*sys.argv[1:])

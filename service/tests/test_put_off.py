@@ -4,7 +4,7 @@ import re
 
 from harness import Server, caught_up, check_log, folder, lose_history, until
 from postgres import postgres
-from preloaded import built
+from preloaded import SHIM, built, shim
 from relkvanu_service import Service, ack, dispose, savepoint
 
 SETTINGS = {"interval": 1 << 40}
@@ -101,9 +101,9 @@ def test_an_image_that_sqlite_has_no_room_for():
             job.call(ack(1, f"0.{subtask}", list(range(first, first + 4000))))
         server.stop()
         server.args = ["--image-calls", "20"]
-        library = built(at, "faults")
+        library = built(at, SHIM)
         for number in (errno.ENOSPC, errno.EDQUOT):
-            server.prefix = ["env", f"LD_PRELOAD={library}", "FAIL_ON=-wal", "FULL_EACH=150000", f"FULL_ERROR={number}"]
+            server.prefix = shim(library, server.database, fault="grow", on="-wal$", grows=150000, error=number)
             server.start()
             put_off = server.log().count("an image of job orders is put off")
             until(lambda: tick(server) and server.log().count("an image of job orders is put off") > put_off)

@@ -3,27 +3,33 @@ import http.client
 import json
 import os
 import random
-import shutil
 import sqlite3
+import sys
 import threading
 import time
 
-from harness import Kept, Server, check_log, folder, over_copy, served, until
-from preloaded import built
+from harness import TOP, Kept, Server, check_log, folder, over_copy, served, until
+from preloaded import SHIM, built, shim
 from relkvanu_service import Service
+
+sys.path.insert(0, f"{TOP}/embed")
+from power import Journal, Loss, write_tree
 
 JOB = {"name": "orders", "settings": {"interval": 1 << 40}, "shape": [1]}
 TICK = {"calls": [{"call": "tick"}]}
 
 
+def journaled(library, server, **given):
+    """Words before those of the service: what it does to its database is in a journal."""
+    return shim(library, server.database, journal=f"{server.folder}/journal", **given)
+
+
 def after_power_loss(server, at):
     """A service over what a loss of power leaves: the bytes that were synced."""
     place = f"{at}/after-{random.randrange(1 << 30)}"
-    os.mkdir(place)
-    for end in ("", "-wal"):
-        if os.path.exists(f"{server.database}{end}.safe"):
-            shutil.copy(f"{server.database}{end}.safe", f"{place}/relkvanu.db{end}")
-    return Server(place)
+    journal = Journal.read(f"{server.folder}/journal", os.path.realpath(server.folder))
+    (lost,) = journal.losses([(len(journal.records), Loss.SYNCED)], random.Random(1))
+    return Server(write_tree(lost.tree, place))
 
 
 def tick(server):
@@ -43,12 +49,13 @@ def check_acknowledged(acknowledged, server, at):
 def test_a_loss_of_power_after_a_failed_sync():
     """The process ends when the sync fails. It starts again, acknowledges calls, and then the power is lost."""
     with folder() as at:
-        faults = f"LD_PRELOAD={built(at, 'faults')}"
-        server = Server(at, prefix=["env", faults]).start()
+        library, server = built(at, SHIM), Server(at)
+        server.prefix = journaled(library, server)
+        server.start()
         server.request("POST", "/v1/jobs", JOB)
         acknowledged = [tick(server) for _ in range(5)]
         server.stop()
-        server.prefix = ["env", faults, "FAIL_ON=-wal", "FAIL_SYNC=20"]
+        server.prefix = journaled(library, server, fault="sync", on="-wal$", at=20)
         server.start()
         while (seq := tick(server)) is not None:
             acknowledged.append(seq)
@@ -56,7 +63,7 @@ def test_a_loss_of_power_after_a_failed_sync():
         assert server.process.wait(20) == 75, server.log()[-400:]
         assert "disk I/O error" in server.log(), server.log()[-400:]
         # a start that is killed before it has served has settled nothing that was answered
-        server.prefix = ["env", faults]
+        server.prefix = journaled(library, server)
         server.start()
         acknowledged += [tick(server) for _ in range(20)]
         server.kill()
@@ -91,12 +98,12 @@ class Load(threading.Thread):
 def test_losses_of_power_after_random_failed_syncs():
     counts, ends = [], 0
     with folder() as at:
-        library = built(at, "faults")
+        library = built(at, SHIM)
         for trial in range(3):
             place = f"{at}/{trial}"
             os.mkdir(place)
-            prefix = ["env", f"LD_PRELOAD={library}", "FAIL_ON=-wal", "FAIL_EACH=60"]
-            server = Server(place, args=["--image-calls", "200", "--keep-calls", "1000000"], prefix=prefix)
+            server = Server(place, args=["--image-calls", "200", "--keep-calls", "1000000"])
+            server.prefix = journaled(library, server, fault="sync", on="-wal$", random=60)
             server.start(ready=False)
             kept = Kept(server)
             kept.start()
@@ -146,19 +153,20 @@ def test_a_log_that_another_program_deletes():
 def test_a_journal_that_is_no_write_ahead_log():
     """If a sync fails while a new database is switched to its write-ahead log, SQLite may say that it was."""
     with folder() as at:
-        library = built(at, "faults")
+        library = built(at, SHIM)
         modes, ends = set(), 0
         for number in range(1, 7):
             place = f"{at}/{number}"
             os.mkdir(place)
-            server = Server(place, prefix=["env", f"LD_PRELOAD={library}", "FAIL_ON=.db", f"FAIL_SYNC={number}"])
+            server = Server(place)
+            server.prefix = shim(library, server.database, fault="sync", on=".db$", at=number)
             server.start(ready=False)
             try:
                 server.wait_ready(10)
             except AssertionError:
                 assert server.process.wait(10) == 75, server.log()[-300:]
                 ends += 1
-                server.prefix = server.prefix[:2]
+                server.prefix = []
                 server.start()
             server.request("POST", "/v1/jobs", JOB)
             assert tick(server) is not None

@@ -8,6 +8,7 @@ It needs streamz (Debian's python3-streamz) and librelkvanu-store.so.0.
 """
 import contextlib
 import hashlib
+import itertools
 import json
 import os
 import pathlib
@@ -78,6 +79,26 @@ def _stateful(nodes: Sequence[Any], sources: Sequence[Any]) -> Dict[str, Any]:
     return dict(sorted(zip(names, found), key=lambda it: str(it[0])))
 
 
+def _make_folders(path: pathlib.Path) -> None:
+    """Makes a folder and those above it. A loss of power takes the name of none: each is synced before anything is made in it. The last one
+    that is there may be of a process that was killed before it had synced it, or be somebody else's, who lets nobody sync it."""
+    path = pathlib.Path(os.path.abspath(path))
+    missing = list(itertools.takewhile(lambda it: not it.is_dir(), (path, *path.parents)))
+    with contextlib.suppress(PermissionError):
+        _sync((missing[-1].parent if missing else path).parent)
+    for folder in reversed(missing):
+        folder.mkdir(exist_ok=True)
+        _sync(folder.parent)
+
+
+def _sync(folder: pathlib.Path) -> None:
+    to = os.open(folder, os.O_RDONLY | os.O_DIRECTORY)
+    try:
+        os.fsync(to)
+    finally:
+        os.close(to)
+
+
 class Checkpoints:
     """The checkpoints of a graph in a folder, which another process can't open meanwhile. `with Checkpoints(..) as checkpoints:` closes it.
 
@@ -114,7 +135,7 @@ class Checkpoints:
         self.position: Any = None
         states = pathlib.Path(folder) / "states"
         if create:
-            states.mkdir(parents=True, exist_ok=True)
+            _make_folders(states)
         self._shape = [len(self._nodes), 1]
         self._job = Store(
             pathlib.Path(folder) / "job.db", Settings(interval=every, timeout=1 << 40, tolerable=1000, retained=retained), self._shape,

@@ -1,12 +1,13 @@
 #!/usr/bin/env python3
-"""faults.py BIN [ROUNDS]: runs scenario and crowd of the folder BIN while something fails, as shim.c makes it fail, and has verify look at what is left.
+"""faults.py BIN [ROUNDS]: runs scenario and crowd of the folder BIN while something fails, as shim.c makes it fail, and has verify look
+at what is left.
 
 - The process ends before and after each call that writes, of a new job and of a recovery.
 - Each call that writes, syncs, makes or cuts a file fails once, and from then on; so do reads, short writes, full disks and quotas.
-- The same, at fewer calls, of jobs with names whose tasks put files, and of a job that gets names at its recovery. Power is lost at a call, too: each file
-  in use is there, and the next process leaves no other.
-- A crowd of threads is killed at random moments; loses power, so that only synced bytes are left, or a mix of both states sector by
-  sector; and goes on after syncs that fail. ROUNDS (default 1) multiplies these.
+- The same, at fewer calls, of jobs with names whose tasks put files, and of a job that gets names at its recovery. Power is lost at a
+  call, too: each file in use is there, and the next process leaves no other.
+- A crowd of threads is killed at random moments; loses power, so that only what was synced is left, or something of the rest (power.py);
+  and goes on after syncs that fail. ROUNDS (default 1) multiplies these.
 
 The last line has the counts."""
 import concurrent.futures
@@ -20,9 +21,12 @@ import sys
 import tempfile
 import time
 
+sys.path.insert(0, str(pathlib.Path(__file__).resolve().parent.parent.parent))
+from power import Journal, Loss, read_tree, write_tree
+
 LISTS = 14  # of the scenario
 WORKERS = 3
-SECTOR = 512
+LEAST_LOST = 60  # losses that take something which a killed process leaves
 
 
 class Run:
@@ -30,16 +34,24 @@ class Run:
 
     def __init__(self, bin_folder, work, mode="plain"):
         self.bin, self.work, self.mode = bin_folder, pathlib.Path(work), mode
-        self.folder, self.told, self.safe = self.work / "job", self.work / "told", self.work / "safe"
+        self.folder, self.told, self.journal = self.work / "job", self.work / "told", self.work / "journal"
+        self.on_disk = {}
 
     def begin(self):
         (self.folder / "storage").mkdir(parents=True)
-        self.safe.mkdir()
+        return self.keep()
+
+    def keep(self):
+        """All that is there now is on the disk."""
+        self.on_disk = read_tree(self.folder)
+        self.journal.unlink(missing_ok=True)
         return self
 
     def copy(self, work, mode=None):
         shutil.copytree(self.work, work)
-        return Run(self.bin, work, mode or self.mode)
+        run = Run(self.bin, work, mode or self.mode)
+        run.on_disk = self.on_disk
+        return run
 
     def environment(self, **what):
         more = {f"STORE_{name.upper()}": str(value) for name, value in what.items()}
@@ -65,46 +77,22 @@ class Run:
         words = ran.stdout.split()
         return int(words[0]), words[-1] == "whole"
 
-    def safe_of(self, path):
-        return self.safe / ("%" + str(path.relative_to(self.folder)).replace("/", "%"))
-
-    def keep_safe(self):
-        """All that is there now is on the disk."""
-        shutil.rmtree(self.safe)
-        self.safe.mkdir()
-        for path in self.folder.rglob("*"):
-            if path.is_file():
-                shutil.copy(path, self.safe_of(path))
-
-    def lose_power(self, chance=None):
-        """Leaves what was synced. With a chance each other sector and size is of one state or of the other."""
-        for path in [it for it in self.folder.rglob("*") if it.is_file()]:
-            safe = self.safe_of(path)
-            if not safe.exists():
-                if chance is None or chance.random() < 0.5:
-                    path.unlink()
-                continue
-            kept = safe.read_bytes()
-            path.write_bytes(kept if chance is None else mixed(path.read_bytes(), kept, chance))
-        for safe in self.safe.glob("%*"):
-            path = self.folder / safe.name[1:].replace("%", "/")
-            if not path.exists():  # it was removed, and the folder was not synced
-                path.write_bytes(safe.read_bytes())
-        self.keep_safe()
-
-
-def mixed(now, kept, chance):
-    size = len(chance.choice((now, kept)))
-    now, kept = now.ljust(size, b"\0")[:size], kept.ljust(size, b"\0")[:size]
-    parts = [now[it:it + SECTOR] if chance.random() < 0.5 else kept[it:it + SECTOR] for it in range(0, size, SECTOR)]
-    return b"".join(parts)
+    def lose_power(self, loss, chance):
+        """Returns whether that took anything."""
+        self.journal.touch()
+        journal = Journal.read(self.journal, self.folder, self.on_disk)
+        (lost,) = journal.losses([(len(journal.records), loss)], chance)
+        shutil.rmtree(self.folder)
+        write_tree(lost.tree, self.folder)
+        self.keep()
+        return lost.has_effect
 
 
 class Tests:
     def __init__(self, bin_folder, rounds, work):
         self.bin, self.rounds, self.work = pathlib.Path(bin_folder), rounds, pathlib.Path(work)
         self.passed = self.failed = 0
-        self.number = 0
+        self.number = self.losses = self.lost = 0
 
     def folder(self):
         self.number += 1
@@ -132,18 +120,22 @@ class Tests:
         copy = run.copy(self.folder())
         copy.verify(5, mode == "names")
         shutil.copy(copy.told, run.told)
-        run.keep_safe()
-        return run
+        return run.keep()
+
+    def lose_power(self, run, loss, chance):
+        self.losses += 1
+        self.lost += run.lose_power(loss, chance)
 
     def at(self, base, number, what):
         """One fault. Returns whether it was reached."""
-        folder = self.work / f"{base.work.name}-{'-'.join(map(str, what.values()))}-{number}"
+        words = "-".join(getattr(it, "name", str(it)) for it in what.values())
+        folder = self.work / f"{base.work.name}-{words}-{number}"
         run = base.copy(folder)
         given = {name: value if value != "N" else number for name, value in what.items()}
         loss = given.pop("loss", None)
-        status, told = run.scenario(**given, **({"safe": run.safe} if loss else {}))
+        status, told = run.scenario(**given, **({"journal": run.journal} if loss else {}))
         if loss:
-            run.lose_power(random.Random(number) if loss == "mix" else None)
+            self.lose_power(run, loss, random.Random(number))
         run.verify(5, run.mode == "names")
         if self.rounds > 1 or run.mode != "plain" or number % 5 == 1:  # the job goes on
             again, words = run.scenario(lists=3)
@@ -192,19 +184,20 @@ class Tests:
             self.each(base, 6000, step=self.step(13), die="N")
             self.each(base, 6000, step=self.step(17), fault="any", at="N", **{"for": 1})
             self.each(base, 6000, step=self.step(61), fault="any", at="N", **{"for": 0})
-            self.each(base, 6000, step=self.step(23), die="N", loss="power")
-            self.each(base, 6000, step=self.step(23), die="N", loss="mix")
+            for loss in Loss:
+                self.each(base, 6000, step=self.step(61), die="N", loss=loss)
         turning = plain.copy(self.folder(), "turn")
         self.each(turning, 3000, step=self.step(5), die="N")
         self.each(turning, 3000, step=self.step(5), fault="any", at="N", **{"for": 1})
 
     def crowd_run(self, run, chance, kind, images, most):
-        what = {"kill": {}, "power": {"safe": run.safe}, "mix": {"safe": run.safe}, "faults": {"safe": run.safe, "fault": "sync", "on": "-wal", "random": 100}}[kind]
-        run.keep_safe()
+        run.keep()
+        what = {} if kind == "kill" else {"journal": run.journal}
+        what.update({"fault": "sync", "on": "-wal", "random": 100} if kind == "faults" else {})
         # in the second the -wal is long: what a failed sync has lost of it is soon brought into the file otherwise
         run.crowd("crowd" if kind != "faults" else "crowd-long", 0.01 + chance.random() * (0.05 if chance.random() < 0.2 else 0.5), images, **what)
         if kind != "kill":
-            run.lose_power(chance if kind == "mix" else None)
+            self.lose_power(run, Loss.SYNCED if kind in ("power", "faults") else chance.choice(list(Loss)), chance)
         told, is_whole = run.verify(most)
         return told if is_whole else -told
 
@@ -241,9 +234,11 @@ def main(bin_folder, rounds="1"):
         before = tests.passed
         tests.names(tests.new("names"), tests.killed("names"), killed)
         print(f"store: faults of jobs with names: {tests.passed - before} passed, {time.monotonic() - began:.0f} s", flush=True)
-        for kind in ("kill", "power", "mix", "faults"):
+        for kind in ("kill", "power", "loss", "faults"):
             tests.crowds(kind)
             print(f"store: crowds with {kind}: {tests.failed} failed so far, {time.monotonic() - began:.0f} s", flush=True)
+        print(f"store: {tests.losses} losses of power, {tests.lost} with an effect", flush=True)
+        tests.note("losses of power", lambda: check(tests.lost >= LEAST_LOST, f"{tests.lost} of {tests.losses} losses had an effect"))
     print(f"{tests.passed} passed, {tests.failed} failed")
     return 1 if tests.failed or not tests.passed else 0
 
