@@ -181,7 +181,8 @@ int relkvanu_store_sweep_storage(relkvanu_store *s, const relkvanu_storage *stor
     size_t none = 0; /* the right time is asked for also of a storage without files */
     int status = rks_deletable(s, NULL, &none, &sweep.unissued);
     if (status == RELKVANU_STORE_OK) {
-        status = status_of_listing(storage->list(storage->with, 0, sweep_page, &sweep), sweep.status);
+        int listed = storage->list(storage->with, 0, sweep_page, &sweep);
+        status = status_of_listing(listed, sweep.status);
     }
     *left = sweep.left;
     pthread_mutex_lock(&s->mutex);
