@@ -1,8 +1,11 @@
 """python3 -m relkvanu.sweep over the service: it finds the same garbage as `relkvanu sweep`, and deletes nothing in a place that is another job's."""
+import json
 import os
+import re
 import subprocess
+import urllib.request
 
-from harness import SERVICE, TOP
+from harness import PROGRAM, SERVICE, TOP, free_port, until
 from relkvanu_service import Service
 from test_sweep import SETTINGS, a_job, names_in, swept, write
 
@@ -53,3 +56,59 @@ def test_it_refuses():
         assert (status, lines) == (78, []) and "has no names" in told, told
         assert names_in(place) == ["s-1"] and swept_by_python(server, place, "--delete")[:2] == (0, ["deleted s-1 5"])
         return "the place of another job, a job without names, and none"
+
+
+def test_the_names_that_a_discarder_wrote():
+    """Two jobs in a folder: the sweeper reads what the discarder of the other one wrote, and refuses names that may be the other job's."""
+    with a_job() as (server, job, place):
+        task = job.begin().session()
+        write(place, f"s-{task.name()}")
+        job.begin()
+        other = Service(server.url).open("b", SETTINGS, [1])
+        discards = [PROGRAM, "discard", "b", "--folder", place, "--url", server.url, "--once", "--init", "--prefix"]
+        for prefix, refused in (("t-", False), ("s-1", True)):
+            # it does not know how the files of the first job are named, which has no discarder: so it says nothing of them
+            subprocess.run([*discards, prefix], check=True, stdout=subprocess.DEVNULL, stderr=subprocess.DEVNULL, timeout=60)
+            with open(f"{place}/.relkvanu-b.names", encoding="utf-8") as it:
+                assert json.load(it) == {"prefix": prefix, "suffix": ""}
+            status, lines, _, told = swept_by_python(server, place)
+            theirs = swept(server, place)[0]
+            assert status == theirs == (78 if refused else 0), (prefix, status, theirs, told)
+            assert (".relkvanu-b says" in told) == refused and lines == ([] if refused else ["garbage s-1 5"]), (lines, told)
+        assert other.state()["name"] == "b" and names_in(place) == ["s-1"]
+        return "names that differ, and names that may be the same"
+
+
+def metrics(port):
+    """The names with their labels, and the help."""
+    with urllib.request.urlopen(f"http://127.0.0.1:{port}/metrics", timeout=5) as told:
+        text = told.read().decode()
+    return {line.rpartition(" ")[0] for line in text.splitlines() if not line.startswith("#")}, dict(re.findall(r"^# HELP (\S+) (.*)$", text, re.M))
+
+
+def test_the_same_metrics():
+    with a_job() as (server, job, place):
+        job.begin()
+        ports = free_port(), free_port()
+        words = ["--folder", place, "--prefix", "s-", "--delete", "--every", "1h"]
+        path = f"{TOP}/embed/python:{SERVICE}/client/python"
+        runs = [
+            subprocess.Popen([PROGRAM, "sweep", "a", "--url", server.url, *words, "--metrics", f"127.0.0.1:{ports[0]}"], stdout=subprocess.DEVNULL),
+            subprocess.Popen(["/usr/bin/python3", "-m", "relkvanu.sweep", "--job", "a", "--service", server.url, *words, "--metrics", f"127.0.0.1:{ports[1]}"],
+                             env={**os.environ, "PYTHONPATH": path}, stdout=subprocess.DEVNULL),
+        ]
+
+        def serves(port):
+            try:
+                return metrics(port)
+            except OSError:
+                return None
+
+        try:
+            theirs, mine = (until(lambda port=port: serves(port)) for port in ports)
+        finally:
+            for run in runs:
+                run.kill()
+                run.wait()
+        assert mine == theirs and len(mine[0]) == 8, (mine, theirs)
+        return f"{len(mine[0])} metrics"

@@ -109,6 +109,10 @@ class Bucket:
         keys = (it["Key"] for objects in self._objects(posixpath.join(folder, start), MOST_KEYS) for it in objects)
         return [posixpath.relpath(key, folder or ".") for key in keys]
 
+    def read_beside(self, name: str) -> Optional[bytes]:
+        """An object beside the marker, or None if there is none."""
+        return self._read(posixpath.join(posixpath.dirname(self.marker.name), name))
+
     def _objects(self, prefix: str, most: int) -> Iterator[List[Any]]:
         after: Dict[str, str] = {}
         while True:

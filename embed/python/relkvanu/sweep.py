@@ -3,16 +3,17 @@ tasks, beside another sweeper, or late, since garbage stays garbage for good. Fo
 import argparse
 import contextlib
 import importlib
-import posixpath
+import ipaddress
 import re
 import sys
 import time
 from dataclasses import dataclass, field
-from typing import Any, Callable, Dict, Iterator, List, Optional, Sequence
+from typing import Any, Callable, Dict, Iterator, List, Optional, Sequence, Tuple
 
 from relkvanu.coordinator import Error
 from relkvanu.reads import Garbage
-from relkvanu.storage import MARKER, PAGE, Folder, KeepsVersions, Marker, Names, NotThere, OtherJob, SizedStorage
+from relkvanu.others import OthersFiles, check_names
+from relkvanu.storage import PAGE, Folder, KeepsVersions, Marker, Names, NotThere, OtherJob, SizedStorage
 
 # Of a list of files: which are garbage, and which have names that were not given out. A coordinator whose calls are durable has to answer.
 Ask = Callable[[Sequence[int]], Garbage]
@@ -79,6 +80,35 @@ def sweep(storage: SizedStorage, ask: Ask, delete: bool = False) -> Swept:
     return swept
 
 
+@dataclass
+class Counts:
+    """What sweeps did since the command began, for metrics. `garbage` and `unissued` are those of the last whole sweep, and `ended` is when it came to
+    its end, in Unix time; before the first, when the command began."""
+
+    deleted: int = 0
+    deleted_bytes: int = 0
+    failed: int = 0
+    lost: int = 0
+    garbage: int = 0
+    unissued: int = 0
+    ended: float = field(default_factory=time.time)
+
+    def page(self, page: Page, delete: bool) -> None:
+        if delete:
+            gone = [size for file, size in page.garbage.items() if file not in page.failed]
+            self.deleted += len(gone)
+            self.deleted_bytes += sum(gone)
+            self.failed += len(page.failed)
+
+    def swept(self, swept: Swept) -> None:
+        self.garbage, self.unissued, self.ended = swept.garbage, swept.unissued, time.time()
+
+    def lose(self, error: Exception) -> None:
+        """A try to reach the service was not answered."""
+        self.lost += 1
+        print(f"sweep: it tries again: {error}", file=sys.stderr, flush=True)
+
+
 def of_service(job: Any) -> Ask:
     """Asks a job of the service (relkvanu_service.Job), which answers from what is committed."""
 
@@ -108,6 +138,19 @@ def seconds(text: str) -> float:
     return int(found[1]) * {"": 1, "s": 1, "m": 60, "h": 3600, "d": 86400}[found[2]]
 
 
+def address(text: str) -> Tuple[str, int]:
+    """An address, as 127.0.0.1:7783 or [::1]:7783."""
+    wrong = argparse.ArgumentTypeError(f"{text!r} is no address, as 127.0.0.1:7783 or [::1]:7783")
+    found = re.fullmatch(r"(?:\[(?P<six>[^]]+)\]|(?P<four>[^:]+)):(?P<port>[0-9]{1,5})", text)
+    if found is None or int(found["port"]) > 65535:
+        raise wrong
+    try:
+        host = ipaddress.IPv6Address(found["six"]) if found["six"] else ipaddress.IPv4Address(found["four"])
+    except ValueError:
+        raise wrong from None
+    return str(host), int(found["port"])
+
+
 def parser() -> argparse.ArgumentParser:
     it = argparse.ArgumentParser(
         prog="python3 -m relkvanu.sweep", description=__doc__, epilog=USAGE, formatter_class=argparse.RawDescriptionHelpFormatter)
@@ -126,6 +169,7 @@ def parser() -> argparse.ArgumentParser:
     it.add_argument("--delete", action="store_true", help="delete the garbage; otherwise it is printed alone")
     it.add_argument("--every", metavar="TIME", type=seconds, help="begin again after this time, as 15m or 1h, until the command is ended")
     it.add_argument("--patience", metavar="TIME", type=seconds, default=60.0, help="make a request to the service again for this time, by default 60s")
+    it.add_argument("--metrics", metavar="ADDRESS", type=address, help="serve Prometheus' metrics at this address, as 127.0.0.1:7783, under /metrics")
     it.add_argument("--quiet", action="store_true", help="print no names, only the sums of each sweep")
     return it
 
@@ -160,16 +204,6 @@ def place(given: argparse.Namespace, marker: Marker) -> Iterator[Any]:
                     keeps_versions=given.keeps_versions, marker=marker)
 
 
-def check_names(storage: Any, given: argparse.Namespace) -> None:
-    """Without a prefix and a suffix a file of another job beside those of this one would be taken for one of this job."""
-    if posixpath.basename(given.prefix) or given.suffix:
-        return
-    own = (MARKER, f".relkvanu-{given.job}")
-    others = [name for name in storage.beside(".relkvanu-") if name not in own and not name.startswith(own[1] + ".")]
-    if others:
-        raise Stop(LOOK_FIRST, f"other jobs have files in the same place, as {others[0]} says: so --prefix or --suffix is needed")
-
-
 def lines(page: Page, names: Names, delete: bool) -> Iterator[str]:
     for file, size in page.garbage.items():
         reason = page.failed.get(file)
@@ -189,20 +223,22 @@ def sweep_place(given: argparse.Namespace, service: Any) -> Iterator[Page]:
     """Each sweep opens the storage anew, so a disk that is mounted again is found."""
     job = service.job(given.job)
     with place(given, Marker(*job.marker())) as storage:
-        check_names(storage, given)
+        check_names(storage, given.job, Names(given.prefix, given.suffix))
         yield from pages(storage, of_service(job), given.delete)
 
 
-def run_once(given: argparse.Namespace, client: Any) -> int:
+def run_once(given: argparse.Namespace, client: Any, counts: Counts) -> int:
     """One sweep, which prints what it does."""
     began, swept, names = time.monotonic(), Swept(), Names(given.prefix, given.suffix)
-    service = client.Service(*given.service, token=token(given.token_file), patience=given.patience, ca=given.ca)
+    service = client.Service(*given.service, token=token(given.token_file), patience=given.patience, ca=given.ca).noticing(counts.lose)
     try:
         for page in sweep_place(given, service):
             swept.add(page, given.delete)
+            counts.page(page, given.delete)
             if not given.quiet:
                 print("".join(f"{line}\n" for line in lines(page, names, given.delete)), end="", flush=True)
-    except (NotThere, OtherJob, KeepsVersions) as error:
+        counts.swept(swept)
+    except (NotThere, OtherJob, OthersFiles, KeepsVersions) as error:
         raise Stop(LOOK_FIRST, str(error)) from error
     except client.Fenced as error:
         raise Stop(LOOK_FIRST, f"{error}: the job {given.job} has no names, so its garbage can't be told. It gets names by the call fence, once, "
@@ -215,13 +251,24 @@ def run_once(given: argparse.Namespace, client: Any) -> int:
     return FAILED if swept.failed else UNISSUED if swept.unissued else 0
 
 
+def serve(given: argparse.Namespace, counts: Counts) -> None:
+    metrics = module("relkvanu.sweep_metrics", "--metrics needs prometheus_client, python3-prometheus-client of Debian")
+    try:
+        metrics.serve(given.metrics, metrics.Sweeper(given.job, given.every or 0.0, counts))
+    except OSError as error:
+        raise Stop(FAILED, f"--metrics {given.metrics[0]}:{given.metrics[1]}: {error}") from error
+
+
 def run(given: argparse.Namespace) -> int:
     """Sweeps once, or again and again until somebody has to look."""
     client = module("relkvanu_service", "the client of the service is service/client/python/relkvanu_service.py, and needs python3-requests")
+    counts = Counts()
+    if given.metrics is not None:
+        serve(given, counts)
     while True:
         began = time.monotonic()
         try:
-            status = run_once(given, client)
+            status = run_once(given, client, counts)
         except Stop as stop:
             if given.every is None or stop.status == LOOK_FIRST:
                 raise

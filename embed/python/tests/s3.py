@@ -15,6 +15,7 @@ from botocore.config import Config
 
 import relkvanu.sweep
 from relkvanu import Coordinator, FileCounts, Settings
+from relkvanu.others import OthersFiles, check_names
 from relkvanu.s3 import Bucket, KeepsVersions
 from relkvanu.storage import Exists, Marker, NotThere, OtherJob, StorageError, discard, sweep, unknown
 from relkvanu.sweep import Swept
@@ -200,6 +201,17 @@ class Sweeping(OnAServer):
         self.assertEqual(self.files.beside(".relkvanu-"), [".relkvanu-orders"])
         with self.assertRaises(OtherJob):
             self.opened(prefix="orders/state-", marker=Marker(".relkvanu-orders", "another"))
+
+    def test_another_job_that_says_how_its_files_are_named(self):
+        """In the folder of the bucket where the files are: a prefix has that before its own words."""
+        self.s3.put_object(Bucket=self.bucket, Key="orders/.relkvanu-others", Body=b"")
+        self.s3.put_object(Bucket=self.bucket, Key=".relkvanu-elsewhere", Body=b"")
+        for prefix, suffix, is_refused in (("state-", ".sst", True), ("state-", ".sst.part", True), ("orders/state-", ".sst", False), ("t-", ".sst", False)):
+            self.s3.put_object(Bucket=self.bucket, Key="orders/.relkvanu-others.names", Body=json.dumps({"prefix": prefix, "suffix": suffix}).encode())
+            with self.assertRaises(OthersFiles) if is_refused else contextlib.nullcontext():
+                check_names(self.files, "orders", self.files.names)
+        self.s3.delete_object(Bucket=self.bucket, Key="orders/.relkvanu-others.names")
+        check_names(self.files, "orders", self.files.names)
 
     def test_only_garbage_goes(self):
         self.assertEqual(relkvanu.sweep.sweep(self.files, self.job.garbage), Swept(listed=6, garbage=2, garbage_bytes=12, unissued=1))
