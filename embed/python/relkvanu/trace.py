@@ -59,6 +59,7 @@ FORMS: Tuple[Tuple[str, str, str], ...] = (
     (rf"task {TASK} ends", "ends", "task"),
     (rf"task {TASK} begins {NUMBER}", "begins", "task number"),
     (rf"task {TASK} gives up {NUMBER}", "gives up", "task number"),
+    (rf"task {TASK} keeps{FILES}", "keeps", "task files"),
     (rf"task {TASK} writes {NUMBER}", "writes", "task files"),
     (rf"task {TASK} syncs {NUMBER}", "syncs", "task files"),
     (rf"task {TASK} unlinks{FILES}", "unlinks", "task files"),
