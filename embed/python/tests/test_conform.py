@@ -204,11 +204,11 @@ class WithNames(Judging):
         comes_back = [*before, *without(DISCARD, "folder synced"), "storage loses power"]
         stays = [*before, *without(DISCARD, "discarder unlinks 1")]
         away = [*before, "storage away", *DISCARD, "storage back"]
-        for lines in (comes_back, stays, away):
-            self.breaks(lines, 9, lines.index("deleted 1") + 1)
-            self.assertEqual(len(check(lines)), 1)
-            self.assertEqual(check([*lines, "sweeper unlinks 1", "folder synced"]), [])
-            self.assertEqual(check([*lines, "sweeper unlinks 1"]), [])
+        for trace in (comes_back, stays, away):
+            self.breaks(trace, 9, trace.index("deleted 1") + 1)
+            self.assertEqual(len(check(trace)), 1)
+            self.assertEqual(check([*trace, "sweeper unlinks 1", "folder synced"]), [])
+            self.assertEqual(check([*trace, "sweeper unlinks 1"]), [])
         self.assertEqual(check(comes_back[:-1]), [], "it did not come back")
         self.assertEqual(check([*comes_back, "process 1 ends"]), [], "another process may sweep")
 

@@ -5,6 +5,8 @@ use relkvanu::storage::{
 };
 use relkvanu::store::{Options, Store, StoreErrorKind, NOW};
 use relkvanu::{Answer, Call, Settings};
+use std::alloc::{GlobalAlloc, Layout, System};
+use std::cell::Cell;
 use std::collections::{BTreeMap, BTreeSet};
 use std::fs;
 use std::ops::ControlFlow;
@@ -14,8 +16,42 @@ use std::os::unix::process::ExitStatusExt;
 use std::panic::{catch_unwind, AssertUnwindSafe};
 use std::path::{Path, PathBuf};
 use std::process::Command;
+use std::ptr;
 use std::sync::Mutex;
 use std::thread;
+
+/// Refuses all memory to the thread that asks it to.
+struct Refusing;
+
+thread_local! {
+    static REFUSES: Cell<bool> = const { Cell::new(false) };
+}
+
+// SAFETY: it is the system's, or has no memory.
+unsafe impl GlobalAlloc for Refusing {
+    unsafe fn alloc(&self, layout: Layout) -> *mut u8 {
+        match REFUSES.get() {
+            true => ptr::null_mut(),
+            // SAFETY: the caller's conditions.
+            false => unsafe { System.alloc(layout) },
+        }
+    }
+
+    unsafe fn dealloc(&self, at: *mut u8, layout: Layout) {
+        // SAFETY: the caller's conditions.
+        unsafe { System.dealloc(at, layout) }
+    }
+}
+
+#[global_allocator]
+static MEMORY: Refusing = Refusing;
+
+fn without_memory<T>(make: impl FnOnce() -> T) -> T {
+    REFUSES.set(true);
+    let told = make();
+    REFUSES.set(false);
+    told
+}
 
 /// A folder of the test's own, which is removed.
 struct Place(PathBuf);
@@ -282,6 +318,23 @@ fn pages_and_threads() {
         folder.pages(10, &mut |_: &[StoredFile]| panic!("planted"))
     }));
     assert!(told.is_err() && listed(&folder, 0).len() == 1500);
+}
+
+#[test]
+fn memory_that_runs_out() {
+    let place = Place::new("memory");
+    let folder = place.opened(b"", b"");
+    without_memory(|| folder.put(7, b"state")).unwrap();
+    assert!(matches!(
+        without_memory(|| folder.get(7)),
+        Err(StorageError::NoMemory)
+    ));
+    assert!(matches!(
+        without_memory(|| folder.delete(&[7])),
+        Err(StorageError::NoMemory)
+    ));
+    assert_eq!(folder.get(7).unwrap(), b"state");
+    assert_eq!(folder.delete(&[7]).unwrap(), [Deletion::Deleted]);
 }
 
 /// A storage of an engine: objects in memory.
