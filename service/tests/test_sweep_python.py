@@ -65,7 +65,7 @@ def test_the_names_that_a_discarder_wrote():
         write(place, f"s-{task.name()}")
         job.begin()
         other = Service(server.url).open("b", SETTINGS, [1])
-        discards = [PROGRAM, "discard", "b", "--folder", place, "--url", server.url, "--once", "--init", "--prefix"]
+        discards = [PROGRAM, "discard", "--job", "b", "--folder", place, "--url", server.url, "--once", "--init", "--prefix"]
         for prefix, refused in (("t-", False), ("s-1", True)):
             # it does not know how the files of the first job are named, which has no discarder: so it says nothing of them
             subprocess.run([*discards, prefix], check=True, stdout=subprocess.DEVNULL, stderr=subprocess.DEVNULL, timeout=60)
