@@ -86,6 +86,8 @@ class Checker:
         self.may_sweep = False
         self.mixed: Set[int] = set()  # pending or done records with a part of a task that was replaced
         self.told: Set[str] = set()  # what came of it, each once
+        self.record_of: Dict[Task, int] = {}  # that it began last
+        self.written_for: Dict[int, Optional[int]] = {}  # that record when the file was written; None: any, as of a file that a task keeps
         self.dropped: Dict[Task, List[Dropped]] = {}  # with names
         self.refused: Dict[Task, Set[int]] = {}  # the files of the message that was refused last
         self.early: Dict[int, int] = {}  # with names: files that were reported while they were there, and the line
@@ -212,6 +214,7 @@ class Checker:
 
     def on_begins(self, event: Event) -> None:
         assert event.task is not None
+        self.record_of[event.task] = event.number
         for it in self.dropped.get(event.task, ()):
             it.is_over = True
 
@@ -222,18 +225,20 @@ class Checker:
 
     def on_gives_up(self, event: Event) -> None:
         assert event.task is not None
-        self.drop(event.task, f"{event.task} gives up record {event.number}", self.written_by(event.task))
+        self.drop(event.task, f"{event.task} gives up record {event.number}", self.written_by(event.task, event.number))
 
     def on_sends_decline(self, event: Event) -> None:
         assert event.task is not None
-        self.drop(event.task, f"{event.task} declines record {event.number}", self.written_by(event.task))
+        self.drop(event.task, f"{event.task} declines record {event.number}", self.written_by(event.task, event.number))
 
     def on_keeps(self, event: Event) -> None:
         """It will acknowledge the files in a later record."""
         self.take_up(event.task, event.files)
+        self.written_for.update(dict.fromkeys(event.files))
 
-    def written_by(self, task: Task) -> Set[int]:
-        return {file for file, writer in self.writers.items() if writer == task}
+    def written_by(self, task: Task, record: int) -> Set[int]:
+        """The files that the task wrote for the record, or keeps."""
+        return {file for file, writer in self.writers.items() if writer == task and self.written_for[file] in (record, None)}
 
     def drop(self, task: Task, what: str, files: Set[int], is_over: bool = True) -> None:
         self.dropped.setdefault(task, []).append(Dropped(self.line, what, files, is_over))
@@ -251,6 +256,7 @@ class Checker:
             self.rests_on("name", file, f"{event.task} writes file {file}")
         if self.writers.setdefault(file, event.task) != event.task:
             self.broken(7, f"{event.task} writes file {file}, which {self.writers[file]} wrote")
+        self.written_for.setdefault(file, self.record_of.get(event.task))
         self.clean.discard((event.task, file))
         self.world.storage.write(event.task, file)
 

@@ -251,6 +251,13 @@ class WithNames(Judging):
         self.breaks([*refused, *goes_on], 8, len(refused), "file 1 is left")
         self.assertEqual(check([*refused, "forfeit 1 1", "log synced", *goes_on]), [])
 
+    def test_8_the_files_of_another_record(self):
+        """A task that takes part in two records at once gives up one of them."""
+        lines = [*NAMED, *named(1, 1), "reserve 1 2", "log synced", "task 0.0 1 begins 2", "task 0.0 1 writes 2", "task 0.0 1 begins 3",
+                 "task 0.0 1 writes 3"]
+        self.assertEqual(check([*lines, "task 0.0 1 gives up 2", "forfeit 1 2", "log synced"]), [])
+        self.breaks([*lines, "task 0.0 1 gives up 2", "forfeit 1 3", "log synced"], 8, len(lines) + 1, "file 2 is left")
+
     def test_8_names_that_were_never_written(self):
         self.assertEqual(check([*NAMED, "reserve 1 5", "log synced", "tick 10", "task 0.0 1 gives up 1"]), [])
 
