@@ -25,6 +25,8 @@ class Place(Protocol):
 
     def read_beside(self, name: str) -> Optional[bytes]: ...
 
+    def write_beside(self, name: str, contents: bytes) -> None: ...
+
 
 def said_names(contents: Optional[bytes]) -> Optional[Names]:
     """How a file NAMES says that files are named, or None if it does not."""
@@ -61,3 +63,11 @@ def check_names(place: Place, job: str, names: Names) -> None:
             continue
         need = "so --prefix or --suffix is needed" + ("" if theirs is None else " that differs from its own")
         raise OthersFiles(f"other jobs have files in the same place, as {other} says: {need}. If that job was deleted, delete {other} and {other}{NAMES}")
+
+
+def say_names(place: Place, job: str, names: Names) -> None:
+    """Writes down how the files of this job are named, for discarders and sweepers of other jobs."""
+    name, mine = MARK + job + NAMES, {"prefix": posixpath.basename(names.prefix), "suffix": names.suffix}
+    said = said_names(place.read_beside(name))
+    if said is None or (said.prefix, said.suffix) != (mine["prefix"], mine["suffix"]):
+        place.write_beside(name, f"{json.dumps(mine)}\n".encode())

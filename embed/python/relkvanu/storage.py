@@ -230,6 +230,21 @@ class Folder:
         """A file beside the marker, or None if there is none."""
         return self._read(name)
 
+    def write_beside(self, name: str, contents: bytes) -> None:
+        """Makes or replaces a file beside the marker, whole and durable."""
+        new = f"{name}.new"
+        try:
+            to = os.open(new, os.O_WRONLY | os.O_CREAT | os.O_TRUNC | FILE_FLAGS, 0o666, dir_fd=self._folder)
+            try:
+                _write_all(to, contents)
+                os.fsync(to)
+            finally:
+                os.close(to)
+            os.rename(new, name, src_dir_fd=self._folder, dst_dir_fd=self._folder)
+        except OSError as error:
+            raise StorageError(error.errno, error.strerror, f"{self.path}/{name}") from error
+        self._sync()
+
     @contextlib.contextmanager
     def _listing(self) -> Iterator[int]:
         """The folder, opened once more: descriptors of one opening share their place in a listing, and two threads would each see a part."""

@@ -1,24 +1,21 @@
 """Deletes the garbage of a storage: the files whose names a coordinator gave out, and that nobody will ever use. It may run at any time, beside
 tasks, beside another sweeper, or late, since garbage stays garbage for good. For coordinators with names alone."""
 import argparse
-import contextlib
-import importlib
-import ipaddress
-import re
 import sys
 import time
 from dataclasses import dataclass, field
-from typing import Any, Callable, Dict, Iterator, List, Optional, Sequence, Tuple
+from typing import Any, Callable, Dict, Iterator, List, Optional, Sequence
 
+from relkvanu.command import FAILED, LOOK_FIRST, Stop, add_place, address, module, place, ran, seconds, service_client, token
 from relkvanu.coordinator import Error
-from relkvanu.reads import Garbage
 from relkvanu.others import OthersFiles, check_names
-from relkvanu.storage import PAGE, Folder, KeepsVersions, Marker, Names, NotThere, OtherJob, SizedStorage
+from relkvanu.reads import Garbage
+from relkvanu.storage import PAGE, KeepsVersions, Marker, Names, NotThere, OtherJob, SizedStorage
 
 # Of a list of files: which are garbage, and which have names that were not given out. A coordinator whose calls are durable has to answer.
 Ask = Callable[[Sequence[int]], Garbage]
 
-FAILED, UNISSUED, LOOK_FIRST = 1, 3, 78  # exit statuses, beside 2 of a wrong word
+UNISSUED = 3  # an exit status, beside those of relkvanu.command
 USAGE = """exit status:
   0   all garbage was deleted, or without --delete was printed
   1   garbage is left, or the storage or the service did not answer: another run may go on
@@ -122,86 +119,16 @@ def of_service(job: Any) -> Ask:
 # The command.
 
 
-class Stop(Exception):
-    """Why a run ends, and the status of the program."""
-
-    def __init__(self, status: int, why: str) -> None:
-        super().__init__(why)
-        self.status = status
-
-
-def seconds(text: str) -> float:
-    """A time, as 90, 90s, 15m, 1h or 1d."""
-    found = re.fullmatch(r"([0-9]{1,9})(s|m|h|d|)", text)
-    if found is None or int(found[1]) == 0:
-        raise argparse.ArgumentTypeError(f"{text!r} is no time, as 90s, 15m, 1h or 1d")
-    return int(found[1]) * {"": 1, "s": 1, "m": 60, "h": 3600, "d": 86400}[found[2]]
-
-
-def address(text: str) -> Tuple[str, int]:
-    """An address, as 127.0.0.1:7783 or [::1]:7783."""
-    wrong = argparse.ArgumentTypeError(f"{text!r} is no address, as 127.0.0.1:7783 or [::1]:7783")
-    found = re.fullmatch(r"(?:\[(?P<six>[^]]+)\]|(?P<four>[^:]+)):(?P<port>[0-9]{1,5})", text)
-    if found is None or int(found["port"]) > 65535:
-        raise wrong
-    try:
-        host = ipaddress.IPv6Address(found["six"]) if found["six"] else ipaddress.IPv4Address(found["four"])
-    except ValueError:
-        raise wrong from None
-    return str(host), int(found["port"])
-
-
 def parser() -> argparse.ArgumentParser:
     it = argparse.ArgumentParser(
         prog="python3 -m relkvanu.sweep", description=__doc__, epilog=USAGE, formatter_class=argparse.RawDescriptionHelpFormatter)
-    it.add_argument("--job", metavar="NAME", required=True, help="the job of the service")
-    it.add_argument("--service", metavar="URL", action="append", required=True, help="the service, as http://127.0.0.1:7780; again: its next address")
-    it.add_argument("--token-file", metavar="FILE", help="a file whose first line is a token")
-    it.add_argument("--ca", metavar="FILE", help="certificates that https trusts, by default the system's")
-    place = it.add_mutually_exclusive_group(required=True)
-    place.add_argument("--folder", metavar="DIR", help="the folder of the files, which has the file .relkvanu-NAME of relkvanu discard")
-    place.add_argument("--bucket", metavar="NAME", help="the bucket of the files, which has the object .relkvanu-NAME beside them")
-    it.add_argument("--prefix", default="", help="the part of a file's name before its number; in a bucket of its key")
-    it.add_argument("--suffix", default="", help="the part of a file's name after its number")
-    it.add_argument("--endpoint", metavar="URL", help="another S3 server than that of AWS")
-    it.add_argument("--region", help="its region")
-    it.add_argument("--keeps-versions", action="store_true", help="the bucket keeps versions, and its lifecycle rules delete old ones")
+    add_place(it)
     it.add_argument("--delete", action="store_true", help="delete the garbage; otherwise it is printed alone")
     it.add_argument("--every", metavar="TIME", type=seconds, help="begin again after this time, as 15m or 1h, until the command is ended")
     it.add_argument("--patience", metavar="TIME", type=seconds, default=60.0, help="make a request to the service again for this time, by default 60s")
     it.add_argument("--metrics", metavar="ADDRESS", type=address, help="serve Prometheus' metrics at this address, as 127.0.0.1:7783, under /metrics")
     it.add_argument("--quiet", action="store_true", help="print no names, only the sums of each sweep")
     return it
-
-
-def token(path: Optional[str]) -> Optional[str]:
-    if path is None:
-        return None
-    try:
-        with open(path, encoding="utf-8") as file:
-            return file.readline().strip()
-    except OSError as error:
-        raise Stop(FAILED, f"--token-file: {error}") from error
-
-
-def module(name: str, what: str) -> Any:
-    """A module that not each sweep needs."""
-    try:
-        return importlib.import_module(name)
-    except ImportError as error:
-        raise Stop(FAILED, f"{what}: {error}") from error
-
-
-@contextlib.contextmanager
-def place(given: argparse.Namespace, marker: Marker) -> Iterator[Any]:
-    """The storage, a Folder or a Bucket, if it has the marker."""
-    if given.folder is not None:
-        with Folder(given.folder, given.job, prefix=given.prefix, suffix=given.suffix, marker=marker) as folder:
-            yield folder
-        return
-    s3 = module("relkvanu.s3", "--bucket needs boto3, python3-boto3 of Debian")
-    yield s3.Bucket(given.bucket, given.job, prefix=given.prefix, suffix=given.suffix, s3=s3.client(given.endpoint, given.region),
-                    keeps_versions=given.keeps_versions, marker=marker)
 
 
 def lines(page: Page, names: Names, delete: bool) -> Iterator[str]:
@@ -261,7 +188,7 @@ def serve(given: argparse.Namespace, counts: Counts) -> None:
 
 def run(given: argparse.Namespace) -> int:
     """Sweeps once, or again and again until somebody has to look."""
-    client = module("relkvanu_service", "the client of the service is service/client/python/relkvanu_service.py, and needs python3-requests")
+    client = service_client()
     counts = Counts()
     if given.metrics is not None:
         serve(given, counts)
@@ -280,17 +207,7 @@ def run(given: argparse.Namespace) -> int:
 
 
 def main(arguments: Optional[List[str]] = None) -> int:
-    it = parser()
-    given = it.parse_args(arguments)
-    if given.folder is not None and "/" in given.prefix + given.suffix:
-        it.error("--prefix and --suffix: a '/' would name another folder")
-    try:
-        return run(given)
-    except Stop as stop:
-        print(f"sweep: {stop}", file=sys.stderr)
-        return stop.status
-    except KeyboardInterrupt:
-        return 130
+    return ran("sweep", parser(), run, arguments)
 
 
 if __name__ == "__main__":
