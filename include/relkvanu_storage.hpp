@@ -1,8 +1,7 @@
-/* Where a job's state files are, for C++17: an abstract class that an engine derives its own storage from, and a folder that owns its descriptor.
- * relkvanu_storage.h says what each function does. Neither needs a coordinator.
+/* Where a job's state files are, for C++17: an abstract class that an engine derives its own storage from, and a folder that owns its
+ * descriptor. relkvanu_storage.h says what each function does. Neither needs a coordinator.
  *
- * Threads share a Storage. What fails is an error of storage_category, or the system's own (std::system_category) if it says why.
- */
+ * Threads share a Storage. What fails is an error of storage_category, or the system's own (std::system_category) if it says why. */
 #ifndef RELKVANU_STORAGE_HPP
 #define RELKVANU_STORAGE_HPP
 
@@ -109,7 +108,8 @@ public:
 
     [[nodiscard]] virtual std::error_code get(std::uint64_t file, std::string &contents) = 0;
 
-    /* Deletes files for good. Without an error the outcomes, which have as many places, say what became of each. After one all may be there. */
+    /* Deletes files for good. Without an error the outcomes, which have as many places, say what became of each. After one all may be
+     * there. */
     [[nodiscard]] virtual std::error_code remove(files list, span<deletion> outcomes) = 0;
 
     /* Calls each with all files, at most so many at a time; 0: as many as it likes. `ended` if that has ended the listing. */
@@ -148,7 +148,8 @@ public:
         };
         it.list = [](void *with, std::size_t most, relkvanu_storage_page each, void *with_page) noexcept {
             return tried([=] {
-                return of(with).list([=](span<const relkvanu_storage_file> found) { return each(with_page, found.data(), found.size()); }, most);
+                auto turn = [=](span<const relkvanu_storage_file> found) { return each(with_page, found.data(), found.size()); };
+                return of(with).list(turn, most);
             });
         };
         return it;
@@ -179,7 +180,8 @@ struct folder_options {
 /* A folder, which stays open. After a move the old one is empty: only its destructor and an assignment to it may be called. */
 class Folder final : public Storage {
 public:
-    [[nodiscard]] static std::variant<Folder, std::error_code> open(const std::string &path, const std::string &job, const folder_options &how = {}) {
+    [[nodiscard]] static std::variant<Folder, std::error_code> open(const std::string &path, const std::string &job,
+        const folder_options &how = {}) {
         relkvanu_storage_options options = {};
         options.flags = how.is_new ? RELKVANU_STORAGE_NEW : RELKVANU_STORAGE_RECOVER;
         options.path = path.c_str();

@@ -25,7 +25,8 @@ static bool is_state(const void *store, const struct dirent *entry) {
 
 static struct rks_folder folder_of(const relkvanu_store *s) {
     return (struct rks_folder){
-        .fd = s->folder, .prefix = "", .suffix = "", .mode = 0600, .needs_sync = true, .check = check_owner, .is_listed = is_state, .with = s};
+        .fd = s->folder, .prefix = "", .suffix = "", .mode = 0600, .needs_sync = true, .check = check_owner, .is_listed = is_state,
+        .with = s};
 }
 
 static int check(void *store) {
@@ -163,7 +164,8 @@ static int status_of_listing(int status, int of_page) {
 /* Whether an engine has filled in what a discarder and a sweeper need. */
 bool rks_is_storage(const relkvanu_storage *storage) {
     const uint64_t *reserved = storage->reserved;
-    return storage->check != NULL && storage->delete_files != NULL && storage->list != NULL && (reserved[0] | reserved[1] | reserved[2] | reserved[3]) == 0;
+    return storage->check != NULL && storage->delete_files != NULL && storage->list != NULL &&
+           (reserved[0] | reserved[1] | reserved[2] | reserved[3]) == 0;
 }
 
 int relkvanu_store_sweep_storage(relkvanu_store *s, const relkvanu_storage *storage, size_t *left) {

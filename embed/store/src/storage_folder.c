@@ -103,8 +103,8 @@ static bool are_valid(const relkvanu_storage_options *options) {
     for (size_t i = 0; i < sizeof options->reserved / sizeof *options->reserved; i++) {
         has_zeros = has_zeros && options->reserved[i] == 0;
     }
-    return has_zeros && (options->flags & ~RELKVANU_STORAGE_NEW) == 0 && options->path != NULL && options->job != NULL && options->job[0] != 0 &&
-           strchr(options->job, '\n') == NULL && strchr(prefix, '/') == NULL && strchr(suffix, '/') == NULL &&
+    return has_zeros && (options->flags & ~RELKVANU_STORAGE_NEW) == 0 && options->path != NULL && options->job != NULL &&
+           options->job[0] != 0 && strchr(options->job, '\n') == NULL && strchr(prefix, '/') == NULL && strchr(suffix, '/') == NULL &&
            strlen(prefix) + strlen(suffix) <= RELKVANU_STORAGE_MOST_AFFIX &&
            (options->marker_name == NULL || (is_name(options->marker_name) && strlen(options->marker_name) <= RELKVANU_STORAGE_MOST_AFFIX));
 }

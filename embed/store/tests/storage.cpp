@@ -1,4 +1,5 @@
-// storage FOLDER: relkvanu_storage.hpp: a folder, its errors, its moves, ends in the middle, and a storage of the engine's own behind functions of C.
+// storage FOLDER: relkvanu_storage.hpp: a folder, its errors, its moves, ends in the middle, and a storage of the engine's own behind
+// functions of C.
 #include "../../../include/relkvanu_storage.hpp"
 
 #include <atomic>
@@ -80,11 +81,13 @@ static void whose_it_is(const fs::path &at) {
     CHECK(why_not(at, "orders") == storage_error::not_there && why_not(at / "none", "orders") == storage_error::not_there);
     Folder it = opened(at), moved = std::move(it);
     CHECK(!moved.check() && why_not(at, "others") == storage_error::other_job && why_not(at, "") == storage_error::bad_argument);
-    CHECK(why_not(at, std::string("orders\0x", 8)) == storage_error::bad_argument && why_not(at, "orders", {false, "a/", "", "", ""}) == storage_error::bad_argument);
+    CHECK(why_not(at, std::string("orders\0x", 8)) == storage_error::bad_argument &&
+        why_not(at, "orders", {false, "a/", "", "", ""}) == storage_error::bad_argument);
     it = opened(at);
     moved = std::move(it);
     CHECK(!moved.check() && std::holds_alternative<Folder>(Folder::open(at, "orders")));
-    CHECK(std::holds_alternative<Folder>(Folder::open(at, "orders", {false, "", "", ".relkvanu-storage", "relkvanu: state files of the job orders\n"})));
+    const folder_options named = {false, "", "", ".relkvanu-storage", "relkvanu: state files of the job orders\n"};
+    CHECK(std::holds_alternative<Folder>(Folder::open(at, "others", named)));
     write_file(at / ".relkvanu-storage", "relkvanu: state files of the job others\n");
     CHECK(moved.check() == storage_error::other_job && moved.put(9, "state") == storage_error::other_job && !fs::exists(at / "9"));
     fs::remove(at / ".relkvanu-storage");
@@ -97,7 +100,8 @@ static void files_of_a_folder(const fs::path &at) {
     Folder it = opened(at, {true, "a \xff%s-", "\n.bin", "", ""});
     std::string found;
     CHECK(!it.put(7, "state") && !it.put(UINT64_MAX, "") && it.put(7, "other") == storage_error::present);
-    CHECK(!it.get(7, found) && found == "state" && !it.get(UINT64_MAX, found) && found.empty() && it.get(8, found) == storage_error::absent);
+    CHECK(!it.get(7, found) && found == "state" && !it.get(UINT64_MAX, found) && found.empty() &&
+        it.get(8, found) == storage_error::absent);
     CHECK(fs::exists(at / "a \xff%s-7\n.bin"));
     write_file(at / "a \xff%s-9\n.bin.part", "st");
     write_file(at / "a \xff%s-09\n.bin", "");
@@ -107,7 +111,8 @@ static void files_of_a_folder(const fs::path &at) {
     const std::uint64_t all[] = {5, 7, 8, 9, UINT64_MAX};
     deletion outcomes[5];
     CHECK(!it.remove(all, outcomes));
-    CHECK(outcomes[0] == deletion::undeleted && outcomes[1] == deletion::deleted && outcomes[2] == deletion::missing && outcomes[3] == deletion::deleted);
+    CHECK(outcomes[0] == deletion::undeleted && outcomes[1] == deletion::deleted && outcomes[2] == deletion::missing &&
+        outcomes[3] == deletion::deleted);
     CHECK(outcomes[4] == deletion::deleted && listed(it).empty() && fs::exists(at / "9") && fs::exists(at / "a \xff%s-09\n.bin"));
     CHECK(it.remove(files(all, 2), outcomes) == storage_error::bad_argument);
 }
@@ -117,7 +122,8 @@ static void links(const fs::path &at) {
     std::string found;
     write_file(at / "notes", "state");
     fs::create_symlink("notes", at / "7");
-    CHECK(listed(it).empty() && it.get(7, found) == std::errc::too_many_symbolic_link_levels && it.put(7, "other") == storage_error::present);
+    CHECK(listed(it).empty() && it.get(7, found) == std::errc::too_many_symbolic_link_levels &&
+        it.put(7, "other") == storage_error::present);
     const std::uint64_t file[] = {7};
     deletion outcome[1];
     CHECK(!it.remove(file, outcome) && outcome[0] == deletion::deleted && fs::exists(at / "notes") && !fs::is_symlink(at / "7"));
@@ -133,7 +139,8 @@ static void a_folder_that_is_removed(const fs::path &at) {
     write_file(at / "7", "");
     CHECK(!it.remove(file, outcome) && outcome[0] == deletion::missing && fs::exists(at / "7"));
     fs::remove_all(at.string() + "-away");
-    CHECK(it.check() == storage_error::not_there && it.put(8, "") == storage_error::not_there && it.remove(file, outcome) == storage_error::not_there);
+    CHECK(it.check() == storage_error::not_there && it.put(8, "") == storage_error::not_there &&
+        it.remove(file, outcome) == storage_error::not_there);
     CHECK(outcome[0] == deletion::undeleted && fs::exists(at / "7") && !fs::exists(at / "8"));
 }
 
@@ -151,7 +158,8 @@ static void killed_in_a_put(const fs::path &at) {
     }
     int status = 0;
     CHECK(waitpid(child, &status, 0) == child && WIFSIGNALED(status) && WTERMSIG(status) == SIGXFSZ);
-    CHECK((listed(it) == std::map<std::uint64_t, std::uint64_t>{{7, 1000}}) && !fs::exists(at / "7") && it.put(7, contents) == storage_error::present);
+    CHECK((listed(it) == std::map<std::uint64_t, std::uint64_t>{{7, 1000}}) && !fs::exists(at / "7") &&
+        it.put(7, contents) == storage_error::present);
     const std::uint64_t file[] = {7};
     deletion outcome[1];
     CHECK(!it.remove(file, outcome) && outcome[0] == deletion::deleted && !it.put(7, contents));
@@ -245,7 +253,8 @@ static void an_own_storage(const fs::path &) {
     objects.throws = false;
     CHECK(it.delete_files(it.with, all, 2, outcomes) == RELKVANU_STORAGE_OK && outcomes[0] == 1 && outcomes[1] == 2);
     objects.fault = std::make_error_code(std::errc::io_error);
-    CHECK(it.check(it.with) == RELKVANU_STORAGE_FAILED && errno == EIO && it.delete_files(it.with, all, 2, outcomes) == RELKVANU_STORAGE_FAILED && outcomes[1] == 0);
+    CHECK(it.check(it.with) == RELKVANU_STORAGE_FAILED && errno == EIO &&
+        it.delete_files(it.with, all, 2, outcomes) == RELKVANU_STORAGE_FAILED && outcomes[1] == 0);
     objects.fault = make_error_code(storage_error::other_job);
     CHECK(it.check(it.with) == RELKVANU_STORAGE_OTHER_JOB && objects.check().message() == "OtherJob");
 }
@@ -265,7 +274,8 @@ static void without_memory(const fs::path &at) {
         int refusals = 0, status = RELKVANU_STORAGE_NO_MEMORY;
         for (long room = 0; status == RELKVANU_STORAGE_NO_MEMORY; room++) {
             left_to_allocate = room;
-            status = one == &it ? one->put(one->with, 7, "a text that is longer than a short one of a string", 50) : one->get(one->with, 7, found, sizeof found, &len);
+            status = one == &it ? one->put(one->with, 7, "a text that is longer than a short one of a string", 50)
+                                : one->get(one->with, 7, found, sizeof found, &len);
             left_to_allocate = -1;
             refusals += status == RELKVANU_STORAGE_NO_MEMORY;
         }
