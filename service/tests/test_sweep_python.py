@@ -83,7 +83,8 @@ def metrics(port):
     """The names with their labels, and the help."""
     with urllib.request.urlopen(f"http://127.0.0.1:{port}/metrics", timeout=5) as told:
         text = told.read().decode()
-    return {line.rpartition(" ")[0] for line in text.splitlines() if not line.startswith("#")}, dict(re.findall(r"^# HELP (\S+) (.*)$", text, re.M))
+    names = {line.rpartition(" ")[0] for line in text.splitlines() if not line.startswith("#")}
+    return names, dict(re.findall(r"^# HELP (\S+) (.*)$", text, re.M))
 
 
 def test_the_same_metrics():
@@ -92,10 +93,10 @@ def test_the_same_metrics():
         ports = free_port(), free_port()
         words = ["--folder", place, "--prefix", "s-", "--delete", "--every", "1h"]
         path = f"{TOP}/embed/python:{SERVICE}/client/python"
+        commands = [PROGRAM, "sweep", "a", "--url", server.url], ["/usr/bin/python3", "-m", "relkvanu.sweep", "--job", "a", "--service", server.url]
         runs = [
-            subprocess.Popen([PROGRAM, "sweep", "a", "--url", server.url, *words, "--metrics", f"127.0.0.1:{ports[0]}"], stdout=subprocess.DEVNULL),
-            subprocess.Popen(["/usr/bin/python3", "-m", "relkvanu.sweep", "--job", "a", "--service", server.url, *words, "--metrics", f"127.0.0.1:{ports[1]}"],
-                             env={**os.environ, "PYTHONPATH": path}, stdout=subprocess.DEVNULL),
+            subprocess.Popen([*command, *words, "--metrics", f"127.0.0.1:{port}"], env={**os.environ, "PYTHONPATH": path}, stdout=subprocess.DEVNULL)
+            for command, port in zip(commands, ports)
         ]
 
         def serves(port):
@@ -116,9 +117,10 @@ def test_the_same_metrics():
 
 def discarded_by_python(server, place, *more, job="a"):
     """Its status, the files that it deleted, and its errors."""
-    words = ["/usr/bin/python3", "-m", "relkvanu.discard", "--service", server.url, "--job", job, "--folder", place, "--prefix", "s-", "--patience", "5s", *more]
-    path = f"{TOP}/embed/python:{SERVICE}/client/python"
-    told = subprocess.run(words, env={**os.environ, "PYTHONPATH": path}, stdout=subprocess.PIPE, stderr=subprocess.PIPE, text=True, timeout=60, check=False)
+    given = ["--service", server.url, "--job", job, "--folder", place, "--prefix", "s-", "--patience", "5s", *more]
+    environment = {**os.environ, "PYTHONPATH": f"{TOP}/embed/python:{SERVICE}/client/python"}
+    command = ["/usr/bin/python3", "-m", "relkvanu.discard", *given]
+    told = subprocess.run(command, env=environment, stdout=subprocess.PIPE, stderr=subprocess.PIPE, text=True, timeout=60, check=False)
     return told.returncode, sum(int(number) for number in re.findall("^deleted=([0-9]+)", told.stdout, re.M)), told.stderr
 
 

@@ -43,7 +43,8 @@ def address(text: str) -> Tuple[str, int]:
 
 def add_place(it: argparse.ArgumentParser) -> None:
     it.add_argument("--job", metavar="NAME", required=True, help="the job of the service")
-    it.add_argument("--service", metavar="URL", action="append", required=True, help="the service, as http://127.0.0.1:7780; again: its next address")
+    it.add_argument("--service", metavar="URL", action="append", required=True,
+                    help="the service, as http://127.0.0.1:7780; again: its next address")
     it.add_argument("--token-file", metavar="FILE", help="a file whose first line is a token")
     it.add_argument("--ca", metavar="FILE", help="certificates that https trusts, by default the system's")
     place = it.add_mutually_exclusive_group(required=True)

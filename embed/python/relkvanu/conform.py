@@ -49,8 +49,8 @@ class Finding:
 
 @dataclass
 class Dropped:
-    """Files that a task will not acknowledge: from this line on it has to give up their names, in a job with names. After a refusal it may not have
-    read the answer yet: `is_over` says that it has gone on since."""
+    """Files that a task will not acknowledge: from this line on it has to give up their names, in a job with names. After a refusal it may
+    not have read the answer yet: `is_over` says that it has gone on since."""
 
     line: int
     what: str

@@ -1,5 +1,6 @@
-"""Deletes the files that a job of the service hands out, from a bucket or a folder: it takes them, deletes them and reports each. For jobs with names
-alone: what it reports wrongly is garbage then, which a sweeper finds. Run one for each job; `relkvanu discard` does the same in a folder."""
+"""Deletes the files that a job of the service hands out, from a bucket or a folder: it takes them, deletes them and reports each. For jobs
+with names alone: what it reports wrongly is garbage then, which a sweeper finds. Run one for each job; `relkvanu discard` does the same in a
+folder."""
 import argparse
 import sys
 import time
@@ -26,7 +27,8 @@ def parser() -> argparse.ArgumentParser:
         prog="python3 -m relkvanu.discard", description=__doc__, epilog=USAGE, formatter_class=argparse.RawDescriptionHelpFormatter)
     add_place(it)
     it.add_argument("--once", action="store_true", help="end when no file waits")
-    it.add_argument("--patience", metavar="TIME", type=seconds, default=60.0, help="make a request to the service again for this time, by default 60s")
+    it.add_argument("--patience", metavar="TIME", type=seconds, default=60.0,
+                    help="make a request to the service again for this time, by default 60s")
     return it
 
 
@@ -45,7 +47,8 @@ class Discarder:
         return found
 
     def discard(self, files: List[int]) -> int:
-        """Deletes files and reports each. Returns how many may be there still. Raises NotThere or OtherJob, and then no file is reported as deleted."""
+        """Deletes files and reports each. Returns how many may be there still. Raises NotThere or OtherJob, and then no file of the batch is
+        reported."""
         failed = 0
         for begin in range(0, len(files), MOST):
             failed += self._discard_some(files[begin:begin + MOST])
@@ -84,13 +87,14 @@ def work(discarder: Discarder, once: bool) -> int:
 
 
 def run_once(given: argparse.Namespace, client: Any) -> int:
-    """Runs until it ends or the service or the storage does not answer. It opens the storage anew, so a disk that is mounted again is found."""
+    """Runs until it ends, or the service or the storage does not answer. It opens the storage anew, so a disk that is mounted again is
+    found."""
     service = client.Service(*given.service, token=token(given.token_file), patience=given.patience, ca=given.ca)
     job = service.job(given.job)
     try:
         if job.state().get("names") is not True:
-            raise Stop(LOOK_FIRST, f"the job {given.job} has no names, so a file that is reported wrongly would stay for good. It gets names by the call "
-                                   "fence, once, between the end of its tasks and their restart")
+            raise Stop(LOOK_FIRST, f"the job {given.job} has no names, so a file that is reported wrongly would stay for good. It gets names by "
+                                   "the call fence, once, between the end of its tasks and their restart")
         with place(given, Marker(*job.marker())) as storage:
             names = Names(given.prefix, given.suffix)
             check_names(storage, given.job, names)

@@ -1,5 +1,5 @@
-"""Other jobs whose files are in the same place. Each job that gives out names begins with 1, so two of them need names that differ. A discarder
-(`relkvanu discard`) writes down beside its marker how the files of its job are named: in `.relkvanu-JOB.names`."""
+"""Other jobs whose files are in the same place. Each job that gives out names begins with 1, so two of them need names that differ. A
+discarder (`relkvanu discard`) writes down beside its marker how the files of its job are named: in `.relkvanu-JOB.names`."""
 import json
 import posixpath
 from typing import Iterable, List, Optional, Protocol
@@ -50,8 +50,8 @@ def markers(found: Iterable[str], own: str) -> List[str]:
 
 
 def check_names(place: Place, job: str, names: Names) -> None:
-    """Raises OthersFiles if another job's marker is there and its files may have the names of this job's. If it is not known how they are named, this
-    one needs a prefix or a suffix. A bucket's prefix may have folders, in which the marker is."""
+    """Raises OthersFiles if another job's marker is there and its files may have the names of this job's. If it is not known how they are
+    named, this one needs a prefix or a suffix. A bucket's prefix may have folders, in which the marker is."""
     mine = Names(posixpath.basename(names.prefix), names.suffix)
     for other in markers(place.beside(MARK), MARK + job):
         if place.read_beside(other) == place.marker.text.encode():
@@ -62,7 +62,8 @@ def check_names(place: Place, job: str, names: Names) -> None:
         if theirs is not None and not mine.may_be_those_of(theirs):
             continue
         need = "so --prefix or --suffix is needed" + ("" if theirs is None else " that differs from its own")
-        raise OthersFiles(f"other jobs have files in the same place, as {other} says: {need}. If that job was deleted, delete {other} and {other}{NAMES}")
+        raise OthersFiles(f"other jobs have files in the same place, as {other} says: {need}. If that job was deleted, delete {other} and "
+                          f"{other}{NAMES}")
 
 
 def say_names(place: Place, job: str, names: Names) -> None:

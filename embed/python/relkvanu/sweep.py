@@ -79,8 +79,8 @@ def sweep(storage: SizedStorage, ask: Ask, delete: bool = False) -> Swept:
 
 @dataclass
 class Counts:
-    """What sweeps did since the command began, for metrics. `garbage` and `unissued` are those of the last whole sweep, and `ended` is when it came to
-    its end, in Unix time; before the first, when the command began."""
+    """What sweeps did since the command began, for metrics. `garbage` and `unissued` are those of the last whole sweep, and `ended` is when it
+    came to its end, in Unix time; before the first, when the command began."""
 
     deleted: int = 0
     deleted_bytes: int = 0
@@ -126,7 +126,8 @@ def parser() -> argparse.ArgumentParser:
     it.add_argument("--delete", action="store_true", help="delete the garbage; otherwise it is printed alone")
     it.add_argument("--every", metavar="TIME", type=seconds, help="begin again after this time, as 15m or 1h, until the command is ended")
     it.add_argument("--patience", metavar="TIME", type=seconds, default=60.0, help="make a request to the service again for this time, by default 60s")
-    it.add_argument("--metrics", metavar="ADDRESS", type=address, help="serve Prometheus' metrics at this address, as 127.0.0.1:7783, under /metrics")
+    it.add_argument("--metrics", metavar="ADDRESS", type=address,
+                    help="serve Prometheus' metrics at this address, as 127.0.0.1:7783, under /metrics")
     it.add_argument("--quiet", action="store_true", help="print no names, only the sums of each sweep")
     return it
 

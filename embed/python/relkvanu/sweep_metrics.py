@@ -19,13 +19,15 @@ class Sweeper(Collector):
         counts = self.counts
         yield self.files()
         yield self.of(CounterMetricFamily, "deleted_bytes", "Bytes of the files that were deleted.", counts.deleted_bytes)
-        yield self.of(CounterMetricFamily, "lost_requests", "Tries to reach the service that were not answered, or with an error that passes.", counts.lost)
-        yield self.of(GaugeMetricFamily, "unissued_files", "Files that the last sweep found whose names were never given out. Nobody deletes them.",
-                      counts.unissued)
+        yield self.of(CounterMetricFamily, "lost_requests", "Tries to reach the service that were not answered, or with an error that passes.",
+                      counts.lost)
+        yield self.of(GaugeMetricFamily, "unissued_files",
+                      "Files that the last sweep found whose names were never given out. Nobody deletes them.", counts.unissued)
         yield self.of(GaugeMetricFamily, "garbage_files", "Garbage that the last sweep found.", counts.garbage)
-        yield self.of(GaugeMetricFamily, "timestamp_seconds", "When a sweep last came to its end, in Unix time; before the first, when the sweeper began.",
-                      counts.ended)
-        yield self.of(GaugeMetricFamily, "interval_seconds", "How long after the begin of a sweep the next one begins; 0: never.", self.every)
+        yield self.of(GaugeMetricFamily, "timestamp_seconds",
+                      "When a sweep last came to its end, in Unix time; before the first, when the sweeper began.", counts.ended)
+        yield self.of(GaugeMetricFamily, "interval_seconds", "How long after the begin of a sweep the next one begins; 0: never.",
+                      self.every)
 
     def files(self) -> Any:
         found = CounterMetricFamily("relkvanu_sweep_files", "Garbage that was deleted, or could not be.", labels=["job_name", "outcome"])

@@ -223,8 +223,10 @@ class Sweeping(OnAServer):
         """In the folder of the bucket where the files are: a prefix has that before its own words."""
         self.s3.put_object(Bucket=self.bucket, Key="orders/.relkvanu-others", Body=b"")
         self.s3.put_object(Bucket=self.bucket, Key=".relkvanu-elsewhere", Body=b"")
-        for prefix, suffix, is_refused in (("state-", ".sst", True), ("state-", ".sst.part", True), ("orders/state-", ".sst", False), ("t-", ".sst", False)):
-            self.s3.put_object(Bucket=self.bucket, Key="orders/.relkvanu-others.names", Body=json.dumps({"prefix": prefix, "suffix": suffix}).encode())
+        for prefix, suffix, is_refused in (("state-", ".sst", True), ("state-", ".sst.part", True), ("orders/state-", ".sst", False),
+                                           ("t-", ".sst", False)):
+            said = json.dumps({"prefix": prefix, "suffix": suffix}).encode()
+            self.s3.put_object(Bucket=self.bucket, Key="orders/.relkvanu-others.names", Body=said)
             with self.assertRaises(OthersFiles) if is_refused else contextlib.nullcontext():
                 check_names(self.files, "orders", self.files.names)
         self.s3.delete_object(Bucket=self.bucket, Key="orders/.relkvanu-others.names")
@@ -239,7 +241,8 @@ class Sweeping(OnAServer):
         self.job.tick(30)
         self.job.ack_in(2, 30, 2, 0, 0, [9])
         self.job.take(1)
-        denied = {"Effect": "Deny", "Principal": "*", "Action": "s3:DeleteObject", "Resource": f"arn:aws:s3:::{self.bucket}/orders/state-6.sst"}
+        key = f"arn:aws:s3:::{self.bucket}/orders/state-6.sst"
+        denied = {"Effect": "Deny", "Principal": "*", "Action": "s3:DeleteObject", "Resource": key}
         self.s3.put_bucket_policy(Bucket=self.bucket, Policy=json.dumps({"Version": "2012-10-17", "Statement": [denied]}))
         discarder = Discarder(JobOfService(self.job), self.files)
         with contextlib.redirect_stdout(io.StringIO()), contextlib.redirect_stderr(io.StringIO()) as told:

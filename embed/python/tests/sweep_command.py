@@ -118,12 +118,13 @@ class Command(unittest.TestCase):
         (self.path / ".relkvanu-others").write_text("", encoding="utf-8")
         (self.path / "state-4.bin.part").write_bytes(b"of the other job")
         said = self.path / ".relkvanu-others.names"
-        for prefix, suffix, status in (("state-", ".bin", 78), ("state-", ".bin.part", 78), ("state-1", ".bin", 78), ("state-", "", 3), ("other-", ".bin", 3),
-                                       ("state-", ".txt", 3), ("", "", 3)):
+        for prefix, suffix, status in (("state-", ".bin", 78), ("state-", ".bin.part", 78), ("state-1", ".bin", 78), ("state-", "", 3),
+                                       ("other-", ".bin", 3), ("state-", ".txt", 3), ("", "", 3)):
             said.write_text(json.dumps({"prefix": prefix, "suffix": suffix}) + "\n", encoding="utf-8")
             found, told, errors = self.run_it("--delete" if status == 78 else "--quiet")
             self.assertEqual((found, len(told)), (status, 0 if status == 78 else 1), (prefix, suffix))
-            self.assertEqual(".relkvanu-others says: so --prefix or --suffix is needed that differs from its own" in errors, status == 78, errors)
+            need = ".relkvanu-others says: so --prefix or --suffix is needed that differs from its own"
+            self.assertEqual(need in errors, status == 78, errors)
         self.assertTrue((self.path / "state-4.bin.part").exists())
         self.assertTrue((self.path / "state-4.bin").exists())
 
@@ -149,15 +150,17 @@ class Command(unittest.TestCase):
         port, began = free_port(), time.time()
         with served(self.job) as url:
             words = ["--service", url, *self.words[2:], "--delete", "--every", "1s", "--quiet", "--metrics", f"127.0.0.1:{port}"]
-            sweeper = subprocess.Popen([sys.executable, "-m", "relkvanu.sweep", *words], stdout=subprocess.DEVNULL, stderr=subprocess.DEVNULL)
+            command = [sys.executable, "-m", "relkvanu.sweep", *words]
+            sweeper = subprocess.Popen(command, stdout=subprocess.DEVNULL, stderr=subprocess.DEVNULL)
             self.addCleanup(sweeper.wait)
             self.addCleanup(sweeper.kill)
             told = self.until(port, lambda it: it.get(DELETED) == 2 and it["relkvanu_sweep_unissued_files"] == 1)
             ended = told.pop("relkvanu_sweep_timestamp_seconds")
             self.assertGreaterEqual(ended, began)
             self.assertEqual(told, {
-                DELETED: 2, 'relkvanu_sweep_files_total,outcome="failed"': 0, "relkvanu_sweep_deleted_bytes_total": 12, "relkvanu_sweep_garbage_files": 2,
-                "relkvanu_sweep_unissued_files": 1, "relkvanu_sweep_lost_requests_total": 0, "relkvanu_sweep_interval_seconds": 1})
+                DELETED: 2, 'relkvanu_sweep_files_total,outcome="failed"': 0, "relkvanu_sweep_deleted_bytes_total": 12,
+                "relkvanu_sweep_garbage_files": 2, "relkvanu_sweep_unissued_files": 1, "relkvanu_sweep_lost_requests_total": 0,
+                "relkvanu_sweep_interval_seconds": 1})
             self.job.restore(20)
             told = self.until(port, lambda it: it[DELETED] == 3 and it["relkvanu_sweep_garbage_files"] == 0)
             self.assertEqual(told["relkvanu_sweep_deleted_bytes_total"], 12 + 7)
@@ -218,7 +221,8 @@ class Command(unittest.TestCase):
 
     def test_wrong_words(self):
         addresses = ("7783", "localhost:7783", "127.0.0.1:", "127.0.0.1:65536", "[127.0.0.1]:7783", "::1:7783")
-        for words in (*(["--metrics", it] for it in addresses), ["--prefix", "a/"], ["--suffix", "/b"], ["--every", "0"], ["--every", "1w"], ["--bucket", "b"], ["--deleet"]):
+        for words in (*(["--metrics", it] for it in addresses),
+                      ["--prefix", "a/"], ["--suffix", "/b"], ["--every", "0"], ["--every", "1w"], ["--bucket", "b"], ["--deleet"]):
             status, told, _ = self.run_it(*words)
             self.assertEqual((status, told), (2, []), words)
         self.assertEqual(self.run_it(given=["--service", "http://127.0.0.1:9", "--job", "orders"])[0], 2)

@@ -226,22 +226,25 @@ class WithNames(Judging):
             lines = [*written, last]
             self.breaks(lines, 8, len(lines), "file 2 is left")
             self.breaks([*lines, "log synced", "task 0.0 1 keeps 7"], 8, len(lines), "file 2 is left")
-            for later in (["forfeit 1 2", "log synced"], ["task 0.0 1 keeps 2"], ["restore 20 latest", "log synced"], ["cancel 20"], ["process 1 ends"]):
+            for later in (["forfeit 1 2", "log synced"], ["task 0.0 1 keeps 2"], ["restore 20 latest", "log synced"], ["cancel 20"],
+                          ["process 1 ends"]):
                 self.assertEqual(check([*lines, *later]), [], later)
-        self.assertIn("rule 8: a sweep deletes only garbage, and a task gives up the names that it will not acknowledge: task 0.0 1 declines record 2",
-                      str(check(lines)[0]))
+        words = "rule 8: a sweep deletes only garbage, and a task gives up the names that it will not acknowledge: task 0.0 1 declines record 2"
+        self.assertIn(words, str(check(lines)[0]))
         self.assertEqual(check([*written, "forfeit 1 2", "log synced", "task 0.0 1 sends decline 2"]), [])
 
     def test_8_a_file_that_a_task_keeps_for_a_later_record(self):
         whole, tolerant = named(1, 1), [line.replace("config 10 0 1 1000 0", "config 10 0 1 1000 5") for line in NAMED]
-        kept = [*tolerant, *whole[:whole.index("task 0.0 1 sends ack 1 +1")], "task 0.0 1 gives up 1", "task 0.0 1 keeps 1", "from 0.0 1", "in 1 decline 10 1 0.0", "log synced"]
+        kept = [*tolerant, *whole[:whole.index("task 0.0 1 sends ack 1 +1")], "task 0.0 1 gives up 1", "task 0.0 1 keeps 1", "from 0.0 1",
+                "in 1 decline 10 1 0.0", "log synced"]
         later = [*kept, "tick 20", "log synced", "barrier 2 to 0.0 1", "task 0.0 1 begins 2", "task 0.0 1 sends ack 2 +1", "from 0.0 1",
                  "in 1 ack 20 2 0.0 +1", "log synced", "answer to 0.0 1 accepted"]
         self.assertEqual(check(later), [])
         self.breaks([*kept, "task 0.0 1 gives up 2"], 8, len(kept) + 1, "file 1 is left")
 
     def test_8_a_refused_message(self):
-        """A task that goes on has read the answer. One whose message is under way, or that may not have read it yet, has not given up the name late."""
+        """A task that goes on has read the answer. One whose message is under way, or that may not have read it yet, has not given up the name
+        late."""
         whole = named(1, 1)
         sent = [*NAMED, *whole[:whole.index("task 0.0 1 sends ack 1 +1") + 1]]
         self.assertEqual(check([*sent, "task 0.0 1 gives up 1"]), [], "it is under way, and may be accepted")

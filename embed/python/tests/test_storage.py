@@ -32,7 +32,8 @@ class NamesOfTwoJobs(unittest.TestCase):
         for one, other, may_be in (
             (("", ""), ("", ""), True), (("s-", ".bin"), ("s-", ".bin"), True), (("s-", ".bin"), ("t-", ".bin"), False),
             (("s-", ".bin"), ("s-", ".txt"), False), (("s-", ".bin"), ("s-", ".bin.part"), True), (("a", ""), ("a1", ""), True),
-            (("", "2"), ("1", ""), True), (("a", ""), ("ab", ""), False), (("s-", ""), ("", ""), False), (("a", ""), ("a\u0661", ""), False),
+            (("", "2"), ("1", ""), True), (("a", ""), ("ab", ""), False), (("s-", ""), ("", ""), False),
+            (("a", ""), ("a\u0661", ""), False),
         ):
             one, other = Names(*one), Names(*other)
             self.assertEqual((one.may_be_those_of(other), other.may_be_those_of(one)), (may_be, may_be), (one.of(7), other.of(7)))
