@@ -9,6 +9,7 @@
 #include "relkvanu_storage.h"
 
 #include <cerrno>
+#include <exception>
 #include <functional>
 #include <new>
 #include <string>
