@@ -155,9 +155,33 @@ void Steps::of_crashes() {
     }
 }
 
+// Somebody copies the log, and puts the copy in its place once the process has ended: a backup, or a snapshot of a machine.
+void Steps::of_copies() {
+    const bool may = !scope.is_on[NEWEST_LOG] && scope.is_on[ONE_LOG], has_copy = from->old.number != 0;
+    if (offer_fault(may && !has_copy && !from->is_down)) {
+        next.old = from->durable;
+        tell("log copied");
+        if (log) {
+            log->copied = log->durable;
+        }
+        made();
+    }
+    if (offer_fault(may && has_copy && from->is_down)) {
+        next.current = next.durable = from->old;
+        next.old = Process{};
+        tell("log put back");
+        if (log) {
+            log->lines.resize(log->copied);
+            log->durable = log->copied;
+        }
+        made();
+    }
+}
+
 void Steps::of_process() {
     of_triggers();
     of_restores();
     of_endings();
+    of_copies();
     of_crashes();
 }

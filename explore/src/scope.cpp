@@ -28,7 +28,8 @@ static const Named RULE[RULES] = {
     {"synced-folder", "9: a file is reported as deleted when the folder is synced"},
     {"mounted-delete", "9: a file that is not found counts as deleted only if the storage is there"},
     {"mounted-write", "10: a task writes only if the storage is there"},
-    {"give-back", "8, with names: a task gives back the names that it won't acknowledge"}};
+    {"give-back", "8, with names: a task gives back the names that it won't acknowledge"},
+    {"newest-log", "1: a process begins with the newest log, not with a copy that was taken before"}};
 
 static const Named BUDGET[BUDGETS] = {
     {"trig", "checkpoints that are triggered"},

@@ -7,7 +7,7 @@
 // The rules of an engine, each of which can be switched off. scope.cpp says what they demand.
 enum Rule {
     SYNC, FSYNC, FENCE, TERM_AT_START, RESTART_RESTORES, ONE_LOG, NO_TASK_DELETES, NEW_NAME, OWN_NAME, SWEEP_STOPPED, SWEEP_RESTORED,
-    SYNCED_FOLDER, MOUNTED_DELETE, MOUNTED_WRITE, GIVE_BACK, RULES
+    SYNCED_FOLDER, MOUNTED_DELETE, MOUNTED_WRITE, GIVE_BACK, NEWEST_LOG, RULES
 };
 
 // How often a search lets something happen.

@@ -135,6 +135,19 @@ class Checker:
         del self.world.log.lines[self.world.log.synced:]
         self.durable.logged = set()
 
+    def on_log_copied(self, _: Event) -> None:
+        self.world.log.copied = self.world.log.synced
+
+    def on_log_put_back(self, _: Event) -> None:
+        log = self.world.log
+        if log.copied is None:
+            raise NoTrace("the log was not copied")
+        lost = log.synced - log.copied
+        if lost > 0:
+            self.broken(1, f"a log is put back that lacks the last {lost} synced lines")
+        del log.lines[log.copied:]
+        log.synced, self.durable.logged = log.copied, set()
+
     def on_call(self, event: Event) -> None:
         sender, self.world.sender = self.world.sender, None
         word, *rest = event.line.split()

@@ -88,6 +88,15 @@ class Breaking(Judging):
         self.breaks(without(WHOLE, "log synced"), 1, 5)
         self.breaks(without([*WHOLE, *RESTART], "log synced", 7), 1, len(WHOLE) + 6)
 
+    def test_1_an_old_log_is_put_back(self):
+        """What was acted on since is not in it. A copy that lacks nothing does no harm."""
+        copied = [*OPENING, *checkpoint(1, 1), "log copied"]
+        ended = ["process 1 ends", "log cut", "log put back", "process 2 starts", "restore 20 latest", "log synced"]
+        lines = [*copied, *checkpoint(2, 2), *DISCARD, *ended]
+        self.breaks(lines, 1, lines.index("log put back") + 1, "file 1 is lost: record 1")
+        self.assertIn("a log is put back that lacks the last 4 synced lines", str(check(lines)[0]))
+        self.assertEqual(check([*copied, *ended]), [])
+
     def test_2_a_file_is_synced(self):
         at = WHOLE.index("task 0.0 1 sends ack 1 +1")
         self.breaks(without(WHOLE, "task 0.0 1 syncs 1"), 2, at, "file 1 is lost: record 1")
@@ -299,6 +308,9 @@ class Damaged(unittest.TestCase):
     def test_an_opening_that_is_none(self):
         self.refuses(["process 1 starts", "tick 10", "job 1", "start 0"], 4)
         self.refuses(["tick 10"], 1)
+
+    def test_a_log_that_was_not_copied(self):
+        self.refuses([*OPENING, "process 1 ends", "log put back"], 8)
 
     def test_a_process_that_has_ended(self):
         self.refuses([*OPENING, "process 1 ends", "tick 10"], 8)
