@@ -45,7 +45,8 @@ static const Named BUDGET[BUDGETS] = {
     {"canc", "cancels"},
     {"undel", "files that are reported as not deleted"},
     {"name", "names of files, at most 30"},
-    {"msg", "messages that are under way at once, at most 6"}};
+    {"msg", "messages that are under way at once, at most 6"},
+    {"scale", "restores with another parallelism, of one and of two subtasks"}};
 
 Scope scope;
 
@@ -106,6 +107,9 @@ static void check_scope() {
     if (scope.subtasks < 1 || scope.subtasks > 2 || scope.at_once < 1 || scope.at_once > 3 || limit[MESSAGES] > 6 || limit[NAMES] > 30 ||
         limit[TRIGGERS] + limit[SAVEPOINTS] > 30) {
         die("out of range: --subtasks 1 or 2, --at-once 1 to 3, msg up to 6, name up to 30, trig and save up to 30 together");
+    }
+    if (limit[SCALES] > 0 && scope.subtasks != 2) {
+        die("scale is for --subtasks 2, with which a job begins");
     }
 }
 

@@ -13,12 +13,12 @@ enum Rule {
 // How often a search lets something happen.
 enum Budget {
     TRIGGERS, SAVEPOINTS, DISPOSALS, RESTORES, CRASHES, DUPLICATES, POWER_LOSSES, DECLINES, ZOMBIE_BARRIERS, UNMOUNTS, CANCELS, UNDELETED,
-    NAMES, MESSAGES, BUDGETS
+    NAMES, MESSAGES, SCALES, BUDGETS
 };
 
 struct Scope {
     bool is_on[RULES];
-    unsigned limit[BUDGETS] = {3, 0, 0, 1, 0, 1, 0, 0, 1, 0, 0, 0, 4, 3};
+    unsigned limit[BUDGETS] = {3, 0, 0, 1, 0, 1, 0, 0, 1, 0, 0, 0, 4, 3, 0};
     bool names = false;        // the coordinator has terms and gives the names
     bool checks_leaks = true;  // else only lost files and mixed records are looked for
     bool may_write_nothing = true, may_keep = true;

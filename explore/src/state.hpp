@@ -14,7 +14,8 @@ struct Process {
     u32 image;
     u8 term;   // how many restores it made: the engine's own fence
     u8 number; // of the process
-    u8 unused[2];
+    u8 width;  // how many subtasks the job has
+    u8 unused;
 };
 
 // What the network brought a task back.

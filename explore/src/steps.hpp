@@ -66,7 +66,7 @@ private:
     void recover();
     void report_taken();
     void sweep_known();
-    Answer restore(u8 savepoint);
+    Answer restore(u8 savepoint, u8 width);
     void start();
     void send_barriers(u8 record);
 
