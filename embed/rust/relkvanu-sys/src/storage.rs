@@ -1,4 +1,5 @@
-//! The functions, structs and numbers of `include/relkvanu_storage.h`, and those of `include/relkvanu_store.h` that take a storage.
+//! The functions, structs and numbers of `include/relkvanu_storage.h`, and those of `include/relkvanu_store.h` that take a storage. A test of
+//! the crate `relkvanu` compares the numbers with the header.
 use crate::store::relkvanu_store;
 use std::ffi::{c_char, c_int, c_void};
 
