@@ -23,7 +23,7 @@ LIBRARY = build/librelkvanu.a build/librelkvanu.so.0
 STORE := $(if $(wildcard build/librelkvanu-store.a)$(shell pkg-config --exists sqlite3 zlib 2> /dev/null && echo yes),build/librelkvanu-store.a)
 PROGRAMS = ckpt_job ckpt_log ckpt_chart ckpt_demo
 VERSION := $(shell sed -n 's/^\#define RELKVANU_VERSION "\(.*\)"/\1/p' include/relkvanu.h)
-HEADERS = include/relkvanu.h include/relkvanu.hpp include/relkvanu_alloc.h $(if $(STORE),include/relkvanu_store.h include/relkvanu_store.hpp)
+HEADERS = include/relkvanu.h include/relkvanu.hpp include/relkvanu_alloc.h $(if $(STORE),include/relkvanu_store.h include/relkvanu_store.hpp include/relkvanu_storage.h include/relkvanu_storage.hpp)
 into = $(DESTDIR)$(PREFIX)
 libraries = $(DESTDIR)$(LIBDIR)
 filled = sed -e 's|@PREFIX@|$(PREFIX)|g' -e 's|@LIBDIR@|$(patsubst $(PREFIX)/%,$${prefix}/%,$(LIBDIR))|g' -e 's|@VERSION@|$(VERSION)|g'
@@ -51,7 +51,7 @@ build/librelkvanu.a: $(ARCHIVE) embed/c/heap.c embed/c/text.c embed/c/version.c 
 
 build/librelkvanu.so.0: build/librelkvanu.a
 
-build/librelkvanu-store.a: build/librelkvanu.a $(wildcard embed/store/src/*) include/relkvanu_store.h
+build/librelkvanu-store.a: build/librelkvanu.a $(wildcard embed/store/src/*) include/relkvanu_store.h include/relkvanu_storage.h
 	embed/store/library build
 
 $(PAGES)/docs: $(wildcard docs/*.md) $(wildcard packaging/man/*.3) $(HEADERS) embed/samples packaging/pages packaging/man_pages
@@ -77,7 +77,7 @@ install: $(LIBRARY) $(STORE) $(PAGES)/docs
 	$(filled) packaging/relkvanu-config-version.cmake.in | $(INSTALL) -m 644 /dev/stdin $(libraries)/cmake/relkvanu/relkvanu-config-version.cmake
 	$(INSTALL) -m 644 packaging/relkvanu-config.cmake $(libraries)/cmake/relkvanu
 	$(INSTALL) -m 644 $(PAGES)/packaging/man/*.3 $(into)/share/man/man3
-	[ -n "$(STORE)" ] || rm -f $(into)/share/man/man3/relkvanu_store*.3
+	[ -n "$(STORE)" ] || rm -f $(into)/share/man/man3/relkvanu_store*.3 $(into)/share/man/man3/relkvanu_storage*.3
 	$(INSTALL) -m 644 $(PAGES)/docs/*.md $(into)/share/doc/relkvanu
 	$(INSTALL) -m 644 examples/*.script examples/*.stdout $(into)/share/doc/relkvanu/examples
 	cp -R $(PAGES)/samples/. $(into)/share/doc/relkvanu/examples/engine
@@ -97,6 +97,7 @@ uninstall:
 	rm -f $(HEADERS:include/%=$(into)/include/%)
 	rm -f $(libraries)/librelkvanu.a $(libraries)/librelkvanu.so $(libraries)/librelkvanu.so.0 $(libraries)/pkgconfig/relkvanu.pc
 	rm -f $(libraries)/librelkvanu-store.* $(libraries)/pkgconfig/relkvanu-store.pc $(into)/include/relkvanu_store.h $(into)/include/relkvanu_store.hpp
+	rm -f $(into)/include/relkvanu_storage.h $(into)/include/relkvanu_storage.hpp
 	rm -f $(into)/share/man/man3/relkvanu.3 $(into)/share/man/man3/relkvanu_*.3
 	rm -f $(patsubst %,$(into)/bin/%,$(PROGRAMS) relkvanu) $(PROGRAMS:%=$(into)/share/man/man1/%.1) $(into)/share/man/man1/relkvanu.1 $(into)/share/man/man1/relkvanu-*.1
 	rm -rf $(libraries)/cmake/relkvanu $(into)/share/doc/relkvanu

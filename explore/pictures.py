@@ -77,7 +77,7 @@ class Picture:
             self.note("storage", line.removeprefix("storage "), ', textbgcolour="#ffd0a0"')
         elif line == "folder synced":
             self.note("storage", line)
-        elif line in ("log synced", "log cut"):
+        elif line in ("log synced", "log cut", "log copied", "log put back"):
             self.note(self.process, line)
         elif line.startswith("term "):
             self.arcs.append(f'--- [label="{line}"];')

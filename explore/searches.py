@@ -61,9 +61,9 @@ def explore(program, words, seconds=600):
     return Explored(ran.returncode, trace, found.group(1) if found else "", told)
 
 
-def rules():
-    """The rules as relkvanu-conform says them."""
-    words = "import relkvanu.conform; print(relkvanu.conform.RULES)"
+def rules(table):
+    """The rules as relkvanu-conform says them: RULES, or NAMED_RULES."""
+    words = f"import relkvanu.conform; print(relkvanu.conform.{table})"
     return ast.literal_eval(subprocess.run([sys.executable, "-c", words], cwd=PYTHON, stdout=subprocess.PIPE, text=True, check=True).stdout)
 
 

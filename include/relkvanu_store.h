@@ -36,6 +36,7 @@
 #ifndef RELKVANU_STORE_H
 #define RELKVANU_STORE_H
 #include "relkvanu.h"
+#include "relkvanu_storage.h"
 
 #ifdef __cplusplus
 extern "C" {
@@ -284,7 +285,20 @@ void relkvanu_store_delete_files(void *store, const uint64_t *files, size_t file
  * read or synced. */
 int relkvanu_store_sweep(relkvanu_store *store, size_t *left);
 
-/* Lets relkvanu_store_await_tick and relkvanu_store_discard return RELKVANU_STORE_STOPPED, now and later. What was taken is reported first. What waits is
+/* The folder options.storage as a storage (relkvanu_storage.h), which needs no closing, and whose functions may be called until the store is closed. Its
+ * put is relkvanu_store_put. RELKVANU_STORE_BAD_ARGUMENT: there is no folder. */
+int relkvanu_store_storage(relkvanu_store *store, relkvanu_storage *storage);
+
+/* As relkvanu_store_discard, with deletions in a storage: that of the engine (an object store, say), a folder of relkvanu_storage_open_folder, or
+ * the store's own. It has check, delete_files and list; the others may be NULL. RELKVANU_STORE_BAD_ARGUMENT otherwise. If the storage is that of another
+ * job, RELKVANU_STORE_STORAGE; while it is not there, no file counts as gone, and it tries again. With options.storage both have to be the job's. */
+int relkvanu_store_discard_storage(relkvanu_store *store, size_t batch, const relkvanu_storage *storage);
+
+/* As relkvanu_store_sweep, of such a storage. RELKVANU_STORE_STORAGE: it is not there, it is another job's, or it was not listed or not swept to its end.
+ * RELKVANU_STORE_NO_MEMORY: part of it may be swept. */
+int relkvanu_store_sweep_storage(relkvanu_store *store, const relkvanu_storage *storage, size_t *left);
+
+/* Lets relkvanu_store_await_tick, relkvanu_store_discard and relkvanu_store_discard_storage return RELKVANU_STORE_STOPPED, now and later. What was taken is reported first. What waits is
  * left for the next opening: an engine that is to leave no file stops when relkvanu_file_counts in a read has no waiting and no taken ones. */
 void relkvanu_store_stop(relkvanu_store *store);
 

@@ -37,7 +37,7 @@ static relkvanu_answer make_plain(relkvanu *handle, const Facts &facts, const Ca
     case ACK: return relkvanu_ack(handle, now, call.record, 0, call.subtask, fresh, call.file ? 1 : 0, reused.data(), reused.size());
     case DECLINE: return relkvanu_decline(handle, now, call.record, 0, call.subtask);
     case DISPOSE: return relkvanu_dispose(handle, call.record);
-    case RESTORE: return relkvanu_restore(handle, now, call.record, nullptr, 0);
+    case RESTORE: return relkvanu_restore(handle, now, call.record, fresh, call.file ? 1 : 0);
     case CANCEL: return relkvanu_cancel(handle, now);
     case TAKE: return relkvanu_take(handle, taken, 1);
     case DELETE: return relkvanu_deleted(handle, call.file);
@@ -59,7 +59,7 @@ std::string Library::line(u32 image, const Call &call) {
     const std::vector<u64> reused = list_of(call.reused);
     const u64 term = scope.names && has_term(call) ? call.term : 0;
     const relkvanu_call said = {kinds[call.kind], 0, call.subtask, moment_of(facts(image), call.kind), number, term};
-    const size_t fresh_len = call.file && (call.kind == ACK || call.kind == FORFEIT) ? 1 : 0, reused_len = call.kind == ACK ? reused.size() : 0;
+    const size_t fresh_len = call.file && (call.kind == ACK || call.kind == FORFEIT || call.kind == RESTORE) ? 1 : 0, reused_len = call.kind == ACK ? reused.size() : 0;
     u8 text[512];
     const relkvanu_answer written = relkvanu_call_line(&said, fresh, fresh_len, reused.data(), reused_len, text, sizeof text);
     if (written.code != RELKVANU_DONE) {

@@ -13,7 +13,7 @@
 enum Kind : u8 { TICK = 1, EXPIRE, SAVE, ACK, DECLINE, DISPOSE, RESTORE, CANCEL, TAKE, DELETE, UNDELETE, RESERVE, FORFEIT };
 
 struct Call {
-    u8 kind, subtask, record, file; // file: a fresh one, or 0; for a report the file that it is about
+    u8 kind, subtask, record, file; // file: a fresh one, or 0; for a report the file that it is about; for a restore its shape, if it is a new one
     Files reused;
     u8 term = 0; // of the task, if the coordinator has names
 };

@@ -6,9 +6,11 @@ void Steps::send_barriers(u8 record) {
     const Facts &now = library.facts(next.current.image);
     for (unsigned place = 0; place < scope.subtasks; place++) {
         Task &task = next.tasks[place];
-        task.barrier = record;
-        task.barrier_base = now.base[task.subtask];
-        tell("barrier %u to 0.%u %u", record, task.subtask, task.incarnation);
+        if (task.incarnation != 0) {
+            task.barrier = record;
+            task.barrier_base = now.base[task.subtask];
+            tell("barrier %u to 0.%u %u", record, task.subtask, task.incarnation);
+        }
     }
 }
 
@@ -41,16 +43,17 @@ void Steps::of_triggers() {
     }
 }
 
-Answer Steps::restore(u8 savepoint) {
-    const Answer answer = call(&next.current, {RESTORE, 0, savepoint, 0, 0});
+Answer Steps::restore(u8 savepoint, u8 width) {
+    const Answer answer = call(&next.current, {RESTORE, 0, savepoint, width == next.current.width ? u8(0) : width, 0});
     next.current.term += answer.is_done();
+    next.current.width = answer.is_done() ? width : next.current.width;
     sync_log();
     return answer;
 }
 
 void Steps::start() {
     start_tasks(&next);
-    for (unsigned place = 0; place < scope.subtasks; place++) {
+    for (unsigned place = 0; place < next.current.width; place++) {
         tell_task(next.tasks[place], "starts");
     }
 }
@@ -69,13 +72,21 @@ void Steps::of_restores() {
     for (unsigned place = 0; place <= MOST_RECORDS && (place == 0 || facts->savepoints[place - 1]); place++) {
         if (offer_fault(may)) {
             use(RESTORES);
-            restore(place == 0 ? 0 : facts->savepoints[place - 1]);
+            restore(place == 0 ? 0 : facts->savepoints[place - 1], from->current.width);
             if (scope.is_on[SWEEP_RESTORED]) {
                 sweep_known();
             }
             start();
             made();
         }
+    }
+    if (offer_fault(may && may_use(SCALES))) {
+        use(RESTORES);
+        use(SCALES);
+        restore(0, u8(3 - from->current.width));
+        sweep_known();
+        start();
+        made();
     }
     if (offer_fault(may && !scope.is_on[RESTART_RESTORES])) {
         use(RESTORES);
@@ -122,7 +133,7 @@ void Steps::recover() {
     if (!scope.is_on[SWEEP_RESTORED] && !scope.names) {
         sweep_known(); // and it restores the job later
     } else if (!library.facts(next.current.image).is_cancelled) {
-        restore(0);
+        restore(0, next.current.width);
         sweep_known();
         start();
     }
@@ -155,9 +166,33 @@ void Steps::of_crashes() {
     }
 }
 
+// Somebody copies the log, and puts the copy in its place once the process has ended: a backup, or a snapshot of a machine.
+void Steps::of_copies() {
+    const bool may = !scope.is_on[NEWEST_LOG] && scope.is_on[ONE_LOG], has_copy = from->old.number != 0;
+    if (offer_fault(may && !has_copy && !from->is_down)) {
+        next.old = from->durable;
+        tell("log copied");
+        if (log) {
+            log->copied = log->durable;
+        }
+        made();
+    }
+    if (offer_fault(may && has_copy && from->is_down)) {
+        next.current = next.durable = from->old;
+        next.old = Process{};
+        tell("log put back");
+        if (log) {
+            log->lines.resize(log->copied);
+            log->durable = log->copied;
+        }
+        made();
+    }
+}
+
 void Steps::of_process() {
     of_triggers();
     of_restores();
     of_endings();
+    of_copies();
     of_crashes();
 }

@@ -28,7 +28,8 @@ static const Named RULE[RULES] = {
     {"synced-folder", "9: a file is reported as deleted when the folder is synced"},
     {"mounted-delete", "9: a file that is not found counts as deleted only if the storage is there"},
     {"mounted-write", "10: a task writes only if the storage is there"},
-    {"give-back", "with names: a task gives back the names that it won't acknowledge"}};
+    {"give-back", "8, with names: a task gives back the names that it won't acknowledge"},
+    {"newest-log", "1: a process begins with the newest log, not with a copy that was taken before"}};
 
 static const Named BUDGET[BUDGETS] = {
     {"trig", "checkpoints that are triggered"},
@@ -44,7 +45,8 @@ static const Named BUDGET[BUDGETS] = {
     {"canc", "cancels"},
     {"undel", "files that are reported as not deleted"},
     {"name", "names of files, at most 30"},
-    {"msg", "messages that are under way at once, at most 6"}};
+    {"msg", "messages that are under way at once, at most 6"},
+    {"scale", "restores with another parallelism, of one and of two subtasks"}};
 
 Scope scope;
 
@@ -105,6 +107,9 @@ static void check_scope() {
     if (scope.subtasks < 1 || scope.subtasks > 2 || scope.at_once < 1 || scope.at_once > 3 || limit[MESSAGES] > 6 || limit[NAMES] > 30 ||
         limit[TRIGGERS] + limit[SAVEPOINTS] > 30) {
         die("out of range: --subtasks 1 or 2, --at-once 1 to 3, msg up to 6, name up to 30, trig and save up to 30 together");
+    }
+    if (limit[SCALES] > 0 && scope.subtasks != 2) {
+        die("scale is for --subtasks 2, with which a job begins");
     }
 }
 

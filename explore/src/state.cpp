@@ -45,7 +45,7 @@ void start_tasks(State *state) {
     }
     state->incarnation++;
     for (unsigned subtask = 0; subtask < scope.subtasks; subtask++) {
-        state->tasks[subtask] = task_of(*state, subtask);
+        state->tasks[subtask] = subtask < state->current.width ? task_of(*state, subtask) : Task{};
     }
 }
 
@@ -86,6 +86,7 @@ State first_state() {
     memset(static_cast<void *>(&state), 0, sizeof state);
     state.current.image = library.opening();
     state.current.term = state.current.number = state.processes = 1;
+    state.current.width = u8(scope.subtasks);
     state.durable = state.current;
     start_tasks(&state);
     return state;

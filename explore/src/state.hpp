@@ -14,7 +14,8 @@ struct Process {
     u32 image;
     u8 term;   // how many restores it made: the engine's own fence
     u8 number; // of the process
-    u8 unused[2];
+    u8 width;  // how many subtasks the job has
+    u8 unused;
 };
 
 // What the network brought a task back.
@@ -54,7 +55,8 @@ public:
 
 // It has no padding, because the hash reads all of it.
 struct State {
-    Process current, durable, old; // the process, what its log holds, and an older process that goes on (without ONE_LOG)
+    Process current, durable, old; // the process, what its log holds, and an older process that goes on (without ONE_LOG; has_old), or what
+                                   // a copy of the log holds (without NEWEST_LOG)
     Files visible, kept;           // what the storage shows, and what it shows after a loss of power
     Files may_sweep;               // files that a sweeper has leave to delete, for ever
     Files may_unlink;              // files that a discarder was ever given: one that should be dead deletes them at any time

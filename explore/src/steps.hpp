@@ -11,7 +11,7 @@
 // The lines of the log in a random run, and how many of them are durable.
 struct Log {
     std::vector<std::string> lines;
-    size_t durable = 0;
+    size_t durable = 0, copied = 0;
 };
 
 class Steps {
@@ -62,10 +62,11 @@ private:
     void of_restores();
     void of_endings();
     void of_crashes();
+    void of_copies();
     void recover();
     void report_taken();
     void sweep_known();
-    Answer restore(u8 savepoint);
+    Answer restore(u8 savepoint, u8 width);
     void start();
     void send_barriers(u8 record);
 

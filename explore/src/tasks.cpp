@@ -165,6 +165,7 @@ void Steps::give_up(unsigned place) {
     if (offer_fault(may_keep && (scope.names || task.sent == 0 || !scope.is_on[NEW_NAME]))) {
         clear_work(&next.tasks[place], true);
         tell_task(task, "gives up %u", task.record);
+        tell_task(task, "keeps %u", task.file);
         made();
     }
 }

@@ -1,8 +1,11 @@
 """python3 -m relkvanu.sweep over the service: it finds the same garbage as `relkvanu sweep`, and deletes nothing in a place that is another job's."""
+import json
 import os
+import re
 import subprocess
+import urllib.request
 
-from harness import SERVICE, TOP
+from harness import PROGRAM, SERVICE, TOP, free_port, until
 from relkvanu_service import Service
 from test_sweep import SETTINGS, a_job, names_in, swept, write
 
@@ -53,3 +56,127 @@ def test_it_refuses():
         assert (status, lines) == (78, []) and "has no names" in told, told
         assert names_in(place) == ["s-1"] and swept_by_python(server, place, "--delete")[:2] == (0, ["deleted s-1 5"])
         return "the place of another job, a job without names, and none"
+
+
+def test_the_names_that_a_discarder_wrote():
+    """Two jobs in a folder: the sweeper reads what the discarder of the other one wrote, and refuses names that may be the other job's."""
+    with a_job() as (server, job, place):
+        task = job.begin().session()
+        write(place, f"s-{task.name()}")
+        job.begin()
+        other = Service(server.url).open("b", SETTINGS, [1])
+        discards = [PROGRAM, "discard", "--job", "b", "--folder", place, "--url", server.url, "--once", "--init", "--prefix"]
+        for prefix, refused in (("t-", False), ("s-1", True)):
+            # it does not know how the files of the first job are named, which has no discarder: so it says nothing of them
+            subprocess.run([*discards, prefix], check=True, stdout=subprocess.DEVNULL, stderr=subprocess.DEVNULL, timeout=60)
+            with open(f"{place}/.relkvanu-b.names", encoding="utf-8") as it:
+                assert json.load(it) == {"prefix": prefix, "suffix": ""}
+            status, lines, _, told = swept_by_python(server, place)
+            theirs = swept(server, place)[0]
+            assert status == theirs == (78 if refused else 0), (prefix, status, theirs, told)
+            assert (".relkvanu-b says" in told) == refused and lines == ([] if refused else ["garbage s-1 5"]), (lines, told)
+        assert other.state()["name"] == "b" and names_in(place) == ["s-1"]
+        return "names that differ, and names that may be the same"
+
+
+def metrics(port):
+    """The names with their labels, and the help."""
+    with urllib.request.urlopen(f"http://127.0.0.1:{port}/metrics", timeout=5) as told:
+        text = told.read().decode()
+    names = {line.rpartition(" ")[0] for line in text.splitlines() if not line.startswith("#")}
+    return names, dict(re.findall(r"^# HELP (\S+) (.*)$", text, re.M))
+
+
+def test_the_same_metrics():
+    with a_job() as (server, job, place):
+        job.begin()
+        ports = free_port(), free_port()
+        words = ["--folder", place, "--prefix", "s-", "--delete", "--every", "1h"]
+        path = f"{TOP}/embed/python:{SERVICE}/client/python"
+        commands = [PROGRAM, "sweep", "a", "--url", server.url], ["/usr/bin/python3", "-m", "relkvanu.sweep", "--job", "a", "--service", server.url]
+        runs = [
+            subprocess.Popen([*command, *words, "--metrics", f"127.0.0.1:{port}"], env={**os.environ, "PYTHONPATH": path}, stdout=subprocess.DEVNULL)
+            for command, port in zip(commands, ports)
+        ]
+
+        def serves(port):
+            try:
+                return metrics(port)
+            except OSError:
+                return None
+
+        try:
+            theirs, mine = (until(lambda port=port: serves(port)) for port in ports)
+        finally:
+            for run in runs:
+                run.kill()
+                run.wait()
+        assert mine == theirs and len(mine[0]) == 8, (mine, theirs)
+        return f"{len(mine[0])} metrics"
+
+
+def discarded_by_python(server, place, *more, job="a"):
+    """Its status, the files that it deleted, and its errors."""
+    given = ["--service", server.url, "--job", job, "--folder", place, "--prefix", "s-", "--patience", "5s", *more]
+    environment = {**os.environ, "PYTHONPATH": f"{TOP}/embed/python:{SERVICE}/client/python"}
+    command = ["/usr/bin/python3", "-m", "relkvanu.discard", *given]
+    told = subprocess.run(command, env=environment, stdout=subprocess.PIPE, stderr=subprocess.PIPE, text=True, timeout=60, check=False)
+    return told.returncode, sum(int(number) for number in re.findall("^deleted=([0-9]+)", told.stdout, re.M)), told.stderr
+
+
+def released(job, task, place, count):
+    """So many files of a checkpoint that is over, and one in use."""
+    names = [task.name() for _ in range(count + 1)]
+    for name in names:
+        write(place, f"s-{name}")
+    task.ack(job.call({"call": "savepoint"})["id"], "0.0", names[:count])
+    task.ack(job.call({"call": "savepoint"})["id"], "0.0", names[count:])
+    job.call({"call": "dispose", "id": job.state()["live"][0]["id"]})
+    return names
+
+
+def test_a_discarder_in_python():
+    """It deletes what waits and what a process left taken, and what can't be deleted waits again."""
+    with a_job() as (server, job, place):
+        task = job.begin().session(block=1300)
+        names = released(job, task, place, 1200)
+        assert len(job.take(20)) == 20  # and the process ends
+        os.remove(f"{place}/s-{names[30]}")
+        os.remove(f"{place}/s-{names[40]}")
+        os.mkdir(f"{place}/s-{names[40]}")
+        status, deleted, told = discarded_by_python(server, place, "--once")
+        assert status == 1 and f"s-{names[40]} is left" in told, (status, told)
+        os.rmdir(f"{place}/s-{names[40]}")
+        status, more, told = discarded_by_python(server, place, "--once")
+        assert (status, deleted + more, names_in(place)) == (0, 1200, [f"s-{names[1200]}"]), (status, deleted, more, told)
+        files = job.state()["files"]
+        assert (files["waiting"], files["taken"], files["in_use"]) == (0, 0, 1), files
+        with open(f"{place}/.relkvanu-a.names", encoding="utf-8") as it:
+            assert json.load(it) == {"prefix": "s-", "suffix": ""}
+        return f"{deleted + more} files"
+
+
+def test_where_a_discarder_in_python_deletes_nothing():
+    with a_job() as (server, job, place):
+        names = released(job, job.begin().session(), place, 2)
+        plain = Service(server.url).open("plain", SETTINGS, [1], names=False)
+        with open(f"{place}/.relkvanu-plain", "w", encoding="utf-8") as it:
+            it.write(plain.marker()[1])
+        with open(f"{place}/.relkvanu-plain.names", "w", encoding="utf-8") as it:
+            it.write('{"prefix": "t-", "suffix": ""}')
+        for words, status, word in (({"job": "plain"}, 78, "has no names"), ({"job": "none"}, 1, "404")):
+            found = discarded_by_python(server, place, "--once", **words)
+            assert found[:2] == (status, 0) and word in found[2], (words, found)
+        with open(f"{place}/.relkvanu-plain.names", "w", encoding="utf-8") as it:
+            it.write('{"prefix": "s-", "suffix": ""}')
+        found = discarded_by_python(server, place, "--once")
+        assert found[:2] == (78, 0) and ".relkvanu-plain says" in found[2], found
+        for end in ("", ".names"):
+            os.remove(f"{place}/.relkvanu-plain{end}")
+        os.rename(f"{place}/.relkvanu-a", f"{place}/away")
+        found = discarded_by_python(server, place)  # it ends by itself
+        assert found[:2] == (78, 0) and "no marker" in found[2], found
+        assert job.state()["files"]["waiting"] == 2 and job.state()["files"]["taken"] == 0
+        os.rename(f"{place}/away", f"{place}/.relkvanu-a")
+        assert discarded_by_python(server, place, "--once")[:2] == (0, 2) and names_in(place) == [f"s-{names[2]}"]
+        return "no names, no job, the names of another job, and no marker"

@@ -24,6 +24,11 @@ RULES = {
     9: "report a file as deleted when that is durable, in a storage that is there",
     10: "write only into the storage of the job",
 }
+# Of a job with names these rules are others.
+NAMED_RULES = {
+    8: "a sweep deletes only garbage, and a task gives up the names that it will not acknowledge",
+    9: "report a file as deleted when that is durable, in a storage that is there, or let a sweep delete it",
+}
 
 
 @dataclass(frozen=True)
@@ -33,9 +38,24 @@ class Finding:
     line: int
     rule: Optional[int]
     what: str
+    has_names: bool = False
 
     def __str__(self) -> str:
-        return f"line {self.line}: " + (f"rule {self.rule}: {RULES[self.rule]}: {self.what}" if self.rule else self.what)
+        if self.rule is None:
+            return f"line {self.line}: {self.what}"
+        words = NAMED_RULES.get(self.rule, RULES[self.rule]) if self.has_names else RULES[self.rule]
+        return f"line {self.line}: rule {self.rule}: {words}: {self.what}"
+
+
+@dataclass
+class Dropped:
+    """Files that a task will not acknowledge: from this line on it has to give up their names, in a job with names. After a refusal it may
+    not have read the answer yet: `is_over` says that it has gone on since."""
+
+    line: int
+    what: str
+    files: Set[int]
+    is_over: bool = True
 
 
 @dataclass
@@ -66,9 +86,14 @@ class Checker:
         self.may_sweep = False
         self.mixed: Set[int] = set()  # pending or done records with a part of a task that was replaced
         self.told: Set[str] = set()  # what came of it, each once
+        self.record_of: Dict[Task, int] = {}  # that it began last
+        self.written_for: Dict[int, Optional[int]] = {}  # that record when the file was written; None: any, as of a file that a task keeps
+        self.dropped: Dict[Task, List[Dropped]] = {}  # with names
+        self.refused: Dict[Task, Set[int]] = {}  # the files of the message that was refused last
+        self.early: Dict[int, int] = {}  # with names: files that were reported while they were there, and the line
 
-    def broken(self, rule: int, what: str) -> None:
-        self.findings.append(Finding(self.line, rule, what))
+    def broken(self, rule: int, what: str, line: Optional[int] = None) -> None:
+        self.findings.append(Finding(self.line if line is None else line, rule, what, self.world.has_names))
 
     def rests_on(self, kind: str, it: object, what: str) -> None:
         """Rule 1: somebody acts on what a call said."""
@@ -109,6 +134,19 @@ class Checker:
     def on_log_cut(self, _: Event) -> None:
         del self.world.log.lines[self.world.log.synced:]
         self.durable.logged = set()
+
+    def on_log_copied(self, _: Event) -> None:
+        self.world.log.copied = self.world.log.synced
+
+    def on_log_put_back(self, _: Event) -> None:
+        log = self.world.log
+        if log.copied is None:
+            raise NoTrace("the log was not copied")
+        lost = log.synced - log.copied
+        if lost > 0:
+            self.broken(1, f"a log is put back that lacks the last {lost} synced lines")
+        del log.lines[log.copied:]
+        log.synced, self.durable.logged = log.copied, set()
 
     def on_call(self, event: Event) -> None:
         sender, self.world.sender = self.world.sender, None
@@ -154,8 +192,10 @@ class Checker:
         self.world.sender = None
 
     def on_refused(self, event: Event) -> None:
-        self.world.sender = None
+        sender, self.world.sender = self.world.sender, None
         self.world.refuse(event.line)
+        if sender is not None:
+            self.refused[sender] = {int(it[1:]) for it in event.line.split() if it.startswith("+")}
 
     def on_barrier(self, event: Event) -> None:
         self.rests_on("record", event.number, f"the barrier of record {event.number} is sent")
@@ -164,6 +204,8 @@ class Checker:
         assert event.task is not None
         if event.word != "refused":
             self.rests_on("message", event.task, f"{event.task} is told")
+        else:
+            self.drop(event.task, f"{event.task} is refused", self.refused.pop(event.task, set()), is_over=False)
         for key in [it for it in self.under_way if it[0] == event.task]:
             self.under_way[key] -= 1
 
@@ -183,10 +225,40 @@ class Checker:
     def on_ends(self, _: Event) -> None:
         """It does nothing more. Only what it sent may still arrive."""
 
-    def on_begins(self, _: Event) -> None:
+    def on_begins(self, event: Event) -> None:
+        assert event.task is not None
+        self.record_of[event.task] = event.number
+        for it in self.dropped.get(event.task, ()):
+            it.is_over = True
+
+    def on_lists(self, _: Event) -> None:
         """Nothing is judged by it."""
 
-    on_gives_up = on_sends_decline = on_lists = on_term = on_begins
+    on_term = on_lists
+
+    def on_gives_up(self, event: Event) -> None:
+        assert event.task is not None
+        self.drop(event.task, f"{event.task} gives up record {event.number}", self.written_by(event.task, event.number))
+
+    def on_sends_decline(self, event: Event) -> None:
+        assert event.task is not None
+        self.drop(event.task, f"{event.task} declines record {event.number}", self.written_by(event.task, event.number))
+
+    def on_keeps(self, event: Event) -> None:
+        """It will acknowledge the files in a later record."""
+        self.take_up(event.task, event.files)
+        self.written_for.update(dict.fromkeys(event.files))
+
+    def written_by(self, task: Task, record: int) -> Set[int]:
+        """The files that the task wrote for the record, or keeps."""
+        return {file for file, writer in self.writers.items() if writer == task and self.written_for[file] in (record, None)}
+
+    def drop(self, task: Task, what: str, files: Set[int], is_over: bool = True) -> None:
+        self.dropped.setdefault(task, []).append(Dropped(self.line, what, files, is_over))
+
+    def take_up(self, task: Optional[Task], files: Iterable[int]) -> None:
+        for it in self.dropped.get(task, ()) if task is not None else ():
+            it.files -= set(files)
 
     def on_writes(self, event: Event) -> None:
         assert event.task is not None
@@ -197,6 +269,7 @@ class Checker:
             self.rests_on("name", file, f"{event.task} writes file {file}")
         if self.writers.setdefault(file, event.task) != event.task:
             self.broken(7, f"{event.task} writes file {file}, which {self.writers[file]} wrote")
+        self.written_for.setdefault(file, self.record_of.get(event.task))
         self.clean.discard((event.task, file))
         self.world.storage.write(event.task, file)
 
@@ -208,6 +281,7 @@ class Checker:
 
     def on_sends_ack(self, event: Event) -> None:
         assert event.task is not None
+        self.take_up(event.task, event.files)
         for file in event.files:
             if (event.task, file) not in self.clean:
                 self.broken(2, f"{event.task} acknowledges file {file}, which it has not synced")
@@ -226,6 +300,8 @@ class Checker:
                 self.rests_on("taken", file, f"a discarder deletes file {file}")
         elif self.world.has_names:
             self.deleted_as_garbage(event.files)
+            for file in event.files:
+                self.early.pop(file, None)
         elif not self.may_sweep:
             self.broken(8, "a sweeper deletes" + "".join(f" {file}" for file in event.files))
         self.world.storage.unlink(event.files)
@@ -255,9 +331,10 @@ class Checker:
 
     def reported(self, file: int) -> None:
         storage = self.world.storage
-        if self.world.has_names:
-            return  # a file that is there or comes back is garbage, and the sweeper finds it
-        if file in storage.shown:
+        if self.world.has_names:  # a file that is there or comes back is garbage, and a sweep may find it yet
+            if file in storage.shown or file in storage.kept:
+                self.early.setdefault(file, self.line)
+        elif file in storage.shown:
             self.broken(9, f"file {file} is in the storage")
         elif file in storage.kept:
             self.broken(9, f"file {file} comes back with a loss of power")
@@ -287,6 +364,8 @@ class Checker:
         """Files that stay although no record uses them, and that no discarder will ever be given."""
         if self.world.processes.get(self.world.newest) is None:
             return
+        if self.world.has_names:
+            self.look_at_names()
         endings: Tuple[Callable[[Coordinator], Reply], ...] = (lambda core: core.restore(core.moment()), lambda core: core.cancel(core.moment()))
         for ending in endings:
             with Coordinator.open_saved(self.world.core().save()) as core:
@@ -296,6 +375,19 @@ class Checker:
                     continue
                 for file in sorted(self.left(core, set(self.world.storage.shown) - drained(core))):
                     self.came(f"file {file} is left: no record uses it, and nobody deletes it")
+
+    def look_at_names(self) -> None:
+        """Names that tasks hold in the term that runs and will not acknowledge, and files that were reported and are there."""
+        core, shown = self.world.core(), set(self.world.storage.shown)
+        for task, all_dropped in self.dropped.items():
+            under_way = {file for (sender, file), count in self.under_way.items() if sender == task and count > 0}
+            for it in all_dropped:
+                held = self.left(core, (it.files & shown) - under_way) if it.is_over else set()
+                for file in sorted(held):
+                    self.broken(8, f"{it.what}, and does not give up the name of file {file}", it.line)
+                    self.came(f"file {file} is left: no record uses it, and no sweep deletes it before the next restore")
+        for file in sorted(set(core.garbage(sorted(set(self.early) & shown)).garbage)):
+            self.broken(9, f"file {file} is reported as deleted, it is in the storage, and no sweep has deleted it since", self.early[file])
 
     def left(self, core: Coordinator, files: Set[int]) -> Set[int]:
         """Those of the files that no record uses. With names a sweeper deletes the garbage of them. Without, the sweep of the next recovery deletes

@@ -109,6 +109,14 @@ class Bucket:
         keys = (it["Key"] for objects in self._objects(posixpath.join(folder, start), MOST_KEYS) for it in objects)
         return [posixpath.relpath(key, folder or ".") for key in keys]
 
+    def read_beside(self, name: str) -> Optional[bytes]:
+        """An object beside the marker, or None if there is none."""
+        return self._read(posixpath.join(posixpath.dirname(self.marker.name), name))
+
+    def write_beside(self, name: str, contents: bytes) -> None:
+        """Makes or replaces an object beside the marker."""
+        self._ask(self._s3.put_object, Key=posixpath.join(posixpath.dirname(self.marker.name), name), Body=contents)
+
     def _objects(self, prefix: str, most: int) -> Iterator[List[Any]]:
         after: Dict[str, str] = {}
         while True:

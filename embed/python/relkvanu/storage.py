@@ -12,6 +12,7 @@ from relkvanu.discarder import Outbox
 from relkvanu.replies import Counted
 
 MARKER = ".relkvanu-storage"
+PART = ".part"  # behind the name of a file that is not whole yet
 PAGE = 1000
 
 
@@ -76,6 +77,13 @@ class Marker(NamedTuple):
     text: str
 
 
+def _differ_by_digits(one: str, other: str, has: Callable[[str, str], bool]) -> bool:
+    """Whether one text begins, or ends, with the other, and the rest of it could be a part of a number."""
+    shorter, longer = sorted((one, other), key=len)
+    rest = longer[len(shorter):] if has is str.startswith else longer[:len(longer) - len(shorter)]
+    return has(longer, shorter) and re.fullmatch("[0-9]*", rest) is not None
+
+
 class Names:
     """The names of files: a number between a prefix and a suffix."""
 
@@ -91,6 +99,12 @@ class Names:
         found = self._form.fullmatch(name)
         return int(found.group(1)) if found and int(found.group(1)) < 1 << 64 else None
 
+    def may_be_those_of(self, other: "Names") -> bool:
+        """Whether a file of these names, or a part of one, may have a name of the others too."""
+        suffixes = ((self.suffix, other.suffix), (self.suffix + PART, other.suffix), (self.suffix, other.suffix + PART))
+        return _differ_by_digits(self.prefix, other.prefix, str.startswith) and any(
+            _differ_by_digits(one, another, str.endswith) for one, another in suffixes)
+
     def marker(self, job: str) -> Marker:
         if not job or "\n" in job:
             raise ValueError("the name of a job has one line")
@@ -105,7 +119,6 @@ def check_marker(found: Optional[bytes], marker: Marker, job: str, where: str) -
         raise OtherJob(errno.EEXIST, f"not the storage of the job {job}", where)
 
 
-PART = ".part"
 FILE_FLAGS = os.O_NOFOLLOW | os.O_CLOEXEC
 
 
@@ -212,6 +225,25 @@ class Folder:
                 return sorted(name for name in os.listdir(folder) if name.startswith(start))
         except OSError as error:
             raise StorageError(error.errno, error.strerror, self.path) from error
+
+    def read_beside(self, name: str) -> Optional[bytes]:
+        """A file beside the marker, or None if there is none."""
+        return self._read(name)
+
+    def write_beside(self, name: str, contents: bytes) -> None:
+        """Makes or replaces a file beside the marker, whole and durable."""
+        new = f"{name}.new"
+        try:
+            to = os.open(new, os.O_WRONLY | os.O_CREAT | os.O_TRUNC | FILE_FLAGS, 0o666, dir_fd=self._folder)
+            try:
+                _write_all(to, contents)
+                os.fsync(to)
+            finally:
+                os.close(to)
+            os.rename(new, name, src_dir_fd=self._folder, dst_dir_fd=self._folder)
+        except OSError as error:
+            raise StorageError(error.errno, error.strerror, f"{self.path}/{name}") from error
+        self._sync()
 
     @contextlib.contextmanager
     def _listing(self) -> Iterator[int]:

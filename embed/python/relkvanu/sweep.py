@@ -1,23 +1,21 @@
 """Deletes the garbage of a storage: the files whose names a coordinator gave out, and that nobody will ever use. It may run at any time, beside
 tasks, beside another sweeper, or late, since garbage stays garbage for good. For coordinators with names alone."""
 import argparse
-import contextlib
-import importlib
-import posixpath
-import re
 import sys
 import time
 from dataclasses import dataclass, field
 from typing import Any, Callable, Dict, Iterator, List, Optional, Sequence
 
+from relkvanu.command import FAILED, LOOK_FIRST, Stop, add_place, address, module, place, ran, seconds, service_client, token
 from relkvanu.coordinator import Error
+from relkvanu.others import OthersFiles, check_names
 from relkvanu.reads import Garbage
-from relkvanu.storage import MARKER, PAGE, Folder, KeepsVersions, Marker, Names, NotThere, OtherJob, SizedStorage
+from relkvanu.storage import PAGE, KeepsVersions, Marker, Names, NotThere, OtherJob, SizedStorage
 
 # Of a list of files: which are garbage, and which have names that were not given out. A coordinator whose calls are durable has to answer.
 Ask = Callable[[Sequence[int]], Garbage]
 
-FAILED, UNISSUED, LOOK_FIRST = 1, 3, 78  # exit statuses, beside 2 of a wrong word
+UNISSUED = 3  # an exit status, beside those of relkvanu.command
 USAGE = """exit status:
   0   all garbage was deleted, or without --delete was printed
   1   garbage is left, or the storage or the service did not answer: another run may go on
@@ -79,6 +77,35 @@ def sweep(storage: SizedStorage, ask: Ask, delete: bool = False) -> Swept:
     return swept
 
 
+@dataclass
+class Counts:
+    """What sweeps did since the command began, for metrics. `garbage` and `unissued` are those of the last whole sweep, and `ended` is when it
+    came to its end, in Unix time; before the first, when the command began."""
+
+    deleted: int = 0
+    deleted_bytes: int = 0
+    failed: int = 0
+    lost: int = 0
+    garbage: int = 0
+    unissued: int = 0
+    ended: float = field(default_factory=time.time)
+
+    def page(self, page: Page, delete: bool) -> None:
+        if delete:
+            gone = [size for file, size in page.garbage.items() if file not in page.failed]
+            self.deleted += len(gone)
+            self.deleted_bytes += sum(gone)
+            self.failed += len(page.failed)
+
+    def swept(self, swept: Swept) -> None:
+        self.garbage, self.unissued, self.ended = swept.garbage, swept.unissued, time.time()
+
+    def lose(self, error: Exception) -> None:
+        """A try to reach the service was not answered."""
+        self.lost += 1
+        print(f"sweep: it tries again: {error}", file=sys.stderr, flush=True)
+
+
 def of_service(job: Any) -> Ask:
     """Asks a job of the service (relkvanu_service.Job), which answers from what is committed."""
 
@@ -92,82 +119,17 @@ def of_service(job: Any) -> Ask:
 # The command.
 
 
-class Stop(Exception):
-    """Why a run ends, and the status of the program."""
-
-    def __init__(self, status: int, why: str) -> None:
-        super().__init__(why)
-        self.status = status
-
-
-def seconds(text: str) -> float:
-    """A time, as 90, 90s, 15m, 1h or 1d."""
-    found = re.fullmatch(r"([0-9]{1,9})(s|m|h|d|)", text)
-    if found is None or int(found[1]) == 0:
-        raise argparse.ArgumentTypeError(f"{text!r} is no time, as 90s, 15m, 1h or 1d")
-    return int(found[1]) * {"": 1, "s": 1, "m": 60, "h": 3600, "d": 86400}[found[2]]
-
-
 def parser() -> argparse.ArgumentParser:
     it = argparse.ArgumentParser(
         prog="python3 -m relkvanu.sweep", description=__doc__, epilog=USAGE, formatter_class=argparse.RawDescriptionHelpFormatter)
-    it.add_argument("--job", metavar="NAME", required=True, help="the job of the service")
-    it.add_argument("--service", metavar="URL", action="append", required=True, help="the service, as http://127.0.0.1:7780; again: its next address")
-    it.add_argument("--token-file", metavar="FILE", help="a file whose first line is a token")
-    it.add_argument("--ca", metavar="FILE", help="certificates that https trusts, by default the system's")
-    place = it.add_mutually_exclusive_group(required=True)
-    place.add_argument("--folder", metavar="DIR", help="the folder of the files, which has the file .relkvanu-NAME of relkvanu discard")
-    place.add_argument("--bucket", metavar="NAME", help="the bucket of the files, which has the object .relkvanu-NAME beside them")
-    it.add_argument("--prefix", default="", help="the part of a file's name before its number; in a bucket of its key")
-    it.add_argument("--suffix", default="", help="the part of a file's name after its number")
-    it.add_argument("--endpoint", metavar="URL", help="another S3 server than that of AWS")
-    it.add_argument("--region", help="its region")
-    it.add_argument("--keeps-versions", action="store_true", help="the bucket keeps versions, and its lifecycle rules delete old ones")
+    add_place(it)
     it.add_argument("--delete", action="store_true", help="delete the garbage; otherwise it is printed alone")
     it.add_argument("--every", metavar="TIME", type=seconds, help="begin again after this time, as 15m or 1h, until the command is ended")
     it.add_argument("--patience", metavar="TIME", type=seconds, default=60.0, help="make a request to the service again for this time, by default 60s")
+    it.add_argument("--metrics", metavar="ADDRESS", type=address,
+                    help="serve Prometheus' metrics at this address, as 127.0.0.1:7783, under /metrics")
     it.add_argument("--quiet", action="store_true", help="print no names, only the sums of each sweep")
     return it
-
-
-def token(path: Optional[str]) -> Optional[str]:
-    if path is None:
-        return None
-    try:
-        with open(path, encoding="utf-8") as file:
-            return file.readline().strip()
-    except OSError as error:
-        raise Stop(FAILED, f"--token-file: {error}") from error
-
-
-def module(name: str, what: str) -> Any:
-    """A module that not each sweep needs."""
-    try:
-        return importlib.import_module(name)
-    except ImportError as error:
-        raise Stop(FAILED, f"{what}: {error}") from error
-
-
-@contextlib.contextmanager
-def place(given: argparse.Namespace, marker: Marker) -> Iterator[Any]:
-    """The storage, a Folder or a Bucket, if it has the marker."""
-    if given.folder is not None:
-        with Folder(given.folder, given.job, prefix=given.prefix, suffix=given.suffix, marker=marker) as folder:
-            yield folder
-        return
-    s3 = module("relkvanu.s3", "--bucket needs boto3, python3-boto3 of Debian")
-    yield s3.Bucket(given.bucket, given.job, prefix=given.prefix, suffix=given.suffix, s3=s3.client(given.endpoint, given.region),
-                    keeps_versions=given.keeps_versions, marker=marker)
-
-
-def check_names(storage: Any, given: argparse.Namespace) -> None:
-    """Without a prefix and a suffix a file of another job beside those of this one would be taken for one of this job."""
-    if posixpath.basename(given.prefix) or given.suffix:
-        return
-    own = (MARKER, f".relkvanu-{given.job}")
-    others = [name for name in storage.beside(".relkvanu-") if name not in own and not name.startswith(own[1] + ".")]
-    if others:
-        raise Stop(LOOK_FIRST, f"other jobs have files in the same place, as {others[0]} says: so --prefix or --suffix is needed")
 
 
 def lines(page: Page, names: Names, delete: bool) -> Iterator[str]:
@@ -189,20 +151,22 @@ def sweep_place(given: argparse.Namespace, service: Any) -> Iterator[Page]:
     """Each sweep opens the storage anew, so a disk that is mounted again is found."""
     job = service.job(given.job)
     with place(given, Marker(*job.marker())) as storage:
-        check_names(storage, given)
+        check_names(storage, given.job, Names(given.prefix, given.suffix))
         yield from pages(storage, of_service(job), given.delete)
 
 
-def run_once(given: argparse.Namespace, client: Any) -> int:
+def run_once(given: argparse.Namespace, client: Any, counts: Counts) -> int:
     """One sweep, which prints what it does."""
     began, swept, names = time.monotonic(), Swept(), Names(given.prefix, given.suffix)
-    service = client.Service(*given.service, token=token(given.token_file), patience=given.patience, ca=given.ca)
+    service = client.Service(*given.service, token=token(given.token_file), patience=given.patience, ca=given.ca).noticing(counts.lose)
     try:
         for page in sweep_place(given, service):
             swept.add(page, given.delete)
+            counts.page(page, given.delete)
             if not given.quiet:
                 print("".join(f"{line}\n" for line in lines(page, names, given.delete)), end="", flush=True)
-    except (NotThere, OtherJob, KeepsVersions) as error:
+        counts.swept(swept)
+    except (NotThere, OtherJob, OthersFiles, KeepsVersions) as error:
         raise Stop(LOOK_FIRST, str(error)) from error
     except client.Fenced as error:
         raise Stop(LOOK_FIRST, f"{error}: the job {given.job} has no names, so its garbage can't be told. It gets names by the call fence, once, "
@@ -215,13 +179,24 @@ def run_once(given: argparse.Namespace, client: Any) -> int:
     return FAILED if swept.failed else UNISSUED if swept.unissued else 0
 
 
+def serve(given: argparse.Namespace, counts: Counts) -> None:
+    metrics = module("relkvanu.sweep_metrics", "--metrics needs prometheus_client, python3-prometheus-client of Debian")
+    try:
+        metrics.serve(given.metrics, metrics.Sweeper(given.job, given.every or 0.0, counts))
+    except OSError as error:
+        raise Stop(FAILED, f"--metrics {given.metrics[0]}:{given.metrics[1]}: {error}") from error
+
+
 def run(given: argparse.Namespace) -> int:
     """Sweeps once, or again and again until somebody has to look."""
-    client = module("relkvanu_service", "the client of the service is service/client/python/relkvanu_service.py, and needs python3-requests")
+    client = service_client()
+    counts = Counts()
+    if given.metrics is not None:
+        serve(given, counts)
     while True:
         began = time.monotonic()
         try:
-            status = run_once(given, client)
+            status = run_once(given, client, counts)
         except Stop as stop:
             if given.every is None or stop.status == LOOK_FIRST:
                 raise
@@ -233,17 +208,7 @@ def run(given: argparse.Namespace) -> int:
 
 
 def main(arguments: Optional[List[str]] = None) -> int:
-    it = parser()
-    given = it.parse_args(arguments)
-    if given.folder is not None and "/" in given.prefix + given.suffix:
-        it.error("--prefix and --suffix: a '/' would name another folder")
-    try:
-        return run(given)
-    except Stop as stop:
-        print(f"sweep: {stop}", file=sys.stderr)
-        return stop.status
-    except KeyboardInterrupt:
-        return 130
+    return ran("sweep", parser(), run, arguments)
 
 
 if __name__ == "__main__":

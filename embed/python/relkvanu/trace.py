@@ -50,6 +50,8 @@ FORMS: Tuple[Tuple[str, str, str], ...] = (
     (rf"process {NUMBER} goes on", "process goes on", "number"),
     (r"log synced", "log synced", ""),
     (r"log cut", "log cut", ""),
+    (r"log copied", "log copied", ""),
+    (r"log put back", "log put back", ""),
     (rf"barrier {NUMBER} to {TASK}", "barrier", "number task"),
     (rf"answer to {TASK} (accepted|late|refused)", "answer", "task word"),
     (rf"from {TASK}", "from", "task"),
@@ -59,6 +61,7 @@ FORMS: Tuple[Tuple[str, str, str], ...] = (
     (rf"task {TASK} ends", "ends", "task"),
     (rf"task {TASK} begins {NUMBER}", "begins", "task number"),
     (rf"task {TASK} gives up {NUMBER}", "gives up", "task number"),
+    (rf"task {TASK} keeps{FILES}", "keeps", "task files"),
     (rf"task {TASK} writes {NUMBER}", "writes", "task files"),
     (rf"task {TASK} syncs {NUMBER}", "syncs", "task files"),
     (rf"task {TASK} unlinks{FILES}", "unlinks", "task files"),
@@ -140,6 +143,7 @@ class Storage:
 class Log:
     lines: List[str] = field(default_factory=list)
     synced: int = 0
+    copied: Optional[int] = None  # how many lines the last copy has
 
 
 class World:

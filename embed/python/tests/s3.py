@@ -15,6 +15,8 @@ from botocore.config import Config
 
 import relkvanu.sweep
 from relkvanu import Coordinator, FileCounts, Settings
+from relkvanu.discard import Discarder, work
+from relkvanu.others import OthersFiles, check_names, say_names
 from relkvanu.s3 import Bucket, KeepsVersions
 from relkvanu.storage import Exists, Marker, NotThere, OtherJob, StorageError, discard, sweep, unknown
 from relkvanu.sweep import Swept
@@ -24,6 +26,22 @@ from served import MARKER, job_with_files, served
 def client(**words):
     how = Config(retries={"max_attempts": 0}, connect_timeout=2, read_timeout=words.pop("patience", 30), s3={"addressing_style": "path"})
     return boto3.client("s3", **{"endpoint_url": os.environ["S3_ENDPOINT"], "region_name": os.environ["S3_REGION"], "config": how, **words})
+
+
+class JobOfService:
+    """What a discarder asks of a job of the service, answered by a coordinator."""
+
+    def __init__(self, core):
+        self.core = core
+
+    def files(self, limit):
+        return {"taken": [{"file": str(file)} for file in self.core.taken_files()[:limit]]}
+
+    def take(self, most):
+        return list(self.core.take(most).files)
+
+    def calls(self, calls):
+        return [getattr(self.core, it["call"])(int(it["file"])) for it in calls]
 
 
 class OnAServer(unittest.TestCase):
@@ -200,6 +218,47 @@ class Sweeping(OnAServer):
         self.assertEqual(self.files.beside(".relkvanu-"), [".relkvanu-orders"])
         with self.assertRaises(OtherJob):
             self.opened(prefix="orders/state-", marker=Marker(".relkvanu-orders", "another"))
+
+    def test_another_job_that_says_how_its_files_are_named(self):
+        """In the folder of the bucket where the files are: a prefix has that before its own words."""
+        self.s3.put_object(Bucket=self.bucket, Key="orders/.relkvanu-others", Body=b"")
+        self.s3.put_object(Bucket=self.bucket, Key=".relkvanu-elsewhere", Body=b"")
+        for prefix, suffix, is_refused in (("state-", ".sst", True), ("state-", ".sst.part", True), ("orders/state-", ".sst", False),
+                                           ("t-", ".sst", False)):
+            said = json.dumps({"prefix": prefix, "suffix": suffix}).encode()
+            self.s3.put_object(Bucket=self.bucket, Key="orders/.relkvanu-others.names", Body=said)
+            with self.assertRaises(OthersFiles) if is_refused else contextlib.nullcontext():
+                check_names(self.files, "orders", self.files.names)
+        self.s3.delete_object(Bucket=self.bucket, Key="orders/.relkvanu-others.names")
+        check_names(self.files, "orders", self.files.names)
+
+    def test_the_discarder_of_a_job_of_the_service(self):
+        """It settles what a process left taken, deletes what waits, and reports a key that fails as not deleted."""
+        self.job.restore(20)
+        self.job.reserve(2, 2)
+        self.files.delete([9])
+        self.files.put(9, b"")
+        self.job.tick(30)
+        self.job.ack_in(2, 30, 2, 0, 0, [9])
+        self.job.take(1)
+        key = f"arn:aws:s3:::{self.bucket}/orders/state-6.sst"
+        denied = {"Effect": "Deny", "Principal": "*", "Action": "s3:DeleteObject", "Resource": key}
+        self.s3.put_bucket_policy(Bucket=self.bucket, Policy=json.dumps({"Version": "2012-10-17", "Statement": [denied]}))
+        discarder = Discarder(JobOfService(self.job), self.files)
+        with contextlib.redirect_stdout(io.StringIO()), contextlib.redirect_stderr(io.StringIO()) as told:
+            self.assertEqual(work(discarder, once=True), 1)
+            self.assertEqual(self.keys(), [f"orders/state-{file}.sst" for file in (4, 6, 7, 8, 9)])
+            self.assertRegex(told.getvalue(), "orders/state-6.sst is left: AccessDenied")
+            self.s3.delete_bucket_policy(Bucket=self.bucket)
+            self.assertEqual(work(discarder, once=True), 0)
+            self.assertEqual(self.keys(), [f"orders/state-{file}.sst" for file in (4, 7, 8, 9)])
+            say_names(self.files, "orders", self.files.names)
+            say_names(self.files, "orders", self.files.names)
+            self.s3.delete_object(Bucket=self.bucket, Key="orders/.relkvanu-orders")
+            with self.assertRaises(NotThere):
+                discarder.discard([4])
+        self.assertEqual(json.loads(self.files.read_beside(".relkvanu-orders.names")), {"prefix": "state-", "suffix": ".sst"})
+        self.assertIn("orders/state-4.sst", self.keys())
 
     def test_only_garbage_goes(self):
         self.assertEqual(relkvanu.sweep.sweep(self.files, self.job.garbage), Swept(listed=6, garbage=2, garbage_bytes=12, unissued=1))

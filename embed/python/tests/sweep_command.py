@@ -1,18 +1,31 @@
 """The command python3 -m relkvanu.sweep over a folder, and a stand-in for the service: what it prints, deletes and refuses, and its status. It
-needs python3-requests."""
+needs python3-requests and python3-prometheus-client."""
 import contextlib
 import io
+import json
 import pathlib
+import socket
 import subprocess
 import sys
 import tempfile
+import time
 import unittest
+import urllib.request
 from unittest import mock
 
 import relkvanu_service
 from relkvanu import Coordinator, Settings
 from relkvanu.sweep import main
 from served import MARKER, job_with_files, served
+
+
+DELETED = 'relkvanu_sweep_files_total,outcome="deleted"'
+
+
+def free_port():
+    with socket.socket() as it:
+        it.bind(("127.0.0.1", 0))
+        return it.getsockname()[1]
 
 
 class Command(unittest.TestCase):
@@ -100,6 +113,86 @@ class Command(unittest.TestCase):
         status, told, _ = self.run_it("--delete")
         self.assertEqual((status, len(told)), (3, 4))
 
+    def test_a_job_that_says_how_its_files_are_named(self):
+        """The files of another job are never touched, whatever its discarder says of their names."""
+        (self.path / ".relkvanu-others").write_text("", encoding="utf-8")
+        (self.path / "state-4.bin.part").write_bytes(b"of the other job")
+        said = self.path / ".relkvanu-others.names"
+        for prefix, suffix, status in (("state-", ".bin", 78), ("state-", ".bin.part", 78), ("state-1", ".bin", 78), ("state-", "", 3),
+                                       ("other-", ".bin", 3), ("state-", ".txt", 3), ("", "", 3)):
+            said.write_text(json.dumps({"prefix": prefix, "suffix": suffix}) + "\n", encoding="utf-8")
+            found, told, errors = self.run_it("--delete" if status == 78 else "--quiet")
+            self.assertEqual((found, len(told)), (status, 0 if status == 78 else 1), (prefix, suffix))
+            need = ".relkvanu-others says: so --prefix or --suffix is needed that differs from its own"
+            self.assertEqual(need in errors, status == 78, errors)
+        self.assertTrue((self.path / "state-4.bin.part").exists())
+        self.assertTrue((self.path / "state-4.bin").exists())
+
+    def test_files_beside_a_marker_are_none(self):
+        """What discarders and clients leave there is no marker of another job. A job whose name begins with this one's is another job."""
+        for name in (".relkvanu-orders.begun", ".relkvanu-orders.names", ".relkvanu-orders.names.new", ".relkvanu-orders.new"):
+            (self.path / name).write_text("", encoding="utf-8")
+        (self.path / ".relkvanu-orders.claim").write_text(MARKER, encoding="utf-8")
+        plain = ["--prefix", "", "--suffix", ""]
+        self.assertEqual(self.run_it("--quiet", *plain)[:2][0], 0)
+        (self.path / ".relkvanu-orders.2").write_text("", encoding="utf-8")
+        status, told, errors = self.run_it("--delete", *plain)
+        self.assertEqual((status, told), (78, []))
+        self.assertIn(".relkvanu-orders.2", errors)
+        for text in ("{", "[]", '{"prefix": 1, "suffix": ""}', '{"prefix": ""}', "\0"):
+            (self.path / ".relkvanu-orders.2.names").write_text(text, encoding="utf-8")
+            self.assertEqual(self.run_it("--delete", *plain)[0], 78, text)
+            self.assertEqual(self.run_it("--quiet")[0], 3, text)
+        self.all_there()
+
+    def test_metrics(self):
+        """They have the names of those of `relkvanu sweep`, count over all sweeps, and go on while the service is away."""
+        port, began = free_port(), time.time()
+        with served(self.job) as url:
+            words = ["--service", url, *self.words[2:], "--delete", "--every", "1s", "--quiet", "--metrics", f"127.0.0.1:{port}"]
+            command = [sys.executable, "-m", "relkvanu.sweep", *words]
+            sweeper = subprocess.Popen(command, stdout=subprocess.DEVNULL, stderr=subprocess.DEVNULL)
+            self.addCleanup(sweeper.wait)
+            self.addCleanup(sweeper.kill)
+            told = self.until(port, lambda it: it.get(DELETED) == 2 and it["relkvanu_sweep_unissued_files"] == 1)
+            ended = told.pop("relkvanu_sweep_timestamp_seconds")
+            self.assertGreaterEqual(ended, began)
+            self.assertEqual(told, {
+                DELETED: 2, 'relkvanu_sweep_files_total,outcome="failed"': 0, "relkvanu_sweep_deleted_bytes_total": 12,
+                "relkvanu_sweep_garbage_files": 2, "relkvanu_sweep_unissued_files": 1, "relkvanu_sweep_lost_requests_total": 0,
+                "relkvanu_sweep_interval_seconds": 1})
+            self.job.restore(20)
+            told = self.until(port, lambda it: it[DELETED] == 3 and it["relkvanu_sweep_garbage_files"] == 0)
+            self.assertEqual(told["relkvanu_sweep_deleted_bytes_total"], 12 + 7)
+        told = self.until(port, lambda it: it["relkvanu_sweep_lost_requests_total"] > 0)
+        self.assertGreater(told["relkvanu_sweep_timestamp_seconds"], ended)
+
+    def until(self, port, is_so):
+        """The metrics, once they are so. The label of the job is left out."""
+        for _ in range(600):
+            with contextlib.suppress(OSError):
+                told = self.told_by(port)
+                if is_so(told):
+                    return told
+            time.sleep(0.05)
+        raise AssertionError("the metrics never said so")
+
+    def test_an_address_that_is_taken(self):
+        with socket.socket() as it:
+            it.bind(("127.0.0.1", 0))
+            it.listen()
+            status, told, errors = self.run_it("--delete", "--metrics", f"127.0.0.1:{it.getsockname()[1]}")
+        self.assertEqual((status, told), (1, []))
+        self.assertIn("--metrics 127.0.0.1:", errors)
+        self.all_there()
+
+    def told_by(self, port):
+        with urllib.request.urlopen(f"http://127.0.0.1:{port}/metrics", timeout=10) as told:
+            lines = told.read().decode().splitlines()
+        found = [line.rpartition(" ") for line in lines if not line.startswith("#")]
+        self.assertTrue(all('{job_name="orders"' in name for name, _, _ in found), found)
+        return {name.replace('{job_name="orders"', "").rstrip("}"): float(value) for name, _, value in found}
+
     def test_a_job_without_names(self):
         with Coordinator(Settings(interval=10), [1], 0) as plain, served(plain) as url:
             status, told, errors = self.run_it("--delete", given=["--service", url, *self.words[2:]])
@@ -127,7 +220,9 @@ class Command(unittest.TestCase):
         self.assertEqual(self.run_it("--token-file", str(token) + ".missing")[0], 1)
 
     def test_wrong_words(self):
-        for words in (["--prefix", "a/"], ["--suffix", "/b"], ["--every", "0"], ["--every", "1w"], ["--bucket", "b"], ["--deleet"]):
+        addresses = ("7783", "localhost:7783", "127.0.0.1:", "127.0.0.1:65536", "[127.0.0.1]:7783", "::1:7783")
+        for words in (*(["--metrics", it] for it in addresses),
+                      ["--prefix", "a/"], ["--suffix", "/b"], ["--every", "0"], ["--every", "1w"], ["--bucket", "b"], ["--deleet"]):
             status, told, _ = self.run_it(*words)
             self.assertEqual((status, told), (2, []), words)
         self.assertEqual(self.run_it(given=["--service", "http://127.0.0.1:9", "--job", "orders"])[0], 2)

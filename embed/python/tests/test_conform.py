@@ -6,7 +6,7 @@ import tempfile
 import unittest
 
 from relkvanu import Coordinator, Settings, lines
-from relkvanu.conform import RULES, check, main
+from relkvanu.conform import NAMED_RULES, RULES, check, main
 from relkvanu.storage import Folder
 from relkvanu.trace import NoTrace
 
@@ -76,6 +76,7 @@ class Breaking(Judging):
 
     def test_each_rule_has_a_sentence(self):
         self.assertEqual(sorted(RULES), list(range(1, 11)))
+        self.assertLessEqual(set(NAMED_RULES), set(RULES))
 
     def test_1_a_barrier_an_answer_a_deletion_and_a_start_rest_on_the_log(self):
         at = WHOLE.index("barrier 1 to 0.0 1")
@@ -86,6 +87,15 @@ class Breaking(Judging):
         self.breaks(without(WHOLE, "log synced", 5), 1, at)
         self.breaks(without(WHOLE, "log synced"), 1, 5)
         self.breaks(without([*WHOLE, *RESTART], "log synced", 7), 1, len(WHOLE) + 6)
+
+    def test_1_an_old_log_is_put_back(self):
+        """What was acted on since is not in it. A copy that lacks nothing does no harm."""
+        copied = [*OPENING, *checkpoint(1, 1), "log copied"]
+        ended = ["process 1 ends", "log cut", "log put back", "process 2 starts", "restore 20 latest", "log synced"]
+        lines = [*copied, *checkpoint(2, 2), *DISCARD, *ended]
+        self.breaks(lines, 1, lines.index("log put back") + 1, "file 1 is lost: record 1")
+        self.assertIn("a log is put back that lacks the last 4 synced lines", str(check(lines)[0]))
+        self.assertEqual(check([*copied, *ended]), [])
 
     def test_2_a_file_is_synced(self):
         at = WHOLE.index("task 0.0 1 sends ack 1 +1")
@@ -197,11 +207,71 @@ class WithNames(Judging):
         self.assertEqual(check(lines), [])
         self.breaks([*lines, "task 0.0 1 unlinks 1"], 6, len(lines) + 1, "file 1 is lost: record 1")
 
-    def test_a_report_rests_on_nothing(self):
-        """A file that comes back is garbage."""
-        lines = [*NAMED, *named(1, 1), *named(2, 2), *without(DISCARD, "folder synced"), "storage loses power"]
+    def test_9_a_file_that_was_reported_and_that_no_sweep_deletes(self):
+        """A file that comes back is garbage: so a sweep may delete it at any time, and nothing is lost."""
+        before = [*NAMED, *named(1, 1), *named(2, 2)]
+        comes_back = [*before, *without(DISCARD, "folder synced"), "storage loses power"]
+        stays = [*before, *without(DISCARD, "discarder unlinks 1")]
+        away = [*before, "storage away", *DISCARD, "storage back"]
+        for trace in (comes_back, stays, away):
+            self.breaks(trace, 9, trace.index("deleted 1") + 1)
+            self.assertEqual(len(check(trace)), 1)
+            self.assertEqual(check([*trace, "sweeper unlinks 1", "folder synced"]), [])
+            self.assertEqual(check([*trace, "sweeper unlinks 1"]), [])
+        self.assertEqual(check(comes_back[:-1]), [], "it did not come back")
+        self.assertEqual(check([*comes_back, "process 1 ends"]), [], "another process may sweep")
+
+    def test_9_a_report_that_was_cut(self):
+        """The log does not have it after the crash: the next process reports anew."""
+        lines = [*NAMED, *named(1, 1), *named(2, 2), "take 64", "log synced", "deleted 1", "process 1 ends", "log cut", "process 2 starts"]
         self.assertEqual(check(lines), [])
-        self.assertEqual(check([*lines, "sweeper unlinks 1", "folder synced"]), [])
+        self.breaks([*lines, "deleted 1", "log synced"], 9, lines.index("deleted 1") + 1)
+
+    def test_8_a_name_that_is_not_given_up(self):
+        """The file stays until the next restore."""
+        at, whole = named(2, 2).index("task 0.0 1 writes 2"), named(2, 2)
+        written = [*NAMED, *named(1, 1), *whole[:at + 1]]
+        for last in ("task 0.0 1 gives up 2", "task 0.0 1 sends decline 2"):
+            lines = [*written, last]
+            self.breaks(lines, 8, len(lines), "file 2 is left")
+            self.breaks([*lines, "log synced", "task 0.0 1 keeps 7"], 8, len(lines), "file 2 is left")
+            for later in (["forfeit 1 2", "log synced"], ["task 0.0 1 keeps 2"], ["restore 20 latest", "log synced"], ["cancel 20"],
+                          ["process 1 ends"]):
+                self.assertEqual(check([*lines, *later]), [], later)
+        words = "rule 8: a sweep deletes only garbage, and a task gives up the names that it will not acknowledge: task 0.0 1 declines record 2"
+        self.assertIn(words, str(check(lines)[0]))
+        self.assertEqual(check([*written, "forfeit 1 2", "log synced", "task 0.0 1 sends decline 2"]), [])
+
+    def test_8_a_file_that_a_task_keeps_for_a_later_record(self):
+        whole, tolerant = named(1, 1), [line.replace("config 10 0 1 1000 0", "config 10 0 1 1000 5") for line in NAMED]
+        kept = [*tolerant, *whole[:whole.index("task 0.0 1 sends ack 1 +1")], "task 0.0 1 gives up 1", "task 0.0 1 keeps 1", "from 0.0 1",
+                "in 1 decline 10 1 0.0", "log synced"]
+        later = [*kept, "tick 20", "log synced", "barrier 2 to 0.0 1", "task 0.0 1 begins 2", "task 0.0 1 sends ack 2 +1", "from 0.0 1",
+                 "in 1 ack 20 2 0.0 +1", "log synced", "answer to 0.0 1 accepted"]
+        self.assertEqual(check(later), [])
+        self.breaks([*kept, "task 0.0 1 gives up 2"], 8, len(kept) + 1, "file 1 is left")
+
+    def test_8_a_refused_message(self):
+        """A task that goes on has read the answer. One whose message is under way, or that may not have read it yet, has not given up the name
+        late."""
+        whole = named(1, 1)
+        sent = [*NAMED, *whole[:whole.index("task 0.0 1 sends ack 1 +1") + 1]]
+        self.assertEqual(check([*sent, "task 0.0 1 gives up 1"]), [], "it is under way, and may be accepted")
+        refused = [*sent, "from 0.0 1", "refused in 1 ack 10 9 0.0 +1", "answer to 0.0 1 refused"]
+        self.assertEqual(check(refused), [])
+        goes_on = ["tick 20", "task 0.0 1 begins 2"]
+        self.breaks([*refused, *goes_on], 8, len(refused), "file 1 is left")
+        self.assertEqual(check([*refused, "forfeit 1 1", "log synced", *goes_on]), [])
+
+    def test_8_the_files_of_another_record(self):
+        """A task that takes part in two records at once gives up one of them."""
+        lines = [*NAMED, *named(1, 1), "reserve 1 2", "log synced", "task 0.0 1 begins 2", "task 0.0 1 writes 2", "task 0.0 1 begins 3",
+                 "task 0.0 1 writes 3"]
+        self.assertEqual(check([*lines, "task 0.0 1 gives up 2", "forfeit 1 2", "log synced"]), [])
+        self.breaks([*lines, "task 0.0 1 gives up 2", "forfeit 1 3", "log synced"], 8, len(lines) + 1, "file 2 is left")
+
+    def test_8_names_that_were_never_written(self):
+        self.assertEqual(check([*NAMED, "reserve 1 5", "log synced", "tick 10", "task 0.0 1 gives up 1"]), [])
 
     def test_a_process_that_goes_on(self):
         ended = [*REPLACED, "reserve 2 1", "process 1 ends", "log cut", "process 2 starts", "restore 20 latest", "log synced", "task 0.0 3 starts"]
@@ -238,6 +308,9 @@ class Damaged(unittest.TestCase):
     def test_an_opening_that_is_none(self):
         self.refuses(["process 1 starts", "tick 10", "job 1", "start 0"], 4)
         self.refuses(["tick 10"], 1)
+
+    def test_a_log_that_was_not_copied(self):
+        self.refuses([*OPENING, "process 1 ends", "log put back"], 8)
 
     def test_a_process_that_has_ended(self):
         self.refuses([*OPENING, "process 1 ends", "tick 10"], 8)

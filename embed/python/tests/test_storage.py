@@ -7,7 +7,7 @@ import unittest
 from unittest import mock
 
 from relkvanu import Coordinator, Error, FileCounts, Settings
-from relkvanu.storage import Exists, Folder, NotThere, OtherJob, StorageError, discard, sweep, unknown
+from relkvanu.storage import Exists, Folder, Names, NotThere, OtherJob, StorageError, discard, sweep, unknown
 
 
 class InFolder(unittest.TestCase):
@@ -24,6 +24,19 @@ class InFolder(unittest.TestCase):
 
     def files(self):
         return sorted(path.name for path in self.path.iterdir() if not path.name.startswith("."))
+
+
+class NamesOfTwoJobs(unittest.TestCase):
+    def test_they_may_be_the_same(self):
+        """As the discarder of the service has it (service/src/ask/words.rs)."""
+        for one, other, may_be in (
+            (("", ""), ("", ""), True), (("s-", ".bin"), ("s-", ".bin"), True), (("s-", ".bin"), ("t-", ".bin"), False),
+            (("s-", ".bin"), ("s-", ".txt"), False), (("s-", ".bin"), ("s-", ".bin.part"), True), (("a", ""), ("a1", ""), True),
+            (("", "2"), ("1", ""), True), (("a", ""), ("ab", ""), False), (("s-", ""), ("", ""), False),
+            (("a", ""), ("a\u0661", ""), False),
+        ):
+            one, other = Names(*one), Names(*other)
+            self.assertEqual((one.may_be_those_of(other), other.may_be_those_of(one)), (may_be, may_be), (one.of(7), other.of(7)))
 
 
 class Opening(InFolder):

@@ -1,5 +1,5 @@
 /* The discarder: takes files, has them deleted, and reports them with the next take in one list. It never gives up. */
-#include "parts.h"
+#include "folder.h"
 
 #include <stdlib.h>
 #include <string.h>
@@ -12,6 +12,7 @@ struct discarder {
     relkvanu_store *s;
     relkvanu_store_delete delete_files;
     void *with;
+    const relkvanu_storage *storage; /* instead of the function; NULL: the function */
     size_t batch, files_len;
     uint64_t *files, *next;     /* that are deleted now; that a take fetches */
     uint8_t *is_gone;
@@ -63,14 +64,28 @@ static int await_files(relkvanu_store *s) {
     return status;
 }
 
+/* Deletes the batch, by the engine's function or in its storage. RELKVANU_STORE_STORAGE: the storage is another job's. */
+static int delete_taken(struct discarder *d) {
+    if (d->storage == NULL) {
+        d->delete_files(d->with, d->files, d->files_len, d->is_gone);
+        return RELKVANU_STORE_OK;
+    }
+    int status = d->storage->delete_files(d->storage->with, d->files, d->files_len, d->is_gone);
+    for (size_t i = 0; i < d->files_len; i++) {
+        bool is_gone = d->is_gone[i] == RELKVANU_STORAGE_DELETED || d->is_gone[i] == RELKVANU_STORAGE_MISSING;
+        d->is_gone[i] = status == RELKVANU_STORAGE_OK && is_gone;
+    }
+    return status == RELKVANU_STORAGE_OTHER_JOB ? RELKVANU_STORE_STORAGE : RELKVANU_STORE_OK;
+}
+
 /* Has the files deleted. Without its marker the folder may be another one: nothing is deleted, and no missing file counts as gone; after a
  * sync that failed none does either. If another opening has taken the folder, its files are no longer this one's to delete. */
 static int delete_batch(struct discarder *d) {
     memset(d->is_gone, 0, d->batch);
     int owner = rks_owner(d->s);
     if (owner == RELKVANU_STORE_OK) {
-        d->delete_files(d->with, d->files, d->files_len, d->is_gone);
-        owner = rks_owner(d->s);
+        int deleted = delete_taken(d);
+        owner = deleted == RELKVANU_STORE_OK ? rks_owner(d->s) : deleted;
     }
     if (owner != RELKVANU_STORE_OK || (d->s->folder >= 0 && fsync(d->s->folder) != 0)) {
         memset(d->is_gone, 0, d->batch);
@@ -199,12 +214,13 @@ static int run(struct discarder *d) {
     return status;
 }
 
-int relkvanu_store_discard(relkvanu_store *s, size_t batch, relkvanu_store_delete delete_files, void *with) {
-    struct discarder d = {.s = s, .delete_files = delete_files, .with = with, .batch = batch == 0 ? BATCH : batch, .wait = LEAST_WAIT};
+static int discard(struct discarder *d) {
+    relkvanu_store *s = d->s;
     if (rks_is_forked(s)) {
         return RELKVANU_STORE_FORKED;
     }
-    if (d.batch >= RELKVANU_STORE_MOST_CALLS) {
+    d->batch = d->batch == 0 ? BATCH : d->batch;
+    if (d->batch >= RELKVANU_STORE_MOST_CALLS || (d->storage != NULL && !rks_is_storage(d->storage))) {
         return RELKVANU_STORE_BAD_ARGUMENT;
     }
     pthread_mutex_lock(&s->mutex);
@@ -215,11 +231,19 @@ int relkvanu_store_discard(relkvanu_store *s, size_t batch, relkvanu_store_delet
         return RELKVANU_STORE_NOT_NOW;
     }
     int status;
-    while ((status = run(&d)) == RELKVANU_STORE_NO_MEMORY) {
+    while ((status = run(d)) == RELKVANU_STORE_NO_MEMORY) {
         nanosleep(&(struct timespec){1, 0}, NULL); /* it settles again what is taken */
     }
     pthread_mutex_lock(&s->mutex);
     s->is_discarding = false;
     pthread_mutex_unlock(&s->mutex);
     return status;
+}
+
+int relkvanu_store_discard(relkvanu_store *s, size_t batch, relkvanu_store_delete delete_files, void *with) {
+    return discard(&(struct discarder){.s = s, .delete_files = delete_files, .with = with, .batch = batch, .wait = LEAST_WAIT});
+}
+
+int relkvanu_store_discard_storage(relkvanu_store *s, size_t batch, const relkvanu_storage *storage) {
+    return discard(&(struct discarder){.s = s, .storage = storage, .batch = batch, .wait = LEAST_WAIT});
 }

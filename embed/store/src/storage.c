@@ -1,185 +1,202 @@
-/* State files in the folder of the storage, by their numbers: made whole and durable, deleted for good, and swept. */
-#include "parts.h"
+/* The store's own folder as a storage, and a sweep of any storage: what it may delete, the store knows. */
+#include "folder.h"
 
-#include <dirent.h>
 #include <errno.h>
 #include <fcntl.h>
-#include <inttypes.h>
-#include <stdio.h>
-#include <stdlib.h>
 #include <string.h>
 #include <unistd.h>
 
-static const char PART[] = ".part"; /* of a file that is not whole yet */
-enum { NAME = 32, PAGE = 256 };
-
-static void name_of(uint64_t file, const char *end, char name[NAME]) {
-    snprintf(name, NAME, "%" PRIu64 "%s", file, end);
+/* Whether the folder has its marker, as a storage says it. */
+static int check_owner(const void *store) {
+    switch (rks_owner(store)) {
+    case RELKVANU_STORE_OK:
+        return RELKVANU_STORAGE_OK;
+    case RELKVANU_STORE_STORAGE:
+        return RELKVANU_STORAGE_OTHER_JOB;
+    default:
+        return RELKVANU_STORAGE_NOT_THERE;
+    }
 }
 
-/* Returns 0, or what is wrong as errno. Who has made the part has the name too: nobody else makes either. */
-static int write_part(const relkvanu_store *s, const char *part, const void *contents, size_t len) {
-    int file = openat(s->folder, part, O_WRONLY | O_CREAT | O_EXCL | O_NOFOLLOW | O_CLOEXEC, 0600);
-    if (file < 0) {
-        return errno;
-    }
-    int error = rks_write_whole(file, contents, len, 0) && fsync(file) == 0 ? 0 : errno;
-    if (close(file) != 0 && error == 0) {
-        error = errno;
-    }
-    if (error != 0) {
-        unlinkat(s->folder, part, 0);
-    }
-    return error;
+/* The files of the job itself may have numbers as names, if PATH is in the folder too. */
+static bool is_state(const void *store, const struct dirent *entry) {
+    return !rks_is_own(store, entry->d_name) || !rks_has_own(store);
 }
 
-/* Gives the part its name, unless there is such a file. */
-static int name_part(const relkvanu_store *s, const char *part, const char *name) {
-    struct stat found;
-    int error = fstatat(s->folder, name, &found, AT_SYMLINK_NOFOLLOW) == 0 ? EEXIST : errno;
-    if (error != ENOENT || renameat(s->folder, part, s->folder, name) != 0) {
-        error = error == ENOENT ? errno : error;
-        unlinkat(s->folder, part, 0);
-        return error;
-    }
-    if (fsync(s->folder) != 0) {
-        error = errno;
-        unlinkat(s->folder, name, 0);
-        return error;
-    }
-    return 0;
+static struct rks_folder folder_of(const relkvanu_store *s) {
+    return (struct rks_folder){
+        .fd = s->folder, .prefix = "", .suffix = "", .mode = 0600, .needs_sync = true, .check = check_owner, .is_listed = is_state,
+        .with = s};
 }
 
-int relkvanu_store_put(relkvanu_store *s, uint64_t file, const void *contents, size_t len) {
-    char part[NAME], name[NAME];
+static int check(void *store) {
+    return rks_is_forked(store) ? RELKVANU_STORAGE_NOT_THERE : check_owner(store);
+}
+
+static int put(void *store, uint64_t file, const void *contents, size_t len) {
+    struct rks_folder folder = folder_of(store);
+    return rks_is_forked(store) ? RELKVANU_STORAGE_NOT_THERE : rks_folder_put(&folder, file, contents, len);
+}
+
+static int get(void *store, uint64_t file, void *contents, size_t room, uint64_t *len) {
+    struct rks_folder folder = folder_of(store);
+    return rks_is_forked(store) ? RELKVANU_STORAGE_NOT_THERE : rks_folder_get(&folder, file, contents, room, len);
+}
+
+static int delete_files(void *store, const uint64_t *files, size_t files_len, uint8_t *outcomes) {
+    struct rks_folder folder = folder_of(store);
+    if (!rks_is_forked(store)) {
+        return rks_folder_delete(&folder, files, files_len, outcomes);
+    }
+    for (size_t place = 0; place < files_len; place++) {
+        outcomes[place] = RELKVANU_STORAGE_UNDELETED;
+    }
+    return RELKVANU_STORAGE_NOT_THERE;
+}
+
+static int list(void *store, size_t most, relkvanu_storage_page page, void *with_page) {
+    struct rks_folder folder = folder_of(store);
+    return rks_is_forked(store) ? RELKVANU_STORAGE_NOT_THERE : rks_folder_list(&folder, most, page, with_page);
+}
+
+int relkvanu_store_storage(relkvanu_store *s, relkvanu_storage *storage) {
+    *storage = (relkvanu_storage){.with = NULL};
     if (rks_is_forked(s)) {
         return RELKVANU_STORE_FORKED;
     }
     if (s->folder < 0) {
         return RELKVANU_STORE_BAD_ARGUMENT;
     }
-    if (rks_owner(s) != RELKVANU_STORE_OK) {
-        return RELKVANU_STORE_STORAGE;
-    }
-    name_of(file, PART, part);
-    name_of(file, "", name);
-    int error = write_part(s, part, contents, len);
-    if (error == 0) {
-        error = name_part(s, part, name);
-    }
-    errno = error;
-    return error == 0 ? RELKVANU_STORE_OK : error == EEXIST ? RELKVANU_STORE_PRESENT : RELKVANU_STORE_NOT_PUT;
+    *storage = (relkvanu_storage){.with = s, .check = check, .put = put, .get = get, .delete_files = delete_files, .list = list};
+    return RELKVANU_STORE_OK;
 }
 
-/* Whether the folder has no file of this number, whole or in part. */
-static bool is_unlinked(const relkvanu_store *s, uint64_t file) {
-    char part[NAME], name[NAME];
-    name_of(file, PART, part);
-    name_of(file, "", name);
-    return (unlinkat(s->folder, name, 0) == 0 || errno == ENOENT) && (unlinkat(s->folder, part, 0) == 0 || errno == ENOENT);
+int relkvanu_store_put(relkvanu_store *s, uint64_t file, const void *contents, size_t len) {
+    relkvanu_storage own;
+    int status = relkvanu_store_storage(s, &own);
+    if (status != RELKVANU_STORE_OK) {
+        return status;
+    }
+    switch (own.put(own.with, file, contents, len)) {
+    case RELKVANU_STORAGE_OK:
+        return RELKVANU_STORE_OK;
+    case RELKVANU_STORAGE_PRESENT:
+        return RELKVANU_STORE_PRESENT;
+    case RELKVANU_STORAGE_NOT_THERE:
+    case RELKVANU_STORAGE_OTHER_JOB:
+        return RELKVANU_STORE_STORAGE;
+    default:
+        return RELKVANU_STORE_NOT_PUT;
+    }
 }
 
 void relkvanu_store_delete_files(void *store, const uint64_t *files, size_t files_len, uint8_t *is_gone) {
     const relkvanu_store *s = store;
+    struct rks_folder folder = folder_of(s);
     for (size_t place = 0; place < files_len; place++) {
-        is_gone[place] = s->folder >= 0 && is_unlinked(s, files[place]);
+        is_gone[place] = s->folder >= 0 && rks_folder_unlink(&folder, files[place]) != RELKVANU_STORAGE_UNDELETED;
     }
 }
 
-/* Whether a name is that of a file, whole or in part. */
-static bool is_file(const char *name, uint64_t *file) {
-    char *end = NULL, whole[NAME], part[NAME];
-    errno = 0;
-    *file = strtoull(name, &end, 10);
-    name_of(*file, "", whole);
-    name_of(*file, PART, part);
-    return errno == 0 && (strcmp(name, whole) == 0 || strcmp(name, part) == 0);
-}
-
-/* What is done with a page of the files of the folder. */
-struct pages {
-    int (*each)(relkvanu_store *s, struct pages *pages, uint64_t *files, size_t len);
-    size_t left, swept, unissued;
-    uint64_t greatest;
-};
-
-/* Deletes those of the files that may be deleted. Another opening may have the folder meanwhile. */
-static int sweep_page(relkvanu_store *s, struct pages *pages, uint64_t *files, size_t len) {
-    int status = rks_deletable(s, files, &len, &pages->unissued);
-    if (status == RELKVANU_STORE_OK && len != 0 && rks_owner(s) != RELKVANU_STORE_OK) {
-        status = RELKVANU_STORE_STORAGE;
+static bool note_greatest(void *with, const relkvanu_storage_file *files, size_t files_len) {
+    uint64_t *greatest = with;
+    for (size_t place = 0; place < files_len; place++) {
+        *greatest = files[place].file > *greatest ? files[place].file : *greatest;
     }
-    for (size_t place = 0; status == RELKVANU_STORE_OK && place < len; place++) {
-        bool is_gone = is_unlinked(s, files[place]);
-        pages->swept += is_gone;
-        pages->left += !is_gone;
-    }
-    return status;
-}
-
-static int note_greatest(relkvanu_store *s, struct pages *pages, uint64_t *files, size_t len) {
-    (void)s;
-    for (size_t place = 0; place < len; place++) {
-        pages->greatest = files[place] > pages->greatest ? files[place] : pages->greatest;
-    }
-    return RELKVANU_STORE_OK;
-}
-
-static int visit(relkvanu_store *s, struct pages *pages, DIR *listing) {
-    uint64_t files[PAGE];
-    size_t len = 0;
-    int status = RELKVANU_STORE_OK;
-    bool has_own_files = rks_has_own(s);
-    struct dirent *entry;
-    while (status == RELKVANU_STORE_OK && (errno = 0, entry = readdir(listing)) != NULL) {
-        len += is_file(entry->d_name, &files[len]) && !(has_own_files && rks_is_own(s, entry->d_name));
-        if (len == PAGE) {
-            status = pages->each(s, pages, files, len);
-            len = 0;
-        }
-    }
-    if (status == RELKVANU_STORE_OK && errno != 0) {
-        return RELKVANU_STORE_STORAGE;
-    }
-    return status == RELKVANU_STORE_OK ? pages->each(s, pages, files, len) : status;
-}
-
-/* Visits the files of the folder, page by page. RELKVANU_STORE_STORAGE: it can't be read. */
-static int visit_folder(relkvanu_store *s, struct pages *pages) {
-    int copy = openat(s->folder, ".", O_RDONLY | O_DIRECTORY | O_CLOEXEC);
-    DIR *listing = copy < 0 ? NULL : fdopendir(copy);
-    if (listing == NULL) {
-        if (copy >= 0) {
-            close(copy);
-        }
-        return RELKVANU_STORE_STORAGE;
-    }
-    int status = visit(s, pages, listing);
-    closedir(listing);
-    return status;
+    return true;
 }
 
 int rks_greatest_file(relkvanu_store *s, uint64_t *greatest) {
-    struct pages pages = {.each = note_greatest};
-    int status = visit_folder(s, &pages);
-    *greatest = pages.greatest;
-    return status;
+    struct rks_folder folder = folder_of(s);
+    *greatest = 0;
+    return rks_folder_list(&folder, 0, note_greatest, greatest) == RELKVANU_STORAGE_OK ? RELKVANU_STORE_OK : RELKVANU_STORE_STORAGE;
 }
 
-int relkvanu_store_sweep(relkvanu_store *s, size_t *left) {
+/* A sweep that is under way. */
+struct sweep {
+    relkvanu_store *s;
+    const relkvanu_storage *storage;
+    size_t left, swept, unissued;
+    int status;
+};
+
+static void delete_found(struct sweep *sweep, const uint64_t *files, size_t len) {
+    uint8_t outcomes[RELKVANU_STORAGE_PAGE] = {0};
+    if (sweep->storage->delete_files(sweep->storage->with, files, len, outcomes) != RELKVANU_STORAGE_OK) {
+        sweep->status = RELKVANU_STORE_STORAGE;
+        memset(outcomes, 0, sizeof outcomes);
+    }
+    for (size_t place = 0; place < len; place++) {
+        sweep->swept += outcomes[place] == RELKVANU_STORAGE_DELETED;
+        sweep->left += outcomes[place] == RELKVANU_STORAGE_UNDELETED;
+    }
+}
+
+/* Deletes those of the files that may be deleted. */
+static bool sweep_page(void *with, const relkvanu_storage_file *found, size_t found_len) {
+    struct sweep *sweep = with;
+    uint64_t files[RELKVANU_STORAGE_PAGE];
+    size_t len = found_len <= RELKVANU_STORAGE_PAGE ? found_len : 0;
+    for (size_t place = 0; place < len; place++) {
+        files[place] = found[place].file;
+    }
+    sweep->status = len == found_len ? rks_deletable(sweep->s, files, &len, &sweep->unissued) : RELKVANU_STORE_STORAGE;
+    if (sweep->status == RELKVANU_STORE_OK && len != 0) {
+        delete_found(sweep, files, len);
+    }
+    return sweep->status == RELKVANU_STORE_OK;
+}
+
+/* What a storage that was not listed to its end is to a caller of the store. */
+static int status_of_listing(int status, int of_page) {
+    switch (status) {
+    case RELKVANU_STORAGE_OK:
+        return RELKVANU_STORE_OK;
+    case RELKVANU_STORAGE_ENDED:
+        return of_page;
+    case RELKVANU_STORAGE_NO_MEMORY:
+        return RELKVANU_STORE_NO_MEMORY;
+    default:
+        return RELKVANU_STORE_STORAGE;
+    }
+}
+
+/* Whether an engine has filled in what a discarder and a sweeper need. */
+bool rks_is_storage(const relkvanu_storage *storage) {
+    const uint64_t *reserved = storage->reserved;
+    return storage->check != NULL && storage->delete_files != NULL && storage->list != NULL &&
+           (reserved[0] | reserved[1] | reserved[2] | reserved[3]) == 0;
+}
+
+int relkvanu_store_sweep_storage(relkvanu_store *s, const relkvanu_storage *storage, size_t *left) {
+    struct sweep sweep = {.s = s, .storage = storage, .status = RELKVANU_STORE_OK};
     *left = 0;
     if (rks_is_forked(s)) {
         return RELKVANU_STORE_FORKED;
     }
-    if (s->folder < 0) {
+    if (!rks_is_storage(storage)) {
         return RELKVANU_STORE_BAD_ARGUMENT;
     }
-    struct pages pages = {.each = sweep_page};
-    int status = rks_owner(s) == RELKVANU_STORE_OK ? visit_folder(s, &pages) : RELKVANU_STORE_STORAGE;
-    *left = pages.left;
+    if (storage->check(storage->with) != RELKVANU_STORAGE_OK) {
+        return RELKVANU_STORE_STORAGE;
+    }
+    size_t none = 0; /* the right time is asked for also of a storage without files */
+    int status = rks_deletable(s, NULL, &none, &sweep.unissued);
+    if (status == RELKVANU_STORE_OK) {
+        int listed = storage->list(storage->with, 0, sweep_page, &sweep);
+        status = status_of_listing(listed, sweep.status);
+    }
+    *left = sweep.left;
     pthread_mutex_lock(&s->mutex);
-    s->swept += pages.swept;
-    s->unissued = status == RELKVANU_STORE_OK ? pages.unissued : s->unissued;
+    s->swept += sweep.swept;
+    s->unissued = status == RELKVANU_STORE_OK ? sweep.unissued : s->unissued;
     pthread_mutex_unlock(&s->mutex);
-    return status == RELKVANU_STORE_OK && fsync(s->folder) != 0 ? RELKVANU_STORE_STORAGE : status;
+    return status;
+}
+
+int relkvanu_store_sweep(relkvanu_store *s, size_t *left) {
+    relkvanu_storage own;
+    *left = 0;
+    int status = relkvanu_store_storage(s, &own);
+    return status == RELKVANU_STORE_OK ? relkvanu_store_sweep_storage(s, &own, left) : status;
 }

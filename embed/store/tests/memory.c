@@ -280,8 +280,45 @@ static void images_wait(enum kind kind) {
     relkvanu_store_close(store);
 }
 
+static bool no_page(void *with, const relkvanu_storage_file *files, size_t len) {
+    (void)with;
+    return files != NULL && len != 0;
+}
+
+/* A folder as a storage: opened, put into, listed and deleted from. */
+static int use_folder(const relkvanu_storage_options *options) {
+    relkvanu_storage it;
+    uint64_t file = 7;
+    uint8_t outcome;
+    int status = relkvanu_storage_open_folder(&it, options);
+    CHECK((it.with != NULL) == (status == RELKVANU_STORAGE_OK), "status %d", status);
+    if (status == RELKVANU_STORAGE_OK) {
+        status = it.put(it.with, 7, "state", 5);
+        CHECK(status == RELKVANU_STORAGE_OK && it.list(it.with, 0, no_page, NULL) == RELKVANU_STORAGE_OK, "only the opening asks for memory");
+        CHECK(it.delete_files(it.with, &file, 1, &outcome) == RELKVANU_STORAGE_OK && outcome == RELKVANU_STORAGE_DELETED, "outcome %d", outcome);
+    }
+    relkvanu_storage_close_folder(&it);
+    return status;
+}
+
+static void folder_waits(const char *folder) {
+    static char state[PATHS];
+    snprintf(state, sizeof state, "%s/state", folder);
+    CHECK(mkdir(state, 0700) == 0, "%s", state);
+    relkvanu_storage_options options = {.flags = RELKVANU_STORAGE_NEW, .path = state, .job = "orders", .prefix = "a", .suffix = "b"};
+    int status = RELKVANU_STORAGE_NO_MEMORY;
+    unsigned long nth = 0;
+    while (status == RELKVANU_STORAGE_NO_MEMORY) {
+        set_refused(OWN, ++nth, true);
+        status = use_folder(&options);
+        set_none();
+    }
+    CHECK(status == RELKVANU_STORAGE_OK && nth > 5, "status %d at request %lu", status, nth);
+    printf("store: memory of a folder: up to request %lu\n", nth);
+}
+
 int main(int argc, char **argv) {
-    unsigned passed = 3;
+    unsigned passed = 4;
     CHECK(argc == 2, "memory FOLDER");
     snprintf(path, sizeof path, "%s/x.db", argv[1]);
     snprintf(storage, sizeof storage, "%s/storage", argv[1]);
@@ -303,6 +340,7 @@ int main(int argc, char **argv) {
     }
     images_wait(COORDINATOR);
     images_wait(SQLITE);
+    folder_waits(argv[1]);
     printf("%u passed, 0 failed\n", passed);
     return 0;
 }

@@ -172,6 +172,35 @@ static void files(const std::string &path) {
     CHECK(!job.sweep(left) && left == 0 && access((folder + "/77").c_str(), F_OK) != 0 && access((folder + "/12").c_str(), F_OK) == 0);
 }
 
+/* The same files in a storage that the engine has opened by itself. */
+static void storage(const std::string &path) {
+    const std::string folder = path + "-own";
+    CHECK(mkdir(folder.c_str(), 0700) == 0);
+    ckpt::Store job = opened(path + "8", RELKVANU_STORE_CREATE);
+    ckpt::folder_options how;
+    how.is_new = true;
+    how.prefix = "s-";
+    ckpt::Folder files = std::get<ckpt::Folder>(ckpt::Folder::open(folder, "orders", how));
+    for (std::uint64_t file : {1, 2, 11, 12, 77}) {
+        CHECK(!files.put(file, "state"));
+    }
+    std::size_t left = 1;
+    CHECK(job.sweep_storage(files, left) == ckpt::store_error::not_now && left == 0);
+    complete(job, 1);
+    complete(job, 11);
+    std::error_code ended;
+    std::thread thread([&] { ended = job.discard_storage(files); });
+    while (access((folder + "/s-1").c_str(), F_OK) == 0 || access((folder + "/s-2").c_str(), F_OK) == 0) {
+        std::this_thread::sleep_for(std::chrono::milliseconds(5));
+    }
+    job.stop();
+    thread.join();
+    CHECK(ended == ckpt::store_error::stopped && std::holds_alternative<ckpt::restored>(job.restore()));
+    CHECK(!job.sweep_storage(files, left) && left == 0 && access((folder + "/s-77").c_str(), F_OK) != 0 && access((folder + "/s-12").c_str(), F_OK) == 0);
+    CHECK(rename((folder + "/s-.relkvanu-storage").c_str(), (folder + "/away").c_str()) == 0);
+    CHECK(job.sweep_storage(files, left) == ckpt::store_error::storage && access((folder + "/s-12").c_str(), F_OK) == 0);
+}
+
 static void names(const std::string &path) {
     const std::string folder = path + "-names";
     CHECK(mkdir(folder.c_str(), 0700) == 0);
@@ -220,6 +249,7 @@ int main(int argc, char **argv) {
     submits(path);
     discarder(path);
     files(path);
+    storage(path);
     names(path);
     return 0;
 }

@@ -194,11 +194,18 @@ class Service:
         self._verify = True if ca is None else ca
         self._headers = {"Authorization": f"Bearer {token}"} if token else {}
         self._own = threading.local()  # a session is one thread's
+        self._notice = None
 
     def within(self, seconds):
         """The same service, which makes a request again for this many seconds, or for ever if that is None."""
         it = copy.copy(self)
         it._patience = seconds
+        return it
+
+    def noticing(self, notice):
+        """The same service, which calls `notice(error)` for each try that is not answered, or with an error that passes."""
+        it = copy.copy(self)
+        it._notice = notice
         return it
 
     def open(self, name, settings, shape, names=None):
@@ -246,6 +253,8 @@ class Service:
                 raise  # another try has the same certificate
             except _LOST as lost:
                 error = lost
+            if self._notice is not None:
+                self._notice(error)
             rest = self._addresses.after(place, max(later, pause * random.uniform(0.5, 1.0)), leader)
             if time.monotonic() + rest >= until:
                 raise error

@@ -5,6 +5,8 @@
 
 mod bindings;
 #[cfg(feature = "store")]
+pub mod storage;
+#[cfg(feature = "store")]
 pub mod store;
 
 pub use bindings::*;

@@ -4,7 +4,7 @@
 //! - A [`SharedCoordinator`] lets any number of threads call one, under a mutex.
 //! - A [`Call`] can be written as a line of a log and read from it, and [`Coordinator::line`] makes it again. The texts of an
 //!   [`Answer`] and of a [`Refusal`] read back as themselves.
-//! - With the feature `store` a `store::Store` makes its calls durable, in an SQLite file.
+//! - With the feature `store` a `store::Store` makes its calls durable, in an SQLite file. A `storage::Storage` is where its state files are.
 //! - One that was opened by [`Coordinator::open_fenced`], or got names by [`Coordinator::fence`], gives out the numbers of files, each
 //!   once, and refuses tasks of a term that a restore or a cancel has ended, as [`Fault::Fenced`].
 //! - A [`Discarder`] deletes the files that no record uses any more, in threads of its own.
@@ -26,6 +26,8 @@ mod fault;
 mod lines;
 mod parse;
 mod shared;
+#[cfg(feature = "store")]
+pub mod storage;
 #[cfg(feature = "store")]
 pub mod store;
 

@@ -11,6 +11,7 @@ use crate::answer::{self, Answer, Garbage, RunningTerm};
 use crate::call::Call;
 use crate::coordinator::Coordinator;
 use crate::fault::{done, Fault};
+use crate::storage::{Functions, Storage};
 use calls::{made, List};
 use opening::step;
 use relkvanu_sys as sys;
@@ -404,7 +405,31 @@ impl Store {
         }
     }
 
-    /// Lets [`await_tick`](Self::await_tick) and [`discard`](Self::discard) end, now and later.
+    /// A discarder of the files of any storage, as [`discard`](Self::discard): an engine's own, or a [`Folder`](crate::storage::Folder). The error is
+    /// `Storage` once the storage is another job's; while it is not there, no file counts as gone.
+    pub fn discard_storage(&self, batch: usize, storage: &dyn Storage) -> Result<(), StoreError> {
+        let functions = Functions::of(&storage);
+        // SAFETY: the storage outlives the call, which calls its functions in this thread alone.
+        let status = unsafe {
+            sys::storage::relkvanu_store_discard_storage(self.at(), batch, functions.at())
+        };
+        match status {
+            sys::store::RELKVANU_STORE_STOPPED => Ok(()),
+            other => self.check(other),
+        }
+    }
+
+    /// A sweep of any storage, as [`sweep`](Self::sweep).
+    pub fn sweep_storage(&self, storage: &dyn Storage) -> Result<usize, StoreError> {
+        let (functions, mut left) = (Functions::of(&storage), 0);
+        // SAFETY: the storage outlives the call, and the place is this function's own.
+        self.check(unsafe {
+            sys::storage::relkvanu_store_sweep_storage(self.at(), functions.at(), &mut left)
+        })?;
+        Ok(left)
+    }
+
+    /// Lets [`await_tick`](Self::await_tick) and the discarders end, now and later.
     pub fn stop(&self) {
         // SAFETY: the store is open.
         unsafe { sys::store::relkvanu_store_stop(self.at()) }

@@ -1,0 +1,415 @@
+/* A folder as a storage: its marker, files with any names, links, pages, and ends in the middle. And storages of an engine. */
+#include "cases.h"
+
+#include <errno.h>
+#include <fcntl.h>
+#include <linux/audit.h>
+#include <linux/filter.h>
+#include <linux/seccomp.h>
+#include <pthread.h>
+#include <signal.h>
+#include <stddef.h>
+#include <sys/prctl.h>
+#include <sys/resource.h>
+#include <sys/stat.h>
+#include <sys/syscall.h>
+#include <sys/wait.h>
+#include <unistd.h>
+
+static bool has(const char *name) {
+    struct stat found;
+    return lstat(in(name), &found) == 0;
+}
+
+static void make_file(const char *name, const char *text) {
+    int file = open(in(name), O_CREAT | O_WRONLY | O_TRUNC, 0600);
+    CHECK(file >= 0 && write(file, text, strlen(text)) == (ssize_t)strlen(text), "%s", name);
+    close(file);
+}
+
+static relkvanu_storage_options state_of(const char *job) {
+    static char path[PATHS];
+    snprintf(path, sizeof path, "%s", in("state"));
+    CHECK(mkdir(path, 0700) == 0 || errno == EEXIST, "%s", path);
+    return (relkvanu_storage_options){.flags = RELKVANU_STORAGE_NEW, .path = path, .job = job};
+}
+
+static void opens_as(const relkvanu_storage_options *options, int status) {
+    relkvanu_storage storage;
+    int got = relkvanu_storage_open_folder(&storage, options);
+    CHECK(got == status && (storage.with != NULL) == (got == RELKVANU_STORAGE_OK), "status %d, not %d", got, status);
+    relkvanu_storage_close_folder(&storage);
+    relkvanu_storage_close_folder(&storage);
+}
+
+static relkvanu_storage opened(const char *prefix, const char *suffix) {
+    relkvanu_storage storage;
+    relkvanu_storage_options options = state_of("orders");
+    options.prefix = prefix;
+    options.suffix = suffix;
+    int status = relkvanu_storage_open_folder(&storage, &options);
+    CHECK(status == RELKVANU_STORAGE_OK, "status %d, errno %d", status, errno);
+    return storage;
+}
+
+static void puts_file(const relkvanu_storage *it, uint64_t file, const char *text, int status) {
+    int got = it->put(it->with, file, text, strlen(text));
+    CHECK(got == status, "file %" PRIu64 ": status %d, not %d", file, got, status);
+}
+
+static void reads(const relkvanu_storage *it, uint64_t file, const char *text) {
+    char found[64];
+    uint64_t len;
+    CHECK(it->get(it->with, file, found, sizeof found, &len) == RELKVANU_STORAGE_OK, "file %" PRIu64, file);
+    CHECK(len == strlen(text) && memcmp(found, text, len) == 0, "file %" PRIu64, file);
+}
+
+/* What a listing found: how often each of a few files, the greatest page, and all bytes. */
+struct found {
+    unsigned counts[3000], pages;
+    size_t greatest, all;
+    uint64_t bytes;
+    unsigned ends_after;
+};
+
+static bool note(void *with, const relkvanu_storage_file *files, size_t len) {
+    struct found *found = with;
+    for (size_t i = 0; i < len; i++) {
+        found->counts[files[i].file < 3000 ? files[i].file : 2999]++;
+        found->bytes += files[i].bytes;
+    }
+    found->all += len;
+    found->greatest = len > found->greatest ? len : found->greatest;
+    return ++found->pages != found->ends_after;
+}
+
+static struct found listed(const relkvanu_storage *it, size_t most) {
+    struct found found = {.pages = 0};
+    int status = it->list(it->with, most, note, &found);
+    CHECK(status == RELKVANU_STORAGE_OK, "status %d", status);
+    return found;
+}
+
+static void a_marker_names_the_job(void) {
+    relkvanu_storage_options new = state_of("orders"), again = new, other = state_of("others");
+    char text[80] = "";
+    again.flags = RELKVANU_STORAGE_RECOVER;
+    opens_as(&again, RELKVANU_STORAGE_NOT_THERE);
+    opens_as(&new, RELKVANU_STORAGE_OK);
+    opens_as(&new, RELKVANU_STORAGE_OK);
+    opens_as(&again, RELKVANU_STORAGE_OK);
+    FILE *marker = fopen(in("state/.relkvanu-storage"), "r"); /* as Python writes it */
+    CHECK(fread(text, 1, sizeof text - 1, marker) != 0 && strcmp(text, "relkvanu: state files of the job orders\n") == 0, "%s", text);
+    fclose(marker);
+    opens_as(&other, RELKVANU_STORAGE_OTHER_JOB);
+    again.marker_text = "relkvanu: state files of the job orders"; /* shorter */
+    opens_as(&again, RELKVANU_STORAGE_OTHER_JOB);
+    again.marker_text = "relkvanu: state files of the job orders\n\n";
+    opens_as(&again, RELKVANU_STORAGE_OTHER_JOB);
+    again.marker_text = NULL;
+    again.path = in("none");
+    opens_as(&again, RELKVANU_STORAGE_NOT_THERE);
+}
+
+static void a_new_job_needs_an_empty_folder(void) {
+    relkvanu_storage_options new = state_of("orders");
+    make_file("state/notes", "");
+    make_file("state/7.part", "");
+    opens_as(&new, RELKVANU_STORAGE_NOT_EMPTY);
+    CHECK(!has("state/.relkvanu-storage") && rename(in("state/7.part"), in("state/7")) == 0, "a marker");
+    opens_as(&new, RELKVANU_STORAGE_NOT_EMPTY);
+    unlink(in("state/7"));
+    make_file("state/.relkvanu-storage.part", "relk"); /* one that was killed */
+    opens_as(&new, RELKVANU_STORAGE_OK);
+    CHECK(has("state/.relkvanu-storage") && !has("state/.relkvanu-storage.part"), "no marker");
+}
+
+static void bad_arguments(void) {
+    relkvanu_storage_options good = state_of("orders"), bad[12];
+    char longest[RELKVANU_STORAGE_MOST_AFFIX + 2] = "";
+    memset(longest, 'x', RELKVANU_STORAGE_MOST_AFFIX + 1);
+    for (size_t i = 0; i < 12; i++) {
+        bad[i] = good;
+    }
+    bad[0].path = NULL, bad[1].job = NULL, bad[2].job = "", bad[3].job = "a\nb", bad[4].prefix = "a/", bad[5].suffix = "/b";
+    bad[6].prefix = longest, bad[7].flags = 2, bad[8].reserved[3] = 1, bad[9].marker_name = "..", bad[10].marker_name = "a/b";
+    bad[11].marker_name = "7";
+    for (size_t i = 0; i < 12; i++) {
+        opens_as(&bad[i], RELKVANU_STORAGE_BAD_ARGUMENT);
+    }
+    CHECK(rmdir(in("state")) == 0, "something was made");
+    good = state_of("orders");
+    longest[RELKVANU_STORAGE_MOST_AFFIX] = 0;
+    good.suffix = longest;
+    relkvanu_storage storage;
+    CHECK(relkvanu_storage_open_folder(&storage, &good) == RELKVANU_STORAGE_OK, "the longest");
+    puts_file(&storage, UINT64_MAX, "x", RELKVANU_STORAGE_OK);
+    reads(&storage, UINT64_MAX, "x");
+    relkvanu_storage_close_folder(&storage);
+}
+
+static void files_of_a_folder(void) {
+    relkvanu_storage it = opened(NULL, NULL);
+    uint64_t files[] = {UINT64_MAX, 0, 5, 6, 8}, len = 0;
+    uint8_t outcomes[5];
+    char found[4] = "";
+    puts_file(&it, UINT64_MAX, "state", RELKVANU_STORAGE_OK);
+    puts_file(&it, 0, "", RELKVANU_STORAGE_OK);
+    puts_file(&it, 0, "other", RELKVANU_STORAGE_PRESENT);
+    reads(&it, 0, "");
+    CHECK(it.get(it.with, UINT64_MAX, found, 3, &len) == RELKVANU_STORAGE_OK && len == 5 && memcmp(found, "sta", 4) == 0, "%s", found);
+    CHECK(it.get(it.with, 7, found, 3, &len) == RELKVANU_STORAGE_ABSENT, "file 7");
+    make_file("state/5.part", "");
+    puts_file(&it, 5, "state", RELKVANU_STORAGE_PRESENT);
+    CHECK(mkdir(in("state/6"), 0700) == 0 && listed(&it, 0).all == 3, "%zu files", listed(&it, 0).all);
+    CHECK(it.delete_files(it.with, files, 5, outcomes) == RELKVANU_STORAGE_OK, "no deletion");
+    CHECK(outcomes[0] == RELKVANU_STORAGE_DELETED && outcomes[1] == RELKVANU_STORAGE_DELETED &&
+        outcomes[2] == RELKVANU_STORAGE_DELETED, "deleted");
+    CHECK(outcomes[3] == RELKVANU_STORAGE_UNDELETED && outcomes[4] == RELKVANU_STORAGE_MISSING &&
+        has("state/6"), "%d %d", outcomes[3], outcomes[4]);
+    CHECK(listed(&it, 0).all == 0 && it.delete_files(it.with, NULL, 0, NULL) == RELKVANU_STORAGE_OK, "files are left");
+    relkvanu_storage_close_folder(&it);
+}
+
+/* A file of more than 1000 bytes can't be written. */
+static void one_that_can_not_be_put(void) {
+    relkvanu_storage it = opened(NULL, NULL);
+    struct rlimit before, limit;
+    static char contents[2000];
+    CHECK(signal(SIGXFSZ, SIG_IGN) != SIG_ERR && getrlimit(RLIMIT_FSIZE, &before) == 0, "limits");
+    limit = before;
+    limit.rlim_cur = 1000;
+    CHECK(setrlimit(RLIMIT_FSIZE, &limit) == 0, "the limit");
+    int status = it.put(it.with, 7, contents, sizeof contents), error = errno;
+    CHECK(setrlimit(RLIMIT_FSIZE, &before) == 0, "no limit");
+    CHECK(status == RELKVANU_STORAGE_FAILED && error == EFBIG && listed(&it, 0).all == 0, "status %d, errno %d", status, error);
+    CHECK(it.put(it.with, 7, contents, sizeof contents) == RELKVANU_STORAGE_OK, "the same number once more");
+    relkvanu_storage_close_folder(&it);
+}
+
+/* From now on the process is killed when it gives a file another name. */
+static void die_at_renames(void) {
+    struct sock_filter steps[] = {
+        BPF_STMT(BPF_LD | BPF_W | BPF_ABS, offsetof(struct seccomp_data, nr)),
+        BPF_JUMP(BPF_JMP | BPF_JEQ | BPF_K, SYS_renameat, 1, 0),
+        BPF_JUMP(BPF_JMP | BPF_JEQ | BPF_K, SYS_renameat2, 0, 1),
+        BPF_STMT(BPF_RET | BPF_K, SECCOMP_RET_KILL_PROCESS),
+        BPF_STMT(BPF_RET | BPF_K, SECCOMP_RET_ALLOW),
+    };
+    struct sock_fprog program = {.len = sizeof steps / sizeof *steps, .filter = steps};
+    CHECK(prctl(PR_SET_NO_NEW_PRIVS, 1, 0, 0, 0) == 0 && prctl(PR_SET_SECCOMP, SECCOMP_MODE_FILTER, &program) == 0, "errno %d", errno);
+}
+
+/* A put that is killed between its write and its rename leaves a file that is listed and deleted, and that no other put overwrites. */
+static void killed_before_the_rename(void) {
+    relkvanu_storage it = opened("s-", ".bin");
+    uint64_t file = 7;
+    uint8_t outcome;
+    int status;
+    fflush(NULL);
+    pid_t child = fork();
+    if (child == 0) {
+        die_at_renames();
+        _exit(it.put(it.with, 7, "state", 5));
+    }
+    CHECK(waitpid(child, &status, 0) == child && WIFSIGNALED(status) &&
+        WTERMSIG(status) == SIGSYS, "a child ended with %x", (unsigned)status);
+    CHECK(has("state/s-7.bin.part") && !has("state/s-7.bin"), "the folder");
+    struct found found = listed(&it, 0);
+    CHECK(found.all == 1 && found.counts[7] == 1 && found.bytes == 5, "%zu files", found.all);
+    puts_file(&it, 7, "other", RELKVANU_STORAGE_PRESENT);
+    CHECK(it.delete_files(it.with, &file, 1, &outcome) == RELKVANU_STORAGE_OK &&
+        outcome == RELKVANU_STORAGE_DELETED, "outcome %d", outcome);
+    CHECK(!has("state/s-7.bin.part") && listed(&it, 0).all == 0, "a part is left");
+    relkvanu_storage_close_folder(&it);
+}
+
+static void links_are_not_followed(void) {
+    relkvanu_storage it = opened(NULL, NULL);
+    uint64_t file = 7, len;
+    uint8_t outcome;
+    char found[8];
+    make_file("elsewhere", "state");
+    CHECK(symlink("../elsewhere", in("state/7")) == 0 && symlink("../made", in("state/8.part")) == 0, "links");
+    CHECK(listed(&it, 0).all == 0, "a link is listed");
+    CHECK(it.get(it.with, 7, found, sizeof found, &len) == RELKVANU_STORAGE_FAILED && errno == ELOOP, "errno %d", errno);
+    puts_file(&it, 7, "other", RELKVANU_STORAGE_PRESENT);
+    puts_file(&it, 8, "other", RELKVANU_STORAGE_PRESENT);
+    CHECK(!has("state/7.part") && !has("made"), "a put");
+    CHECK(it.delete_files(it.with, &file, 1, &outcome) == RELKVANU_STORAGE_OK &&
+        outcome == RELKVANU_STORAGE_DELETED, "outcome %d", outcome);
+    CHECK(!has("state/7") && has("elsewhere"), "a deletion");
+    CHECK(rename(in("state/.relkvanu-storage"), in("marker")) == 0 &&
+        symlink("../marker", in("state/.relkvanu-storage")) == 0, "the marker");
+    CHECK(it.check(it.with) == RELKVANU_STORAGE_FAILED && errno == ELOOP, "errno %d", errno);
+    puts_file(&it, 9, "state", RELKVANU_STORAGE_FAILED);
+    CHECK(!has("state/9") && !has("state/9.part"), "a put");
+    relkvanu_storage_close_folder(&it);
+}
+
+/* Nothing is put, and nothing counts as deleted. */
+static void refuses_all(const relkvanu_storage *it, int status) {
+    uint64_t files[] = {7, 8};
+    uint8_t outcomes[] = {9, 9};
+    CHECK(it->check(it->with) == status, "check");
+    puts_file(it, 9, "state", status);
+    CHECK(it->delete_files(it->with, files, 2, outcomes) == status && outcomes[0] == 0 &&
+        outcomes[1] == 0, "%d %d", outcomes[0], outcomes[1]);
+}
+
+static void the_marker_of_another_job(void) {
+    relkvanu_storage it = opened(NULL, NULL);
+    puts_file(&it, 7, "state", RELKVANU_STORAGE_OK);
+    CHECK(rename(in("state/.relkvanu-storage"), in("marker")) == 0, "the marker");
+    refuses_all(&it, RELKVANU_STORAGE_NOT_THERE);
+    make_file("state/.relkvanu-storage", "relkvanu: state files of the job others\n");
+    refuses_all(&it, RELKVANU_STORAGE_OTHER_JOB);
+    CHECK(has("state/7") && !has("state/9") && !has("state/9.part"), "the folder");
+    CHECK(rename(in("marker"), in("state/.relkvanu-storage")) == 0 && it.check(it.with) == RELKVANU_STORAGE_OK, "the marker");
+    relkvanu_storage_close_folder(&it);
+}
+
+/* It stays open, so another one at its path is not reached. */
+static void the_folder_is_removed(void) {
+    relkvanu_storage it = opened(NULL, NULL);
+    struct found found = {.pages = 0};
+    puts_file(&it, 7, "state", RELKVANU_STORAGE_OK);
+    CHECK(rename(in("state"), in("away")) == 0 && mkdir(in("state"), 0700) == 0, "the folder");
+    make_file("state/7", "");
+    make_file("state/8", "");
+    puts_file(&it, 9, "state", RELKVANU_STORAGE_OK);
+    CHECK(has("away/9") && !has("state/9") && listed(&it, 0).all == 2, "the folder");
+    CHECK(unlink(in("away/7")) == 0 && unlink(in("away/9")) == 0 && unlink(in("away/.relkvanu-storage")) == 0 &&
+        rmdir(in("away")) == 0, "the folder");
+    refuses_all(&it, RELKVANU_STORAGE_NOT_THERE);
+    int status = it.list(it.with, 0, note, &found); /* a removed folder is an empty one, where it can be read */
+    CHECK((status == RELKVANU_STORAGE_OK || status == RELKVANU_STORAGE_NOT_THERE) && found.pages == 0, "status %d", status);
+    CHECK(has("state/7") && has("state/8"), "the other folder");
+    relkvanu_storage_close_folder(&it);
+}
+
+static void names_with_unusual_bytes(void) {
+    static const char *const others[] = {"state/a b\n\xff%s-07\x01\"", "state/a b\n\xff%s-+7\x01\"",
+        "state/a b\n\xff%s-18446744073709551616\x01\"", "state/a b\n\xff%s-\x01\"", "state/a b\n\xff%s-7\x01\".part.part", "state/7",
+        "state/a b\n\xff%s-7", "state/7\x01\"", "state/a b\n\xff%s- 7\x01\""};
+    relkvanu_storage it = opened("a b\n\xff%s-", "\x01\"");
+    uint64_t files[] = {7, 8};
+    uint8_t outcomes[2];
+    for (size_t i = 0; i < sizeof others / sizeof *others; i++) {
+        make_file(others[i], "");
+    }
+    CHECK(listed(&it, 0).all == 0, "%zu files", listed(&it, 0).all);
+    puts_file(&it, 7, "state", RELKVANU_STORAGE_OK);
+    make_file("state/a b\n\xff%s-8\x01\".part", "");
+    CHECK(has("state/a b\n\xff%s-7\x01\"") && has("state/a b\n\xff%s-.relkvanu-storage"), "the names");
+    struct found found = listed(&it, 0);
+    CHECK(found.all == 2 && found.counts[7] == 1 && found.counts[8] == 1, "%zu files", found.all);
+    CHECK(it.delete_files(it.with, files, 2, outcomes) == RELKVANU_STORAGE_OK && outcomes[0] == 1 && outcomes[1] == 1 &&
+        listed(&it, 0).all == 0, "deletions");
+    for (size_t i = 0; i < sizeof others / sizeof *others; i++) {
+        CHECK(has(others[i]), "%s", others[i]);
+    }
+    relkvanu_storage_close_folder(&it);
+}
+
+/* A prefix and a suffix of digits: no name has two numbers. */
+static void names_with_digits(void) {
+    relkvanu_storage it = opened("1", "0");
+    puts_file(&it, 7, "", RELKVANU_STORAGE_OK);
+    puts_file(&it, 10, "", RELKVANU_STORAGE_OK);
+    make_file("state/10", "");
+    make_file("state/1070", "");
+    struct found found = listed(&it, 0);
+    CHECK(has("state/170") && has("state/1100") && found.all == 2 && found.counts[7] == 1 && found.counts[10] == 1, "%zu files", found.all);
+    relkvanu_storage_close_folder(&it);
+}
+
+static void pages_of_a_listing(void) {
+    relkvanu_storage it = opened(NULL, NULL);
+    char name[PATHS];
+    struct found ended = {.ends_after = 2};
+    for (int file = 0; file < 2500; file++) {
+        snprintf(name, sizeof name, "state/%d%s", file, file % 3 == 0 ? ".part" : "");
+        make_file(name, "x");
+    }
+    make_file("state/1", "xyz");
+    make_file("state/1.part", "");
+    static const size_t most[] = {0, 1000, 7, 1, 100000};
+    for (size_t i = 0; i < sizeof most / sizeof *most; i++) {
+        struct found found = listed(&it, most[i]);
+        size_t greatest = most[i] == 0 || most[i] > 1000 ? 1000 : most[i];
+        CHECK(found.all == 2501 && found.greatest == greatest && found.pages == (2501 + greatest - 1) / greatest &&
+            found.bytes == 2502, "%zu files", found.all);
+        for (int file = 0; file < 2500; file++) {
+            CHECK(found.counts[file] == (file == 1 ? 2 : 1), "file %d", file);
+        }
+    }
+    CHECK(it.list(it.with, 10, note, &ended) == RELKVANU_STORAGE_ENDED && ended.all == 20, "%zu files", ended.all);
+    relkvanu_storage_close_folder(&it);
+}
+
+static bool delete_page(void *with, const relkvanu_storage_file *files, size_t len) {
+    relkvanu_storage *it = with;
+    for (size_t i = 0; i < len; i++) {
+        uint8_t outcome;
+        CHECK(it->delete_files(it->with, &files[i].file, 1, &outcome) == RELKVANU_STORAGE_OK &&
+            outcome != RELKVANU_STORAGE_UNDELETED, "file %" PRIu64, files[i].file);
+    }
+    return true;
+}
+
+struct worker {
+    relkvanu_storage *it;
+    uint64_t first;
+};
+
+static void *puts_many(void *with) {
+    struct worker *worker = with;
+    for (uint64_t file = worker->first; file < worker->first + 50; file++) {
+        puts_file(worker->it, file, "state", RELKVANU_STORAGE_OK);
+    }
+    return NULL;
+}
+
+static void *lists_many(void *with) {
+    struct worker *worker = with;
+    for (int times = 0; times < 20; times++) {
+        struct found found = listed(worker->it, 3);
+        CHECK(found.counts[1] == 1 && found.counts[2] == 1, "a listing saw a part of the folder");
+    }
+    return NULL;
+}
+
+static void threads_share_a_folder(void) {
+    relkvanu_storage it = opened(NULL, NULL);
+    struct worker workers[] = {{&it, 100}, {&it, 200}, {&it, 0}, {&it, 0}};
+    pthread_t threads[4];
+    puts_file(&it, 1, "", RELKVANU_STORAGE_OK);
+    puts_file(&it, 2, "", RELKVANU_STORAGE_OK);
+    for (int i = 0; i < 4; i++) {
+        CHECK(pthread_create(&threads[i], NULL, i < 2 ? puts_many : lists_many, &workers[i]) == 0, "a thread");
+    }
+    for (int i = 0; i < 4; i++) {
+        pthread_join(threads[i], NULL);
+    }
+    CHECK(listed(&it, 0).all == 102, "%zu files", listed(&it, 0).all);
+    CHECK(it.list(it.with, 10, delete_page, &it) == RELKVANU_STORAGE_OK && listed(&it, 0).all == 0, "deletions in a listing");
+    relkvanu_storage_close_folder(&it);
+}
+
+const struct test folder_cases[] = {
+    {"a_marker_names_the_job", a_marker_names_the_job},
+    {"a_new_job_needs_an_empty_folder", a_new_job_needs_an_empty_folder},
+    {"bad_arguments_of_a_folder", bad_arguments},
+    {"files_of_a_folder", files_of_a_folder},
+    {"one_that_can_not_be_put", one_that_can_not_be_put},
+    {"killed_before_the_rename", killed_before_the_rename},
+    {"links_are_not_followed", links_are_not_followed},
+    {"the_marker_of_another_job", the_marker_of_another_job},
+    {"the_folder_is_removed", the_folder_is_removed},
+    {"names_with_unusual_bytes", names_with_unusual_bytes},
+    {"names_with_digits", names_with_digits},
+    {"pages_of_a_listing", pages_of_a_listing},
+    {"threads_share_a_folder", threads_share_a_folder},
+    {NULL, NULL},
+};
