@@ -1,7 +1,7 @@
 //! The script of a run: the opening of its job, and its log of calls.
 use crate::settings::{DemoFault, Settings};
-use ckpt_call_lines::{call_line, config_line, job_line, start_line};
 use ckpt_ids::{Config, Shape};
+use ckpt_lines::{call_line, config_line, job_line, start_line};
 use ckpt_locked::Book;
 use std::alloc::{AllocError, Global};
 use std::fs;

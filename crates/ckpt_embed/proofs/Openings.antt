@@ -2,7 +2,7 @@
 use Rattle.std.proofs.Common.{◌≡◌, ℕ, ◌+◌, ◌≤◌, List, ◌++◌, length, ap, ◌∙◌, subst, arith}
 use Rattle.std.proofs.lemmas.List.{length-append}
 use Rattle.ckpt_model.specs.State.{Opening}
-use Rattle.ckpt_call_lines.specs.CallTexts.{config_text, job_text, start_text}
+use Rattle.ckpt_lines.specs.CallTexts.{config_text, job_text, start_text}
 use Rattle.ckpt_embed.specs.Writing.{newline, opening_text}
 
 three : (a b c : List ℕ) → length (a ++ newline ++ b ++ newline ++ c ++ newline) ≡ length a + 1 + length b + 1 + length c + 1

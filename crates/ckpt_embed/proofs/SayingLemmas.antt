@@ -13,7 +13,7 @@ use Rattle.ckpt_ids.proofs.AscendingLemmas.{ascending_already}
 use Rattle.ckpt_image.proofs.RoundTrip.{shape_holds}
 use Rattle.ckpt_lines.specs.declared.meaning.Meaning.TheVariants as meant
 use Rattle.ckpt_lines.specs.Meanings.{is_new_shape, meaning, restoring}
-use Rattle.ckpt_call_lines.specs.CallTexts.{line_of_call, parallelisms}
+use Rattle.ckpt_lines.specs.CallTexts.{line_of_call, parallelisms}
 use Rattle.ckpt_terms.specs.declared.call.FencedCall.TheVariants.{Reserve, Forfeit, Make}
 use Rattle.ckpt_term_lines.specs.TermMeanings.{term_meaning}
 use Rattle.ckpt_term_lines.specs.TermReading.{term_reading}

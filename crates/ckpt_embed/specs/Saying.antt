@@ -8,7 +8,7 @@ use Rattle.ckpt_ids.specs.declared.call.Target.{Target}
 use Rattle.ckpt_ids.specs.declared.call.Target.TheVariants as target
 use Rattle.ckpt_ids.specs.declared.reply.Refusal.TheVariants.{NoSuchSavepoint}
 use Rattle.ckpt_ids.specs.declared.subtask.SubtaskId.{SubtaskId}
-use Rattle.ckpt_call_lines.specs.CallTexts.{parallelisms}
+use Rattle.ckpt_lines.specs.CallTexts.{parallelisms}
 use Rattle.ckpt_terms.specs.declared.call.FencedCall.TheVariants.{Reserve, Forfeit, Make}
 use Rattle.ckpt_embed.specs.declared.answer.Answer.{Answer}
 use Rattle.ckpt_embed.specs.declared.asked.Asked.{Asked}

@@ -9,7 +9,7 @@ use Rattle.ckpt_lines.specs.declared.limits.TheConstants.{LONGEST_LINE}
 use Rattle.ckpt_lines.specs.declared.line.Line.TheVariants as script
 use Rattle.ckpt_lines.specs.Meanings.{is_new_shape}
 use Rattle.ckpt_lines.specs.Reading.{reading}
-use Rattle.ckpt_call_lines.specs.CallTexts.{config_text, job_text, line_of_config, start_text}
+use Rattle.ckpt_lines.specs.CallTexts.{config_text, job_text, line_of_config, start_text}
 use Rattle.ckpt_terms.specs.declared.call.FencedCall.TheVariants.{Reserve, Forfeit, Make}
 use Rattle.ckpt_term_lines.specs.declared.line.TermLine.{TermLine}
 use Rattle.ckpt_term_lines.specs.declared.line.TermLine.TheVariants as line

@@ -4,9 +4,13 @@ pub mod EachLemmas
 pub mod FileLemmas
 pub mod FirstNumbers
 pub mod KeywordLemmas
+pub mod LineLemmas
 mod Names
 pub mod NumberLemmas
+pub mod NumberWords
+pub mod PieceLemmas
 pub mod PlaceLemmas
+pub mod ReadBack
 pub mod ReadingLaws
 pub mod SubtaskLemmas
 pub mod UsualLemmas

@@ -1,5 +1,6 @@
 -- The definitions that contracts cite.
 pub mod Bytes
+pub mod CallTexts
 pub mod Keywords
 pub mod Meanings
 pub mod Reading

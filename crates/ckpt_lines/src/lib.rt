@@ -1,4 +1,4 @@
-//! The lines of a job script.
+//! The lines of a job script: what they say, and how a call is written as one.
 //!
 //! [`parse_line`] reads one line, and returns a [`Line`] or the first [`LineFault`] from the left.
 //! `specs/Reading.antt` defines how a line is read, over the list of its words. [`Line::meaning`]
@@ -6,9 +6,15 @@
 //! that. [`usual_call`] returns the call of a usual line without a [`Line`], and `specs/Usual.antt`
 //! defines which lines are usual.
 //!
-//! A language with more lines reads their words by [`Words`], and the other lines by [`line_of`].
+//! [`call_line`] writes a call. [`config_line`], [`job_line`] and [`start_line`] write the opening of a
+//! job. `specs/CallTexts.antt` has the texts. A clause of each function says that its line reads back
+//! as what was written.
+//!
+//! A language with more lines reads their words by [`Words`], and the other lines by [`line_of`]. It
+//! writes calls by [`write_call`] and [`write_number`].
 #![tactic(auto)]
 
+mod calls;
 mod fault;
 mod keyword;
 pub mod laws;
@@ -17,19 +23,24 @@ mod line;
 mod lists;
 mod meaning;
 mod numbers;
+mod opening;
 mod parse;
+mod pieces;
 mod places;
 mod rows;
 mod usual;
 mod values;
 mod words;
 
+pub use calls::{call_line, write_call};
 pub use fault::LineFault;
 pub use limits::LONGEST_LINE;
 pub use line::Line;
 pub use meaning::Meaning;
 pub use numbers::Numbers;
+pub use opening::{config_line, job_line, start_line};
 pub use parse::{line_of, parse_line, without_return};
+pub use pieces::write_number;
 pub use rows::end;
 pub use usual::usual_call;
 pub use values::number_of;

@@ -9,7 +9,7 @@ use Rattle.ckpt_model.specs.State.{State, Opening, opened}
 use Rattle.ckpt_model.specs.Steps.{step}
 use Rattle.ckpt_model.specs.Histories.{replay}
 use Rattle.ckpt_model.specs.Laws.{CanOpen, AreCalls}
-use Rattle.ckpt_recent.specs.Lists.{all}
+use Rattle.ckpt_locked.specs.Lists.{all}
 use Rattle.ckpt_locked.specs.declared.book.Entry.{Entry}
 
 -- what contracts see of a book: the opening, each call with its caller, refused calls too, and how many of the last are

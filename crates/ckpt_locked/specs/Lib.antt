@@ -1,5 +1,6 @@
 -- The definitions that contracts cite.
 pub mod Books
+pub mod Lists
 pub mod Promises
 pub mod Seats
 pub mod Turns

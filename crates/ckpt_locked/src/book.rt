@@ -3,9 +3,9 @@
 ghost use Rattle.std.specs.Prelude.{◌≡◌, ◌↔◌, ℕ, [], length, min, IsTrue, IfOk, IfErr, OnOk, OnErr};
 ghost use Rattle.ckpt_model.specs.Soundness.{IsSound};
 
+use crate::recent::Recent;
 use ckpt_core::{Core, CoreFault, OpenFault, Secret, laws};
 use ckpt_ids::{Answer, Call, Config, Shape};
-use ckpt_recent::Recent;
 use std::alloc::{AllocError, Global};
 use std::marker::Model;
 

@@ -9,6 +9,8 @@
 pub mod book;
 pub mod limits;
 mod lock;
+mod past;
+mod recent;
 mod steps;
 mod view;
 

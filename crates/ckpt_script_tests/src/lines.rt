@@ -1,7 +1,6 @@
 //! How lines are read, what they say, and the lines that are written for calls.
-use ckpt_call_lines::call_line;
 use ckpt_ids::{CheckpointId, ShapeFault};
-use ckpt_lines::{Line, LineFault, Meaning, Numbers, parse_line};
+use ckpt_lines::{Line, LineFault, Meaning, Numbers, call_line, parse_line};
 use std::alloc::{AllocError, Global};
 use std::process::Abort;
 use std::test::Fail;

@@ -1,7 +1,7 @@
 //! Tests of the seats of a script's calls: a team looks at the book that an `all` line gives it.
 use crate::runs::is_so;
-use ckpt_call_lines::call_line;
 use ckpt_ids::Call;
+use ckpt_lines::call_line;
 use ckpt_locked::{Book, Entry};
 use ckpt_script::{Summary, run};
 use ckpt_workers::{InOrder, Made, Team};

@@ -8,10 +8,10 @@ use Rattle.ckpt_lines.specs.declared.limits.TheConstants.{LONGEST_LINE}
 use Rattle.ckpt_lines.specs.declared.line.Line.{Line}
 use Rattle.ckpt_lines.specs.Reading.{ended, line_of}
 use Rattle.ckpt_texts.specs.Texts.{spaced}
-use Rattle.ckpt_call_lines.specs.CallTexts.{Fits, FitsCall, call_text, line_of_call}
-use Rattle.ckpt_call_lines.proofs.LineLemmas.{Each, IsWritten, each_next, from_all, next, no_strip, plain_by}
-use Rattle.ckpt_call_lines.proofs.NumberWords.{each-numbers, number_place-decimal, plain_number, plain_numbers, stays}
-use Rattle.ckpt_call_lines.proofs.ReadBack.{Says, one, parts_4, says_call}
+use Rattle.ckpt_lines.specs.CallTexts.{Fits, FitsCall, call_text, line_of_call}
+use Rattle.ckpt_lines.proofs.LineLemmas.{Each, IsWritten, each_next, from_all, next, no_strip, plain_by}
+use Rattle.ckpt_lines.proofs.NumberWords.{each-numbers, number_place-decimal, plain_number, plain_numbers, stays}
+use Rattle.ckpt_lines.proofs.ReadBack.{Says, one, parts_4, says_call}
 use Rattle.ckpt_ids.specs.Ascending.{IsAscending}
 use Rattle.ckpt_terms.specs.declared.call.FencedCall.{FencedCall}
 use Rattle.ckpt_terms.specs.declared.call.FencedCall.TheVariants as call

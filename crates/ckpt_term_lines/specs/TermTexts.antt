@@ -3,7 +3,7 @@ use Rattle.std.specs.Prelude.{ℕ, ◌≤◌, ◌==◌, List, ◌++◌, flat_map
 use Rattle.ckpt_ids.specs.declared.call.Call.{Call}
 use Rattle.ckpt_lines.specs.declared.limits.TheConstants.{LONGEST_LINE}
 use Rattle.ckpt_texts.specs.Texts.{spaced}
-use Rattle.ckpt_call_lines.specs.CallTexts.{Fits, FitsCall, FitsFiles, call_text, line_of_call}
+use Rattle.ckpt_lines.specs.CallTexts.{Fits, FitsCall, FitsFiles, call_text, line_of_call}
 use Rattle.ckpt_terms.specs.declared.call.FencedCall.{FencedCall}
 use Rattle.ckpt_terms.specs.declared.call.FencedCall.TheVariants as call
 use Rattle.ckpt_term_lines.specs.declared.line.TermLine.{TermLine}

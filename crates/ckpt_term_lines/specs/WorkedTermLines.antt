@@ -11,7 +11,7 @@ use Rattle.ckpt_lines.specs.Meanings.{meaning}
 use Rattle.ckpt_lines.specs.Reading.{line_of, row, number_line, ack_line, number_place, subtask_place, file_places, each, ended}
 use Rattle.ckpt_lines.specs.Values.{number_of, part_of, subtask_of, file_word}
 use Rattle.ckpt_texts.specs.Texts.{answer_bytes, refusal_bytes}
-use Rattle.ckpt_call_lines.specs.CallTexts.{call_text}
+use Rattle.ckpt_lines.specs.CallTexts.{call_text}
 use Rattle.ckpt_terms.specs.declared.call.FencedAnswer.TheVariants.{Reserved, Forfeited, Made, Fenced}
 use Rattle.ckpt_terms.specs.declared.call.FencedCall.TheVariants as call
 use Rattle.ckpt_terms.specs.declared.call.FencedRefusal.TheVariants.{OldTerm, Spent, NeverReserved}

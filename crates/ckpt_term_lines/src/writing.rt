@@ -1,12 +1,12 @@
 //! Writes calls as lines of a log whose job gives out names.
 ghost use Rattle.std.specs.Prelude.{◌≡◌, ◌++◌, flat_map, IfOk, OnOk, string_bytes};
 ghost use Rattle.ckpt_texts.specs.Texts.{spaced};
-ghost use Rattle.ckpt_call_lines.specs.CallTexts.{Fits, FitsCall, FitsFiles};
+ghost use Rattle.ckpt_lines.specs.CallTexts.{Fits, FitsCall, FitsFiles};
 ghost use Rattle.ckpt_term_lines.specs.declared.line.TermLine.TheVariants.{Fence};
 ghost use Rattle.ckpt_term_lines.specs.TermTexts.{FitsTermCall, IsTermReadAs, fence_text, line_of_term_call, made_text, term_text};
 
-use ckpt_call_lines::{write_call, write_number};
 use ckpt_ids::{Call, Files};
+use ckpt_lines::{write_call, write_number};
 use ckpt_terms::FencedCall;
 use std::alloc::{AllocError, Global};
 

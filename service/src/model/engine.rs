@@ -2,51 +2,23 @@
 use super::call::Call;
 use super::live::Live;
 use super::outcome::Reply;
-use relkvanu::{Answer, Choice, Fenced, FileCounts, Garbage, Mode, Refusal, RunningTerm, Said, Settings};
+use relkvanu::{Answer, Choice, Fault, FileCounts, Garbage, LineFault, Mode, RunningTerm, Said, Settings};
 use std::ops::{Deref, DerefMut};
 use thiserror::Error;
-
-/// Why a call changed nothing. The text is the name of a refusal, or of what the term or the names refuse it for.
-#[derive(Clone, Copy, Debug, PartialEq, Eq, Error)]
-pub enum Fault {
-    #[error("{}", .0.name())]
-    Refused(Refusal),
-    #[error("{}", .0.name())]
-    Fenced(Fenced),
-    /// What was given is not of the form, or not within the limits, that the library takes.
-    #[error("{0:?}")]
-    Unfit(relkvanu::Fault),
-    /// The line is none of a call that changes a job.
-    #[error("NoCall")]
-    NoCall,
-    #[error("Memory")]
-    Memory,
-}
-
-impl Fault {
-    /// The file that is to blame, if there is one.
-    pub fn file(self) -> Option<u64> {
-        match self {
-            Fault::Refused(refusal) => refusal.file(),
-            Fault::Fenced(why) => why.file(),
-            Fault::Unfit(_) | Fault::NoCall | Fault::Memory => None,
-        }
-    }
-}
 
 /// A job could not be opened: memory ran out, or its settings were refused.
 #[derive(Clone, Copy, Debug, PartialEq, Eq, Error)]
 #[error("{0:?}")]
-pub struct NoJob(relkvanu::Fault);
+pub struct NoJob(Fault);
 
 impl NoJob {
     pub fn no_memory() -> NoJob {
-        NoJob(relkvanu::Fault::Memory)
+        NoJob(Fault::Memory)
     }
 
     /// Whether memory ran out. A later try may have more.
     pub fn is_memory(self) -> bool {
-        self.0 == relkvanu::Fault::Memory
+        self.0 == Fault::Memory
     }
 }
 
@@ -61,7 +33,7 @@ impl Engine {
 
     /// Opens the coordinator of an image.
     pub fn of_image(text: &str) -> Result<Engine, Fault> {
-        relkvanu::Coordinator::open_saved(text.as_bytes()).map(Engine).map_err(fault)
+        relkvanu::Coordinator::open_saved(text.as_bytes()).map(Engine)
     }
 
     /// The coordinator's image; `None` if memory ran out.
@@ -86,7 +58,7 @@ impl Engine {
 
     /// Those of these files that may be deleted, and those whose names were never given out.
     pub fn garbage(&self, files: &[u64]) -> Result<Garbage, Fault> {
-        self.0.garbage(files).map_err(fault)
+        self.0.garbage(files)
     }
 
     /// Makes a call at the moment `now`.
@@ -111,14 +83,14 @@ impl Engine {
             Call::Reserve { term, count } => core.reserve(*term, *count).map(|names| Answer::Reserved(names.start)),
             Call::Forfeit { term, names } => core.forfeit(*term, names).map(|()| Answer::Forfeited),
         };
-        made.map(Reply::Answered).map_err(fault)
+        made.map(Reply::Answered)
     }
 
     fn take(&mut self, most: u64) -> Result<Reply, Fault> {
         let waiting = self.counts().waiting;
         let places = usize::try_from(most.min(waiting)).unwrap_or(0);
         let mut buffer = vec![0; places];
-        let files = self.0.take(&mut buffer).map_err(fault)?;
+        let files = self.0.take(&mut buffer)?;
         Ok(Reply::Taken(files.to_vec()))
     }
 
@@ -127,7 +99,7 @@ impl Engine {
         let line = line.as_bytes();
         match self.0.line(line, &mut []) {
             // files to take: nothing has changed
-            Err(relkvanu::Fault::TooShort { places }) => {
+            Err(Fault::TooShort { places }) => {
                 let mut files = vec![0; usize::try_from(places).unwrap_or(0)];
                 reply(self.0.line(line, &mut files))
             }
@@ -214,19 +186,10 @@ impl DerefMut for Lendable {
 }
 
 /// The answer to a line, if the line is a call that changes a job.
-fn reply(said: Result<Said<'_>, relkvanu::Fault>) -> Result<Reply, Fault> {
-    match said.map_err(fault)? {
+fn reply(said: Result<Said<'_>, Fault>) -> Result<Reply, Fault> {
+    match said? {
         Said::Called(answer) => Ok(Reply::Answered(answer)),
         Said::Taken(files) => Ok(Reply::Taken(files.to_vec())),
-        Said::Skipped | Said::Shown(_) => Err(Fault::NoCall),
-    }
-}
-
-fn fault(fault: relkvanu::Fault) -> Fault {
-    match fault {
-        relkvanu::Fault::Memory => Fault::Memory,
-        relkvanu::Fault::Refused(refusal) => Fault::Refused(refusal),
-        relkvanu::Fault::Fenced(why) => Fault::Fenced(why),
-        other => Fault::Unfit(other),
+        Said::Skipped | Said::Shown(_) => Err(Fault::BadLine(LineFault::NoCall)),
     }
 }

@@ -1,14 +1,14 @@
 //! One job: its coordinator, its place in the log, and when the timer has to tick it.
 use super::bases::Bases;
 use super::call::Call;
-use super::engine::{Engine, Fault, Lendable, NoJob};
+use super::engine::{Engine, Lendable, NoJob};
 use super::image::Image;
 use super::kept::Kept;
 use super::live::{ended, Live};
 use super::outcome::{Beside, Outcome, Reply};
 use super::settings::pending_limit;
 use super::sizes::{FileBytes, SizeChange, Sizes, Use};
-use relkvanu::{Answer, Choice, Kind, Live as LiveRecord, Mode, Settings};
+use relkvanu::{Answer, Choice, Fault, Kind, Live as LiveRecord, Mode, Settings};
 use std::collections::HashSet;
 
 /// What a job was opened with, which never changes.
@@ -137,7 +137,7 @@ impl Job {
     /// Makes a call. If it changed something, also returns its row, which has to be committed before the call is answered.
     pub fn call(&mut self, call: &Call, now: u64) -> (Outcome, Option<Logged>) {
         let line = match call.line(now) {
-            Err(relkvanu::Fault::Memory) => return (Outcome::NoMemory, None),
+            Err(Fault::Memory) => return (Outcome::NoMemory, None),
             // The line would be longer than a line may be: an acknowledgement of this many files is refused below.
             line => line.unwrap_or_default(),
         };

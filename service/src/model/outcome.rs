@@ -1,7 +1,6 @@
 //! The answer to a call: the script's text, which the log has, and the JSON of the API.
-use super::engine::Fault;
 use super::event::Event;
-use relkvanu::{Answer, Choice, ParseError};
+use relkvanu::{Answer, Choice, Fault, LineFault, ParseError};
 use serde_json::{json, Value};
 use std::fmt::Write;
 use std::str::FromStr;
@@ -19,7 +18,7 @@ pub enum Reply {
 pub enum Outcome {
     /// The call was made. `seq` is its place in the log; a take that finds no file has none.
     Made { seq: Option<u64>, reply: Reply, beside: Beside },
-    /// The coordinator refused the call, or the term or the names did: nothing changed.
+    /// The coordinator refused the call, or the term or the names did, or the library does not take it: nothing changed.
     Refused(Fault),
     /// Memory ran out: nothing changed.
     NoMemory,
@@ -140,8 +139,8 @@ impl Outcome {
                 told
             }
             Outcome::Refused(fault) => {
-                let mut told = json!({ self.word(): fault.to_string() });
-                if let Some(file) = fault.file() {
+                let mut told = json!({ self.word(): name_of(*fault) });
+                if let Some(file) = file_of(*fault) {
                     told["file"] = json!(file.to_string());
                 }
                 told
@@ -160,6 +159,26 @@ impl Outcome {
             Outcome::NoMemory => "no_memory",
             Outcome::NotMade => "not_made",
         }
+    }
+}
+
+/// The name of a refusal, or of what the term or the names refuse the call for.
+fn name_of(fault: Fault) -> String {
+    match fault {
+        Fault::Refused(refusal) => refusal.name(),
+        Fault::Fenced(why) => why.name(),
+        Fault::BadLine(LineFault::NoCall) => "NoCall".to_string(),
+        // what was given is not of the form, or not within the limits, that the library takes
+        other => format!("{other:?}"),
+    }
+}
+
+/// The file that is to blame, if there is one.
+fn file_of(fault: Fault) -> Option<u64> {
+    match fault {
+        Fault::Refused(refusal) => refusal.file(),
+        Fault::Fenced(why) => why.file(),
+        _ => None,
     }
 }
 

@@ -47,7 +47,7 @@ pub fn resume(job: &mut Job, saved: &SavedImage) -> Result<(), StartError> {
     let (name, seq) = (job.opening.name.clone(), saved.image.seq);
     job.resume(&saved.image).map_err(|fault| match fault {
         Fault::Memory => StartError::NoMemory { job: name, seq },
-        refusal => StartError::BadImage { job: name, seq, why: format!("the library refuses it: {refusal}") },
+        refusal => StartError::BadImage { job: name, seq, why: format!("the library refuses it: {refusal:?}") },
     })
 }
 

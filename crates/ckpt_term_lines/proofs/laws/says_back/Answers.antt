@@ -10,7 +10,7 @@ use Rattle.ckpt_ids.specs.declared.limits.TheConstants.{MOST_SUBTASKS, MOST_VERT
 use Rattle.ckpt_ids.specs.Shapes.{IsShape, is_shape}
 use Rattle.ckpt_lines.specs.declared.meaning.Meaning.TheVariants as meant
 use Rattle.ckpt_lines.specs.Meanings.{meaning, restoring}
-use Rattle.ckpt_call_lines.specs.CallTexts.{line_of_call}
+use Rattle.ckpt_lines.specs.CallTexts.{line_of_call}
 use Rattle.ckpt_model.specs.Soundness.{IsCall}
 use Rattle.ckpt_terms.specs.declared.call.FencedCall.{FencedCall}
 use Rattle.ckpt_terms.specs.declared.call.FencedCall.TheVariants as call

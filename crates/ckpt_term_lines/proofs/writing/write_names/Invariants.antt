@@ -2,7 +2,7 @@
 use Rattle.std.proofs.Common.{◌≡◌, ◌++◌, take, string_bytes}
 use Rattle.std.specs.Prelude.{All, flat_map}
 use Rattle.ckpt_texts.specs.Texts.{spaced}
-use Rattle.ckpt_call_lines.specs.CallTexts.{Fits}
+use Rattle.ckpt_lines.specs.CallTexts.{Fits}
 use Rattle.ckpt_term_lines.proofs.writing.write_names.Given as goal
 
 abbrev pub invariant-loop-place : goal.invariant-loop-place

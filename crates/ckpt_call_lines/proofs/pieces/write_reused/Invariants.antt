@@ -1,8 +1,0 @@
--- The loop invariants of `write_reused`.
-use Rattle.std.proofs.Common.{◌≡◌, ◌++◌, take, string_bytes}
-use Rattle.std.specs.Prelude.{All, flat_map}
-use Rattle.ckpt_call_lines.specs.CallTexts.{Fits, reused_text}
-use Rattle.ckpt_call_lines.proofs.pieces.write_reused.Given as goal
-
-abbrev pub invariant-loop-place : goal.invariant-loop-place
-invariant-loop-place l = (string_bytes l.text ≡ string_bytes l.fn.text ++ flat_map reused_text (take l.place l.files)) × All Fits (take l.place l.files)

@@ -1,0 +1,242 @@
+-- The line of each call is read as that call.
+use Rattle.std.proofs.Common.{◌≡◌, ℕ, ◌<◌, Bool, true, false, ◌&&◌, ltb, length, List, [], ◌∷◌, ◌++◌, Option, Ok, refl, sym, ap, subst, ◌∙◌, arith, append_assoc}
+use Rattle.std.specs.List.{list_all}
+use Rattle.std.specs.Prelude.{All, map, flat_map, codes, decimal}
+use Rattle.ckpt_ids.specs.declared.subtask.SubtaskId.{SubtaskId}
+use Rattle.ckpt_ids.specs.declared.call.Target.TheVariants as target
+use Rattle.ckpt_ids.specs.declared.call.Call.{Call}
+use Rattle.ckpt_ids.specs.declared.call.Call.TheVariants as call
+use Rattle.ckpt_ids.specs.Ascending.{IsAscending}
+use Rattle.ckpt_ids.specs.Shapes.{IsShape}
+use Rattle.ckpt_ids.specs.Configuration.{Configuration, IsWithinLimits}
+use Rattle.ckpt_lines.specs.declared.line.Line.{Line}
+use Rattle.ckpt_lines.specs.declared.line.Line.TheVariants as line
+use Rattle.ckpt_lines.specs.Keywords.{keyword_of}
+use Rattle.ckpt_lines.specs.Reading.{line_of, row, number_line, job_line, ack_line, decline_line, restore_line, config_line, retention_place, ended}
+use Rattle.ckpt_texts.specs.Texts.{spaced}
+use Rattle.ckpt_texts.specs.MetadataTexts.{subtask_bytes}
+use Rattle.ckpt_lines.specs.CallTexts.{call_text, triggers_text, limits_text, subtask_text, files_text, line_of_call, config_text, line_of_config, job_text, start_text, retention_text, parallelisms, Fits, FitsSubtask, FitsCall, IsReadAs}
+use Rattle.ckpt_lines.proofs.LineLemmas.{Each, from_all, IsPlain, IsWritten, last, next, each_next, each_before, plain_by, reading-written}
+use Rattle.ckpt_lines.proofs.NumberWords.{subtask_word, plain_number, plain_numbers, plain_subtask, plain_files, number_place-decimal, subtask_place-word, target_place-decimal, target_place-latest, each-numbers, file_places-words}
+
+-- The text has words that are read as this line.
+pub record Says (read : Line) (text : List ℕ) : Type 0 where
+  pub words : List (List ℕ)
+  pub written : IsWritten text words
+  pub is : line_of words ≡ Ok read
+
+read_as : (text : List ℕ) (words : List (List ℕ)) (read : Line) → IsWritten text words → line_of words ≡ Ok read → Says read text
+read_as text words read written is = record { words = words; written = written; is = is }
+
+-- such a text is read as this line
+read_back : (read : Line) (text : List ℕ) → Says read text → IsReadAs read text
+read_back read text says = λ short. reading-written text says.words says.written short ∙ says.is
+
+-- the same of a text whose parts were appended one after the other
+put_together : (text parts : List ℕ) (read : Line) → text ≡ parts → Says read parts → Says read text
+put_together text parts read same is = subst (λ (t : List ℕ). Says read t) (sym same) is
+
+-- one number after the first word
+pub one : (word : List ℕ) (n : ℕ) → IsPlain word → Fits n → IsWritten (word ++ 32 ∷ decimal n) (word ∷ decimal n ∷ [])
+one word n plain fits = next word (decimal n) (decimal n ∷ []) plain (last (decimal n) (plain_number n fits))
+
+number_read : (line : ℕ → Line) (n : ℕ) → Fits n → number_line line (decimal n ∷ []) ≡ Ok (line n)
+unfolding number_line ended
+number_read line n fits = rw (number_place-decimal n [] fits) refl
+
+-- such a line is read as its keyword says
+numbered : (word : List ℕ) (line : ℕ → Line) (n : ℕ) → (list_all (λ b. ltb 32 b) word && ltb 0 (length word)) ≡ true → Fits n → line_of (word ∷ decimal n ∷ []) ≡ number_line line (decimal n ∷ []) → Says (line n) (word ++ 32 ∷ decimal n)
+numbered word line n plain fits is = read_as _ _ _ (one word n (plain_by word plain) fits) (is ∙ number_read line n fits)
+
+pub says_start : (now : ℕ) → Fits now → Says (line.Start now) (start_text now)
+unfolding line_of keyword_of row start_text
+says_start now fits = numbered (codes "start") line.Start now refl fits refl
+
+-- two numbers between the first word and the rest
+two : (word : List ℕ) (m n : ℕ) (rest : List ℕ) (words : List (List ℕ)) → IsPlain word → Fits m → Fits n → IsWritten rest words
+    → IsWritten (word ++ 32 ∷ (decimal m ++ 32 ∷ (decimal n ++ 32 ∷ rest))) (word ∷ decimal m ∷ decimal n ∷ words)
+two word m n rest words plain fits fits' written =
+    let inner : IsWritten (decimal n ++ 32 ∷ rest) (decimal n ∷ words) = next (decimal n) rest words (plain_number n fits') written in
+    let middle : IsWritten (decimal m ++ 32 ∷ (decimal n ++ 32 ∷ rest)) (decimal m ∷ decimal n ∷ words) = next (decimal m) _ _ (plain_number m fits) inner in
+    next word _ _ plain middle
+
+pub decline : (now id : ℕ) (s : SubtaskId) → Fits now → Fits id → FitsSubtask s → Says (line.Decline now id s) (codes "decline" ++ 32 ∷ (decimal now ++ 32 ∷ (decimal id ++ 32 ∷ subtask_word s)))
+unfolding line_of keyword_of row decline_line ended
+decline now id s now_fits id_fits s_fits =
+    let sub : IsWritten (subtask_word s) (subtask_word s ∷ []) = last (subtask_word s) (plain_subtask s s_fits) in
+    let plain : IsPlain (codes "decline") = plain_by (codes "decline") refl in
+    read_as _ (codes "decline" ∷ decimal now ∷ decimal id ∷ subtask_word s ∷ []) _ (two (codes "decline") now id (subtask_word s) _ plain now_fits id_fits sub)
+    (rw (number_place-decimal now (decimal id ∷ subtask_word s ∷ []) now_fits, number_place-decimal id (subtask_word s ∷ []) id_fits, subtask_place-word s [] s_fits) refl)
+
+pub ack : (now id : ℕ) (s : SubtaskId) (fresh reused : List ℕ) → Fits now → Fits id → FitsSubtask s → Each Fits fresh → Each Fits reused → IsAscending fresh → IsAscending reused
+    → Says (line.Ack now id s fresh reused) (codes "ack" ++ 32 ∷ (decimal now ++ 32 ∷ (decimal id ++ 32 ∷ (subtask_word s ++ (flat_map (λ f. 32 ∷ 43 ∷ decimal f) fresh ++ flat_map (λ f. 32 ∷ 61 ∷ decimal f) reused)))))
+unfolding line_of keyword_of row ack_line
+ack now id s fresh reused now_fits id_fits s_fits fresh_fit reused_fit order order' =
+    let plus : 32 < 43 = omega arith in
+    let equals : 32 < 61 = omega arith in
+    let words : List (List ℕ) = map (λ f. 43 ∷ decimal f) fresh ++ map (λ f. 61 ∷ decimal f) reused in
+    let files : IsWritten (subtask_word s ++ (flat_map (λ f. 32 ∷ 43 ∷ decimal f) fresh ++ flat_map (λ f. 32 ∷ 61 ∷ decimal f) reused)) (subtask_word s ∷ words) =
+    each_before (λ f. 43 ∷ decimal f) (subtask_word s) (flat_map (λ f. 32 ∷ 61 ∷ decimal f) reused) (map (λ f. 61 ∷ decimal f) reused) fresh (plain_subtask s s_fits) (plain_files 43 fresh plus fresh_fit)
+    (λ w plain. each_next (λ f. 61 ∷ decimal f) w reused plain (plain_files 61 reused equals reused_fit)) in
+    read_as _ (codes "ack" ∷ decimal now ∷ decimal id ∷ subtask_word s ∷ words) _ (two (codes "ack") now id _ _ (plain_by (codes "ack") refl) now_fits id_fits files)
+    (rw (number_place-decimal now (decimal id ∷ subtask_word s ∷ words) now_fits, number_place-decimal id (subtask_word s ∷ words) id_fits, subtask_place-word s words s_fits, file_places-words fresh reused fresh_fit reused_fit order order') refl)
+
+restore_rest : (now : ℕ) (word : List ℕ) (shape : List ℕ) → Fits now → IsPlain word → Each Fits shape
+    → IsWritten (codes "restore" ++ 32 ∷ (decimal now ++ 32 ∷ (word ++ flat_map (λ n. 32 ∷ decimal n) shape))) (codes "restore" ∷ decimal now ∷ word ∷ map decimal shape)
+restore_rest now word shape fits plain all =
+    let inner : IsWritten (word ++ flat_map (λ n. 32 ∷ decimal n) shape) (word ∷ map decimal shape) = each_next decimal word shape plain (plain_numbers shape all) in
+    next (codes "restore") _ _ (plain_by (codes "restore") refl) (next (decimal now) _ _ (plain_number now fits) inner)
+
+pub restore_latest : (now : ℕ) (shape : List ℕ) → Fits now → Each Fits shape
+    → Says (line.Restore now target.Latest shape) (codes "restore" ++ 32 ∷ (decimal now ++ 32 ∷ (codes "latest" ++ flat_map (λ n. 32 ∷ decimal n) shape)))
+unfolding line_of keyword_of row restore_line
+restore_latest now shape fits all =
+    read_as _ (codes "restore" ∷ decimal now ∷ codes "latest" ∷ map decimal shape) _ (restore_rest now (codes "latest") shape fits (plain_by (codes "latest") refl) all)
+    (rw (number_place-decimal now (codes "latest" ∷ map decimal shape) fits, target_place-latest (map decimal shape), each-numbers shape all) refl)
+
+pub restore_savepoint : (now id : ℕ) (shape : List ℕ) → Fits now → Fits id → Each Fits shape
+    → Says (line.Restore now (target.Savepoint id) shape) (codes "restore" ++ 32 ∷ (decimal now ++ 32 ∷ (decimal id ++ flat_map (λ n. 32 ∷ decimal n) shape)))
+unfolding line_of keyword_of row restore_line
+restore_savepoint now id shape fits fits' all =
+    read_as _ (codes "restore" ∷ decimal now ∷ decimal id ∷ map decimal shape) _ (restore_rest now (decimal id) shape fits (plain_number id fits') all)
+    (rw (number_place-decimal now (decimal id ∷ map decimal shape) fits, target_place-decimal id (map decimal shape) fits', each-numbers shape all) refl)
+
+pub says_job : (first : ℕ) (others : List ℕ) → Each Fits (first ∷ others) → Says (line.Job (first ∷ others)) (job_text (first ∷ others))
+unfolding job_text line_of keyword_of row job_line
+says_job first others all =
+    read_as _ (codes "job" ∷ map decimal (first ∷ others)) _ (each_next decimal (codes "job") (first ∷ others) (plain_by (codes "job") refl) (plain_numbers (first ∷ others) all))
+    (rw (each-numbers (first ∷ others) all) refl)
+
+pub says_job_of : (shape : List ℕ) → IsShape shape → All Fits shape → Says (line.Job shape) (job_text shape)
+says_job_of [] is all = absurd (omega (arith, is.vertices_from))
+says_job_of (first ∷ others) is all = says_job first others (from_all Fits (first ∷ others) all)
+
+config_words : (i p a t f r : ℕ) (word : List ℕ) → Fits i → Fits p → Fits a → Fits t → Fits f → Fits r → IsPlain word
+    → IsWritten (codes "config" ++ 32 ∷ (decimal i ++ 32 ∷ (decimal p ++ 32 ∷ (decimal a ++ 32 ∷ (decimal t ++ 32 ∷ (decimal f ++ 32 ∷ (decimal r ++ 32 ∷ word)))))))
+    (codes "config" ∷ decimal i ∷ decimal p ∷ decimal a ∷ decimal t ∷ decimal f ∷ decimal r ∷ word ∷ [])
+config_words i p a t f r word fi fp fa ft ff fr plain =
+    next (codes "config") _ _ (plain_by (codes "config") refl)
+    (next (decimal i) _ _ (plain_number i fi)
+    (next (decimal p) _ _ (plain_number p fp)
+    (next (decimal a) _ _ (plain_number a fa)
+    (next (decimal t) _ _ (plain_number t ft)
+    (next (decimal f) _ _ (plain_number f ff)
+    (next (decimal r) _ _ (plain_number r fr)
+    (last word plain)))))))
+
+config_row : (i p a t f r : ℕ) (word : List ℕ) (keep : Bool) → Fits i → Fits p → Fits a → Fits t → Fits f → Fits r
+    → retention_place (word ∷ []) ≡ Ok (keep, [])
+    → line_of (codes "config" ∷ decimal i ∷ decimal p ∷ decimal a ∷ decimal t ∷ decimal f ∷ decimal r ∷ word ∷ []) ≡ Ok (line.Config i p a t f r keep)
+unfolding line_of keyword_of row config_line ended
+config_row i p a t f r word keep fi fp fa ft ff fr kept =
+    rw (
+      number_place-decimal i (decimal p ∷ decimal a ∷ decimal t ∷ decimal f ∷ decimal r ∷ word ∷ []) fi,
+      number_place-decimal p (decimal a ∷ decimal t ∷ decimal f ∷ decimal r ∷ word ∷ []) fp,
+      number_place-decimal a (decimal t ∷ decimal f ∷ decimal r ∷ word ∷ []) fa,
+      number_place-decimal t (decimal f ∷ decimal r ∷ word ∷ []) ft,
+      number_place-decimal f (decimal r ∷ word ∷ []) ff,
+      number_place-decimal r (word ∷ []) fr,
+      kept,
+    ) refl
+
+abbrev kept_word : Bool → List ℕ
+kept_word true = codes "keep"
+kept_word false = codes "delete"
+
+plain_kept : (keep : Bool) → IsPlain (kept_word keep)
+plain_kept true = plain_by (codes "keep") refl
+plain_kept false = plain_by (codes "delete") refl
+
+read_kept : (keep : Bool) → retention_place (kept_word keep ∷ []) ≡ Ok (keep, [])
+unfolding retention_place
+read_kept true = refl
+read_kept false = refl
+
+text_kept : (keep : Bool) → retention_text keep ≡ 32 ∷ kept_word keep
+text_kept true = refl
+text_kept false = refl
+
+config_parts : (a b c d e f g h : List ℕ) → (a ++ b ++ c ++ d) ++ (e ++ f ++ g ++ h) ≡ a ++ (b ++ (c ++ (d ++ (e ++ (f ++ (g ++ h))))))
+config_parts a b c d e f g h = simp append_assoc
+
+kept_parts : (c : Configuration)
+    → codes "config" ++ (spaced c.interval ++ (spaced c.pause ++ (spaced c.at_once ++ (spaced c.timeout ++ (spaced c.tolerable ++ (spaced c.retained ++ retention_text c.keep_on_cancel))))))
+    ≡ codes "config" ++ 32 ∷ (decimal c.interval ++ 32 ∷ (decimal c.pause ++ 32 ∷ (decimal c.at_once ++ 32 ∷ (decimal c.timeout ++ 32 ∷ (decimal c.tolerable ++ 32 ∷ (decimal c.retained ++ 32 ∷ kept_word c.keep_on_cancel))))))
+kept_parts c =
+    ap (λ (w : List ℕ). codes "config" ++ 32 ∷ (decimal c.interval ++ 32 ∷ (decimal c.pause ++ 32 ∷ (decimal c.at_once ++ 32 ∷ (decimal c.timeout ++ 32 ∷ (decimal c.tolerable ++ 32 ∷ (decimal c.retained ++ w))))))) (text_kept c.keep_on_cancel)
+
+pub says_config : (c : Configuration) → IsWithinLimits c → Says (line_of_config c) (config_text c)
+unfolding config_text triggers_text limits_text
+says_config c is =
+    let i : Fits c.interval = omega (arith, is.interval_to) in
+    let p : Fits c.pause = omega (arith, is.pause_to) in
+    let a : Fits c.at_once = omega (arith, is.at_once_to) in
+    let t : Fits c.timeout = omega (arith, is.timeout_to) in
+    let f : Fits c.tolerable = omega (arith, is.tolerable_to) in
+    let r : Fits c.retained = omega (arith, is.retained_to) in
+    let word : List ℕ = kept_word c.keep_on_cancel in
+    put_together _ _ _ (config_parts (codes "config") (spaced c.interval) (spaced c.pause) (spaced c.at_once) (spaced c.timeout) (spaced c.tolerable) (spaced c.retained) (retention_text c.keep_on_cancel) ∙ kept_parts c)
+    (read_as _ _ _ (config_words c.interval c.pause c.at_once c.timeout c.tolerable c.retained word i p a t f r (plain_kept c.keep_on_cancel))
+    (config_row c.interval c.pause c.at_once c.timeout c.tolerable c.retained word c.keep_on_cancel i p a t f r (read_kept c.keep_on_cancel)))
+
+-- every call
+sub : (s : SubtaskId) → subtask_bytes s ≡ subtask_word s
+sub s = append_assoc (decimal s.vertex) (codes ".") (decimal s.index)
+
+pub parts_4 : (a b c d : List ℕ) → a ++ b ++ c ++ d ≡ a ++ (b ++ (c ++ d))
+parts_4 a b c d = append_assoc (a ++ b) c d ∙ append_assoc a b (c ++ d)
+
+parts_5 : (a b c d e : List ℕ) → a ++ b ++ c ++ d ++ e ≡ a ++ (b ++ (c ++ (d ++ e)))
+parts_5 a b c d e = append_assoc (a ++ b ++ c) d e ∙ parts_4 a b c (d ++ e)
+
+ack_parts : (now id : ℕ) (s : SubtaskId) (fresh reused : List ℕ)
+    → call_text (call.Ack now id s fresh reused) ≡ codes "ack" ++ 32 ∷ (decimal now ++ 32 ∷ (decimal id ++ 32 ∷ (subtask_word s ++ (flat_map (λ f. 32 ∷ 43 ∷ decimal f) fresh ++ flat_map (λ f. 32 ∷ 61 ∷ decimal f) reused))))
+unfolding call_text
+ack_parts now id s fresh reused =
+    parts_5 (codes "ack") (spaced now) (spaced id) (subtask_text s) (files_text fresh reused)
+    ∙ ap (λ (w : List ℕ). codes "ack" ++ 32 ∷ (decimal now ++ 32 ∷ (decimal id ++ 32 ∷ (w ++ (flat_map (λ f. 32 ∷ 43 ∷ decimal f) fresh ++ flat_map (λ f. 32 ∷ 61 ∷ decimal f) reused))))) (sub s)
+
+decline_parts : (now id : ℕ) (s : SubtaskId) → call_text (call.Decline now id s) ≡ codes "decline" ++ 32 ∷ (decimal now ++ 32 ∷ (decimal id ++ 32 ∷ subtask_word s))
+unfolding call_text
+decline_parts now id s =
+    parts_4 (codes "decline") (spaced now) (spaced id) (subtask_text s) ∙ ap (λ (w : List ℕ). codes "decline" ++ 32 ∷ (decimal now ++ 32 ∷ (decimal id ++ 32 ∷ w))) (sub s)
+
+latest_parts : (now : ℕ) (shape : Option (List ℕ)) → call_text (call.Restore now target.Latest shape) ≡ codes "restore" ++ 32 ∷ (decimal now ++ 32 ∷ (codes "latest" ++ flat_map (λ n. 32 ∷ decimal n) (parallelisms shape)))
+unfolding call_text
+latest_parts now shape = parts_4 (codes "restore") (spaced now) (codes " latest") (flat_map spaced (parallelisms shape))
+
+savepoint_parts : (now id : ℕ) (shape : Option (List ℕ)) → call_text (call.Restore now (target.Savepoint id) shape) ≡ codes "restore" ++ 32 ∷ (decimal now ++ 32 ∷ (decimal id ++ flat_map (λ n. 32 ∷ decimal n) (parallelisms shape)))
+unfolding call_text
+savepoint_parts now id shape = parts_4 (codes "restore") (spaced now) (spaced id) (flat_map spaced (parallelisms shape))
+
+pub says_call : (c : Call) → FitsCall c → Says (line_of_call c) (call_text c)
+unfolding call_text line_of keyword_of row
+says_call (call.Tick now) fits = numbered (codes "tick") line.Tick now refl fits refl
+says_call (call.Savepoint now) fits = numbered (codes "savepoint") line.Savepoint now refl fits refl
+says_call (call.Ack now id s fresh reused) fits =
+    put_together _ _ _ (ack_parts now id s fresh reused)
+    (ack now id s fresh reused fits.0 fits.1 fits.2 (from_all Fits fresh fits.3.0) (from_all Fits reused fits.4.0) fits.3.1 fits.4.1)
+says_call (call.Decline now id s) fits = put_together _ _ _ (decline_parts now id s) (decline now id s fits.0 fits.1 fits.2)
+says_call (call.Dispose id) fits = numbered (codes "dispose") line.Dispose id refl fits refl
+says_call (call.Restore now target.Latest shape) fits = put_together _ _ _ (latest_parts now shape) (restore_latest now (parallelisms shape) fits.0 (from_all Fits (parallelisms shape) fits.2))
+says_call (call.Restore now (target.Savepoint id) shape) fits =
+    put_together _ _ _ (savepoint_parts now id shape) (restore_savepoint now id (parallelisms shape) fits.0 fits.1 (from_all Fits (parallelisms shape) fits.2))
+says_call (call.Cancel now) fits = numbered (codes "cancel") line.Cancel now refl fits refl
+says_call (call.Take most) fits = numbered (codes "take") line.Take most refl fits refl
+says_call (call.Deleted file) fits = numbered (codes "deleted") line.Deleted file refl fits refl
+says_call (call.Undeleted file) fits = numbered (codes "undeleted") line.Undeleted file refl fits refl
+says_call (call.Show id) fits = numbered (codes "show") line.Show id refl fits refl
+says_call (call.Count file) fits = numbered (codes "count") line.Count file refl fits refl
+
+-- and so it is read
+pub start : (now : ℕ) → Fits now → IsReadAs (line.Start now) (start_text now)
+start now fits = read_back (line.Start now) (start_text now) (says_start now fits)
+
+pub job_of : (shape : List ℕ) → IsShape shape → All Fits shape → IsReadAs (line.Job shape) (job_text shape)
+job_of shape is all = read_back (line.Job shape) (job_text shape) (says_job_of shape is all)
+
+pub config : (c : Configuration) → IsWithinLimits c → IsReadAs (line_of_config c) (config_text c)
+config c is = read_back (line_of_config c) (config_text c) (says_config c is)
+
+pub reads : (c : Call) → FitsCall c → IsReadAs (line_of_call c) (call_text c)
+reads c fits = read_back (line_of_call c) (call_text c) (says_call c fits)

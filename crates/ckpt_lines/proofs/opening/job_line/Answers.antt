@@ -1,0 +1,11 @@
+-- Answers the goals of `job_line`.
+use Rattle.std.proofs.Common.{rules}
+use Rattle.ckpt_lines.specs.CallTexts.{job_text}
+use Rattle.ckpt_lines.proofs.ReadBack.{job_of}
+use Rattle.ckpt_lines.proofs.opening.job_line.Goals as goal
+
+pub returns-clause-read : goal.returns-clause-read
+unfolding job_text
+returns-clause-read c =
+    let read = job_of c.args.shape.now c.size.ensures.limits c.in_ok-write_shape.ensures.fit in
+    search (rules, read, c.in_ok-write_shape.ensures.text, c.from_str.ensures.ok)
