@@ -1,6 +1,6 @@
 -- What an acknowledgement that is accepted for a pending record changes: the record gets it, or is completed by it.
-use Rattle.ckpt_model.proofs.Names.{◌≡◌, ℕ, ◌≤◌, true, false, eqb, List, [], ◌++◌, refl, arith, Option, Some, list_any, cond_both, eqb-true, Kind, SubtaskId, ascending, Record, missing, Running}
-use Rattle.ckpt_model.proofs.Names.{State, is_checkpoint, drop, Stepped, superseded, cleared, with_records, replaced, completed_with, acknowledged_in, IsSound, given_as, is_ack_taken, common_steps}
+use Rattle.ckpt_model.proofs.Names.{◌≡◌, ℕ, ◌≤◌, true, false, List, [], ◌++◌, refl, arith, Option, Some, list_any, eqb-true, Kind, SubtaskId, ascending, Record, missing, Running, State, is_checkpoint}
+use Rattle.ckpt_model.proofs.Names.{drop, Stepped, superseded, cleared, completed_with, acknowledged_in, IsSound, given_as, is_ack_taken, common_steps}
 use Rattle.ckpt_ids.specs.declared.numbers.Kind.TheVariants as kind
 use Rattle.ckpt_model.proofs.Records.Lists.{is_savepoint-kind}
 use Rattle.ckpt_model.proofs.Soundness.Drops.{is_savepoint}
@@ -52,16 +52,4 @@ acknowledged_is_taken m w = grind (arith, common_steps)
 -- an accepted acknowledgement of a pending record
 pub acked_is : (m : State) (q : Record) (subtask : SubtaskId) (fresh reused : List ℕ) → IsAcking m q subtask fresh reused → IsAcked m q subtask fresh reused (acknowledged_in m (with_ack q subtask fresh reused))
 unfolding acknowledged_in
-acked_is m q subtask fresh reused a =
-    let w : Record = with_ack q subtask fresh reused in
-    let c : Record = completed q subtask fresh reused in
-    cond_both (eqb (missing w) 0) (completed_with (having m c) c) (with_records m (replaced m.records w), _) (λ (x : Stepped). IsAcked m q subtask fresh reused x)
-    (λ (e : eqb (missing w) 0 ≡ true). completion_is m q subtask fresh reused a (eqb-true (missing w) 0 e))
-    (λ (e : eqb (missing w) 0 ≡ false). record {
-      opening = refl;
-      next = refl;
-      gives_none = refl;
-      sound = λ s. ack_pending_is_sound m q subtask fresh reused s a e;
-      taken = λ s. taken_pending m q subtask fresh reused s a;
-      spreads = λ s. pending_spreads m q subtask fresh reused s a;
-    })
+acked_is m q subtask fresh reused a = grind (arith, common_steps, with_ack, completed, having, completion_is, eqb-true, ack_pending_is_sound, taken_pending, pending_spreads) steps 1000000
