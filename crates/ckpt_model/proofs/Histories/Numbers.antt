@@ -9,18 +9,13 @@ step_gives m call = (step_is m call).gives
 
 -- the next number does not fall
 pub next_rises : (m : State) (call : Call) → m.next ≤ ((step m call).0).next
-next_rises m call =
-    ⊎_elim
-    (λ (g : (given_by m call ≡ []) × (((step m call).0).next ≡ m.next)). omega (arith, g.1))
-    (λ (g : (given_by m call ≡ m.next ∷ []) × (((step m call).0).next ≡ m.next + 1)). omega (arith, g.1))
-    (step_gives m call)
+next_rises m call = grind (arith, common_steps, step_gives m call) steps 1000000
 
 -- the numbers given from a state on rise from its next one
 pub numbers_from : (m : State) (calls : List Call) → along given_by m calls ≡ range_with_len m.next (length (along given_by m calls))
 numbers_from m [] = refl
 numbers_from m (call ∷ calls) =
-    let n : State = (step m call).0 in
-    grind (arith, common_steps, step_gives, numbers_from n calls)
+    grind (arith, common_steps, step_gives, numbers_from (step m call).0 calls)
 
 -- the law
 pub numbers : (o : Opening) (calls : List Call) → Numbers o calls

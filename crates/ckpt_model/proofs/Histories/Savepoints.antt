@@ -22,9 +22,8 @@ disposes_other number id answer h3 h4 = grind (arith, common_steps, and_from, bo
 savepoint_stays : (m : State) (call : Call) (r : Record) → IsSound m → IsDoneSavepoint m r → is_disposed_by r.id m call ≡ false → IsIn r (step m call).0.records
 savepoint_stays m (Ack now id subtask fresh reused) r s d e =
     let x : Stepped = step m (Ack now id subtask fresh reused) in
-    let There : List Record → Type 0 = λ rs. IsIn r rs in
     ⊎_elim
-    (λ (i : IsPassedOver m x). subst There (sym i.records) d.there)
+    (λ (i : IsPassedOver m x). rw i.records d.there)
     (λ (i : IsTakenBy m id subtask fresh reused x). savepoint_kept i.taken (i.acking).pending r d.there d.done d.savepoint)
     ((step_is m (Ack now id subtask fresh reused)).records s)
 savepoint_stays m (Dispose id) r s d e = savepoint_moved ((step_is m (Dispose id)).records s) r d.there d.done d.savepoint (disposes_other r.id id (step m (Dispose id)).1 e)

@@ -22,9 +22,8 @@ newly_present m (Ack now id subtask fresh reused) f s h =
     let taken : IsTakenBy m id subtask fresh reused (step m call) → Goal = λ (i : IsTakenBy m id subtask fresh reused (step m call)).
     let registered : registered_by m call ≡ fresh = registered_taken (step m call).1 fresh (filter (λ g. not (is_known m g)) fresh) i.is_taken in
     let new : new_by m call ≡ fresh = cond-true (is_ack_taken (step m call).1) fresh [] i.is_taken in
-    let In : List ℕ → Type 0 = λ xs. IsIn f xs in
     ⊎_elim
-    (λ (k : 0 < times f (registered_by m call)). inl (subst In (registered ∙ sym new) (IsIn-from_times f (registered_by m call) k)))
+    (λ (k : 0 < times f (registered_by m call)). inl (rw (← (registered ∙ sym new)) (IsIn-from_times f (registered_by m call) k)))
     (λ (k : is_present (uses m.records) f ≡ true). inr k)
     (present_before (is_present (uses m.records) f) (is_present (uses (step m call).0.records) f) true (times f (registered_by m call)) (times f (handed_by m call)) ((step_settled m call s).even f) h) in
     ⊎_elim passed taken ((step_is m call).records s)

@@ -17,10 +17,9 @@ held_by_put f rs old new there same h = grind (arith, common_steps, IsIn-map, co
 -- what was held before is held after, if the record put in holds what the old one held
 pub held_beside_put : (f : ℕ) (rs : List Record) (old new : Record) → IsReplacing (put_in new) old new rs → IsIn old rs → new.id ≡ old.id → (Holds f old → Holds f new) → IsHeld f rs → IsHeld f (map (put_in new) rs)
 held_beside_put f rs old new p there same more h =
-    let P : Record → Type 0 = λ r. IsIn r (map (put_in new) rs) in
     ⊎_elim
     (λ (c : (h.0 ≡ old) × (put_in new h.0 ≡ new)). held_by_put f rs old new there same (more (subst (Holds f) c.0 h.2)))
-    (λ (c : ((h.0).id ≡ old.id → ⊥) × (put_in new h.0 ≡ h.0)). (h.0, subst P c.1 (IsIn-map (put_in new) h.0 rs h.1), h.2))
+    (λ (c : ((h.0).id ≡ old.id → ⊥) × (put_in new h.0 ≡ h.0)). (h.0, rw (← c.1) (IsIn-map (put_in new) h.0 rs h.1), h.2))
     (p.cases h.0 h.1)
 
 -- with an acknowledgement's files, a file that is held after is one of them, or was held before

@@ -58,17 +58,15 @@ differ_back n o d = (λ e. d.0 (sym e), λ e. d.1 (sym e))
 apart-midst : (n : NewFile) (front back : List NewFile) → AreApart (front ++ back) → ((o : NewFile) → IsIn o (front ++ back) → Differ n o) → AreApart (front ++ n ∷ back)
 apart-midst n [] back a differ = (differ, a)
 apart-midst n (p ∷ front) back a differ =
-    let P : NewFile → Type 0 = λ o. Differ p o in
     let from_p : (o : NewFile) → IsIn o (front ++ n ∷ back) → Differ p o = λ o h.
-    ⊎_elim (λ (e : o ≡ n). subst P (sym e) (differ_back n p (differ p (inl refl)))) (λ (k : IsIn o (front ++ back)). a.0 o k) (IsIn-midst o n front back h) in
+    ⊎_elim (λ (e : o ≡ n). rw e (differ_back n p (differ p (inl refl)))) (λ (k : IsIn o (front ++ back)). a.0 o k) (IsIn-midst o n front back h) in
     (from_p, apart-midst n front back a.1 (λ o h. differ o (inr h)))
 
 apart-rearranged : (xs ys : List NewFile) → AreApart xs → Rearranged xs ys → AreApart ys
 apart-rearranged [] ys a e = subst AreApart (sym e) a
 apart-rearranged (n ∷ xs) ys a r =
     let rest : List NewFile = (r.0) ++ (r.1) in
-    let others : AreApart rest = apart-rearranged xs rest a.1 r.3 in
-    subst AreApart (sym r.2) (apart-midst n r.0 r.1 others (λ o h. a.0 o (IsIn-rearranged o xs rest r.3 h)))
+    subst AreApart (sym r.2) (apart-midst n r.0 r.1 (apart-rearranged xs rest a.1 r.3) (λ o h. a.0 o (IsIn-rearranged o xs rest r.3 h)))
 
 -- each is awaited
 abbrev AreAwaited : State → ℕ → List NewFile → Type 0
@@ -105,8 +103,7 @@ same_rearranged m now id (n ∷ xs) ys s w a r =
     let turned : Rearranged (n ∷ xs) whole = (r.0, r.1, refl, r.3) in
     let later : Same (step m N).0 (acks now id xs) (acks now id rest) = same_rearranged (step m N).0 now id xs rest (step_keeps m N tt s) (still_awaited m now id n xs s w a) a.1 r.3 in
     let front : Same m (N ∷ acks now id rest) (acks now id whole) = to_front m now id n r.0 r.1 s (λ o h. w o (IsIn-rearranged o (n ∷ xs) whole turned h)) (apart-rearranged (n ∷ xs) whole a turned) in
-    let P : List NewFile → Type 0 = λ zs. Same m (acks now id (n ∷ xs)) (acks now id zs) in
-    subst P (sym r.2) (same_chain (same_later m N (acks now id xs) (acks now id rest) later) front)
+    grind (arith, common_steps, same_chain, same_later) steps 1000000
 
 -- at most one completes the record
 at_most_one : (m : State) (now id : ℕ) (xs : List NewFile) → IsSound m → AreAwaited m id xs → AreApart xs → count_by is_completing (answers m (acks now id xs)) ≤ 1
@@ -122,9 +119,4 @@ at_most_one m now id (n ∷ o ∷ xs) s w a =
 pub any_order : (m : State) (now id : ℕ) (r : Record) (news : List NewFile) (given made : List (ℕ × Call)) → IsSound m → AnyOrder m now id r news given made
 any_order m now id r news given made s found missing apart is same =
     let value : ℕ × Call → Call = λ x. x.1 in
-    let P : List Call → Type 0 = λ calls. Rearranged calls (calls_of made) in
-    let turned = Rearranged-from_map (ack_with now id) news (calls_of made) (subst P is (Rearranged-map value given made (rearranged_by_seat given made same))) in
-    let awaited : AreAwaited m id news = λ n h. record { r = r; found = found; lacks = missing n h } in
-    let both : Same m (acks now id news) (acks now id turned.0) = same_rearranged m now id news turned.0 s awaited apart turned.2 in
-    let once : count_by is_completing (answers m (acks now id news)) ≤ 1 = at_most_one m now id news s awaited apart in
-    grind (arith, common_steps)
+    grind (arith, common_steps, Rearranged-from_map, Rearranged-map value given made, rearranged_by_seat given made same, same_rearranged m now id news, at_most_one m now id news s) steps 1000000

@@ -118,11 +118,7 @@ after_first m now id a b wa wb ne P refused pending =
 pub awaits_after : (m : State) (now id : ℕ) (a b : NewFile) → IsSound m → Awaits m id a → Awaits m id b → (a.subtask ≡ b.subtask → ⊥) → Awaits (step m (ack_with now id a)).0 id b
 awaits_after m now id a b s wa wb ne =
     let P : Stepped → Type 0 = λ x. Awaits x.0 id b in
-    after_first m now id a b wa wb ne P (λ why. wb) (record {
-      r = with_new wa.r a;
-      found = found_after m now id wa.r a s wa.found;
-      lacks = lacks_still wa.r a b ne (same_record wa wb);
-    })
+    after_first m now id a b wa wb ne P (λ why. wb) (grind (arith, common_steps, found_after m now id wa.r a s wa.found, lacks_still wa.r a b ne, ne, same_record wa wb) steps 1000000)
 
 -- a file that is not the first's is known after it if it was known before
 pub known_after : (m : State) (now id : ℕ) (a b : NewFile) (f : ℕ) → IsSound m → Awaits m id a → Awaits m id b → (a.subtask ≡ b.subtask → ⊥) → (f ≡ a.file → ⊥) → is_known (step m (ack_with now id a)).0 f ≡ is_known m f
@@ -166,12 +162,11 @@ exchanged_known m now id a b s wa wb ne other early known =
 exchanged_unknown : (m : State) (now id : ℕ) (a b : NewFile) → IsSound m → Awaits m id a → Awaits m id b → (a.subtask ≡ b.subtask → ⊥) → (a.file ≡ b.file → ⊥) → leb (2 ^ 62) now ≡ false → is_known m a.file ≡ false → is_known m b.file ≡ false → Exchanged m (ack_with now id a) (ack_with now id b)
 exchanged_unknown m now id a b s wa wb ne other early ka kb =
     let A : Call = ack_with now id a in
-    let B : Call = ack_with now id b in
     let ea : refusal m A ≡ None = accepted_unknown m now id a s wa early ka in
     let pending : is_ack_pending (step m A).1 ≡ true = ap (λ (x : Stepped). is_ack_pending x.1) (left m now id wa.r a b wa.found (same_record wa wb) ne ea) in
     let wb1 : Awaits (step m A).0 id b = awaits_after m now id a b s wa wb ne in
     let kb1 : is_known (step m A).0 b.file ≡ false = known_after m now id a b b.file s wa wb ne (λ e. other (sym e)) ∙ kb in
-    let eb1 : refusal (step m A).0 B ≡ None = accepted_unknown (step m A).0 now id b (step_keeps m A tt s) wb1 early kb1 in
+    let eb1 : refusal (step m A).0 (ack_with now id b) ≡ None = accepted_unknown (step m A).0 now id b (step_keeps m A tt s) wb1 early kb1 in
     let both = exchange m now id (part_of a) (part_of b) s ne (λ f h k. k) pending (taken (step m A).0 now id b wb1 eb1) in
     grind (arith, common_steps)
 
@@ -180,6 +175,4 @@ exchanged_new m now id a b s wa wb ne other =
     let A : Call = ack_with now id a in
     let B : Call = ack_with now id b in
     let late : leb (2 ^ 62) now ≡ true → Exchanged m A B = λ (e : leb (2 ^ 62) now ≡ true). exchanged_refused m A B MomentTooLarge (refused_late m now id a e) (refused_late (step m B).0 now id a e) in
-    let early : leb (2 ^ 62) now ≡ false → Exchanged m A B = λ (e : leb (2 ^ 62) now ≡ false).
-    grind (arith, common_steps, exchanged_known, ne, other, exchanged_back, exchanged_unknown, cases_Bool) in
-    ⊎_elim late early (cases_Bool (leb (2 ^ 62) now))
+    grind (arith, common_steps, exchanged_known, exchanged_back, exchanged_unknown, cases_Bool) steps 1000000

@@ -53,14 +53,12 @@ files_not_out {m} {q} {subtask} {fresh} {reused} s a f h out =
 -- the outbox beside a list of records with one acknowledgement more
 pub outbox_acked : {m : State} {q : Record} {subtask : SubtaskId} {fresh reused : List ℕ} (new : Record) → IsSound m → IsAcking m q subtask fresh reused → new.id ≡ q.id → new.acks ≡ (with_ack q subtask fresh reused).acks → new.pins ≡ q.pins → IsSoundOutbox (map (put_in new) m.records) m.waiting m.taken
 outbox_acked {m} {q} {subtask} {fresh} {reused} new s a id acks pins =
-    let p : IsReplacing (put_in new) q new m.records = put_in_replaces q new m.records s.records.in_order a.there id in
-    let w : Record = with_ack q subtask fresh reused in
     let its : Acked = record { subtask = subtask; files = ascending (fresh ++ reused) } in
-    let in_with : (f : ℕ) → Holds f new → Holds f w = grind (arith, common_steps) in
+    let in_with : (f : ℕ) → Holds f new → Holds f (with_ack q subtask fresh reused) = grind (arith, common_steps) in
     let none : (f : ℕ) → IsIn f (m.waiting ++ m.taken) → IsHeld f (map (put_in new) m.records) → ⊥ = λ f out h.
     let old : IsHeld f m.records → ⊥ = not_held f m.records ((outbox_of s).unused f out) in
     let by_new : Holds f new → ⊥ = λ (k : Holds f new). ⊎_elim (λ (i : IsIn f its.files). files_not_out s a f i out) (λ (i : Holds f q). old (q, a.there, i)) (Holds-put_ack f its q (in_with f k)) in
-    ⊎_elim by_new old (held_after_put f m.records q new p h) in
+    ⊎_elim by_new old (held_after_put f m.records q new (put_in_replaces q new m.records s.records.in_order a.there id) h) in
     record {
       unused = λ f out. absent-from_not_held f (map (put_in new) m.records) (none f out);
       apart = (outbox_of s).apart;
@@ -86,7 +84,6 @@ ack_pending_is_sound m q subtask fresh reused s a lacks =
     let p : IsReplacing (put_in w) q w rs = put_in_replaces q w rs s.records.in_order a.there refl in
     let i : IsRecord w = acknowledged_pending q subtask (ascending (fresh ++ reused)) (s.records.each q a.there) a.pending (with_ack_is s a) lacks in
     let records : AreSoundRecords m.opening m.next (map (put_in w) (filter (λ _. true) rs)) = replaced_records (λ _. true) s.records p a.pending refl refl i (and_left q.done (is_checkpoint q) a.pending) in
-    let Any : List Record → Type 0 = λ xs. AreSoundRecords m.opening m.next xs in
     sound_from (with_records m (replaced rs w)) (record {
       config = s.config;
       shape = s.shape;
@@ -97,7 +94,7 @@ ack_pending_is_sound m q subtask fresh reused s a lacks =
       base = λ id e. ap (list_any (is_savepoint id)) (sym (nothing_dropped (put_in w) rs)) ∙ savepoint_beside id p a.pending (s.base id e);
       idle = λ ne. absurd (both_ways q.done a.pending (s.idle ne q a.there));
       failures = s.failures;
-    }) (subst Any (nothing_dropped (put_in w) rs) records) (outbox_acked w s a refl refl refl)
+    }) (rw (← (nothing_dropped (put_in w) rs)) records) (outbox_acked w s a refl refl refl)
 
 -- completion
 
@@ -122,8 +119,7 @@ retained_after m r checkpoint order =
     let passes : (x : Record) → IsIn x m.records → not (superseded m r x) ≡ true → is_done_checkpoint (unpinned (Some r.id) x) ≡ true → test x ≡ true =
     grind (arith, common_steps, unpinned_checkpoint, both_ways, and_cases, not-true, or_parts, later, and_from, not_from_false) in
     let fewer : count_by is_done_checkpoint (kept (superseded m r) (Some r.id) m.records) ≤ count_by test m.records = count_by-changed is_done_checkpoint test (unpinned (Some r.id)) (λ x. not (superseded m r x)) m.records passes in
-    let most : count_by test m.records ≤ n = newest_at_most is_done_checkpoint n m.records order in
-    omega arith
+    omega (arith, newest_at_most is_done_checkpoint n m.records order)
 
 -- what is not subsumed does not come before
 pub not_before : (m : State) (r x : Record) → is_checkpoint r ≡ true → not (superseded m r x) ≡ true → is_pending_checkpoint x ≡ true → r.id ≤ x.id

@@ -35,8 +35,7 @@ unfolding completed_with drop
 completion_is m q subtask fresh reused a none =
     let c : Record = completed q subtask fresh reused in
     let n : State = having m c in
-    let after : State = drop n (superseded n c) (Some c.id) in
-    let by_kind : Kind → State = λ k. cleared after (record c { kind = k }) in
+    let by_kind : Kind → State = λ k. cleared (drop n (superseded n c) (Some c.id)) (record c { kind = k }) in
     let left : is_checkpoint c ≡ false → IsSound m → (id : ℕ) → m.base ≡ Some id → list_any (is_savepoint id) (left_by m c) ≡ true = λ e s id base.
     savepoints_left m q c id s (completing m q subtask fresh reused s a none) e (s.base id base) in
     elim q.kind as (λ k. q.kind ≡ k → IsAcked m q subtask fresh reused (by_kind k, (completed_with n c).1)) [

@@ -58,13 +58,8 @@ tick_is m call running room =
     let fails : Bool = ltb 0 late && ltb m.opening.config.tolerable (m.failures + late) in
     let keeps : (r : Record) → r.done ≡ true → expired r ≡ false = λ r done. expired_is_pending m m.latest r (done_not_pending r done) in
     let pins : IsSound m → pins_now k ≡ pins_now m = λ s. pins_stay m k (λ r. not (expired r)) s refl refl (λ r _ done. ap not (keeps r done)) in
-    let going : fails ≡ false → IsPlain m call k [] = λ (e : fails ≡ false). dropped_is m call (record (settings m) { failures = m.failures + late }) expired (record {
-      shape = λ _ h. h;
-      savepoints = λ _ r _ done _. inl (keeps r done);
-      base = λ s. s.base;
-      idle = λ ne. inl ne;
-      failures = λ s runs. few_failures late m.failures m.opening.config.tolerable (s.failures runs) e;
-    }) in
+    let going : fails ≡ false → IsPlain m call k [] = λ (e : fails ≡ false). dropped_is m call (record (settings m) { failures = m.failures + late }) expired
+    (grind (arith, common_steps, keeps, few_failures) steps 1000000) in
     cond_both fails (failed_over counted, _) (after_expiry k (dropped_by m expired)) (λ (x : Stepped). IsPlain m call x.0 (given_as x.1))
     (λ _. failed_over_is m call (m.failures + late))
     (λ (e : fails ≡ false). start_is m k call (dropped_by m expired) (hold k.opening.config k.due k.completed k.latest (pending_checkpoints k)) refl (going e) refl pins running room)
@@ -76,11 +71,7 @@ savepoint_is m call running room fewer = triggered_is m m call kind.Savepoint m.
 
 -- if a decline does not fail over, few enough have failed
 few_after_decline : (m : State) (r : Record) → m.failures ≤ m.opening.config.tolerable → fails_the_job m r ≡ false → failures_with m r ≤ m.opening.config.tolerable
-few_after_decline m r few = by_kind r.kind
-  where
-    by_kind : (k : Kind) → fails_the_job m (record r { kind = k }) ≡ false → failures_with m (record r { kind = k }) ≤ m.opening.config.tolerable
-    by_kind kind.Checkpoint e = ltb-false m.opening.config.tolerable (m.failures + 1) e
-    by_kind kind.Savepoint e = few
+few_after_decline m r few = grind (arith, common_steps, ltb-false) steps 1000000
 
 -- a decline
 decline_is : (m : State) (call : Call) (id : ℕ) (o : Option Record) → pending_of m.records id ≡ o → IsPlain m call (decline m o).0 (given_as (decline m o).1)
@@ -94,13 +85,7 @@ decline_is m call id (Some r) e =
     let other : IsSound m → (x : Record) → IsIn x m.records → x.done ≡ true → mine x ≡ false = λ s x h done. ⊎_elim (λ (t : eqb x.id r.id ≡ true). absurd (both_ways r.done pending (ap (λ z. z.done) (sym (same_record x r m.records s.records.in_order h found.0 (eqb-true x.id r.id t))) ∙ done))) (λ (t : eqb x.id r.id ≡ false). t) (cases_Bool (eqb x.id r.id)) in
     cond_both (fails_the_job m r) (failed_over counted, _) (drop counted mine None, _) (λ (x : Stepped). IsPlain m call x.0 (given_as x.1))
     (λ _. failed_over_is m call (failures_with m r))
-    (λ (e : fails_the_job m r ≡ false). dropped_is m call (record (settings m) { failures = failures_with m r }) mine (record {
-      shape = λ _ h. h;
-      savepoints = λ s x h done _. inl (other s x h done);
-      base = λ s. s.base;
-      idle = λ ne. inl ne;
-      failures = λ s runs. few_after_decline m r (s.failures runs) e;
-    }))
+    (λ (e : fails_the_job m r ≡ false). dropped_is m call (record (settings m) { failures = failures_with m r }) mine (grind (arith, common_steps, few_after_decline) steps 1000000))
 
 -- a number that is not the base's
 not_the_base : (base : Option ℕ) (id : ℕ) → is_number base id ≡ false → base ≡ Some id → ⊥
@@ -166,14 +151,12 @@ ack_is m now id subtask fresh reused (Some q) a e =
     let x : Stepped = ack n (Some q) subtask fresh reused in
     let is_taken : is_ack_taken x.1 ≡ true = acknowledged_is_taken n (with_ack q subtask fresh reused) in
     let found = IsIn-from_find (λ r. is_pending r && eqb r.id id) q m.records e in
-    let unknown : List ℕ = filter (λ f. not (is_known m f)) fresh in
-    let Any : List ℕ → Type 0 = λ xs. IsSettled m x.0 xs (hands m (Ack now id subtask fresh reused) x.0) [] in
     record {
       opening = i.opening;
       gives = inl (i.gives_none, i.next);
       sound = λ _ s. i.sound (moment_is_sound m now s a.moment);
       records = λ s. inr (record { q = q; its_id = eqb-true q.id id (and_parts (is_pending q) (eqb q.id id) found.1).1; acking = k; taken = i.taken (moment_is_sound m now s a.moment); is_taken = is_taken });
-      files = λ s. subst Any (sym (registered_taken x.1 fresh unknown is_taken)) (spread_settled (i.spreads (moment_is_sound m now s a.moment)));
+      files = λ s. rw (registered_taken x.1 fresh (filter (λ f. not (is_known m f)) fresh) is_taken) (spread_settled (i.spreads (moment_is_sound m now s a.moment)));
     }
 
 -- a Show says something of a record, or refuses
