@@ -1,6 +1,5 @@
 -- The balance of files over every list of calls, and what became of each.
-use Rattle.ckpt_model.proofs.Names.{common_steps}
-use Rattle.ckpt_model.proofs.Names.{◌≡◌, ℕ, ◌+◌, ◌<◌, ◌≤◌, true, false, List, [], ◌∷◌, ◌++◌, refl, sym, ap, subst, ◌∙◌, ◌⊎◌, inl, inr, ⊎_elim, arith, cases_Bool, both_ways, ltb-false, le-ltb}
+use Rattle.ckpt_model.proofs.Names.{common_steps, ◌≡◌, ℕ, ◌+◌, ◌≤◌, true, false, List, [], ◌∷◌, ◌++◌, refl, sym, ap, subst, ◌∙◌, ◌⊎◌, inl, inr, ⊎_elim, arith, cases_Bool, both_ways, ltb-false, le-ltb}
 use Rattle.ckpt_model.proofs.Names.{append-nil, append_assoc, Call, IsIn, uses, count, is_present, IsIn-append_left, IsIn-append_right, IsIn-append_cases, not_in-from_test, State, Opening, opened}
 use Rattle.ckpt_model.proofs.Names.{step, replay, IsSound, CanOpen, AreCalls, along, registered_by, handed_by, deleted_by, new_by, ShareNone, NoneAgain, Balance, Handed, Accounted, UsedNoMore, Outbox}
 use Rattle.ckpt_model.proofs.Names.{one_if, times, times-from_IsIn, IsIn-from_times, times-append, times_at_most_once}

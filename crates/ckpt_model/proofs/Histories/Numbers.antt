@@ -1,5 +1,5 @@
 -- The numbers given rise from the first by one.
-use Rattle.ckpt_model.proofs.Names.{common_steps, ◌≡◌, ◌+◌, ◌≤◌, arith, List, [], ◌∷◌, length, refl, ⊎_elim, range_with_len, Call, State, Opening, opened, step, along, given_by, Numbers}
+use Rattle.ckpt_model.proofs.Names.{common_steps, ◌≡◌, ◌≤◌, arith, List, [], ◌∷◌, length, refl, range_with_len, Call, State, Opening, opened, step, along, given_by, Numbers}
 use Rattle.ckpt_model.proofs.Stepping.Changes.{Gives}
 use Rattle.ckpt_model.proofs.Stepping.Walk.{step_is}
 

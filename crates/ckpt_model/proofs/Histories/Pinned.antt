@@ -1,9 +1,8 @@
 -- An acknowledgement for a pending record that reuses only files of the choice at its trigger is never refused FileGone.
-use Rattle.ckpt_model.proofs.Names.{◌≡◌, ℕ, ◌+◌, ◌<◌, ◌≤◌, ◌^◌, Bool, false, not, ◌&&◌, ltb, leb, eqb, List, [], ◌∷◌, ◌++◌, length, refl, sym, ap, subst, ◌∙◌, ◌⊎◌, inl, inr, ⊎_elim, arith, find}
-use Rattle.ckpt_model.proofs.Names.{Option, Some, both_ways, and_parts, not-true, eqb-true, SubtaskId, Call, Ack, Refusal, MomentTooLarge, TooManyFiles, RepeatedFile, UnknownCheckpoint, NameTaken}
-use Rattle.ckpt_model.proofs.Names.{FileGone, IsIn, Record, uses, is_present, State, Opening, opened, is_pending, is_known, choice_of, chosen, files_of, pins_now, refusal, refuse_if, first_some}
-use Rattle.ckpt_model.proofs.Names.{has_repeats, pending_of, was_not_given, is_foreign, is_repeat, named, where_pending, Stepped, step, replay, IsSound, IsCall, CanOpen, AreCalls, given_by, Pinned}
-use Rattle.ckpt_model.proofs.Names.{common_steps}
+use Rattle.ckpt_model.proofs.Names.{◌≡◌, ℕ, ◌+◌, ◌<◌, ◌≤◌, ◌^◌, Bool, false, not, ◌&&◌, ltb, leb, eqb, List, [], ◌∷◌, ◌++◌, length, refl, sym, ◌∙◌, ◌⊎◌, inl, inr, ⊎_elim, arith, find, Option, Some}
+use Rattle.ckpt_model.proofs.Names.{both_ways, and_parts, not-true, eqb-true, SubtaskId, Call, Ack, Refusal, MomentTooLarge, TooManyFiles, RepeatedFile, UnknownCheckpoint, NameTaken, FileGone, IsIn}
+use Rattle.ckpt_model.proofs.Names.{Record, uses, is_present, State, Opening, opened, is_pending, choice_of, chosen, files_of, pins_now, refusal, refuse_if, first_some, has_repeats, pending_of}
+use Rattle.ckpt_model.proofs.Names.{was_not_given, is_foreign, is_repeat, named, where_pending, Stepped, step, replay, IsSound, IsCall, CanOpen, AreCalls, given_by, Pinned, common_steps}
 use Rattle.ckpt_model.proofs.Records.Counts.{IsIn-from_find}
 use Rattle.ckpt_model.proofs.Records.Present.{present-from_IsHeld}
 use Rattle.ckpt_model.proofs.Histories.Moves.{IsMoved, IsTriggered, moved_from}

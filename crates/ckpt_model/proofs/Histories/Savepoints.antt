@@ -1,6 +1,6 @@
 -- A done savepoint stays, unchanged, until an accepted Dispose of its number.
-use Rattle.ckpt_model.proofs.Names.{◌≡◌, ℕ, true, false, ◌&&◌, eqb, List, [], ◌∷◌, sym, subst, ⊎_elim, Some, both_ways, and_from, eq-eqb, none-some, Call, Ack, Dispose, Answer, Done, Refused, IsIn}
-use Rattle.ckpt_model.proofs.Names.{Record, State, Opening, is_checkpoint, Stepped, step, replay, IsSound, CanOpen, AreCalls, is_disposed_by, IsNeverDisposed, Savepoints, common_steps, arith}
+use Rattle.ckpt_model.proofs.Names.{◌≡◌, ℕ, true, false, ◌&&◌, eqb, List, [], ◌∷◌, ⊎_elim, Some, both_ways, and_from, eq-eqb, none-some, Call, Ack, Dispose, Answer, Done, Refused, IsIn, Record, State}
+use Rattle.ckpt_model.proofs.Names.{Opening, is_checkpoint, Stepped, step, replay, IsSound, CanOpen, AreCalls, is_disposed_by, IsNeverDisposed, Savepoints, common_steps, arith}
 use Rattle.ckpt_model.proofs.Histories.Moves.{savepoint_moved, disposed_by}
 use Rattle.ckpt_model.proofs.Histories.Takings.{savepoint_kept}
 use Rattle.ckpt_model.proofs.Stepping.Changes.{IsPassedOver, IsTakenBy}

@@ -1,7 +1,7 @@
 -- What a drop, a trigger and an acknowledgement put at the end of waiting, and that the files balance.
-use Rattle.ckpt_model.proofs.Names.{◌≡◌, ℕ, Bool, true, not, ltb, List, [], ◌∷◌, ◌++◌, map, refl, sym, subst, ◌⊎◌, inl, inr, ⊎_elim, Option, Some, None, filter, or_parts, append-nil, SubtaskId, Acked}
-use Rattle.ckpt_model.proofs.Names.{Kind, IsIn, ascending, Record, uses, is_present, released, IsIn-append_left, IsIn-append_cases, IsIn-in_order, IsIn-from_in_order, AreDistinct-left, State}
-use Rattle.ckpt_model.proofs.Names.{is_known, in_outbox, kept, drop, pins_now, replaced, with_records, superseded, triggered, ack, IsSound, registered_as, common_steps, arith}
+use Rattle.ckpt_model.proofs.Names.{◌≡◌, ℕ, Bool, true, not, ltb, List, [], ◌∷◌, ◌++◌, map, refl, sym, ◌⊎◌, inr, ⊎_elim, Option, Some, None, filter, or_parts, append-nil, SubtaskId, Acked, Kind, IsIn}
+use Rattle.ckpt_model.proofs.Names.{ascending, Record, uses, is_present, released, IsIn-append_left, IsIn-append_cases, IsIn-in_order, IsIn-from_in_order, AreDistinct-left, State, is_known, in_outbox}
+use Rattle.ckpt_model.proofs.Names.{kept, drop, pins_now, replaced, with_records, superseded, triggered, ack, IsSound, registered_as, common_steps, arith}
 use Rattle.ckpt_model.proofs.Records.Present.{Holds, Holds-put_ack_new, Holds-put_ack_old, IsHeld, IsHeld-from_present, not_held, Holds-put_ack}
 use Rattle.ckpt_model.proofs.Records.Replacing.{put_in, IsReplacing, put_in_replaces}
 use Rattle.ckpt_model.proofs.Soundness.Drops.{held_before_filter}

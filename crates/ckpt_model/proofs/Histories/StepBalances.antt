@@ -1,6 +1,6 @@
 -- What one step registers, hands out and deletes, and which files are present after it.
-use Rattle.ckpt_model.proofs.Names.{◌≡◌, ℕ, ◌+◌, ◌<◌, Bool, true, not, List, [], sym, ap, subst, ◌∙◌, ◌⊎◌, inl, inr, ⊎_elim, arith, filter, cond-true, Call, Ack, IsIn, uses, is_present, State}
-use Rattle.ckpt_model.proofs.Names.{is_known, step, IsSound, is_ack_taken, registered_by, handed_by, deleted_by, new_by, one_if, times, IsIn-from_times, common_steps}
+use Rattle.ckpt_model.proofs.Names.{◌≡◌, ℕ, ◌+◌, ◌<◌, Bool, true, not, [], sym, ap, ◌∙◌, ◌⊎◌, inl, inr, ⊎_elim, arith, filter, cond-true, Call, Ack, IsIn, uses, is_present, State, is_known, step}
+use Rattle.ckpt_model.proofs.Names.{IsSound, is_ack_taken, registered_by, handed_by, deleted_by, new_by, one_if, times, IsIn-from_times, common_steps}
 use Rattle.ckpt_model.proofs.Stepping.Changes.{IsPassedOver, IsTakenBy}
 use Rattle.ckpt_model.proofs.Stepping.Files.{IsSettled}
 use Rattle.ckpt_model.proofs.Stepping.Walk.{registered_taken, step_is}

@@ -1,6 +1,6 @@
 -- Calls dealt out to seats, each to the seat of its place modulo how many there are: whatever order the seats make them in, they
 -- come to what they come to one after the other.
-use Rattle.ckpt_model.proofs.Names.{◌≡◌, ℕ, ◌+◌, ◌%◌, ◌<◌, ◌≤◌, Bool, true, false, eqb, List, [], ◌∷◌, map, refl, sym, ap, subst, ◌∙◌, inl, inr, ⊎_elim, arith, count_by, Some, filter, enumerate_from}
+use Rattle.ckpt_model.proofs.Names.{◌≡◌, ℕ, ◌+◌, ◌%◌, ◌<◌, ◌≤◌, Bool, false, eqb, List, [], ◌∷◌, map, refl, sym, ap, subst, ◌∙◌, inl, inr, ⊎_elim, arith, count_by, Some, filter, enumerate_from}
 use Rattle.ckpt_model.proofs.Names.{cases_Bool, eqb-true, cases_lt, Call, Answer, IsIn, Record, IsIn-from_map, State, record_of, step, replay, answers, IsSound, of_seat, SameBySeat, NewFile, ack_with}
 use Rattle.ckpt_model.proofs.Names.{calls_of, first_completed, is_completing, SameOutcome, common_steps}
 use Rattle.ckpt_model.proofs.Reordering.Rearranged.{as_often_by_seat, of_seat-map, of_seat-other}

@@ -1,6 +1,6 @@
 -- The missing acknowledgements of one record come to the same in every order.
 use Rattle.ckpt_model.proofs.Names.{◌≡◌, ℕ, ◌+◌, ◌≤◌, Bool, true, false, List, [], ◌∷◌, ◌++◌, map, refl, sym, ap, subst, inl, inr, ⊎_elim, arith, count_by, Option, option_or, is_some, both_ways, Call}
-use Rattle.ckpt_model.proofs.Names.{Answer, IsIn, Record, count_by-cons, count_by_no, IsIn-append_right, State, step, replay, answers, IsSound, SameBySeat, NewFile, ack_with, AreApart, calls_of}
+use Rattle.ckpt_model.proofs.Names.{Answer, IsIn, Record, count_by-cons, count_by_no, IsIn-append_right, State, step, replay, answers, IsSound, SameBySeat, NewFile, ack_with, AreApart}
 use Rattle.ckpt_model.proofs.Names.{first_completed, is_completing, AnyOrder, common_steps}
 use Rattle.ckpt_model.proofs.Records.Counts.{count_by_at_most_more}
 use Rattle.ckpt_model.proofs.Soundness.Calls.{step_keeps}

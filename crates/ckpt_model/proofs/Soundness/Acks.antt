@@ -1,9 +1,9 @@
 -- An acknowledgement that leaves its record pending keeps a coordinator sound; and lemmas on one that completes it, for Completions.
-use Rattle.ckpt_model.proofs.Names.{◌≡◌, ℕ, ◌≤◌, Bool, true, false, not, ◌&&◌, ltb, leb, eqb, List, [], ◌∷◌, ◌++◌, map, refl, sym, ap, subst, ◌∙◌, ⊎_elim, arith, count_by, Option, Some, filter}
-use Rattle.ckpt_model.proofs.Names.{list_any, both_ways, not-true, not-false, not_from_false, and_parts, and_left, and_cases, and_from, or_parts, SubtaskId, Acked, IsIn, IsInOrder, AreDistinct}
-use Rattle.ckpt_model.proofs.Names.{ascending, Record, uses, is_present, missing, has_acknowledged, acknowledged, is_subtask, IsIn-append_cases, IsIn-from_in_order, filter-all, not_in-from_test}
-use Rattle.ckpt_model.proofs.Names.{State, is_checkpoint, is_pending, is_done_checkpoint, is_known, in_outbox, kept, unpinned, pending_of, replaced, with_records, superseded, IsSound, IsRecord}
-use Rattle.ckpt_model.proofs.Names.{id_before, common_steps}
+use Rattle.ckpt_model.proofs.Names.{◌≡◌, ℕ, ◌≤◌, Bool, true, false, not, ◌&&◌, ltb, leb, eqb, List, [], ◌∷◌, ◌++◌, map, refl, sym, ap, ◌∙◌, ⊎_elim, arith, count_by, Option, Some, filter, list_any}
+use Rattle.ckpt_model.proofs.Names.{both_ways, not-true, not-false, not_from_false, and_parts, and_left, and_cases, and_from, or_parts, SubtaskId, Acked, IsIn, IsInOrder, AreDistinct, ascending}
+use Rattle.ckpt_model.proofs.Names.{Record, uses, is_present, missing, has_acknowledged, acknowledged, is_subtask, IsIn-append_cases, IsIn-from_in_order, filter-all, not_in-from_test, State}
+use Rattle.ckpt_model.proofs.Names.{is_checkpoint, is_pending, is_done_checkpoint, is_known, in_outbox, kept, unpinned, pending_of, replaced, with_records, superseded, IsSound, IsRecord, id_before}
+use Rattle.ckpt_model.proofs.Names.{common_steps}
 use Rattle.ckpt_model.proofs.Records.Counts.{count_by-changed, IsIn-from_changed, IsIn-from_find, fails-from_find}
 use Rattle.ckpt_model.proofs.Records.Present.{Holds, IsHeld, Holds-put_ack, absent-from_not_held, not_held}
 use Rattle.ckpt_model.proofs.Records.Released.{distinct-from_test}

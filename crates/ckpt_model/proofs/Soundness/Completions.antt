@@ -1,10 +1,9 @@
 -- An acknowledgement that completes a record keeps a coordinator sound, and so does a late one.
-use Rattle.ckpt_model.proofs.Names.{common_steps}
-use Rattle.ckpt_model.proofs.Names.{◌≡◌, ℕ, ◌<◌, ◌≤◌, Bool, true, false, not, eqb, List, [], ◌++◌, map, refl, sym, ap, subst, ◌∙◌, ⊎_elim, arith, count_by, Option, Some, None, filter, list_any}
-use Rattle.ckpt_model.proofs.Names.{cases_Bool, both_ways, not-true, not_from_false, and_left, and_right, or_parts, ltb-true, lt-ltb, SubtaskId, IsIn, IsInOrder, AreDistinct, Record, uses, is_present}
-use Rattle.ckpt_model.proofs.Names.{missing, IsIn-append_left, IsIn-append_right, IsIn-append_cases, IsIn-from_filter, IsInOrder-map, AreDistinct-append, AreDistinct-left, AreDistinct-right}
-use Rattle.ckpt_model.proofs.Names.{AreDistinct-apart, AreDistinct-filter, test-from_IsIn, Running, State, is_checkpoint, is_done_checkpoint, is_known, in_outbox, kept, unpinned, drop, released_by}
-use Rattle.ckpt_model.proofs.Names.{replaced, with_records, superseded, ack, IsSound, IsRecord, id_before}
+use Rattle.ckpt_model.proofs.Names.{common_steps, ◌≡◌, ℕ, ◌<◌, ◌≤◌, Bool, true, false, not, eqb, List, [], ◌++◌, map, refl, sym, ap, subst, ◌∙◌, ⊎_elim, arith, count_by, Option, Some, None, filter}
+use Rattle.ckpt_model.proofs.Names.{list_any, cases_Bool, both_ways, not-true, not_from_false, and_left, and_right, or_parts, ltb-true, lt-ltb, SubtaskId, IsIn, IsInOrder, AreDistinct, Record, uses}
+use Rattle.ckpt_model.proofs.Names.{is_present, missing, IsIn-append_left, IsIn-append_right, IsIn-append_cases, IsIn-from_filter, IsInOrder-map, AreDistinct-append, AreDistinct-left}
+use Rattle.ckpt_model.proofs.Names.{AreDistinct-right, AreDistinct-apart, AreDistinct-filter, test-from_IsIn, Running, State, is_checkpoint, is_done_checkpoint, is_known, in_outbox, kept, unpinned}
+use Rattle.ckpt_model.proofs.Names.{drop, released_by, replaced, with_records, superseded, ack, IsSound, IsRecord, id_before}
 use Rattle.ckpt_model.proofs.Records.Lists.{AreSoundRecords, IsSoundOutbox, sound_from, outbox_of, is_pending_checkpoint}
 use Rattle.ckpt_model.proofs.Records.Replacing.{put_in, IsReplacing, put_in_replaces, unpinned_replaces, cond_same, replaced_records, completed_records}
 use Rattle.ckpt_model.proofs.Records.Acknowledged.{completed_is}

@@ -1,11 +1,11 @@
 -- The walk over all calls of `step`: what each changes.
-use Rattle.ckpt_model.proofs.Names.{◌≡◌, ℕ, ◌+◌, ◌<◌, ◌≤◌, ◌^◌, max, Bool, true, false, not, ◌&&◌, ◌||◌, ltb, eqb, List, [], ◌∷◌, ◌++◌, take, refl, sym, ap, subst, ◌∙◌, inl, inr, ⊎_elim, arith}
-use Rattle.ckpt_model.proofs.Names.{count_by, Option, Some, None, unwrap_or, IfSome, filter, cases_Bool, both_ways, not-true, and_parts, and_left, and_right, or_from, or_left, cond_both, eqb-true}
-use Rattle.ckpt_model.proofs.Names.{eqb-false, ltb-false, SubtaskId, Kind, Target, Call, Tick, Savepoint, Ack, Decline, Dispose, Restore, Cancel, Take, Deleted, Undeleted, Show, Count, Answer, Done}
-use Rattle.ckpt_model.proofs.Names.{IsIn, Record, IsShape, hold, gap, Hold, Interval, AtOnce, Pause, Go, Running, Failed, Cancelled, State, is_checkpoint, is_pending, is_expired, is_known, record_of}
-use Rattle.ckpt_model.proofs.Names.{drop, pins_now, refusal, moment_of, pending_of, is_done_savepoint, is_number, savepoints, Stepped, pending_checkpoints, dropped_by, triggered, failed_over}
-use Rattle.ckpt_model.proofs.Names.{start_or_hold, after_expiry, tick, ack, failures_with, fails_the_job, decline, decline_pending, dropping, dispose, restore, restarted, rolled_back, cancel}
-use Rattle.ckpt_model.proofs.Names.{cancelled, take_files, without, show, effect, at_moment, step, IsSound, given_as, is_ack_taken, registered_as, common_steps}
+use Rattle.ckpt_model.proofs.Names.{◌≡◌, ℕ, ◌+◌, ◌<◌, ◌≤◌, ◌^◌, max, Bool, true, false, not, ◌&&◌, ◌||◌, ltb, eqb, List, [], ◌∷◌, ◌++◌, take, refl, sym, ap, ◌∙◌, inl, inr, ⊎_elim, arith, count_by}
+use Rattle.ckpt_model.proofs.Names.{Option, Some, None, unwrap_or, IfSome, filter, cases_Bool, both_ways, not-true, and_parts, and_left, and_right, or_from, or_left, cond_both, eqb-true, eqb-false}
+use Rattle.ckpt_model.proofs.Names.{ltb-false, SubtaskId, Target, Call, Tick, Savepoint, Ack, Decline, Dispose, Restore, Cancel, Take, Deleted, Undeleted, Show, Count, Answer, Done, IsIn, Record}
+use Rattle.ckpt_model.proofs.Names.{IsShape, hold, gap, Hold, Interval, AtOnce, Pause, Go, Running, Failed, Cancelled, State, is_checkpoint, is_pending, is_expired, is_known, record_of, drop}
+use Rattle.ckpt_model.proofs.Names.{pins_now, refusal, moment_of, pending_of, is_done_savepoint, is_number, savepoints, Stepped, pending_checkpoints, dropped_by, triggered, failed_over, start_or_hold}
+use Rattle.ckpt_model.proofs.Names.{after_expiry, tick, ack, failures_with, fails_the_job, decline, decline_pending, dropping, dispose, restore, restarted, rolled_back, cancel, cancelled, take_files}
+use Rattle.ckpt_model.proofs.Names.{without, show, effect, at_moment, step, IsSound, given_as, is_ack_taken, registered_as, common_steps}
 use Rattle.std.specs.Prelude as prelude
 use Rattle.ckpt_ids.specs.declared.numbers.Kind.TheVariants as kind
 use Rattle.ckpt_ids.specs.declared.call.Target.TheVariants as target
@@ -25,7 +25,7 @@ use Rattle.ckpt_model.proofs.Records.Pins.{pins_stay}
 use Rattle.ckpt_model.proofs.Histories.Moves.{unmoved}
 use Rattle.ckpt_model.proofs.Histories.Spreads.{late_spreads}
 use Rattle.ckpt_model.proofs.Stepping.Changes.{IsStep, IsPlain, settings, plain_step, plain_at, unchanged, refusal_step, outbox_step, dropped_is, triggered_is}
-use Rattle.ckpt_model.proofs.Stepping.Files.{IsSettled, hands, spread_settled, take_settled, deleted_settled, undeleted_settled}
+use Rattle.ckpt_model.proofs.Stepping.Files.{spread_settled, take_settled, deleted_settled, undeleted_settled}
 use Rattle.ckpt_model.proofs.Stepping.Acknowledged.{acknowledged_is_taken, acked_is}
 
 -- a done record is not pending
