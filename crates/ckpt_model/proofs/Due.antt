@@ -1,8 +1,7 @@
 -- When a tick may trigger, as far as the interval and the pause decide.
-use Rattle.ckpt_model.proofs.Names.{◌≡◌, ℕ, ◌+◌, ◌<◌, ◌≤◌, max, Bool, false, ◌&&◌, cond, ltb, leb, refl, arith, Option, None, count_by, ⊤, cond_both, ltb-true, ltb-false, Tick, Refusal, Answer}
-use Rattle.ckpt_model.proofs.Names.{Refused, Done, Ticked, Configuration, Record, Hold, Interval, AtOnce, Pause, Go, hold, limit, pause_ends, NoneIsEarlyFrom, NoneTriggersBefore, next_due}
-use Rattle.ckpt_model.proofs.Names.{triggered_one, was_early, State, drop, is_checkpoint, is_expired, Stepped, after_expiry, dropped_by, effect, failed_over, pending_checkpoints, start_or_hold, step}
-use Rattle.ckpt_model.proofs.Names.{tick, common_steps}
+use Rattle.ckpt_model.proofs.Names.{◌≡◌, ℕ, ◌+◌, ◌<◌, ◌≤◌, max, Bool, false, ◌&&◌, ltb, refl, arith, Option, None, count_by, ⊤, cond_both, Tick, Refusal, Answer, Refused, Done, Ticked, Configuration}
+use Rattle.ckpt_model.proofs.Names.{Record, Hold, Interval, AtOnce, Pause, Go, hold, pause_ends, NoneIsEarlyFrom, NoneTriggersBefore, next_due, triggered_one, was_early, State, drop, is_checkpoint}
+use Rattle.ckpt_model.proofs.Names.{is_expired, Stepped, after_expiry, dropped_by, effect, failed_over, pending_checkpoints, start_or_hold, step, tick, common_steps}
 use Rattle.ckpt_ids.specs.declared.reply.TickEnd.TheVariants as end
 use Rattle.ckpt_model.proofs.Answering.StepCases.{step_by}
 

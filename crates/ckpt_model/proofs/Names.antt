@@ -11,7 +11,7 @@ pub use Rattle.ckpt_ids.proofs.OrderedLemmas.{list_any-from_IsIn, list_any-none,
 pub use Rattle.ckpt_ids.proofs.PlaceLemmas.{find-none}
 pub use Rattle.ckpt_ids.proofs.ShapeLemmas.{length-subtasks_from}
 pub use Rattle.ckpt_ids.specs.Acknowledged.{AreInSubtaskOrder, acknowledges_before, is_before, put_ack}
-pub use Rattle.ckpt_ids.specs.Ascending.{IsAscendingSet, ascending, ascending_set}
+pub use Rattle.ckpt_ids.specs.Ascending.{IsAscendingSet, ascending}
 pub use Rattle.ckpt_ids.specs.Configuration.{Configuration, IsWithinLimits}
 pub use Rattle.ckpt_ids.specs.Counting.{one_if, times}
 pub use Rattle.ckpt_ids.specs.Ordered.{AreDistinct, ComesBefore, IsIn, IsInOrder, in_order, put}
@@ -26,24 +26,24 @@ pub use Rattle.ckpt_ids.specs.declared.reply.Answer.{Answer}
 pub use Rattle.ckpt_ids.specs.declared.reply.Answer.TheVariants.{Done, Refused}
 pub use Rattle.ckpt_ids.specs.declared.reply.Choice.{Choice}
 pub use Rattle.ckpt_ids.specs.declared.reply.Refusal.{Refusal}
-pub use Rattle.ckpt_ids.specs.declared.reply.Refusal.TheVariants.{AlreadyAcknowledged, FileGone, IdsUsedUp, InUse, MomentTooLarge, NameTaken, NoSuchSavepoint, NotRunning, NotTaken, RepeatedFile}
-pub use Rattle.ckpt_ids.specs.declared.reply.Refusal.TheVariants.{TooManyFiles, TooManySavepoints, UnknownCheckpoint, UnknownSubtask}
+pub use Rattle.ckpt_ids.specs.declared.reply.Refusal.TheVariants.{FileGone, MomentTooLarge, NameTaken, RepeatedFile}
+pub use Rattle.ckpt_ids.specs.declared.reply.Refusal.TheVariants.{TooManyFiles, UnknownCheckpoint}
 pub use Rattle.ckpt_ids.specs.declared.reply.Reply.TheVariants.{Ticked}
 pub use Rattle.ckpt_ids.specs.declared.subtask.SubtaskId.{SubtaskId}
 pub use Rattle.ckpt_model.specs.Histories.{answers, replay}
 pub use Rattle.ckpt_model.specs.Images.{AreAlike, CanHold, GoesOnAs, settled}
-pub use Rattle.ckpt_model.specs.Interleavings.{AnyOrder, AreApart, AreMissing, NewFile, SameBySeat, SameOutcome, ack_with, calls_of, completed_by, first_completed, is_completing, of_seat}
+pub use Rattle.ckpt_model.specs.Interleavings.{AnyOrder, AreApart, AreMissing, NewFile, SameBySeat, SameOutcome, ack_with, calls_of, first_completed, is_completing, of_seat}
 pub use Rattle.ckpt_model.specs.Laws.{Accounted, Acknowledgements, AreCalls, Balance, CanOpen, ChoiceIsLive, Exchange, Handed, IsNeverDisposed, NoneAgain, Numbers, Outbox, Part, Pinned, Savepoints}
 pub use Rattle.ckpt_model.specs.Laws.{ShareNone, UsedNoMore, accepted_by, ack_of, along, deleted_as, deleted_by, given_as, given_by, handed_by, is_ack_pending, is_ack_taken, is_disposed_by, names}
 pub use Rattle.ckpt_model.specs.Laws.{new_by, registered_as, registered_by}
 pub use Rattle.ckpt_model.specs.Opening.{open_fault}
 pub use Rattle.ckpt_model.specs.Reads.{NoneIsEarlyFrom, NoneTriggersBefore, next_due, triggered_one, was_early}
-pub use Rattle.ckpt_model.specs.Refusals.{already_acknowledged, file_gone, first_some, has_repeats, ids_used_up, in_use, is_cancelled, is_done_savepoint, is_foreign, is_number, is_repeat, is_running}
-pub use Rattle.ckpt_model.specs.Refusals.{moment_of, moment_too_large, name_taken, named, no_such_record, no_such_savepoint, not_running, not_taken, pending_of, refuse_if, repeated_file, savepoints}
-pub use Rattle.ckpt_model.specs.Refusals.{too_many_files, too_many_savepoints, unknown_checkpoint, unknown_subtask, was_not_given, where_pending}
+pub use Rattle.ckpt_model.specs.Refusals.{first_some, has_repeats, is_done_savepoint, is_foreign, is_number, is_repeat, is_running}
+pub use Rattle.ckpt_model.specs.Refusals.{moment_of, named, pending_of, refuse_if, savepoints}
+pub use Rattle.ckpt_model.specs.Refusals.{was_not_given, where_pending}
 unfoldable pub use Rattle.ckpt_model.specs.Refusals.{refusal}
 pub use Rattle.ckpt_model.specs.Soundness.{IsCall, IsRecord, IsSound, id_before}
-pub use Rattle.ckpt_model.specs.State.{Opening, State, choice_from, chosen, files_of, in_outbox, is_checkpoint, is_done_checkpoint, is_expired, is_known, is_pending, is_subsumed, is_surplus, kept}
+pub use Rattle.ckpt_model.specs.State.{Opening, State, choice_from, chosen, files_of, in_outbox, is_checkpoint, is_done_checkpoint, is_expired, is_known, is_pending, kept}
 pub use Rattle.ckpt_model.specs.State.{last_checkpoint, opened, record_of, released_by, unpinned}
 unfoldable pub use Rattle.ckpt_model.specs.State.{choice_of, drop, pins_now}
 pub use Rattle.ckpt_model.specs.Steps.{Stepped, at_moment, cancelled, cleared, dropped_by, fails_the_job, failures_with, pending_checkpoints, replaced, rolled_back, show, superseded, unless_refused}
@@ -61,7 +61,6 @@ pub use Rattle.std.proofs.Common.{Bool, List, [], ap, arith, cond, eqb, false, i
 pub use Rattle.std.proofs.Common.{◌<◌, ◌^◌, ◌||◌, ◌∙◌, ◌∷◌, ◌≡◌, ◌≢◌, ◌≤◌, ◌⊎◌}
 pub use Rattle.std.proofs.lemmas.Bool.{and_cases, and_from, and_left, and_parts, and_right, both_ways, cases_Bool, cases_lt, cond-false, cond-true, cond_both, eq-eqb, eqb-false, eqb-true, le-ltb}
 pub use Rattle.std.proofs.lemmas.Bool.{leb-false, lt-leb, lt-ltb, ltb-false, ltb-true, ne_eqb, not-false, not-true, not_from_false, not_from_true, or_from, or_left, or_parts}
-pub use Rattle.std.proofs.lemmas.Bool.Decides.{nat_tests}
 pub use Rattle.std.proofs.lemmas.List.{append-nil, append_assoc, length-drop, map-append, map-id, take-append-drop}
 pub use Rattle.std.proofs.lemmas.List.Folds.{list_any-append}
 pub use Rattle.std.proofs.lemmas.List.Sums.{sum_by-cons}

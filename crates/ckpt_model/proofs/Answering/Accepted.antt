@@ -1,10 +1,8 @@
 -- What is known of a call that is not refused: no row of the table of refusals holds.
-use Rattle.ckpt_model.proofs.Names.{◌≡◌, ℕ, ◌+◌, ◌<◌, ◌≤◌, ◌^◌, Bool, true, false, not, ltb, leb, eqb, List, [], ◌∷◌, ◌++◌, length, refl, sym, ap, ◌∙◌, find, Option, Some, None, list_any, both_ways}
-use Rattle.ckpt_model.proofs.Names.{not-false, leb-false, ltb-false, lt-leb, le-ltb, SubtaskId, Target, Tick, Savepoint, Ack, Decline, Dispose, Restore, Cancel, Deleted, Undeleted, Refusal}
-use Rattle.ckpt_model.proofs.Names.{MomentTooLarge, NotRunning, TooManyFiles, RepeatedFile, UnknownCheckpoint, UnknownSubtask, AlreadyAcknowledged, NameTaken, FileGone, NoSuchSavepoint, InUse}
-use Rattle.ckpt_model.proofs.Names.{TooManySavepoints, NotTaken, IdsUsedUp, Record, uses, is_present, has_acknowledged, is_subtask, Mode, Running, Failed, Cancelled, State, is_known, refusal}
-use Rattle.ckpt_model.proofs.Names.{refuse_if, first_some, is_running, is_cancelled, has_repeats, pending_of, is_done_savepoint, savepoints, was_not_given, is_foreign, is_repeat, named, where_pending}
-use Rattle.ckpt_model.proofs.Names.{is_number, common_steps, arith}
+use Rattle.ckpt_model.proofs.Names.{◌≡◌, ℕ, ◌+◌, ◌<◌, ◌≤◌, ◌^◌, Bool, true, false, not, ltb, leb, eqb, List, ◌∷◌, ◌++◌, length, find, Option, Some, None, list_any, both_ways, not-false, leb-false}
+use Rattle.ckpt_model.proofs.Names.{ltb-false, SubtaskId, Target, Tick, Savepoint, Ack, Decline, Dispose, Restore, Cancel, Deleted, Undeleted, Refusal, MomentTooLarge, TooManyFiles, RepeatedFile}
+use Rattle.ckpt_model.proofs.Names.{NameTaken, FileGone, Record, uses, is_present, has_acknowledged, is_subtask, Mode, Running, State, is_known, refusal, refuse_if, first_some, is_running}
+use Rattle.ckpt_model.proofs.Names.{has_repeats, pending_of, is_done_savepoint, savepoints, was_not_given, is_foreign, is_repeat, named, where_pending, is_number, common_steps, arith}
 use Rattle.ckpt_ids.specs.declared.call.Target.TheVariants as target
 
 -- there is none
@@ -76,21 +74,7 @@ accepted_ack m now id subtask fresh reused h =
     let a = first_row (refuse_if (leb (2 ^ 62) now) MomentTooLarge) _ h in
     let b = first_row (refuse_if (ltb 4096 (length fresh + length reused)) TooManyFiles) _ a.1 in
     let c = first_row (refuse_if (has_repeats (fresh ++ reused)) RepeatedFile) _ b.1 in
-    let d = first_row (refuse_if (was_not_given m id) UnknownCheckpoint) _ c.1 in
-    let e = first_row (is_foreign pending subtask) _ d.1 in
-    let f = first_row (is_repeat pending subtask) _ e.1 in
-    let g = first_row (where_pending pending taken) _ f.1 in
-    let i = first_row (where_pending pending gone) _ g.1 in
-    record {
-      moment = leb-false (2 ^ 62) now (not_refused (leb (2 ^ 62) now) MomentTooLarge a.0);
-      few = ltb-false 4096 (length fresh + length reused) (not_refused (ltb 4096 (length fresh + length reused)) TooManyFiles b.0);
-      once = not_refused (has_repeats (fresh ++ reused)) RepeatedFile c.0;
-      given = not_refused (was_not_given m id) UnknownCheckpoint d.0;
-      of_subtask = is_of_subtask pending subtask e.0;
-      first = is_first pending subtask f.0;
-      unknown = λ r k. none_named NameTaken (find (is_known m) fresh) (none_pending pending taken g.0 r k);
-      present = λ r k. none_named FileGone (find (λ f. not (is_present (uses m.records) f)) reused) (none_pending pending gone i.0 r k);
-    }
+    grind (arith, common_steps, first_row, leb-false, not_refused, ltb-false, is_of_subtask, is_first, none_named, none_pending)
 
 -- of a Decline: the moment is one
 pub accepted_decline : (m : State) (now id : ℕ) (subtask : SubtaskId) → refusal m (Decline now id subtask) ≡ None → now < 2 ^ 62
@@ -128,26 +112,6 @@ unfolding refusal
 accepted_deleted m file h = grind (arith, common_steps)
 
 -- the other way round, for an acknowledgement
-
--- a test that fails refuses nothing
-refused_not : (b : Bool) (why : Refusal) → b ≡ false → IsNone (refuse_if b why)
-refused_not b why h2 = grind (arith, common_steps, both_ways)
-
--- a row that does not hold is passed over
-no_row : (row : Option Refusal) (rows : List (Option Refusal)) → IsNone row → IsNone (first_some rows) → IsNone (first_some (row ∷ rows))
-no_row row rows h2 h3 = grind (arith, common_steps)
-
--- a subtask of the pending record is not refused
-not_foreign : (o : Option Record) (s : SubtaskId) → ((r : Record) → o ≡ Some r → is_subtask r.shape s ≡ true) → IsNone (is_foreign o s)
-not_foreign o s h2 = grind (arith, common_steps, refused_not)
-
--- an acknowledgement that the pending record lacks is not refused
-not_repeat : (o : Option Record) (s : SubtaskId) → ((r : Record) → o ≡ Some r → has_acknowledged r s ≡ false) → IsNone (is_repeat o s)
-not_repeat o s h2 = grind (arith, common_steps, refused_not)
-
--- if no file is found, none is named
-not_named : (o : Option Record) (why : ℕ → Refusal) (x : Option ℕ) → ((r : Record) → o ≡ Some r → IsNone x) → IsNone (where_pending o (named why x))
-not_named o why x h3 = grind (arith, common_steps)
 
 -- an Ack of which no row holds is not refused
 pub not_refused-ack : (m : State) (now id : ℕ) (subtask : SubtaskId) (fresh reused : List ℕ) → IsAcceptedAck m now id subtask fresh reused → refusal m (Ack now id subtask fresh reused) ≡ None

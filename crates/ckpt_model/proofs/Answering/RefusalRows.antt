@@ -1,5 +1,5 @@
 -- The rows of the table of refusals, one after the other.
-use Rattle.ckpt_model.proofs.Names.{◌≡◌, List, [], ◌∷◌, ◌++◌, refl, sym, ap, ◌∙◌, Option, Some, None, Refusal, first_some, common_steps, arith}
+use Rattle.ckpt_model.proofs.Names.{◌≡◌, List, [], ◌∷◌, ap, ◌∙◌, Option, Some, None, Refusal, first_some, common_steps, arith}
 
 -- the row that holds decides
 pub row_holds : (why : Refusal) (row : Option Refusal) (rows : List (Option Refusal)) → Some why ≡ row → Some why ≡ first_some (row ∷ rows)
@@ -23,9 +23,3 @@ rows_hold why row next rows h4 = grind (arith, common_steps)
 
 pub rows_fail : (row next : Option Refusal) (rows : List (Option Refusal)) (o : Option Refusal) → None ≡ first_some (row ∷ next ∷ []) → o ≡ first_some rows → o ≡ first_some (row ∷ next ∷ rows)
 rows_fail row next rows o h4 h5 = grind (arith, common_steps)
-
--- no row more that holds
-pub rows_only : (rows more : List (Option Refusal)) → first_some more ≡ None → first_some rows ≡ first_some (rows ++ more)
-rows_only [] more e = sym e
-rows_only (Some why ∷ rows) more e = refl
-rows_only (None ∷ rows) more e = rows_only rows more e

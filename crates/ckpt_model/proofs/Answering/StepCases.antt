@@ -1,6 +1,6 @@
 -- A step is a refusal, or the effect of the call.
-use Rattle.ckpt_model.proofs.Names.{◌≡◌, ℕ, max, Bool, true, false, List, refl, ap, ◌∙◌, Option, Some, None, both_ways, SubtaskId, Call, Ack, Record, Refusal, Answer, Refused, State, refusal}
-use Rattle.ckpt_model.proofs.Names.{moment_of, pending_of, Stepped, ack, effect, at_moment, unless_refused, step, common_steps, arith}
+use Rattle.ckpt_model.proofs.Names.{◌≡◌, ℕ, max, Bool, true, false, List, ap, Option, Some, None, both_ways, SubtaskId, Call, Ack, Record, Refusal, Answer, Refused, State, refusal, moment_of}
+use Rattle.ckpt_model.proofs.Names.{pending_of, Stepped, ack, effect, at_moment, unless_refused, step, common_steps, arith}
 
 pub step_refused : (m : State) (call : Call) (why : Refusal) → refusal m call ≡ Some why → step m call ≡ (m, Refused why)
 unfolding step
@@ -13,11 +13,7 @@ step_accepted m call e = ap (unless_refused m call) e
 -- what holds of a refusal and of the effect holds of the step
 pub step_by : (m : State) (call : Call) (P : Stepped → Type 0) → ((why : Refusal) → refusal m call ≡ Some why → P (m, Refused why)) → (refusal m call ≡ None → P (effect (at_moment m (moment_of call)) call)) → P (step m call)
 unfolding step
-step_by m call P refused accepted = by_refusal (refusal m call) refl
-  where
-    by_refusal : (o : Option Refusal) → refusal m call ≡ o → P (unless_refused m call o)
-    by_refusal None e = accepted e
-    by_refusal (Some why) e = refused why e
+step_by m call P refused accepted = grind (arith, common_steps, accepted, refused)
 
 -- a call is not refused if its answer passes a test that no refusal passes
 pub not_refused-from_answer : (passes : Answer → Bool) → ((why : Refusal) → passes (Refused why) ≡ false) → (m : State) (call : Call) → passes (step m call).1 ≡ true → refusal m call ≡ None

@@ -70,15 +70,11 @@ taken_accepted m now id subtask fresh reused so_far s i a =
     let Fits : Record → Type 0 = λ r. r.acks ≡ in_order acknowledges_before (and_then so_far m call r.id) in
     record {
       live = λ r h.
-          ⊎_elim
-          (λ (e : r ≡ t.new). subst Fits (sym e) of_new)
-          (λ (k : (r.id ≡ q.id → ⊥) × IsIn r m.records). a.live r k.1 ∙ ap (in_order acknowledges_before) (as_before so_far r.id m call (other r.id (λ e. k.0 (e ∙ sym i.its_id)))))
-          (taken_from t r h);
+          grind (arith, common_steps, a.live, as_before so_far r.id m call, other r.id, taken_from t r) steps 1000000;
       later = λ k h.
           let up : m.next ≤ ((step m call).0).next = next_rises m call in
           let below : q.id < m.next = s.records.below_next q there in
-          let its_id : q.id ≡ id = i.its_id in
-          sym (as_before so_far k m call (other k (λ e. absurd (omega arith)))) ∙ a.later k (omega arith);
+          grind (arith, common_steps, as_before, other, a.later) steps 1000000;
     }
 
 -- each call

@@ -1,5 +1,5 @@
 -- The balance of files over every list of calls, and what became of each.
-use Rattle.ckpt_model.proofs.Names.{◌≡◌, ℕ, ◌+◌, ◌<◌, ◌≤◌, true, false, List, [], ◌∷◌, ◌++◌, refl, sym, ap, subst, ◌∙◌, ◌⊎◌, inl, inr, ⊎_elim, arith, cases_Bool, both_ways, ltb-false, le-ltb}
+use Rattle.ckpt_model.proofs.Names.{common_steps, ◌≡◌, ℕ, ◌+◌, ◌≤◌, true, false, List, [], ◌∷◌, ◌++◌, refl, sym, ap, subst, ◌∙◌, ◌⊎◌, inl, inr, ⊎_elim, arith, cases_Bool, both_ways, ltb-false, le-ltb}
 use Rattle.ckpt_model.proofs.Names.{append-nil, append_assoc, Call, IsIn, uses, count, is_present, IsIn-append_left, IsIn-append_right, IsIn-append_cases, not_in-from_test, State, Opening, opened}
 use Rattle.ckpt_model.proofs.Names.{step, replay, IsSound, CanOpen, AreCalls, along, registered_by, handed_by, deleted_by, new_by, ShareNone, NoneAgain, Balance, Handed, Accounted, UsedNoMore, Outbox}
 use Rattle.ckpt_model.proofs.Names.{one_if, times, times-from_IsIn, IsIn-from_times, times-append, times_at_most_once}
@@ -15,14 +15,12 @@ balance_from m [] f s a = refl
 balance_from m (call ∷ calls) f s a =
     let n : State = (step m call).0 in
     let here : times f (registered_by m call) + one_if (is_present (uses m.records) f) ≡ times f (handed_by m call) + one_if (is_present (uses n.records) f) = (step_settled m call s).even f in
-    let rest : times f (along registered_by n calls) + one_if (is_present (uses n.records) f) ≡ times f (along handed_by n calls) + one_if (is_present (uses (replay n calls).records) f) = balance_from n calls f (step_keeps m call a.0 s) a.1 in
-    omega (arith, times-append f (registered_by m call) (along registered_by n calls), times-append f (handed_by m call) (along handed_by n calls))
+    grind (arith, common_steps, step_keeps, times-append, balance_from n calls f) steps 1000000
 
 -- the law of balance
 pub balance : (o : Opening) (calls : List Call) → CanOpen o → AreCalls calls → Balance o calls
 balance o calls c a f =
-    let whole : times f (along registered_by (opened o) calls) + 0 ≡ times f (along handed_by (opened o) calls) + one_if (is_present (uses (replay (opened o) calls).records) f) = balance_from (opened o) calls f (opening_is_sound o c) a in
-    omega arith
+    omega (arith, balance_from (opened o) calls f (opening_is_sound o c) a)
 
 -- each file handed out so far is in the outbox, or was deleted
 abbrev IsTraced : State → List ℕ → List ℕ → Type 0
@@ -32,8 +30,7 @@ IsTraced m handed gone = (f : ℕ) → IsIn f handed → IsIn f (m.waiting ++ m.
 step_traces : (m : State) (call : Call) (handed gone : List ℕ) → IsSound m → IsTraced m handed gone → IsTraced (step m call).0 (handed ++ handed_by m call) (gone ++ deleted_by m call)
 step_traces m call handed gone s t f h =
     let n : State = (step m call).0 in
-    let Goal : Type 0 = IsIn f (n.waiting ++ n.taken) ⊎ IsIn f (gone ++ deleted_by m call) in
-    let old : IsIn f handed → Goal = λ (k : IsIn f handed).
+    let old : IsIn f handed → (IsIn f (n.waiting ++ n.taken) ⊎ IsIn f (gone ++ deleted_by m call)) = λ (k : IsIn f handed).
     ⊎_elim
     (λ (i : IsIn f (m.waiting ++ m.taken)). ⊎_elim (λ (j : IsIn f (n.waiting ++ n.taken)). inl j) (λ (j : IsIn f (deleted_by m call)). inr (IsIn-append_right f gone (deleted_by m call) j)) ((step_settled m call s).stays f i))
     (λ (i : IsIn f gone). inr (IsIn-append_left f gone (deleted_by m call) i))
@@ -42,9 +39,7 @@ step_traces m call handed gone s t f h =
 
 -- a list of calls
 traced_along : (m : State) (calls : List Call) (handed gone : List ℕ) → IsSound m → AreCalls calls → IsTraced m handed gone → IsTraced (replay m calls) (handed ++ along handed_by m calls) (gone ++ along deleted_by m calls)
-traced_along m [] handed gone s a t f h =
-    let In : List ℕ → Type 0 = λ xs. IsIn f xs in
-    ⊎_elim (λ (k : IsIn f (m.waiting ++ m.taken)). inl k) (λ (k : IsIn f gone). inr (IsIn-append_left f gone [] k)) (t f (subst In (append-nil handed) h))
+traced_along m [] handed gone s a t f h = grind (arith, common_steps, IsIn-append_left, append-nil) steps 1000000
 traced_along m (call ∷ calls) handed gone s a t f h =
     let n : State = (step m call).0 in
     let In : List ℕ → Type 0 = λ xs. IsIn f xs in
@@ -59,11 +54,7 @@ AreGone m gone = (f : ℕ) → IsIn f gone → is_present (uses m.records) f ≡
 step_gone : (m : State) (call : Call) (gone : List ℕ) → IsSound m → ShareNone gone (new_by m call) → AreGone m gone → AreGone (step m call).0 (gone ++ deleted_by m call)
 step_gone m call gone s apart g f h =
     let n : State = (step m call).0 in
-    let old : IsIn f gone → is_present (uses n.records) f ≡ false = λ (k : IsIn f gone).
-    ⊎_elim
-    (λ (e : is_present (uses n.records) f ≡ true). ⊎_elim (λ (i : IsIn f (new_by m call)). absurd (apart f k i)) (λ (i : is_present (uses m.records) f ≡ true). absurd (both_ways (is_present (uses m.records) f) (g f k) i)) (newly_present m call f s e))
-    (λ (e : is_present (uses n.records) f ≡ false). e)
-    (cases_Bool (is_present (uses n.records) f)) in
+    let old : IsIn f gone → is_present (uses n.records) f ≡ false = grind (arith, common_steps, both_ways, newly_present m call f s, cases_Bool) steps 1000000 in
     ⊎_elim old (λ (k : IsIn f (deleted_by m call)). (step_settled m call s).gone f k) (IsIn-append_cases f gone (deleted_by m call) h)
 
 -- a list of calls
@@ -71,8 +62,7 @@ gone_along : (m : State) (calls : List Call) (gone : List ℕ) → IsSound m →
 gone_along m [] gone s a n g f h = let In : List ℕ → Type 0 = λ xs. IsIn f xs in g f (subst In (append-nil gone) h)
 gone_along m (call ∷ calls) gone s a n g f h =
     let k : State = (step m call).0 in
-    let In : List ℕ → Type 0 = λ xs. IsIn f xs in
-    gone_along k calls (gone ++ deleted_by m call) (step_keeps m call a.0 s) a.1 n.1 (step_gone m call gone s n.0 g) f (subst In (sym (append_assoc gone (deleted_by m call) (along deleted_by k calls))) h)
+    gone_along k calls (gone ++ deleted_by m call) (step_keeps m call a.0 s) a.1 n.1 (step_gone m call gone s n.0 g) f (rw (append_assoc gone (deleted_by m call) (along deleted_by k calls)) h)
 
 -- what is counted nowhere is not present
 absent-from_count : (m : State) (f : ℕ) → count (uses m.records) f ≡ 0 → is_present (uses m.records) f ≡ false
@@ -84,11 +74,7 @@ count-from_absent m f e = let none : count (uses m.records) f ≤ 0 = ltb-false 
 
 -- a registered file that is not present was handed out
 handed-from_registered : (o : Opening) (calls : List Call) (f : ℕ) → CanOpen o → AreCalls calls → IsIn f (along registered_by (opened o) calls) → is_present (uses (replay (opened o) calls).records) f ≡ false → IsIn f (along handed_by (opened o) calls)
-handed-from_registered o calls f c a h e =
-    let even : times f (along registered_by (opened o) calls) ≡ times f (along handed_by (opened o) calls) + one_if (is_present (uses (replay (opened o) calls).records) f) = balance o calls c a f in
-    let none : one_if (is_present (uses (replay (opened o) calls).records) f) ≡ 0 = ap one_if e in
-    let some : 0 < times f (along registered_by (opened o) calls) = times-from_IsIn f (along registered_by (opened o) calls) h in
-    IsIn-from_times f (along handed_by (opened o) calls) (omega arith)
+handed-from_registered o calls f c a h e = grind (arith, common_steps, balance o calls c a f, times-from_IsIn f, IsIn-from_times f) steps 1000000
 
 -- a registered file in no use is in the outbox or was deleted
 pub accounted : (o : Opening) (calls : List Call) → CanOpen o → AreCalls calls → Accounted o calls
@@ -111,9 +97,7 @@ handed o calls c a none f =
     (λ (k : IsIn f (along deleted_by (opened o) calls)). gone_along (opened o) calls [] (opening_is_sound o c) a none (λ f h. absurd h) f k)
     (traced_along (opened o) calls [] [] (opening_is_sound o c) a (λ f h. absurd h) f h) in
     let registered : IsIn f out → IsIn f in_ = λ (h : IsIn f out).
-    let even : times f in_ ≡ times f out + one_if (is_present (uses m.records) f) = balance o calls c a f in
-    let some : 0 < times f out = times-from_IsIn f out h in
-    IsIn-from_times f in_ (omega arith) in
+    IsIn-from_times f in_ (omega (arith, times-from_IsIn f out h, balance o calls c a f)) in
     (λ (h : IsIn f out). (registered h, count-from_absent m f (absent h)), λ h. handed-from_registered o calls f c a h.0 (absent-from_count m f h.1))
 
 -- what two lists of calls give, one after the other
@@ -124,10 +108,7 @@ along-append by m (call ∷ before) calls =
 
 -- what was handed out is in no use then or later
 pub used_no_more : (o : Opening) (before calls : List Call) → CanOpen o → AreCalls (before ++ calls) → UsedNoMore o before calls
-used_no_more o before calls c a none f h =
-    let In : List ℕ → Type 0 = λ xs. IsIn f xs in
-    let whole : IsIn f (along handed_by (opened o) (before ++ calls)) = subst In (sym (along-append handed_by (opened o) before calls)) (IsIn-append_left f (along handed_by (opened o) before) (along handed_by (replay (opened o) before) calls) h) in
-    ((handed o (before ++ calls) c a none f).0 whole).1
+used_no_more o before calls c a none f h = grind (arith, common_steps, along-append, IsIn-append_left f, handed o (before ++ calls) c a none f) steps 1000000
 
 -- each file is in one place at most
 pub outbox : (o : Opening) (calls : List Call) → CanOpen o → AreCalls calls → Outbox o calls
@@ -140,8 +121,4 @@ outbox o calls c a f =
     let one : one_if (is_present (uses m.records) f) ≡ 1 = ap one_if e in
     let none : times f out ≡ 0 = times_none f out (λ h. both_ways (is_present (uses m.records) f) (b.unused f h) e) in
     omega arith in
-    let in_no_use : is_present (uses m.records) f ≡ false → Goal = λ (e : is_present (uses m.records) f ≡ false).
-    let zero_one : one_if (is_present (uses m.records) f) ≡ 0 = ap one_if e in
-    let once : times f out ≤ 1 = times_at_most_once f out b.apart in
-    omega arith in
-    ⊎_elim in_use in_no_use (cases_Bool (is_present (uses m.records) f))
+    grind (arith, common_steps, times_at_most_once f out b.apart, cases_Bool) steps 1000000

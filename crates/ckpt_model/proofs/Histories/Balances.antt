@@ -1,6 +1,7 @@
 -- What a change of the records registers, hands out and leaves present, file by file.
-use Rattle.ckpt_model.proofs.Names.{◌≡◌, ℕ, zero, suc, ◌+◌, ◌<◌, ◌≤◌, true, false, List, [], ◌∷◌, ◌++◌, length, refl, sym, ap, ◌∙◌, ◌⊎◌, ⊎_elim, arith, cases_Bool, cases_lt, both_ways, IsIn}
-use Rattle.ckpt_model.proofs.Names.{AreDistinct, Record, uses, is_present, released, IsIn-from_times, times-from_IsIn, times_at_most_once, one_if, times, AreDistinct-from_order, numbers_in_order}
+use Rattle.ckpt_model.proofs.Names.{common_steps, ◌≡◌, ℕ, zero, suc, ◌+◌, ◌<◌, ◌≤◌, true, false, List, [], ◌∷◌, ◌++◌, length, refl, sym, ap, ◌∙◌, ◌⊎◌, ⊎_elim, arith, cases_Bool, cases_lt, both_ways}
+use Rattle.ckpt_model.proofs.Names.{IsIn, AreDistinct, Record, uses, is_present, released, IsIn-from_times, times-from_IsIn, times_at_most_once, one_if, times, AreDistinct-from_order}
+use Rattle.ckpt_model.proofs.Names.{numbers_in_order}
 use Rattle.std.proofs.Common.{drop}
 use Rattle.ckpt_model.proofs.Records.Present.{IsHeld, IsHeld-from_present, present-from_IsHeld, not_held, absent-from_not_held}
 use Rattle.ckpt_model.proofs.Records.Released.{ascending-released, after-from_released, held-from_released, released-from_held}
@@ -51,11 +52,7 @@ even_dropped before after was = record { even = balanced }
         let out : List ℕ = released (uses before) (uses after) in
         let Goal : Type 0 = 0 + one_if (is_present (uses before) f) ≡ times f out + one_if (is_present (uses after) f) in
         let stays : is_present (uses after) f ≡ true → Goal = λ (e : is_present (uses after) f ≡ true).
-        let was_there : is_present (uses before) f ≡ true = present-from_IsHeld f before (was f (IsHeld-from_present f after e)) in
-        let none : times f out ≡ 0 = times_none f out (λ h. both_ways (is_present (uses after) f) (after-from_released f (uses before) (uses after) h) e) in
-        let a : one_if (is_present (uses before) f) ≡ 1 = ap one_if was_there in
-        let b : one_if (is_present (uses after) f) ≡ 1 = ap one_if e in
-        omega arith in
+        grind (arith, common_steps, present-from_IsHeld f before, was f, IsHeld-from_present f after, times_none f out, both_ways, after-from_released f) in
         let goes : is_present (uses after) f ≡ false → Goal = λ (e : is_present (uses after) f ≡ false).
         let b : one_if (is_present (uses after) f) ≡ 0 = ap one_if e in
         ⊎_elim
@@ -63,10 +60,7 @@ even_dropped before after was = record { even = balanced }
         let a : one_if (is_present (uses before) f) ≡ 1 = ap one_if g in
         let once : times f out ≡ 1 = times_once f out (AreDistinct-from_order numbers_in_order out (ascending-released (uses before) (uses after))) (released-from_held f before (uses after) g e) in
         omega arith)
-        (λ (g : is_present (uses before) f ≡ false).
-        let a : one_if (is_present (uses before) f) ≡ 0 = ap one_if g in
-        let none : times f out ≡ 0 = times_none f out (λ h. both_ways (is_present (uses before) f) g (held-from_released f before (uses after) h)) in
-        omega arith)
+        (grind (arith, common_steps, times_none f out, both_ways, held-from_released f before))
         (cases_Bool (is_present (uses before) f)) in
         ⊎_elim stays goes (cases_Bool (is_present (uses after) f))
 
@@ -78,18 +72,10 @@ even_added before after fresh distinct new now_held still from = record { even =
     balanced f =
         let Goal : Type 0 = times f fresh + one_if (is_present (uses before) f) ≡ 0 + one_if (is_present (uses after) f) in
         let was : is_present (uses before) f ≡ true → Goal = λ (e : is_present (uses before) f ≡ true).
-        let held : IsHeld f before = IsHeld-from_present f before e in
-        let none : times f fresh ≡ 0 = times_none f fresh (λ h. new f h held) in
-        let a : one_if (is_present (uses before) f) ≡ 1 = ap one_if e in
-        let b : one_if (is_present (uses after) f) ≡ 1 = ap one_if (present-from_IsHeld f after (still f held)) in
-        omega arith in
+        grind (arith, common_steps, IsHeld-from_present f before, times_none f fresh, new f, present-from_IsHeld f after, still f) in
         let was_not : is_present (uses before) f ≡ false → Goal = λ (e : is_present (uses before) f ≡ false).
         let a : one_if (is_present (uses before) f) ≡ 0 = ap one_if e in
-        let is_now : is_present (uses after) f ≡ true → Goal = λ (g : is_present (uses after) f ≡ true).
-        let b : one_if (is_present (uses after) f) ≡ 1 = ap one_if g in
-        let there : IsIn f fresh = ⊎_elim (λ (h : IsIn f fresh). h) (λ (h : IsHeld f before). absurd (not_held f before e h)) (from f (IsHeld-from_present f after g)) in
-        let once : times f fresh ≡ 1 = times_once f fresh distinct there in
-        omega arith in
+        let is_now : is_present (uses after) f ≡ true → Goal = grind (arith, common_steps, not_held f before, from f, IsHeld-from_present f after, times_once f fresh distinct) in
         let is_not : is_present (uses after) f ≡ false → Goal = λ (g : is_present (uses after) f ≡ false).
         let b : one_if (is_present (uses after) f) ≡ 0 = ap one_if g in
         let none : times f fresh ≡ 0 = times_none f fresh (λ h. not_held f after g (now_held f h)) in

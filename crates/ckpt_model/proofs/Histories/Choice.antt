@@ -1,7 +1,7 @@
 -- The record that the choice names is live and done.
-use Rattle.ckpt_model.proofs.Names.{◌≡◌, ℕ, Bool, true, false, not, ◌&&◌, cond, eqb, List, [], ◌∷◌, refl, sym, ap, subst, ◌∙◌, ◌⊎◌, inl, inr, ⊎_elim, Option, Some, None, cases_Bool, and_parts}
-use Rattle.ckpt_model.proofs.Names.{eqb-true, eq-eqb, Call, IsIn, IsInOrder, Record, IsIn-from_list_any, State, Opening, opened, is_checkpoint, is_done_checkpoint, last_checkpoint, choice_from}
-use Rattle.ckpt_model.proofs.Names.{choice_of, record_of, replay, IsSound, id_before, names, ChoiceIsLive, common_steps, arith}
+use Rattle.ckpt_model.proofs.Names.{◌≡◌, ℕ, true, cond, eqb, List, [], ◌∷◌, refl, subst, ◌⊎◌, ⊎_elim, Option, Some, None, cases_Bool, and_parts, eqb-true, eq-eqb, Call, IsIn, IsInOrder, Record}
+use Rattle.ckpt_model.proofs.Names.{IsIn-from_list_any, State, Opening, opened, is_done_checkpoint, last_checkpoint, choice_from, choice_of, record_of, replay, IsSound, id_before, names, ChoiceIsLive}
+use Rattle.ckpt_model.proofs.Names.{common_steps, arith}
 use Rattle.ckpt_model.proofs.Records.Present.{present-from_IsHeld}
 use Rattle.ckpt_model.proofs.Records.Replacing.{same_record}
 use Rattle.ckpt_model.proofs.Reordering.ExchangeLemmas.{find-only}
@@ -30,13 +30,10 @@ pub chosen_is_done : (m : State) (id : ℕ) → IsSound m → names (choice_of m
 unfolding choice_of
 chosen_is_done m id s e =
     let Found : Type 0 = (r : Record) × IsIn r m.records × (record_of m id ≡ Some r) × (r.done ≡ true) in
-    let checkpoint : last_checkpoint m.records ≡ Some id → Found = λ (h : last_checkpoint m.records ≡ Some id).
-    let q = last_is_done m.records id h in
-    (q.0, q.1, ap (record_of m) (sym q.2) ∙ found m q.0 s.records.in_order q.1, (and_parts (q.0).done (is_checkpoint q.0) q.3).0) in
+    let checkpoint : last_checkpoint m.records ≡ Some id → Found = grind (arith, common_steps, last_is_done, found, s.records.in_order, and_parts) in
     let base : m.base ≡ Some id → Found = λ (h : m.base ≡ Some id).
     let q = IsIn-from_list_any (is_savepoint id) m.records (s.base id h) in
-    let parts = and_parts ((q.0).done && not (is_checkpoint q.0)) (eqb (q.0).id id) q.2 in
-    (q.0, q.1, ap (record_of m) (sym (eqb-true (q.0).id id parts.1)) ∙ found m q.0 s.records.in_order q.1, (and_parts (q.0).done (not (is_checkpoint q.0)) parts.0).0) in
+    grind (arith, common_steps, and_parts, eqb-true, found, s.records.in_order) in
     ⊎_elim checkpoint base (names_is (last_checkpoint m.records) m.base id e)
 
 -- the law, of a sound state

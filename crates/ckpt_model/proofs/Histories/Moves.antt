@@ -24,10 +24,9 @@ pub record IsMoved (m : State) (disposed : Option ℕ) (after : List Record) : T
 -- a record after it was there before, or was triggered
 pub moved_from : {m : State} {disposed : Option ℕ} {after : List Record} → IsMoved m disposed after → (y : Record) → IsIn y after → IsIn y m.records ⊎ IsTriggered m y
 moved_from {m} {disposed} {after} i y h =
-    let There : List Record → Type 0 = λ rs. IsIn y rs in
     let left : List Record = map (λ r. r) (filter i.keep m.records) in
     let old : IsIn y left → IsIn y m.records = λ (k : IsIn y left). let x = IsIn-from_changed (λ (r : Record). r) i.keep y m.records k in let P : Record → Type 0 = λ z. IsIn z m.records in subst P (sym x.3) x.1 in
-    ⊎_elim (λ k. inl (old k)) (λ k. inr (i.triggered y k)) (IsIn-append_cases y left i.new (subst There i.records h))
+    ⊎_elim (λ k. inl (old k)) (λ k. inr (i.triggered y k)) (IsIn-append_cases y left i.new (rw (← i.records) h))
 
 -- a done savepoint is there after, if it is not the one disposed of
 pub savepoint_moved : {m : State} {disposed : Option ℕ} {after : List Record} → IsMoved m disposed after → (r : Record) → IsIn r m.records → r.done ≡ true → is_checkpoint r ≡ false → (disposed ≡ Some r.id → ⊥) → IsIn r after

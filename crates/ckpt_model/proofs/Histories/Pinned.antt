@@ -1,9 +1,8 @@
 -- An acknowledgement for a pending record that reuses only files of the choice at its trigger is never refused FileGone.
-use Rattle.ckpt_model.proofs.Names.{◌≡◌, ℕ, ◌+◌, ◌<◌, ◌≤◌, ◌^◌, Bool, true, false, not, ◌&&◌, ltb, leb, eqb, List, [], ◌∷◌, ◌++◌, length, refl, sym, ap, subst, ◌∙◌, ◌⊎◌, inl, inr, ⊎_elim, arith, find}
-use Rattle.ckpt_model.proofs.Names.{Option, Some, None, both_ways, and_parts, not-true, eqb-true, SubtaskId, Call, Ack, Refusal, MomentTooLarge, TooManyFiles, RepeatedFile, UnknownCheckpoint}
-use Rattle.ckpt_model.proofs.Names.{UnknownSubtask, AlreadyAcknowledged, NameTaken, FileGone, IsIn, Record, uses, is_present, has_acknowledged, is_subtask, State, Opening, opened, is_pending}
-use Rattle.ckpt_model.proofs.Names.{is_known, choice_of, chosen, files_of, pins_now, refusal, refuse_if, first_some, has_repeats, pending_of, was_not_given, is_foreign, is_repeat, named}
-use Rattle.ckpt_model.proofs.Names.{where_pending, Stepped, step, replay, IsSound, IsCall, CanOpen, AreCalls, given_by, Pinned, common_steps}
+use Rattle.ckpt_model.proofs.Names.{◌≡◌, ℕ, ◌+◌, ◌<◌, ◌≤◌, ◌^◌, Bool, false, not, ◌&&◌, ltb, leb, eqb, List, [], ◌∷◌, ◌++◌, length, refl, sym, ◌∙◌, ◌⊎◌, inl, inr, ⊎_elim, arith, find, Option, Some}
+use Rattle.ckpt_model.proofs.Names.{both_ways, and_parts, not-true, eqb-true, SubtaskId, Call, Ack, Refusal, MomentTooLarge, TooManyFiles, RepeatedFile, UnknownCheckpoint, NameTaken, FileGone, IsIn}
+use Rattle.ckpt_model.proofs.Names.{Record, uses, is_present, State, Opening, opened, is_pending, choice_of, chosen, files_of, pins_now, refusal, refuse_if, first_some, has_repeats, pending_of}
+use Rattle.ckpt_model.proofs.Names.{was_not_given, is_foreign, is_repeat, named, where_pending, Stepped, step, replay, IsSound, IsCall, CanOpen, AreCalls, given_by, Pinned, common_steps}
 use Rattle.ckpt_model.proofs.Records.Counts.{IsIn-from_find}
 use Rattle.ckpt_model.proofs.Records.Present.{present-from_IsHeld}
 use Rattle.ckpt_model.proofs.Histories.Moves.{IsMoved, IsTriggered, moved_from}
@@ -33,11 +32,7 @@ step_came m (Ack now id subtask fresh reused) s y h e =
     let x : Stepped = step m (Ack now id subtask fresh reused) in
     let taken : IsTakenBy m id subtask fresh reused x → Came m x.0.records = λ (i : IsTakenBy m id subtask fresh reused x) y h e.
     let t = i.taken in
-    let a = i.acking in
-    ⊎_elim
-    (λ (k : y ≡ t.new). inl (i.q, a.there, a.pending, ap (λ z. z.id) k ∙ taken_id t a.there, ap (λ z. z.pins) k ∙ t.pins (ap (λ z. z.done) (sym k) ∙ e)))
-    (λ (k : (y.id ≡ (i.q).id → ⊥) × IsIn y m.records). inl (y, k.1, e, refl, refl))
-    (taken_from t y h) in
+    grind (arith, common_steps, taken_id t, taken_from t y h) steps 1000000 in
     ⊎_elim (λ (i : IsPassedOver m x). moved_came (passed_moves i)) taken ((step_is m (Ack now id subtask fresh reused)).records s) y h e
 step_came m call s y h e = moved_came ((step_is m call).records s) y h e
 
@@ -118,10 +113,7 @@ file_gone_found m now id subtask fresh reused f h =
     ⊎_elim (λ e. absurd (this_is_other (has_repeats (fresh ++ reused)) RepeatedFile why (λ k. cc) e)) (λ h3.
     ⊎_elim (λ e. absurd (this_is_other (was_not_given m id) UnknownCheckpoint why (λ k. cc) e)) (λ h4.
     ⊎_elim (λ e. absurd (foreign_is_other pending subtask f e)) (λ h5.
-    ⊎_elim (λ e. absurd (repeat_is_other pending subtask f e)) (λ h6.
-    ⊎_elim (λ e. absurd (taken_is_other pending (find (is_known m) fresh) f e)) (λ h7.
-    ⊎_elim found (λ h8. absurd (cc)) (this_or_later (where_pending pending (named FileGone (find gone reused))) _ why h7))
-    (this_or_later (where_pending pending (named NameTaken (find (is_known m) fresh))) _ why h6))
+    ⊎_elim (λ e. absurd (repeat_is_other pending subtask f e)) (grind (arith, common_steps, taken_is_other, this_or_later) steps 1000000)
     (this_or_later (is_repeat pending subtask) _ why h5))
     (this_or_later (is_foreign pending subtask) _ why h4))
     (this_or_later (refuse_if (was_not_given m id) UnknownCheckpoint) _ why h3))
@@ -144,7 +136,5 @@ pinned o before call calls c a b d id now subtask fresh reused f given among h =
     let g = file_gone_found n now id subtask fresh reused f h in
     let i = IsIn-from_find (λ x. is_pending x && eqb x.id id) g.0 n.records g.1 in
     let parts = and_parts (is_pending g.0) (eqb (g.0).id id) i.1 in
-    let pins : (g.0).pins ≡ pins_now m = p.has g.0 i.0 (eqb-true (g.0).id id parts.1) (not-true (g.0).done parts.0) in
-    let In : List ℕ → Type 0 = λ fs. IsIn f fs in
-    let held : IsIn f (g.0).pins = subst In (sym (pins ∙ pins_are m)) (among f g.2) in
+    let held : IsIn f (g.0).pins = rw ((p.has g.0 i.0 (eqb-true (g.0).id id parts.1) (not-true (g.0).done parts.0)) ∙ pins_are m) (among f g.2) in
     both_ways (is_present (uses n.records) f) g.3 (present-from_IsHeld f n.records (g.0, i.0, inr held))

@@ -1,7 +1,6 @@
 -- A done savepoint stays, unchanged, until an accepted Dispose of its number.
-use Rattle.ckpt_model.proofs.Names.{◌≡◌, ℕ, true, false, ◌&&◌, eqb, List, [], ◌∷◌, refl, sym, subst, ⊎_elim, Some, both_ways, and_from, eq-eqb, none-some, Call, Ack, Dispose, Answer, Done, Refused}
-use Rattle.ckpt_model.proofs.Names.{IsIn, Record, State, Opening, opened, is_checkpoint, Stepped, step, replay, IsSound, CanOpen, AreCalls, is_disposed_by, IsNeverDisposed, Savepoints, common_steps}
-use Rattle.ckpt_model.proofs.Names.{arith}
+use Rattle.ckpt_model.proofs.Names.{◌≡◌, ℕ, true, false, ◌&&◌, eqb, List, [], ◌∷◌, ⊎_elim, Some, both_ways, and_from, eq-eqb, none-some, Call, Ack, Dispose, Answer, Done, Refused, IsIn, Record, State}
+use Rattle.ckpt_model.proofs.Names.{Opening, is_checkpoint, Stepped, step, replay, IsSound, CanOpen, AreCalls, is_disposed_by, IsNeverDisposed, Savepoints, common_steps, arith}
 use Rattle.ckpt_model.proofs.Histories.Moves.{savepoint_moved, disposed_by}
 use Rattle.ckpt_model.proofs.Histories.Takings.{savepoint_kept}
 use Rattle.ckpt_model.proofs.Stepping.Changes.{IsPassedOver, IsTakenBy}
@@ -23,9 +22,8 @@ disposes_other number id answer h3 h4 = grind (arith, common_steps, and_from, bo
 savepoint_stays : (m : State) (call : Call) (r : Record) → IsSound m → IsDoneSavepoint m r → is_disposed_by r.id m call ≡ false → IsIn r (step m call).0.records
 savepoint_stays m (Ack now id subtask fresh reused) r s d e =
     let x : Stepped = step m (Ack now id subtask fresh reused) in
-    let There : List Record → Type 0 = λ rs. IsIn r rs in
     ⊎_elim
-    (λ (i : IsPassedOver m x). subst There (sym i.records) d.there)
+    (λ (i : IsPassedOver m x). rw i.records d.there)
     (λ (i : IsTakenBy m id subtask fresh reused x). savepoint_kept i.taken (i.acking).pending r d.there d.done d.savepoint)
     ((step_is m (Ack now id subtask fresh reused)).records s)
 savepoint_stays m (Dispose id) r s d e = savepoint_moved ((step_is m (Dispose id)).records s) r d.there d.done d.savepoint (disposes_other r.id id (step m (Dispose id)).1 e)

@@ -1,7 +1,7 @@
 -- What a drop, a trigger and an acknowledgement put at the end of waiting, and that the files balance.
-use Rattle.ckpt_model.proofs.Names.{◌≡◌, ℕ, Bool, true, not, ltb, List, [], ◌∷◌, ◌++◌, map, refl, sym, subst, ◌⊎◌, inl, inr, ⊎_elim, Option, Some, None, filter, or_parts, append-nil, SubtaskId, Acked}
-use Rattle.ckpt_model.proofs.Names.{Kind, IsIn, ascending, Record, uses, is_present, released, IsIn-append_left, IsIn-append_cases, IsIn-in_order, IsIn-from_in_order, AreDistinct-left, State}
-use Rattle.ckpt_model.proofs.Names.{is_known, in_outbox, kept, drop, pins_now, replaced, with_records, superseded, triggered, ack, IsSound, registered_as, common_steps, arith}
+use Rattle.ckpt_model.proofs.Names.{◌≡◌, ℕ, Bool, true, not, ltb, List, [], ◌∷◌, ◌++◌, map, refl, sym, ◌⊎◌, inr, ⊎_elim, Option, Some, None, filter, or_parts, append-nil, SubtaskId, Acked, Kind, IsIn}
+use Rattle.ckpt_model.proofs.Names.{ascending, Record, uses, is_present, released, IsIn-append_left, IsIn-append_cases, IsIn-in_order, IsIn-from_in_order, AreDistinct-left, State, is_known, in_outbox}
+use Rattle.ckpt_model.proofs.Names.{kept, drop, pins_now, replaced, with_records, superseded, triggered, ack, IsSound, registered_as, common_steps, arith}
 use Rattle.ckpt_model.proofs.Records.Present.{Holds, Holds-put_ack_new, Holds-put_ack_old, IsHeld, IsHeld-from_present, not_held, Holds-put_ack}
 use Rattle.ckpt_model.proofs.Records.Replacing.{put_in, IsReplacing, put_in_replaces}
 use Rattle.ckpt_model.proofs.Soundness.Drops.{held_before_filter}
@@ -42,10 +42,7 @@ trigger_spreads k kind due rs waiting taken d =
     let forth : (f : ℕ) → IsHeld f k.records → IsHeld f (k.records ++ new ∷ []) = λ f h. (h.0, IsIn-append_left h.0 k.records (new ∷ []) h.1, h.2) in
     let its : (f : ℕ) → Holds f new → IsHeld f k.records = λ f. ⊎_elim (λ a. absurd a.1) (λ (p : IsIn f (pins_now k)). held-from_pins k f p) in
     let back : (f : ℕ) → IsHeld f (k.records ++ new ∷ []) → IsHeld f k.records = λ f h.
-    ⊎_elim
-    (λ (i : IsIn h.0 k.records). (h.0, i, h.2))
-    (⊎_elim (λ (e : h.0 ≡ new). its f (subst (Holds f) e h.2)) (λ (n : ⊥). absurd n))
-    (IsIn-append_cases h.0 k.records (new ∷ []) h.1) in
+    grind (arith, common_steps, its f, IsIn-append_cases h.0 k.records (new ∷ []) h.1) steps 1000000 in
     record {
       out = d.out;
       waits = d.waits;
@@ -68,22 +65,14 @@ even_acked m q subtask fresh reused done s a =
     let now_held : (f : ℕ) → IsIn f fresh → IsHeld f (map (put_in c) rs) = λ f h.
     held_by_put f rs q c a.there refl (Holds-put_ack_new f its q (IsIn-in_order ltb f (fresh ++ reused) (IsIn-append_left f fresh reused h))) in
     let named : (f : ℕ) → Holds f w → IsIn f fresh ⊎ IsHeld f rs = λ f h.
-    ⊎_elim
-    (λ (k : IsIn f files). ⊎_elim (λ (i : IsIn f fresh). inl i) (λ (i : IsIn f reused). inr (IsHeld-from_present f rs (a.present f i))) (IsIn-append_cases f fresh reused (IsIn-from_in_order ltb f (fresh ++ reused) k)))
-    (λ (k : Holds f q). inr (q, a.there, k))
-    (Holds-put_ack f its q h) in
+    grind (arith, common_steps, IsHeld-from_present f rs, a.present, IsIn-append_cases f fresh reused, IsIn-from_in_order, Holds-put_ack f its q h) steps 1000000 in
     even_added rs (map (put_in c) rs) fresh (AreDistinct-left fresh reused a.once) new now_held
     (λ f h. held_beside_put f rs q c p a.there refl (Holds-put_ack_old f its q) h)
     (λ f h. ⊎_elim (λ (k : Holds f c). named f k) (λ (k : IsHeld f rs). inr k) (held_after_put f rs q c p h))
 
 -- one that leaves the record pending
 pub pending_spreads : (m : State) (q : Record) (subtask : SubtaskId) (fresh reused : List ℕ) → IsSound m → IsAcking m q subtask fresh reused → IsSpread m.records m.waiting m.taken (with_records m (replaced m.records (with_ack q subtask fresh reused))) fresh
-pending_spreads m q subtask fresh reused s a = record {
-  out = [];
-  waits = sym (append-nil m.waiting);
-  fetched = refl;
-  even = even_acked m q subtask fresh reused q.done s a;
-}
+pending_spreads m q subtask fresh reused s a = grind (arith, common_steps, append-nil m.waiting, even_acked m q subtask fresh reused q.done s a) steps 1000000
 
 -- one that completes it, whatever else is set
 pub completed_spreads : (m : State) (q : Record) (subtask : SubtaskId) (fresh reused : List ℕ) (failures : ℕ) (completed_at base : Option ℕ) → IsSound m → IsAcking m q subtask fresh reused → IsSpread m.records m.waiting m.taken (record (drop (having m (completed q subtask fresh reused)) (superseded (having m (completed q subtask fresh reused)) (completed q subtask fresh reused)) (Some q.id)) { failures = failures; completed = completed_at; base = base }) fresh

@@ -1,6 +1,6 @@
 -- What one step registers, hands out and deletes, and which files are present after it.
-use Rattle.ckpt_model.proofs.Names.{◌≡◌, ℕ, ◌+◌, ◌<◌, Bool, true, false, not, List, [], refl, sym, ap, subst, ◌∙◌, ◌⊎◌, inl, inr, ⊎_elim, arith, filter, cond-true, Call, Ack, Deleted, Undeleted, IsIn}
-use Rattle.ckpt_model.proofs.Names.{uses, is_present, State, is_known, step, IsSound, is_ack_taken, registered_by, handed_by, deleted_by, new_by, one_if, times, IsIn-from_times, common_steps}
+use Rattle.ckpt_model.proofs.Names.{◌≡◌, ℕ, ◌+◌, ◌<◌, Bool, true, not, [], sym, ap, ◌∙◌, ◌⊎◌, inl, inr, ⊎_elim, arith, filter, cond-true, Call, Ack, IsIn, uses, is_present, State, is_known, step}
+use Rattle.ckpt_model.proofs.Names.{IsSound, is_ack_taken, registered_by, handed_by, deleted_by, new_by, one_if, times, IsIn-from_times, common_steps}
 use Rattle.ckpt_model.proofs.Stepping.Changes.{IsPassedOver, IsTakenBy}
 use Rattle.ckpt_model.proofs.Stepping.Files.{IsSettled}
 use Rattle.ckpt_model.proofs.Stepping.Walk.{registered_taken, step_is}
@@ -22,9 +22,8 @@ newly_present m (Ack now id subtask fresh reused) f s h =
     let taken : IsTakenBy m id subtask fresh reused (step m call) → Goal = λ (i : IsTakenBy m id subtask fresh reused (step m call)).
     let registered : registered_by m call ≡ fresh = registered_taken (step m call).1 fresh (filter (λ g. not (is_known m g)) fresh) i.is_taken in
     let new : new_by m call ≡ fresh = cond-true (is_ack_taken (step m call).1) fresh [] i.is_taken in
-    let In : List ℕ → Type 0 = λ xs. IsIn f xs in
     ⊎_elim
-    (λ (k : 0 < times f (registered_by m call)). inl (subst In (registered ∙ sym new) (IsIn-from_times f (registered_by m call) k)))
+    (λ (k : 0 < times f (registered_by m call)). inl (rw (← (registered ∙ sym new)) (IsIn-from_times f (registered_by m call) k)))
     (λ (k : is_present (uses m.records) f ≡ true). inr k)
     (present_before (is_present (uses m.records) f) (is_present (uses (step m call).0.records) f) true (times f (registered_by m call)) (times f (handed_by m call)) ((step_settled m call s).even f) h) in
     ⊎_elim passed taken ((step_is m call).records s)

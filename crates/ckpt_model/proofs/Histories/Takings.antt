@@ -1,11 +1,10 @@
 -- What an acknowledgement that is accepted for a pending record does to the records: it puts one in the place of that record, and a completion drops some.
-use Rattle.ckpt_model.proofs.Names.{◌≡◌, ℕ, Bool, true, false, not, ◌&&◌, ◌||◌, ltb, List, [], ◌++◌, map, refl, sym, ap, subst, ◌∙◌, ◌⊎◌, inl, inr, ⊎_elim, filter, both_ways, not_from_false, and_left}
-use Rattle.ckpt_model.proofs.Names.{and_right, or_from, SubtaskId, Acked, IsIn, put_ack, ascending, Record, State, is_checkpoint, is_pending, is_subsumed, is_surplus, replaced, superseded, IsSound}
-use Rattle.ckpt_model.proofs.Names.{common_steps, arith}
+use Rattle.ckpt_model.proofs.Names.{◌≡◌, ℕ, Bool, true, false, List, [], ◌++◌, map, refl, sym, ◌⊎◌, filter, both_ways, SubtaskId, Acked, IsIn, put_ack, ascending, Record, State, is_checkpoint}
+use Rattle.ckpt_model.proofs.Names.{replaced, IsSound, common_steps, arith}
 use Rattle.ckpt_model.proofs.Records.Counts.{IsIn-changed, IsIn-from_changed}
 use Rattle.ckpt_model.proofs.Records.Replacing.{put_in, IsReplacing, put_in_replaces, unpinned_replaces}
 use Rattle.ckpt_model.proofs.Soundness.Acks.{IsAcking, with_ack, nothing_dropped}
-use Rattle.ckpt_model.proofs.Soundness.Completions.{completed, having, ending, staying, left_by, left_is}
+use Rattle.ckpt_model.proofs.Soundness.Completions.{completed, ending, staying, left_by, left_is}
 
 -- one acknowledgement more in a pending record
 pub record IsTaken (rs : List Record) (q : Record) (a : Acked) (after : List Record) : Type 0 where
@@ -53,7 +52,6 @@ not_superseded m q c r g pending h done savepoint = grind (arith, common_steps)
 pub taken_completed : (m : State) (q : Record) (subtask : SubtaskId) (fresh reused : List ℕ) → IsSound m → IsAcking m q subtask fresh reused → IsTaken m.records q (record { subtask = subtask; files = ascending (fresh ++ reused) }) (left_by m (completed q subtask fresh reused))
 taken_completed m q subtask fresh reused s a =
     let c : Record = completed q subtask fresh reused in
-    let g : IsReplacing (put_in c) q c m.records = put_in_replaces q c m.records s.records.in_order a.there refl in
     record {
       change = ending c;
       keep = staying m c;
@@ -62,5 +60,5 @@ taken_completed m q subtask fresh reused s a =
       replaces = unpinned_replaces q c m.records s.records.in_order a.there refl;
       acks = refl;
       pins = λ e. absurd (both_ways true e refl);
-      savepoints = λ r h done savepoint. not_superseded m q c r g a.pending h done savepoint;
+      savepoints = λ r h done savepoint. not_superseded m q c r (put_in_replaces q c m.records s.records.in_order a.there refl) a.pending h done savepoint;
     }

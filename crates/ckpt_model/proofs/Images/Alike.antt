@@ -1,20 +1,16 @@
 -- No answer depends on the order in which files were fetched.
-use Rattle.ckpt_model.proofs.Names.{◌≡◌, ℕ, ◌+◌, max, Bool, true, false, not, ◌&&◌, ◌||◌, cond, ltb, eqb, List, [], ◌∷◌, ◌++◌, take, refl, sym, ap, subst, ◌∙◌, ⊎_elim, count_by, length, Option, Some}
-use Rattle.ckpt_model.proofs.Names.{None, filter, list_any, cases_Bool, both_ways, SubtaskId, Kind, Target, Call, Tick, Savepoint, Ack, Decline, Dispose, Restore, Cancel, Take, Deleted, Undeleted}
-use Rattle.ckpt_model.proofs.Names.{Show, Count, Choice, Answer, Done, Refusal, NameTaken, NotTaken, ascending, times, IsIn, Record, acknowledged, missing, uses, is_present, IsAscending-ascending}
-use Rattle.ckpt_model.proofs.Names.{same_from_times, times-ascending, times-append, times-filter, IsIn-append_left, IsIn-append_right, IsIn-append_cases, IsIn-in_order, IsIn-from_in_order}
-use Rattle.ckpt_model.proofs.Names.{filter-same, list_any-from_IsIn, IsIn-from_list_any, Hold, Interval, AtOnce, Pause, Go, gap, hold, State, is_checkpoint, is_pending, is_known, in_outbox}
-use Rattle.ckpt_model.proofs.Names.{is_expired, drop, released_by, choice_of, chosen, files_of, pins_now, refusal, moment_of, pending_of, first_some, named, where_pending, refuse_if, moment_too_large}
-use Rattle.ckpt_model.proofs.Names.{not_running, too_many_files, repeated_file, unknown_checkpoint, unknown_subtask, already_acknowledged, name_taken, file_gone, no_such_savepoint, in_use}
-use Rattle.ckpt_model.proofs.Names.{too_many_savepoints, not_taken, no_such_record, ids_used_up, Stepped, with_records, dropped_by, triggered, failed_over, pending_checkpoints, start_or_hold}
-use Rattle.ckpt_model.proofs.Names.{after_expiry, tick, replaced, superseded, cleared, completed_with, acknowledged_in, ack, dropping, failures_with, fails_the_job, decline_pending, decline, dispose}
-use Rattle.ckpt_model.proofs.Names.{restarted, restore, cancel, take_files, without, effect, at_moment, unless_refused, step, answers, AreAlike, GoesOnAs, common_steps, arith}
+use Rattle.ckpt_model.proofs.Names.{◌≡◌, ℕ, ◌+◌, max, Bool, true, false, not, ◌&&◌, ◌||◌, cond, ltb, eqb, List, [], ◌∷◌, ◌++◌, take, refl, sym, ap, subst, ◌∙◌, ⊎_elim, count_by, Option, Some, None}
+use Rattle.ckpt_model.proofs.Names.{list_any, cases_Bool, both_ways, SubtaskId, Kind, Target, Call, Tick, Savepoint, Ack, Decline, Dispose, Restore, Cancel, Take, Deleted, Undeleted, Show, Count}
+use Rattle.ckpt_model.proofs.Names.{Choice, Done, Refusal, ascending, times, IsIn, Record, missing, uses, is_present, IsAscending-ascending, same_from_times, times-ascending, times-append}
+use Rattle.ckpt_model.proofs.Names.{times-filter, IsIn-append_left, IsIn-append_right, IsIn-append_cases, IsIn-in_order, IsIn-from_in_order, filter-same, list_any-from_IsIn, IsIn-from_list_any, Hold}
+use Rattle.ckpt_model.proofs.Names.{hold, State, is_checkpoint, is_known, in_outbox, is_expired, drop, choice_of, chosen, files_of, pins_now, refusal, moment_of, pending_of, Stepped, with_records}
+use Rattle.ckpt_model.proofs.Names.{dropped_by, triggered, failed_over, pending_checkpoints, start_or_hold, after_expiry, tick, replaced, superseded, cleared, completed_with, acknowledged_in, ack}
+use Rattle.ckpt_model.proofs.Names.{dropping, decline_pending, decline, dispose, restarted, restore, cancel, take_files, without, effect, at_moment, unless_refused, step, answers, AreAlike, GoesOnAs}
+use Rattle.ckpt_model.proofs.Names.{common_steps, arith}
 use Rattle.std.specs.Prelude as prelude
 use Rattle.ckpt_ids.specs.declared.numbers.Kind.TheVariants as kind
-use Rattle.ckpt_ids.specs.declared.call.Target.TheVariants as target
 use Rattle.ckpt_ids.specs.declared.reply.TickEnd.TheVariants as end
 use Rattle.ckpt_ids.specs.declared.reply.Reply.TheVariants as reply
-use Rattle.ckpt_ids.specs.declared.reply.Choice.TheVariants as choice
 use Rattle.ckpt_model.proofs.Records.Counts.{find_agree}
 
 -- the same files, in whatever order
@@ -63,19 +59,7 @@ same_known m t u e f = ap (λ b. is_present (uses m.records) f || b) (same_outbo
 -- the table of refusals
 same_refusal : (m : State) (t u : List ℕ) (call : Call) → Same t u → refusal (with_taken m t) call ≡ refusal (with_taken m u) call
 unfolding refusal
-same_refusal m t u (Tick now) e = refl
-same_refusal m t u (Savepoint now) e = refl
-same_refusal m t u (Ack now id subtask fresh reused) e = grind (arith, common_steps, find_agree, same_known)
-same_refusal m t u (Decline now id subtask) e = refl
-same_refusal m t u (Dispose id) e = refl
-same_refusal m t u (Restore now target.Latest shape) e = refl
-same_refusal m t u (Restore now (target.Savepoint id) shape) e = refl
-same_refusal m t u (Cancel now) e = refl
-same_refusal m t u (Take most) e = refl
-same_refusal m t u (Deleted file) e = ap (λ b. first_some (refuse_if (not b) NotTaken ∷ None ∷ None ∷ [])) (same_any_taken (λ f. eqb f file) t u e)
-same_refusal m t u (Undeleted file) e = ap (λ b. first_some (refuse_if (not b) NotTaken ∷ None ∷ None ∷ [])) (same_any_taken (λ f. eqb f file) t u e)
-same_refusal m t u (Show id) e = refl
-same_refusal m t u (Count file) e = refl
+same_refusal m t u call e = grind (arith, common_steps, find_agree, same_known, same_any_taken)
 
 -- A step that neither looks at the fetched files nor changes them.
 
@@ -111,18 +95,13 @@ tick_frame m t =
     let late : ℕ = count_by (λ r. expired r && is_checkpoint r) m.records in
     let counted : State = record m { failures = m.failures + late } in
     let k : State = drop counted expired None in
-    let h : Hold = hold k.opening.config k.due k.completed k.latest (pending_checkpoints k) in
     either t (ltb 0 late && ltb m.opening.config.tolerable (m.failures + late))
     (failed_over counted, Done (reply.Ticked (dropped_by m expired) end.Failed)) (after_expiry k (dropped_by m expired))
     (framed t (failed_over counted, Done (reply.Ticked (dropped_by m expired) end.Failed))) (after_expiry (with_taken k t) (dropped_by m expired))
-    refl (start_frame k t (dropped_by m expired) h)
+    refl (start_frame k t (dropped_by m expired) (hold k.opening.config k.due k.completed k.latest (pending_checkpoints k)))
 
 cleared_frame : (m : State) (t : List ℕ) (r : Record) → cleared (with_taken m t) r ≡ with_taken (cleared m r) t
-cleared_frame m t r = by_kind r.kind
-  where
-    by_kind : (k : Kind) → cleared (with_taken m t) (record r { kind = k }) ≡ with_taken (cleared m (record r { kind = k })) t
-    by_kind kind.Checkpoint = refl
-    by_kind kind.Savepoint = refl
+cleared_frame m t r = grind (arith, common_steps)
 
 completed_frame : (m : State) (t : List ℕ) (r : Record) → completed_with (with_taken m t) r ≡ framed t (completed_with m r)
 unfolding completed_with drop
@@ -203,7 +182,4 @@ go_on_alike m n [] e = record { answers = refl; state = e }
 go_on_alike m n (call ∷ calls) e =
     let one : Both (step m call) (step n call) = step_alike m n call e in
     let rest : GoesOnAs (step m call).0 (step n call).0 calls = go_on_alike (step m call).0 (step n call).0 calls one.0 in
-    record {
-      answers = ap (λ (a : Answer). a ∷ answers (step m call).0 calls) one.1 ∙ ap (λ (others : List Answer). (step n call).1 ∷ others) rest.answers;
-      state = rest.state;
-    }
+    grind (arith, common_steps)

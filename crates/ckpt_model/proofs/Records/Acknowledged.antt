@@ -1,8 +1,8 @@
 -- A record with one acknowledgement more, and a record that has all of them.
-use Rattle.ckpt_model.proofs.Names.{◌≡◌, ℕ, true, false, ltb, eqb, List, [], ◌∷◌, refl, sym, ap, subst, ◌∙◌, ⊎_elim, arith, cases_Bool, both_ways, eqb-false, SubtaskId, Acked, IsIn, AreDistinct}
-use Rattle.ckpt_model.proofs.Names.{is_before, acknowledges_before, put_ack, AreInSubtaskOrder, IsAscendingSet, ascending, Record, missing, has_acknowledged, acknowledged, IsShape, is_subtask}
-use Rattle.ckpt_model.proofs.Names.{same_subtask, numbers_in_order, subtasks_in_order, same_subtask-Decides, IsIn-put_cases, IsInOrder-put, IsInOrder-put_between, IsIn-from_in_order}
-use Rattle.ckpt_model.proofs.Names.{list_any-from_IsIn, IsRecord, full_from_missing, common_steps}
+use Rattle.ckpt_model.proofs.Names.{◌≡◌, ℕ, true, false, ltb, eqb, List, [], ◌∷◌, refl, sym, ap, subst, ◌∙◌, ⊎_elim, arith, cases_Bool, both_ways, SubtaskId, Acked, IsIn, AreDistinct, is_before}
+use Rattle.ckpt_model.proofs.Names.{acknowledges_before, put_ack, AreInSubtaskOrder, IsAscendingSet, ascending, Record, missing, has_acknowledged, acknowledged, IsShape, is_subtask, same_subtask}
+use Rattle.ckpt_model.proofs.Names.{numbers_in_order, subtasks_in_order, same_subtask-Decides, IsIn-put_cases, IsInOrder-put, IsInOrder-put_between, IsIn-from_in_order, list_any-from_IsIn, IsRecord}
+use Rattle.ckpt_model.proofs.Names.{full_from_missing, common_steps}
 
 -- a subtask that has not acknowledged is that of no acknowledgement
 pub new_subtask : (r : Record) (s : SubtaskId) (a : Acked) → has_acknowledged r s ≡ false → IsIn a r.acks → s ≡ a.subtask → ⊥
@@ -53,13 +53,7 @@ completed_is r i a same k none = record {
   pending = λ e. absurd (both_ways true e refl);
   full = λ _.
       full_from_missing (record a { done = false; pins = [] })
-      (record {
-        not_done = refl;
-        no_pins = refl;
-        has_shape = subst IsShape (sym same) i.shape;
-        in_order = k.acks_in_order;
-        expected = k.acks_of_subtasks;
-      })
+      (grind (arith, common_steps))
       none;
   unpinned = λ _. refl;
 }

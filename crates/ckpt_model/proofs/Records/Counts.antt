@@ -1,6 +1,6 @@
 -- Counting in lists by a test, and what a filtered and changed list has.
-use Rattle.ckpt_model.proofs.Names.{◌≡◌, suc, ◌≤◌, Bool, true, false, cond, List, [], ◌∷◌, map, refl, sym, ap, subst, ◌∙◌, inl, inr, ⊎_elim, arith, count_by, find, Option, Some, None, filter}
-use Rattle.ckpt_model.proofs.Names.{cases_Bool, IsIn, count_by-cons, count_by_yes, count_by_no, IsIn-map, IsIn-from_map, IsIn-filter, IsIn-from_filter, common_steps}
+use Rattle.ckpt_model.proofs.Names.{◌≡◌, suc, ◌≤◌, Bool, true, false, cond, List, [], ◌∷◌, map, refl, ap, ◌∙◌, inl, inr, arith, count_by, find, Some, None, filter, IsIn, IsIn-map, IsIn-from_map}
+use Rattle.ckpt_model.proofs.Names.{IsIn-filter, IsIn-from_filter, common_steps}
 
 -- one more element adds at most one
 pub count_by_at_most_more : {X : Type 0} (p : X → Bool) (x : X) (xs : List X) → count_by p (x ∷ xs) ≤ suc (count_by p xs)

@@ -1,5 +1,5 @@
 -- What is held after a record is put in the place of another, and after it gets one more acknowledgement.
-use Rattle.ckpt_model.proofs.Names.{◌≡◌, ℕ, List, ◌++◌, map, refl, sym, subst, ◌⊎◌, inl, inr, ⊎_elim, ltb, eqb, cond-true, eq-eqb, Acked, SubtaskId, IsIn, IsInOrder, ascending, Record, acknowledged}
+use Rattle.ckpt_model.proofs.Names.{◌≡◌, ℕ, List, ◌++◌, map, refl, subst, ◌⊎◌, inl, inr, ⊎_elim, ltb, cond-true, eq-eqb, Acked, SubtaskId, IsIn, IsInOrder, ascending, Record, acknowledged}
 use Rattle.ckpt_model.proofs.Names.{IsIn-append_cases, IsIn-map, IsIn-from_map, IsIn-in_order, IsIn-from_in_order, id_before, common_steps, arith}
 use Rattle.ckpt_model.proofs.Records.Present.{Holds, IsHeld, Holds-put_ack, Holds-put_ack_new, Holds-put_ack_old}
 use Rattle.ckpt_model.proofs.Records.Replacing.{put_in, IsReplacing, put_in_replaces}
@@ -8,11 +8,7 @@ use Rattle.ckpt_model.proofs.Records.Replacing.{put_in, IsReplacing, put_in_repl
 pub held_after_put : (f : ℕ) (rs : List Record) (old new : Record) → IsReplacing (put_in new) old new rs → IsHeld f (map (put_in new) rs) → Holds f new ⊎ IsHeld f rs
 held_after_put f rs old new p h =
     let x = IsIn-from_map (put_in new) h.0 rs h.1 in
-    let held : Holds f (put_in new x.0) = subst (Holds f) x.2 h.2 in
-    ⊎_elim
-    (λ (c : (x.0 ≡ old) × (put_in new x.0 ≡ new)). inl (subst (Holds f) c.1 held))
-    (λ (c : ((x.0).id ≡ old.id → ⊥) × (put_in new x.0 ≡ x.0)). inr (x.0, x.1, subst (Holds f) c.1 held))
-    (p.cases x.0 x.1)
+    grind (arith, common_steps, put_in, p.cases) steps 1000000
 
 -- what the record put in holds is held after
 pub held_by_put : (f : ℕ) (rs : List Record) (old new : Record) → IsIn old rs → new.id ≡ old.id → Holds f new → IsHeld f (map (put_in new) rs)
@@ -21,10 +17,9 @@ held_by_put f rs old new there same h = grind (arith, common_steps, IsIn-map, co
 -- what was held before is held after, if the record put in holds what the old one held
 pub held_beside_put : (f : ℕ) (rs : List Record) (old new : Record) → IsReplacing (put_in new) old new rs → IsIn old rs → new.id ≡ old.id → (Holds f old → Holds f new) → IsHeld f rs → IsHeld f (map (put_in new) rs)
 held_beside_put f rs old new p there same more h =
-    let P : Record → Type 0 = λ r. IsIn r (map (put_in new) rs) in
     ⊎_elim
     (λ (c : (h.0 ≡ old) × (put_in new h.0 ≡ new)). held_by_put f rs old new there same (more (subst (Holds f) c.0 h.2)))
-    (λ (c : ((h.0).id ≡ old.id → ⊥) × (put_in new h.0 ≡ h.0)). (h.0, subst P c.1 (IsIn-map (put_in new) h.0 rs h.1), h.2))
+    (λ (c : ((h.0).id ≡ old.id → ⊥) × (put_in new h.0 ≡ h.0)). (h.0, rw (← c.1) (IsIn-map (put_in new) h.0 rs h.1), h.2))
     (p.cases h.0 h.1)
 
 -- with an acknowledgement's files, a file that is held after is one of them, or was held before

@@ -1,9 +1,9 @@
 -- What holds of a coordinator's records as a list, and that filtering, changing and appending keep it.
 use Rattle.ckpt_model.proofs.Names.{◌≡◌, ◌≢◌, ℕ, ◌+◌, ◌<◌, ◌≤◌, ◌^◌, Bool, true, false, not, ◌&&◌, ltb, leb, List, [], ◌∷◌, ◌++◌, map, refl, sym, ap, subst, ◌∙◌, ⊎_elim, arith, count_by, Some, filter}
-use Rattle.ckpt_model.proofs.Names.{cases_Bool, both_ways, and_parts, and_from, and_left, and_right, not-true, not_from_false, ltb-true, lt-ltb, le-ltb, leb-false, Kind, IsIn, IsInOrder, ComesBefore}
-use Rattle.ckpt_model.proofs.Names.{AreDistinct, IsWithinLimits, Record, uses, is_present, IsShape, IsIn-append_cases, IsInOrder-append, IsInOrder-filter, IsInOrder-map, ComesBefore-at}
-use Rattle.ckpt_model.proofs.Names.{IsIn-from_test, test-from_IsIn, limit, Running, State, Opening, is_checkpoint, is_pending, is_done_checkpoint, is_done_savepoint, IsSound, IsRecord, id_before}
-use Rattle.ckpt_model.proofs.Names.{count_by-append, count_by_yes, count_by_no, count_by-same, common_steps}
+use Rattle.ckpt_model.proofs.Names.{cases_Bool, both_ways, and_parts, and_left, and_right, not-true, ltb-true, lt-ltb, le-ltb, leb-false, Kind, IsIn, IsInOrder, ComesBefore, AreDistinct}
+use Rattle.ckpt_model.proofs.Names.{IsWithinLimits, Record, uses, is_present, IsShape, IsIn-append_cases, IsInOrder-append, IsInOrder-filter, IsInOrder-map, ComesBefore-at, IsIn-from_test}
+use Rattle.ckpt_model.proofs.Names.{test-from_IsIn, limit, Running, State, Opening, is_checkpoint, is_done_checkpoint, is_done_savepoint, IsSound, IsRecord, id_before, count_by-append, count_by_yes}
+use Rattle.ckpt_model.proofs.Names.{count_by_no, count_by-same, common_steps}
 use Rattle.ckpt_ids.specs.declared.numbers.Kind.TheVariants as kind
 pub use Rattle.ckpt_model.specs.Soundness.{AreSoundRecords, is_pending_checkpoint}
 use Rattle.ckpt_model.proofs.Records.Counts.{count_by-le, count_by-changed, IsIn-from_changed}
@@ -88,19 +88,11 @@ changed_records {o} {next} {rs} h q a same kept each retained newer = record {
   started = λ r k. let p = IsIn-from_changed h q r rs k in let e : r.started ≡ (h p.0).started = ap (λ x. x.started) p.3 in omega (arith, (kept p.0 p.1).started, a.started p.0 p.1);
   retained = retained;
   at_once =
-      let fewer : count_by is_pending_checkpoint (map h (filter q rs)) ≤ count_by is_pending_checkpoint rs = count_by-changed is_pending_checkpoint is_pending_checkpoint h q rs (λ x k _ t. pending_checkpoint_before x (h x) (kept x k) t) in
-      omega (arith, a.at_once);
+      omega (arith, a.at_once, count_by-changed is_pending_checkpoint is_pending_checkpoint h q rs (λ x k _ t. pending_checkpoint_before x (h x) (kept x k) t));
   savepoints_to =
       let savepoint : Record → Bool = λ r. not (is_checkpoint r) in
-      let fewer : count_by savepoint (map h (filter q rs)) ≤ count_by savepoint rs = count_by-changed savepoint savepoint h q rs (λ x k _ t. ap not (sym (same_checkpoint x (h x) (kept x k))) ∙ t) in
-      omega (arith, a.savepoints_to);
-  newer = λ r s j k p d.
-      let x = IsIn-from_changed h q r rs j in
-      let y = IsIn-from_changed h q s rs k in
-      let e : r.id ≡ (h x.0).id = ap (λ z. z.id) x.3 in
-      let f : s.id ≡ (h y.0).id = ap (λ z. z.id) y.3 in
-      let less : (y.0).id < (x.0).id = newer x.0 y.0 x.1 y.1 x.2 y.2 (ap is_pending_checkpoint (sym x.3) ∙ p) (ap is_done_checkpoint (sym y.3) ∙ d) in
-      omega (arith, same x.0, same y.0);
+      omega (arith, a.savepoints_to, count_by-changed savepoint savepoint h q rs (λ x k _ t. ap not (sym (same_checkpoint x (h x) (kept x k))) ∙ t));
+  newer = grind (arith, common_steps, IsIn-from_changed, newer, same);
 }
 
 -- what filtering alone leaves
@@ -124,10 +116,7 @@ appended_records {o} {next} {rs} r a first id done each started at_once savepoin
       at_once = at_once;
       savepoints_to = savepoints_to;
       newer = λ x y j k p d.
-          let Goal : Type 0 = y.id < x.id in
-          let old : IsIn y rs → Goal = λ (l : IsIn y rs). ⊎_elim (λ (i : IsIn x rs). a.newer x y i l p d) (⊎_elim (λ (e : x ≡ r). let f : x.id ≡ r.id = ap (λ z. z.id) e in omega (arith, a.below_next y l)) (λ (n : ⊥). absurd n)) (IsIn-append_cases x rs (r ∷ []) j) in
-          let new : y ≡ r → Goal = λ (e : y ≡ r). absurd (both_ways r.done done (ap (λ z. z.done) (sym e) ∙ (and_parts y.done (is_checkpoint y) d).0)) in
-          ⊎_elim old (⊎_elim new (λ (n : ⊥). absurd n)) (IsIn-append_cases y rs (r ∷ []) k);
+          grind (arith, common_steps, a.newer, a.below_next, IsIn-append_cases x rs (r ∷ []) j, IsIn-append_cases y rs (r ∷ []) k, both_ways r.done done, and_parts y.done);
     }
 
 -- the newest that pass a test
@@ -158,9 +147,4 @@ newest_at_most p n (x ∷ rs) a =
     let tail : count_by test rs ≡ count_by test_rest rs = count_by-same test test_rest rs same in
     let rest : count_by test_rest rs ≤ n = newest_at_most p n rs a.1 in
     let fewer : count_by test_rest rs ≤ count_by p rs = count_by-le test_rest p rs (λ r h t. (and_parts (p r) (not (leb n (later p r rs))) t).0) in
-    let yes : test x ≡ true → count_by test (x ∷ rs) ≤ n = λ (e : test x ≡ true).
-    let below : leb n (later p x (x ∷ rs)) ≡ false = not-true (leb n (later p x (x ∷ rs))) (and_parts (p x) (not (leb n (later p x (x ∷ rs)))) e).1 in
-    let room : later p x (x ∷ rs) < n = leb-false n (later p x (x ∷ rs)) below in
-    omega (arith, count_by_yes test x rs e, later_first p x rs a.0) in
-    let no : test x ≡ false → count_by test (x ∷ rs) ≤ n = λ (e : test x ≡ false). omega (arith, count_by_no test x rs e) in
-    ⊎_elim yes no (cases_Bool (test x))
+    grind (arith, common_steps, not-true, and_parts, leb-false, count_by_yes, later_first, count_by_no, cases_Bool)

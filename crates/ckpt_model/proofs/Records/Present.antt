@@ -1,8 +1,7 @@
 -- A file is present exactly if some record holds it, for an acknowledgement or as a pin.
-use Rattle.ckpt_model.proofs.Names.{◌≡◌, ℕ, ◌<◌, Bool, true, false, eqb, List, map, refl, sym, ap, subst, ◌⊎◌, inl, inr, ⊎_elim, count_by, flat_map, cases_Bool, both_ways, eqb-true, eq-eqb, ltb-true}
-use Rattle.ckpt_model.proofs.Names.{lt-ltb, Acked, IsIn, acknowledges_before, put_ack, Record, Use, Subtask, Pin, uses, uses_of, count, is_present, IsIn-append_left, IsIn-append_right}
-use Rattle.ckpt_model.proofs.Names.{IsIn-append_cases, IsIn-map, IsIn-from_map, IsIn-flat_map, IsIn-from_flat_map, IsIn-put_cases, IsIn-put, IsIn-put_itself, counted-from_IsIn, IsIn-from_counted}
-use Rattle.ckpt_model.proofs.Names.{common_steps, arith}
+use Rattle.ckpt_model.proofs.Names.{◌≡◌, ℕ, Bool, true, false, eqb, List, map, refl, ◌⊎◌, inl, inr, ⊎_elim, flat_map, cases_Bool, both_ways, eqb-true, eq-eqb, ltb-true, lt-ltb, Acked, IsIn}
+use Rattle.ckpt_model.proofs.Names.{acknowledges_before, put_ack, Record, Use, Subtask, Pin, uses, uses_of, count, is_present, IsIn-append_left, IsIn-append_right, IsIn-append_cases, IsIn-map}
+use Rattle.ckpt_model.proofs.Names.{IsIn-from_map, IsIn-flat_map, IsIn-from_flat_map, IsIn-put_cases, IsIn-put, IsIn-put_itself, counted-from_IsIn, IsIn-from_counted, common_steps, arith}
 
 -- a record holds a file
 abbrev pub Holds : ℕ → Record → Type 0
@@ -14,22 +13,7 @@ IsHeld f records = (r : Record) × IsIn r records × Holds f r
 
 -- a use of a record is of a file that it holds
 pub Holds-from_use : (u : Use) (r : Record) → IsIn u (uses_of r) → Holds u.file r
-Holds-from_use u r h =
-    let of_ack : Acked → List Use = λ a. map (λ f. record { id = r.id; holder = Subtask a.subtask; file = f }) a.files in
-    let pin : ℕ → Use = λ f. record { id = r.id; holder = Pin; file = f } in
-    let acked : IsIn u (flat_map of_ack r.acks) → Holds u.file r = λ (k : IsIn u (flat_map of_ack r.acks)).
-    let q = IsIn-from_flat_map of_ack u r.acks k in
-    let of_file : ℕ → Use = λ f. record { id = r.id; holder = Subtask (q.0).subtask; file = f } in
-    let p = IsIn-from_map of_file u (q.0).files q.2 in
-    let P : ℕ → Type 0 = λ f. IsIn f (q.0).files in
-    let same : u.file ≡ p.0 = ap (λ v. v.file) p.2 in
-    inl (q.0, q.1, subst P (sym same) p.1) in
-    let pinned : IsIn u (map pin r.pins) → Holds u.file r = λ (k : IsIn u (map pin r.pins)).
-    let p = IsIn-from_map pin u r.pins k in
-    let P : ℕ → Type 0 = λ f. IsIn f r.pins in
-    let same : u.file ≡ p.0 = ap (λ v. v.file) p.2 in
-    inr (subst P (sym same) p.1) in
-    ⊎_elim acked pinned (IsIn-append_cases u (flat_map of_ack r.acks) (map pin r.pins) h)
+Holds-from_use u r h = grind (arith, common_steps, IsIn-from_flat_map, IsIn-from_map, IsIn-append_cases u)
 
 -- a file that a record holds has a use
 pub use-from_Holds : (f : ℕ) (r : Record) → Holds f r → (u : Use) × IsIn u (uses_of r) × (u.file ≡ f)
@@ -45,21 +29,14 @@ use-from_Holds f r (inr h) =
 
 -- a present file is held
 pub IsHeld-from_present : (f : ℕ) (records : List Record) → is_present (uses records) f ≡ true → IsHeld f records
-IsHeld-from_present f records h =
-    let of_file : Use → Bool = λ u. eqb u.file f in
-    let some : 0 < count_by of_file (uses records) = ltb-true 0 (count (uses records) f) h in
-    let q = IsIn-from_counted of_file (uses records) some in
-    let r = IsIn-from_flat_map uses_of q.0 records q.1 in
-    let P : ℕ → Type 0 = λ g. Holds g r.0 in
-    (r.0, r.1, subst P (eqb-true (q.0).file f q.2) (Holds-from_use q.0 r.0 r.2))
+IsHeld-from_present f records h = grind (arith, common_steps, ltb-true, IsIn-from_counted, IsIn-from_flat_map, eqb-true, Holds-from_use)
 
 -- a held file is present
 pub present-from_IsHeld : (f : ℕ) (records : List Record) → IsHeld f records → is_present (uses records) f ≡ true
 present-from_IsHeld f records h =
     let of_file : Use → Bool = λ u. eqb u.file f in
     let q = use-from_Holds f h.0 h.2 in
-    let there : IsIn q.0 (uses records) = IsIn-flat_map uses_of h.0 q.0 records h.1 q.1 in
-    lt-ltb 0 (count (uses records) f) (counted-from_IsIn of_file q.0 (uses records) there (eq-eqb (q.0).file f q.2))
+    lt-ltb 0 (count (uses records) f) (counted-from_IsIn of_file q.0 (uses records) (IsIn-flat_map uses_of h.0 q.0 records h.1 q.1) (eq-eqb (q.0).file f q.2))
 
 -- a file that is not present is held by none
 pub not_held : (f : ℕ) (records : List Record) → is_present (uses records) f ≡ false → IsHeld f records → ⊥

@@ -1,8 +1,7 @@
 -- What is released: files that were present before and are not after, ascending, so each once. Lists with no number twice.
-use Rattle.ckpt_model.proofs.Names.{◌≡◌, ℕ, Bool, true, false, not, ltb, eqb, List, [], ◌∷◌, map, refl, sym, subst, list_any, both_ways, eq-eqb, lt-ltb, not-true, not_from_false, or_parts, IsIn}
-use Rattle.ckpt_model.proofs.Names.{AreDistinct, IsAscendingSet, ascending_set, Record, Use, uses, count, is_present, released, numbers_in_order, IsIn-map, IsIn-from_map, IsIn-filter}
-use Rattle.ckpt_model.proofs.Names.{IsIn-from_filter, IsInOrder-filter, IsInOrder-in_order_once, IsIn-in_order_once, IsIn-from_in_order_once, list_any-from_IsIn, has_repeats, IsIn-flat_map, uses_of}
-use Rattle.ckpt_model.proofs.Names.{counted-from_IsIn, common_steps, arith}
+use Rattle.ckpt_model.proofs.Names.{◌≡◌, ℕ, true, false, List, [], ◌∷◌, both_ways, eq-eqb, lt-ltb, not-true, not_from_false, or_parts, IsIn, AreDistinct, IsAscendingSet, Record, Use, uses, is_present}
+use Rattle.ckpt_model.proofs.Names.{released, numbers_in_order, IsIn-map, IsIn-from_map, IsIn-filter, IsIn-from_filter, IsInOrder-filter, IsInOrder-in_order_once, IsIn-in_order_once}
+use Rattle.ckpt_model.proofs.Names.{IsIn-from_in_order_once, list_any-from_IsIn, has_repeats, IsIn-flat_map, uses_of, counted-from_IsIn, common_steps, arith}
 use Rattle.ckpt_model.proofs.Records.Present.{IsHeld-from_present, use-from_Holds}
 
 -- the files of a list of uses are ascending

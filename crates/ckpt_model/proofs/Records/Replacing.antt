@@ -1,7 +1,7 @@
 -- One record of a list put in the place of another with its number.
-use Rattle.ckpt_model.proofs.Names.{◌≡◌, ℕ, ◌<◌, ◌≤◌, Bool, true, false, not, cond, eqb, List, [], ◌∷◌, map, refl, sym, ap, subst, ◌∙◌, ◌⊎◌, inl, inr, ⊎_elim, arith, count_by, Some, filter}
-use Rattle.ckpt_model.proofs.Names.{cases_Bool, both_ways, not-true, and_parts, cond-true, cond-false, eqb-true, eqb-false, eq-eqb, ne_eqb, ltb-true, IsIn, IsInOrder, Record, ComesBefore-at, Opening}
-use Rattle.ckpt_model.proofs.Names.{is_checkpoint, is_pending, is_done_checkpoint, unpinned, IsRecord, id_before, common_steps}
+use Rattle.ckpt_model.proofs.Names.{◌≡◌, ℕ, ◌<◌, ◌≤◌, Bool, true, false, cond, eqb, List, [], ◌∷◌, map, refl, sym, ap, ◌∙◌, ◌⊎◌, inl, inr, arith, count_by, Some, filter, cases_Bool, both_ways}
+use Rattle.ckpt_model.proofs.Names.{not-true, and_parts, cond-true, cond-false, eqb-true, eqb-false, eq-eqb, ne_eqb, ltb-true, IsIn, IsInOrder, Record, ComesBefore-at, Opening, is_done_checkpoint}
+use Rattle.ckpt_model.proofs.Names.{unpinned, IsRecord, id_before, common_steps}
 use Rattle.ckpt_model.proofs.Records.Counts.{count_by-changed}
 use Rattle.ckpt_model.proofs.Records.Lists.{AreSoundRecords, IsKept, changed_records, is_pending_checkpoint, pending_checkpoint_before}
 
@@ -42,15 +42,7 @@ unpinned_same ended x = cond_same (λ (z : Record). z.id) (eqb x.id ended) (reco
 pub unpinned_replaces : (old new : Record) (rs : List Record) → IsInOrder id_before rs → IsIn old rs → new.id ≡ old.id → IsReplacing (λ x. unpinned (Some new.id) (put_in new x)) old (record new { pins = [] }) rs
 unpinned_replaces old new rs a there id =
     let p = put_in_replaces old new rs a there id in
-    let free : Record → Record = unpinned (Some new.id) in
-    record {
-      same = λ x. unpinned_same new.id (put_in new x) ∙ p.same x;
-      cases = λ x h.
-          ⊎_elim
-          (λ (e : (x ≡ old) × (put_in new x ≡ new)). inl (e.0, ap free e.1 ∙ cond-true (eqb new.id new.id) (record new { pins = [] }) new (eq-eqb new.id new.id refl)))
-          (λ (e : (x.id ≡ old.id → ⊥) × (put_in new x ≡ x)). inr (e.0, ap free e.1 ∙ cond-false (eqb x.id new.id) (record x { pins = [] }) x (ne_eqb x.id new.id (λ k. e.0 (k ∙ id)))))
-          (p.cases x h);
-    }
+    grind (arith, common_steps, unpinned_same, p.same, cond-true, eq-eqb, cond-false, ne_eqb, p.cases)
 
 -- what a list's order and limits read of the record put in is as it was
 pub replacing_keeps : {change : Record → Record} {old new : Record} {rs : List Record} → IsReplacing change old new rs → old.done ≡ false → new.kind ≡ old.kind → new.started ≡ old.started → (x : Record) → IsIn x rs → IsKept x (change x)
@@ -79,15 +71,4 @@ completed_records {o} {next} {rs} {change} {old} {new} q a p pending done kind s
   where
     newer : (x y : Record) → IsIn x rs → IsIn y rs → q x ≡ true → q y ≡ true → is_pending_checkpoint (change x) ≡ true → is_done_checkpoint (change y) ≡ true → y.id < x.id
     newer x y h k qx qy t d =
-        let Goal : Type 0 = y.id < x.id in
-        let x_new : (x ≡ old) × (change x ≡ new) → Goal = λ (e : (x ≡ old) × (change x ≡ new)).
-        absurd (both_ways new.done (not-true new.done (ap (λ z. not z.done) (sym e.1) ∙ (and_parts (is_pending (change x)) (is_checkpoint (change x)) t).0)) done) in
-        let x_old : (x.id ≡ old.id → ⊥) × (change x ≡ x) → Goal = λ (e : (x.id ≡ old.id → ⊥) × (change x ≡ x)).
-        let waits : is_pending_checkpoint x ≡ true = ap is_pending_checkpoint (sym e.1) ∙ t in
-        let ne : x.id ≡ old.id → ⊥ = e.0 in
-        let from : old.id ≤ x.id = after x h qx e.1 waits in
-        ⊎_elim
-        (λ (f : (y ≡ old) × (change y ≡ new)). let g : y.id ≡ old.id = ap (λ z. z.id) f.0 in omega arith)
-        (λ (f : (y.id ≡ old.id → ⊥) × (change y ≡ y)). a.newer x y h k waits (ap is_done_checkpoint (sym f.1) ∙ d))
-        (p.cases y k) in
-        ⊎_elim x_new x_old (p.cases x h)
+        grind (arith, common_steps, both_ways, not-true, and_parts, is_pending_checkpoint, after, a.newer, p.cases)

@@ -1,6 +1,6 @@
 -- Calls dealt out to seats, each to the seat of its place modulo how many there are: whatever order the seats make them in, they
 -- come to what they come to one after the other.
-use Rattle.ckpt_model.proofs.Names.{◌≡◌, ℕ, ◌+◌, ◌%◌, ◌<◌, ◌≤◌, Bool, true, false, eqb, List, [], ◌∷◌, map, refl, sym, ap, subst, ◌∙◌, inl, inr, ⊎_elim, arith, count_by, Some, filter, enumerate_from}
+use Rattle.ckpt_model.proofs.Names.{◌≡◌, ℕ, ◌+◌, ◌%◌, ◌<◌, ◌≤◌, Bool, false, eqb, List, [], ◌∷◌, map, refl, sym, ap, subst, ◌∙◌, inl, inr, ⊎_elim, arith, count_by, Some, filter, enumerate_from}
 use Rattle.ckpt_model.proofs.Names.{cases_Bool, eqb-true, cases_lt, Call, Answer, IsIn, Record, IsIn-from_map, State, record_of, step, replay, answers, IsSound, of_seat, SameBySeat, NewFile, ack_with}
 use Rattle.ckpt_model.proofs.Names.{calls_of, first_completed, is_completing, SameOutcome, common_steps}
 use Rattle.ckpt_model.proofs.Reordering.Rearranged.{as_often_by_seat, of_seat-map, of_seat-other}
@@ -30,8 +30,7 @@ none-beyond : {X : Type 0} (seats seat : ℕ) (xs : List (ℕ × X)) → SeatsFr
 none-beyond seats seat [] below beyond = refl
 none-beyond {X} seats seat (x ∷ xs) below beyond =
     let its : x.0 < seats = below x (inl refl) in
-    let other : eqb x.0 seat ≡ false = ⊎_elim (λ (e : eqb x.0 seat ≡ true). let same : x.0 ≡ seat = eqb-true x.0 seat e in absurd (let no : ⊥ = omega arith in no)) (λ (e : eqb x.0 seat ≡ false). e) (cases_Bool (eqb x.0 seat)) in
-    of_seat-other seat x xs other ∙ none-beyond seats seat xs (λ y h. below y (inr h)) beyond
+    grind (arith, common_steps, eqb-true, cases_Bool, of_seat-other, none-beyond seats seat xs) steps 1000000
 
 below-dealt : {X : Type 0} (seats : ℕ) (xs : List X) → 0 < seats → SeatsFrom seats (dealt seats xs)
 below-dealt {X} seats xs some x h = grind (arith, common_steps, IsIn-from_map)
@@ -39,9 +38,8 @@ below-dealt {X} seats xs some x h = grind (arith, common_steps, IsIn-from_map)
 -- if each seat has what was dealt out to it
 pub same_as_dealt : {X : Type 0} (seats : ℕ) (xs : List X) (made : List (ℕ × X)) → 0 < seats → SeatsFrom seats made → ((seat : ℕ) → seat < seats → of_seat seat made ≡ dealt_out seats seat xs) → SameBySeat (dealt seats xs) made
 same_as_dealt {X} seats xs made some below each seat =
-    let dealt_there : of_seat seat (dealt seats xs) ≡ dealt_out seats seat xs = of_seat-map (λ (p : ℕ × X). p.0 % seats) (λ (p : ℕ × X). p.1) seat (enumerate_from 0 xs) in
     ⊎_elim
-    (λ (e : seat < seats). dealt_there ∙ sym (each seat e))
+    (λ (e : seat < seats). (of_seat-map (λ (p : ℕ × X). p.0 % seats) (λ (p : ℕ × X). p.1) seat (enumerate_from 0 xs)) ∙ sym (each seat e))
     (λ (e : seats ≤ seat). none-beyond seats seat (dealt seats xs) (below-dealt seats xs some) e ∙ sym (none-beyond seats seat made below e))
     (cases_lt seat seats)
 
@@ -58,9 +56,8 @@ below-answers : (m : State) (seats : ℕ) (made : List (ℕ × Call)) → SeatsF
 below-answers m seats [] below y h = absurd h
 below-answers m seats (x ∷ xs) below y h =
     let P : ℕ × Answer → Type 0 = λ z. z.0 < seats in
-    let here : P (x.0, (step m x.1).1) = below x (inl refl) in
     let rest : SeatsFrom seats (seated_answers (step m x.1).0 xs) = below-answers (step m x.1).0 seats xs (λ z k. below z (inr k)) in
-    ⊎_elim (λ (e : y ≡ (x.0, (step m x.1).1)). subst P (sym e) here) (λ (k : IsIn y (seated_answers (step m x.1).0 xs)). rest y k) h
+    ⊎_elim (λ (e : y ≡ (x.0, (step m x.1).1)). subst P (sym e) (below x (inl refl))) (λ (k : IsIn y (seated_answers (step m x.1).0 xs)). rest y k) h
 
 -- the acknowledgements of all missing subtasks, one after the other
 abbrev pub all_missing : ℕ → ℕ → ℕ → Record → List Call
@@ -88,8 +85,4 @@ dealt_calls m now id first seats r made told s found pending some below calls_ar
     let few : count_by is_completing (answers m calls) ≤ 1 = law.once in
     let once : count_by is_completing (map value (dealt seats told)) ≤ 1 = omega arith in
     let first_told : first_completed (map value (dealt seats told)) ≡ first_completed (map value (seated_answers m made)) = same_completed_by_seat (dealt seats told) (seated_answers m made) by_seat once in
-    record {
-      state = law.state;
-      as_often = λ asked. law.as_often asked ∙ tell asked;
-      completed = law.completed ∙ ap first_completed (sym (values-seated m made)) ∙ sym first_told ∙ ap first_completed (values-dealt seats told);
-    }
+    grind (arith, common_steps, law.as_often, tell, values-seated m made, values-dealt seats told) steps 1000000

@@ -1,8 +1,8 @@
 -- The law of exchange: two acknowledgements of one record go in either order.
-use Rattle.ckpt_model.proofs.Names.{◌≡◌, ℕ, ◌+◌, max, true, false, not, ◌&&◌, ◌||◌, cond, eqb, List, ◌++◌, refl, sym, ap, subst, ◌∙◌, ⊎_elim, arith, Option, Some, None, both_ways, not-true, not-false}
-use Rattle.ckpt_model.proofs.Names.{not_from_true, and_parts, or_parts, or_from, cond_both, cond-false, Acked, Call, Done, IsIn, ascending, Record, uses, is_present, missing, has_acknowledged}
-use Rattle.ckpt_model.proofs.Names.{is_subtask, IsIn-append_left, list_any-none, find-none, State, is_pending, is_known, in_outbox, refusal, pending_of, Stepped, replaced, with_records}
-use Rattle.ckpt_model.proofs.Names.{completed_with, acknowledged_in, ack, effect, step, IsSound, is_ack_pending, is_ack_taken, ShareNone, Part, ack_of, Exchange, common_steps}
+use Rattle.ckpt_model.proofs.Names.{◌≡◌, ℕ, ◌+◌, max, true, false, not, ◌&&◌, ◌||◌, eqb, List, ◌++◌, refl, sym, ap, subst, ◌∙◌, ⊎_elim, arith, Option, Some, None, both_ways, not-true, not-false}
+use Rattle.ckpt_model.proofs.Names.{not_from_true, and_parts, or_parts, or_from, Call, Done, IsIn, ascending, Record, uses, is_present, missing, has_acknowledged, is_subtask, IsIn-append_left}
+use Rattle.ckpt_model.proofs.Names.{list_any-none, find-none, State, is_pending, is_known, in_outbox, refusal, pending_of, Stepped, replaced, with_records, completed_with, acknowledged_in, ack}
+use Rattle.ckpt_model.proofs.Names.{effect, step, IsSound, is_ack_pending, is_ack_taken, ShareNone, Part, ack_of, Exchange, common_steps}
 use Rattle.ckpt_ids.specs.declared.reply.Reply.TheVariants as reply
 use Rattle.ckpt_model.proofs.Records.Counts.{IsIn-from_find, fails-from_find}
 use Rattle.ckpt_model.proofs.Records.Present.{IsHeld, IsHeld-from_present, present-from_IsHeld, not_held, absent-from_not_held}
@@ -133,8 +133,7 @@ exchanged m now id p q r s ne apart k ep lacks eq1 =
     let b1 : IsAcceptedAck m1 now id q.subtask q.fresh q.reused = accepted_ack m1 now id q.subtask q.fresh q.reused eq1 in
     let b : IsAcceptedAck m now id q.subtask q.fresh q.reused = accepted_before m now id p q r s k a apart k1 b1 in
     let eq : refusal m B ≡ None = not_refused-ack m now id q.subtask q.fresh q.reused b in
-    let a2 : IsAcceptedAck m2 now id p.subtask p.fresh p.reused = accepted_after m now id p q r s k ne a apart (fresh_apart m now id p q r k k1 b1) k2 in
-    let ep2 : refusal m2 A ≡ None = not_refused-ack m2 now id p.subtask p.fresh p.reused a2 in
+    let ep2 : refusal m2 A ≡ None = not_refused-ack m2 now id p.subtask p.fresh p.reused (accepted_after m now id p q r s k ne a apart (fresh_apart m now id p q r k k1 b1) k2) in
     let of_w : missing w + 1 ≡ missing r = missing_one_less r p.subtask (ascending (p.fresh ++ p.reused)) (a.of_subtask r k) (a.first r k) in
     let of_v : missing v + 1 ≡ missing r = missing_one_less r q.subtask (ascending (q.fresh ++ q.reused)) (b.of_subtask r k) (b.first r k) in
     let as_many : missing v ≡ missing w = omega arith in
@@ -142,11 +141,7 @@ exchanged m now id p q r s ne apart k ep lacks eq1 =
     let stepB : step m B ≡ (m2, Done (reply.AckPending (missing v))) = step_ack m now id q r eq k ∙ left_pending n v (ap (λ x. eqb x 0) as_many ∙ lacks) in
     let late : max now n.latest ≡ n.latest = omega arith in
     let last1 : step m1 B ≡ acknowledged_in n (with_ack w q.subtask q.fresh q.reused) = step_ack m1 now id q w eq1 k1 ∙ settles n now w (with_ack w q.subtask q.fresh q.reused) late refl in
-    let last2 : step m2 A ≡ acknowledged_in n (with_ack v p.subtask p.fresh p.reused) = step_ack m2 now id p v ep2 k2 ∙ settles n now v (with_ack v p.subtask p.fresh p.reused) late refl in
-    let one : step (step m A).0 B ≡ acknowledged_in n (with_ack w q.subtask q.fresh q.reused) = ap (λ (x : Stepped). step x.0 B) stepA ∙ last1 in
-    let other : step (step m B).0 A ≡ acknowledged_in n (with_ack v p.subtask p.fresh p.reused) = ap (λ (x : Stepped). step x.0 A) stepB ∙ last2 in
-    let same_answer : (step m B).1 ≡ (step m A).1 = ap (λ (x : Stepped). x.1) stepB ∙ ap (λ x. Done (reply.AckPending x)) as_many ∙ sym (ap (λ (x : Stepped). x.1) stepA) in
-    (same_answer, other ∙ sym (ap (acknowledged_in n) (both_in r p q ne)) ∙ sym one)
+    grind (arith, common_steps, with_ack, both_in, step_ack m2 now id p v ep2 k2 ∙ settles n now v (with_ack v p.subtask p.fresh p.reused) late refl)
 
 -- the law of exchange
 pub exchange : (m : State) (now id : ℕ) (p q : Part) → IsSound m → Exchange m now id p q

@@ -1,51 +1,21 @@
 -- Putting two acknowledgements into one record, in either order.
-use Rattle.ckpt_model.proofs.Names.{◌≡◌, ℕ, ◌+◌, Bool, true, false, not, ◌&&◌, eqb, List, [], ◌∷◌, map, refl, sym, ap, subst, ◌∙◌, inl, inr, ⊎_elim, find, Some, cases_Bool, both_ways, not_from_true}
-use Rattle.ckpt_model.proofs.Names.{not_from_false, and_parts, and_from, cond-true, cond-false, eqb-true, eq-eqb, SubtaskId, Acked, IsIn, IsInOrder, put, is_before, acknowledges_before, put_ack}
-use Rattle.ckpt_model.proofs.Names.{Record, missing, has_acknowledged, acknowledged, subtasks, is_subtask, same_subtask, subtasks_in_order, same_subtask-Decides, IsIn-map, IsIn-from_map, IsIn-put}
-use Rattle.ckpt_model.proofs.Names.{IsIn-put_itself, IsIn-put_cases, IsIn-from_list_any, list_any-from_IsIn, is_pending, pending_of, replaced, id_before, count_by_one_more, IsInOrder-subtasks}
-use Rattle.ckpt_model.proofs.Names.{IsIn-subtasks, same_subtask-itself, common_steps, arith}
+use Rattle.ckpt_model.proofs.Names.{◌≡◌, ℕ, ◌+◌, Bool, true, false, ◌&&◌, eqb, List, [], ◌∷◌, sym, ◌∙◌, ⊎_elim, find, Some, cases_Bool, both_ways, not_from_true, not_from_false, and_parts, and_from}
+use Rattle.ckpt_model.proofs.Names.{cond-true, cond-false, eqb-true, eq-eqb, SubtaskId, Acked, IsIn, IsInOrder, put, acknowledges_before, put_ack, Record, missing, has_acknowledged, acknowledged}
+use Rattle.ckpt_model.proofs.Names.{is_subtask, subtasks_in_order, same_subtask-Decides, IsIn-map, IsIn-from_map, IsIn-put, IsIn-put_itself, IsIn-put_cases, IsIn-from_list_any, list_any-from_IsIn}
+use Rattle.ckpt_model.proofs.Names.{is_pending, pending_of, replaced, id_before, count_by_one_more, IsInOrder-subtasks, IsIn-subtasks, same_subtask-itself, common_steps, arith}
 use Rattle.ckpt_model.proofs.Records.Counts.{IsIn-from_find}
 use Rattle.ckpt_model.proofs.Records.Replacing.{put_in, IsReplacing, put_in_replaces}
 
 -- two elements, one before the other, go into a list in either order
 pub put_commutes : {X : Type 0} (before : X → X → Bool) (x y : X) (zs : List X) → ((a b c : X) → before a b ≡ true → before b c ≡ true → before a c ≡ true) → before x y ≡ true → before y x ≡ false → put before x (put before y zs) ≡ put before y (put before x zs)
-put_commutes {X} before x y [] chain xy yx =
-    let left : put before x (y ∷ []) ≡ x ∷ y ∷ [] = cond-false (before y x) (y ∷ x ∷ []) (x ∷ y ∷ []) yx in
-    let right : put before y (x ∷ []) ≡ x ∷ y ∷ [] = cond-true (before x y) (x ∷ y ∷ []) (y ∷ x ∷ []) xy in
-    left ∙ sym right
-put_commutes {X} before x y (z ∷ zs) chain xy yx =
-    let Goal : Type 0 = put before x (put before y (z ∷ zs)) ≡ put before y (put before x (z ∷ zs)) in
-    let y_behind : before z y ≡ true → put before y (z ∷ zs) ≡ z ∷ put before y zs = λ (e : before z y ≡ true). cond-true (before z y) (z ∷ put before y zs) (y ∷ z ∷ zs) e in
-    let y_here : before z y ≡ false → put before y (z ∷ zs) ≡ y ∷ z ∷ zs = λ (e : before z y ≡ false). cond-false (before z y) (z ∷ put before y zs) (y ∷ z ∷ zs) e in
-    let x_behind : before z x ≡ true → (ws : List X) → put before x (z ∷ ws) ≡ z ∷ put before x ws = λ (e : before z x ≡ true) (ws : List X). cond-true (before z x) (z ∷ put before x ws) (x ∷ z ∷ ws) e in
-    let x_here : before z x ≡ false → (ws : List X) → put before x (z ∷ ws) ≡ x ∷ z ∷ ws = λ (e : before z x ≡ false) (ws : List X). cond-false (before z x) (z ∷ put before x ws) (x ∷ z ∷ ws) e in
-    let x_before_y : (ws : List X) → put before x (y ∷ ws) ≡ x ∷ y ∷ ws = λ (ws : List X). cond-false (before y x) (y ∷ put before x ws) (x ∷ y ∷ ws) yx in
-    let y_after_x : (ws : List X) → put before y (x ∷ ws) ≡ x ∷ put before y ws = λ (ws : List X). cond-true (before x y) (x ∷ put before y ws) (y ∷ x ∷ ws) xy in
-    let both_behind : before z x ≡ true → before z y ≡ true → Goal = λ (a : before z x ≡ true) (b : before z y ≡ true).
-    let behind_y : put before y (z ∷ put before x zs) ≡ z ∷ put before y (put before x zs) = cond-true (before z y) (z ∷ put before y (put before x zs)) (y ∷ z ∷ put before x zs) b in
-    ap (put before x) (y_behind b) ∙ x_behind a (put before y zs) ∙ ap (λ ws. z ∷ ws) (put_commutes before x y zs chain xy yx) ∙ sym behind_y ∙ sym (ap (put before y) (x_behind a zs)) in
-    let x_first : before z x ≡ false → before z y ≡ true → Goal = λ (a : before z x ≡ false) (b : before z y ≡ true).
-    ap (put before x) (y_behind b) ∙ x_here a (put before y zs) ∙ sym (ap (put before y) (x_here a zs) ∙ y_after_x (z ∷ zs) ∙ ap (λ ws. x ∷ ws) (y_behind b)) in
-    let x_after : before z x ≡ true → before z y ≡ false → Goal = λ (a : before z x ≡ true) (b : before z y ≡ false). absurd (both_ways (before z y) b (chain z x y a xy)) in
-    let both_here : before z x ≡ false → before z y ≡ false → Goal = λ (a : before z x ≡ false) (b : before z y ≡ false).
-    ap (put before x) (y_here b) ∙ x_before_y (z ∷ zs) ∙ sym (ap (put before y) (x_here a zs) ∙ y_after_x (z ∷ zs) ∙ ap (λ ws. x ∷ ws) (y_here b)) in
-    ⊎_elim
-    (λ (a : before z x ≡ true). ⊎_elim (λ (b : before z y ≡ true). both_behind a b) (λ (b : before z y ≡ false). x_after a b) (cases_Bool (before z y)))
-    (λ (a : before z x ≡ false). ⊎_elim (λ (b : before z y ≡ true). x_first a b) (λ (b : before z y ≡ false). both_here a b) (cases_Bool (before z y)))
-    (cases_Bool (before z x))
+put_commutes {X} before x y [] chain xy yx = grind (arith, common_steps, cond-false, cond-true)
+put_commutes {X} before x y (z ∷ zs) chain xy yx = grind (arith, common_steps, cond-true, cond-false, chain, both_ways, cases_Bool, put_commutes before x y zs chain xy yx)
 
 -- acknowledgements of two subtasks go into a list in either order
 pub acks_commute : (a b : Acked) (acks : List Acked) → (a.subtask ≡ b.subtask → ⊥) → put_ack a (put_ack b acks) ≡ put_ack b (put_ack a acks)
 acks_commute a b acks ne =
     let chain : (x y z : Acked) → acknowledges_before x y ≡ true → acknowledges_before y z ≡ true → acknowledges_before x z ≡ true = λ x y z h k. subtasks_in_order.transitive x.subtask y.subtask z.subtask h k in
-    let one_way : (x y : Acked) → acknowledges_before x y ≡ true → acknowledges_before y x ≡ false = λ x y h. ⊎_elim (λ (k : acknowledges_before y x ≡ true). absurd (both_ways (is_before x.subtask x.subtask) (subtasks_in_order.irreflexive x.subtask) (subtasks_in_order.transitive x.subtask y.subtask x.subtask h k))) (λ (k : acknowledges_before y x ≡ false). k) (cases_Bool (acknowledges_before y x)) in
-    ⊎_elim
-    (λ (h : acknowledges_before a b ≡ true). put_commutes acknowledges_before a b acks chain h (one_way a b h))
-    (λ (h : acknowledges_before a b ≡ false). ⊎_elim
-    (λ (k : acknowledges_before b a ≡ true). sym (put_commutes acknowledges_before b a acks chain k (one_way b a k)))
-    (λ (k : acknowledges_before b a ≡ false). absurd (ne (subtasks_in_order.total a.subtask b.subtask h k)))
-    (cases_Bool (acknowledges_before b a)))
-    (cases_Bool (acknowledges_before a b))
+    grind (arith, common_steps, both_ways, cases_Bool, put_commutes, chain, ne)
 
 -- whether a subtask has acknowledged, after one acknowledgement more
 
@@ -97,15 +67,7 @@ pending_of_replaced rs id q w order e same pending =
     let p : IsReplacing (put_in w) q w rs = put_in_replaces q w rs order found.0 same in
     let its_id : q.id ≡ id = eqb-true q.id id (and_parts (is_pending q) (eqb q.id id) found.1).1 in
     let passes : test w ≡ true = and_from (is_pending w) (eqb w.id id) (not_from_false w.done pending) (eq-eqb w.id id (same ∙ its_id)) in
-    let P : Record → Type 0 = λ r. IsIn r (map (put_in w) rs) in
-    let there : IsIn w (map (put_in w) rs) = subst P (put_in_itself w q same) (IsIn-map (put_in w) q rs found.0) in
-    let only : (y : Record) → IsIn y (map (put_in w) rs) → test y ≡ true → y ≡ w = λ y h t.
-    let x = IsIn-from_map (put_in w) y rs h in
-    ⊎_elim
-    (λ (c : (x.0 ≡ q) × (put_in w x.0 ≡ w)). x.2 ∙ c.1)
-    (λ (c : ((x.0).id ≡ q.id → ⊥) × (put_in w x.0 ≡ x.0)). absurd (c.0 (ap (λ r. r.id) (sym (x.2 ∙ c.1)) ∙ eqb-true y.id id (and_parts (is_pending y) (eqb y.id id) t).1 ∙ sym its_id)))
-    (p.cases x.0 x.1) in
-    find-only test w (map (put_in w) rs) there passes only
+    grind (arith, common_steps, put_in, IsIn-map, IsIn-from_map, eqb-true, and_parts, p.cases, find-only)
   where
     put_in_itself : (w q : Record) → w.id ≡ q.id → put_in w q ≡ w
     put_in_itself w q same = cond-true (eqb q.id w.id) w q (eq-eqb q.id w.id (sym same))

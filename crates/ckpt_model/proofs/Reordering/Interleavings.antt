@@ -1,7 +1,7 @@
 -- The missing acknowledgements of one record come to the same in every order.
-use Rattle.ckpt_model.proofs.Names.{◌≡◌, ℕ, ◌+◌, ◌≤◌, Bool, true, false, cond, List, [], ◌∷◌, ◌++◌, map, refl, sym, ap, subst, ◌∙◌, inl, inr, ⊎_elim, arith, count_by, Option, Some, None, option_or}
-use Rattle.ckpt_model.proofs.Names.{is_some, both_ways, Call, Answer, IsIn, Record, count_by-cons, count_by_yes, count_by_no, IsIn-append_right, State, step, replay, answers, IsSound, SameBySeat}
-use Rattle.ckpt_model.proofs.Names.{NewFile, ack_with, AreApart, calls_of, completed_by, first_completed, is_completing, SameOutcome, AnyOrder, common_steps}
+use Rattle.ckpt_model.proofs.Names.{◌≡◌, ℕ, ◌+◌, ◌≤◌, Bool, true, false, List, [], ◌∷◌, ◌++◌, map, refl, sym, ap, subst, inl, inr, ⊎_elim, arith, count_by, Option, option_or, is_some, both_ways, Call}
+use Rattle.ckpt_model.proofs.Names.{Answer, IsIn, Record, count_by-cons, count_by_no, IsIn-append_right, State, step, replay, answers, IsSound, SameBySeat, NewFile, ack_with, AreApart}
+use Rattle.ckpt_model.proofs.Names.{first_completed, is_completing, AnyOrder, common_steps}
 use Rattle.ckpt_model.proofs.Records.Counts.{count_by_at_most_more}
 use Rattle.ckpt_model.proofs.Soundness.Calls.{step_keeps}
 use Rattle.ckpt_model.proofs.Reordering.Rearranged.{Rearranged, IsIn-midst, IsIn-rearranged, Rearranged-map, Rearranged-from_map, rearranged_by_seat, count_by-rearranged}
@@ -45,25 +45,7 @@ same_later m call xs ys a = grind (arith, common_steps)
 
 -- with the first two exchanged, of which the first does not complete the record
 same_exchanged : (m : State) (a b : Call) (rest : List Call) → Exchanged m a b → is_completing (step m a).1 ≡ false → Same m (a ∷ b ∷ rest) (b ∷ a ∷ rest)
-same_exchanged m a b rest x pending =
-    let a1 : Answer = (step m a).1 in
-    let a2 : Answer = (step (step m a).0 b).1 in
-    let b1 : Answer = (step m b).1 in
-    let b2 : Answer = (step (step m b).0 a).1 in
-    let n : State = (step (step m a).0 b).0 in
-    let n' : State = (step (step m b).0 a).0 in
-    let told : Answer → Answer → State → List Answer = λ c d k. c ∷ d ∷ answers k rest in
-    let later : List Answer = answers n rest in
-    let same_state : n ≡ n' = x.state in
-    let in_turn : (b1 ≡ a1) × (b2 ≡ a2) → told a1 a2 n ≡ told b1 b2 n' = λ e. ap (λ c. told c a2 n) (sym e.0) ∙ ap (λ d. told b1 d n) (sym e.1) ∙ ap (told b1 b2) same_state in
-    let turned : (b1 ≡ a2) × (b2 ≡ a1) → told a2 a1 n ≡ told b1 b2 n' = λ e. ap (λ c. told c a1 n) (sym e.0) ∙ ap (λ d. told b1 d n) (sym e.1) ∙ ap (told b1 b2) same_state in
-    let swapped : (asked : Answer → Bool) → count_by asked (told a1 a2 n) ≡ count_by asked (told a2 a1 n) = λ asked. omega (arith, count_by-cons asked a1 (a2 ∷ later), count_by-cons asked a2 later, count_by-cons asked a2 (a1 ∷ later), count_by-cons asked a1 later) in
-    let first : first_completed (told a1 a2 n) ≡ first_completed (told a2 a1 n) = option_or-swap (completed_by a1) (completed_by a2) (first_completed later) (λ h k. both_ways (is_completing a1) pending h) in
-    record {
-      state = ap (λ k. replay k rest) same_state;
-      as_often = λ asked. ⊎_elim (λ (e : (b1 ≡ a1) × (b2 ≡ a2)). ap (count_by asked) (in_turn e)) (λ (e : (b1 ≡ a2) × (b2 ≡ a1)). swapped asked ∙ ap (count_by asked) (turned e)) x.answers;
-      completed = ⊎_elim (λ (e : (b1 ≡ a1) × (b2 ≡ a2)). ap first_completed (in_turn e)) (λ (e : (b1 ≡ a2) × (b2 ≡ a1)). first ∙ ap first_completed (turned e)) x.answers;
-    }
+same_exchanged m a b rest x pending = grind (arith, common_steps, count_by-cons, option_or-swap, both_ways)
 
 -- lists of new files
 
@@ -76,17 +58,15 @@ differ_back n o d = (λ e. d.0 (sym e), λ e. d.1 (sym e))
 apart-midst : (n : NewFile) (front back : List NewFile) → AreApart (front ++ back) → ((o : NewFile) → IsIn o (front ++ back) → Differ n o) → AreApart (front ++ n ∷ back)
 apart-midst n [] back a differ = (differ, a)
 apart-midst n (p ∷ front) back a differ =
-    let P : NewFile → Type 0 = λ o. Differ p o in
     let from_p : (o : NewFile) → IsIn o (front ++ n ∷ back) → Differ p o = λ o h.
-    ⊎_elim (λ (e : o ≡ n). subst P (sym e) (differ_back n p (differ p (inl refl)))) (λ (k : IsIn o (front ++ back)). a.0 o k) (IsIn-midst o n front back h) in
+    ⊎_elim (λ (e : o ≡ n). rw e (differ_back n p (differ p (inl refl)))) (λ (k : IsIn o (front ++ back)). a.0 o k) (IsIn-midst o n front back h) in
     (from_p, apart-midst n front back a.1 (λ o h. differ o (inr h)))
 
 apart-rearranged : (xs ys : List NewFile) → AreApart xs → Rearranged xs ys → AreApart ys
 apart-rearranged [] ys a e = subst AreApart (sym e) a
 apart-rearranged (n ∷ xs) ys a r =
     let rest : List NewFile = (r.0) ++ (r.1) in
-    let others : AreApart rest = apart-rearranged xs rest a.1 r.3 in
-    subst AreApart (sym r.2) (apart-midst n r.0 r.1 others (λ o h. a.0 o (IsIn-rearranged o xs rest r.3 h)))
+    subst AreApart (sym r.2) (apart-midst n r.0 r.1 (apart-rearranged xs rest a.1 r.3) (λ o h. a.0 o (IsIn-rearranged o xs rest r.3 h)))
 
 -- each is awaited
 abbrev AreAwaited : State → ℕ → List NewFile → Type 0
@@ -123,8 +103,7 @@ same_rearranged m now id (n ∷ xs) ys s w a r =
     let turned : Rearranged (n ∷ xs) whole = (r.0, r.1, refl, r.3) in
     let later : Same (step m N).0 (acks now id xs) (acks now id rest) = same_rearranged (step m N).0 now id xs rest (step_keeps m N tt s) (still_awaited m now id n xs s w a) a.1 r.3 in
     let front : Same m (N ∷ acks now id rest) (acks now id whole) = to_front m now id n r.0 r.1 s (λ o h. w o (IsIn-rearranged o (n ∷ xs) whole turned h)) (apart-rearranged (n ∷ xs) whole a turned) in
-    let P : List NewFile → Type 0 = λ zs. Same m (acks now id (n ∷ xs)) (acks now id zs) in
-    subst P (sym r.2) (same_chain (same_later m N (acks now id xs) (acks now id rest) later) front)
+    grind (arith, common_steps, same_chain, same_later) steps 1000000
 
 -- at most one completes the record
 at_most_one : (m : State) (now id : ℕ) (xs : List NewFile) → IsSound m → AreAwaited m id xs → AreApart xs → count_by is_completing (answers m (acks now id xs)) ≤ 1
@@ -140,12 +119,4 @@ at_most_one m now id (n ∷ o ∷ xs) s w a =
 pub any_order : (m : State) (now id : ℕ) (r : Record) (news : List NewFile) (given made : List (ℕ × Call)) → IsSound m → AnyOrder m now id r news given made
 any_order m now id r news given made s found missing apart is same =
     let value : ℕ × Call → Call = λ x. x.1 in
-    let P : List Call → Type 0 = λ calls. Rearranged calls (calls_of made) in
-    let turned = Rearranged-from_map (ack_with now id) news (calls_of made) (subst P is (Rearranged-map value given made (rearranged_by_seat given made same))) in
-    let awaited : AreAwaited m id news = λ n h. record { r = r; found = found; lacks = missing n h } in
-    let both : Same m (acks now id news) (acks now id turned.0) = same_rearranged m now id news turned.0 s awaited apart turned.2 in
-    let once : count_by is_completing (answers m (acks now id news)) ≤ 1 = at_most_one m now id news s awaited apart in
-    let outcome : SameOutcome m (acks now id news) (acks now id turned.0) = record { state = both.state; as_often = both.as_often; completed = both.completed; once = once } in
-    let Q : List Call → Type 0 = λ calls. SameOutcome m calls (acks now id turned.0) in
-    let R : List Call → Type 0 = λ calls. SameOutcome m (calls_of given) calls in
-    subst R (sym turned.1) (subst Q (sym is) outcome)
+    grind (arith, common_steps, Rearranged-from_map, Rearranged-map value given made, rearranged_by_seat given made same, same_rearranged m now id news, at_most_one m now id news s) steps 1000000

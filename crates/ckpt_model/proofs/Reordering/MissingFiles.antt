@@ -1,8 +1,7 @@
 -- The missing subtasks of a pending record, each with the next file from a first one on, meet the conditions of the law of any order.
-use Rattle.ckpt_model.proofs.Names.{◌≡◌, ℕ, ◌+◌, ◌≤◌, Bool, true, false, not, ◌&&◌, eqb, List, [], ◌∷◌, map, refl, sym, ap, subst, ◌∙◌, inl, inr, ⊎_elim, arith, find, Some, filter, enumerate_from}
-use Rattle.ckpt_model.proofs.Names.{cases_Bool, both_ways, not-true, not_from_false, and_parts, and_from, cond-true, cond-false, SubtaskId, IsIn, IsInOrder, is_before, Record, has_acknowledged}
-use Rattle.ckpt_model.proofs.Names.{subtasks, subtasks_in_order, IsIn-from_filter, IsInOrder-filter, ComesBefore-at, IsInOrder-subtasks, is_subtask-from_IsIn, State, is_pending, record_of, pending_of}
-use Rattle.ckpt_model.proofs.Names.{NewFile, AreApart, AreMissing, common_steps}
+use Rattle.ckpt_model.proofs.Names.{◌≡◌, ℕ, ◌+◌, ◌≤◌, Bool, true, false, not, ◌&&◌, eqb, List, [], ◌∷◌, map, refl, sym, subst, inl, inr, ⊎_elim, arith, find, Some, filter, enumerate_from, both_ways}
+use Rattle.ckpt_model.proofs.Names.{not-true, not_from_false, and_parts, and_from, SubtaskId, IsIn, IsInOrder, is_before, Record, has_acknowledged, subtasks, IsIn-from_filter, IsInOrder-filter}
+use Rattle.ckpt_model.proofs.Names.{ComesBefore-at, IsInOrder-subtasks, is_subtask-from_IsIn, State, is_pending, record_of, pending_of, NewFile, AreApart, AreMissing, common_steps}
 use Rattle.ckpt_model.proofs.Records.Counts.{IsIn-from_find}
 
 -- the one that a test finds is found by a narrower test that it passes
@@ -41,9 +40,7 @@ apart_new_files first place [] order = tt
 apart_new_files first place (s ∷ missing) order =
     let others : (o : NewFile) → IsIn o (new_files first (place + 1) missing) → (s ≡ o.subtask → ⊥) × (first + place ≡ o.file → ⊥) = λ o h.
     let q = from_new_files first (place + 1) missing o h in
-    let before : is_before s o.subtask ≡ true = ComesBefore-at is_before s o.subtask missing order.0 q.0 in
-    let P : SubtaskId → Type 0 = λ t. is_before s t ≡ true in
-    (λ e. both_ways (is_before s s) (subtasks_in_order.irreflexive s) (subst P (sym e) before), λ e. let no : ⊥ = omega (arith, q.1) in no) in
+    grind (arith, common_steps, ComesBefore-at, both_ways) in
     (others, apart_new_files first (place + 1) missing order.1)
 
 pub apart_missing : (first : ℕ) (r : Record) → AreApart (new_files first 0 (missing_of r))

@@ -1,9 +1,8 @@
 -- Acknowledgements of missing subtasks, each with one new file: what one does to another.
-use Rattle.ckpt_model.proofs.Names.{◌≡◌, ℕ, ◌<◌, ◌≤◌, ◌^◌, max, Bool, true, false, not, ◌&&◌, ◌||◌, cond, ltb, leb, eqb, List, [], ◌∷◌, ◌++◌, refl, sym, ap, subst, ◌∙◌, ◌⊎◌, inl, inr, ⊎_elim, arith}
-use Rattle.ckpt_model.proofs.Names.{Option, Some, None, cases_Bool, both_ways, not-true, not_from_false, and_parts, or_from, cond-false, eqb-true, leb-false, le-ltb, lt-leb, Call, Refusal}
-use Rattle.ckpt_model.proofs.Names.{MomentTooLarge, UnknownCheckpoint, UnknownSubtask, AlreadyAcknowledged, NameTaken, Done, Refused, ascending, IsIn, Record, uses, is_present, missing}
-use Rattle.ckpt_model.proofs.Names.{has_acknowledged, subtasks, is_subtask, IsIn-subtasks, State, is_pending, is_known, in_outbox, refusal, refuse_if, pending_of, was_not_given, is_foreign, is_repeat}
-use Rattle.ckpt_model.proofs.Names.{named, where_pending, Stepped, replaced, with_records, step, IsSound, is_ack_pending, is_ack_taken, Part, NewFile, ack_with, is_completing, counted-from_IsIn}
+use Rattle.ckpt_model.proofs.Names.{◌≡◌, ℕ, ◌<◌, ◌≤◌, ◌^◌, max, true, false, ◌&&◌, ◌||◌, ltb, leb, eqb, List, [], ◌∷◌, ◌++◌, refl, sym, ap, subst, ◌∙◌, ◌⊎◌, ⊎_elim, arith, Some, None, cases_Bool}
+use Rattle.ckpt_model.proofs.Names.{both_ways, not-true, not_from_false, and_parts, or_from, cond-false, eqb-true, leb-false, le-ltb, lt-leb, Call, Refusal, MomentTooLarge, NameTaken, Done, Refused}
+use Rattle.ckpt_model.proofs.Names.{ascending, IsIn, Record, uses, is_present, missing, has_acknowledged, is_subtask, IsIn-subtasks, State, is_pending, is_known, in_outbox, refusal, refuse_if}
+use Rattle.ckpt_model.proofs.Names.{pending_of, was_not_given, Stepped, replaced, with_records, step, IsSound, is_ack_pending, is_ack_taken, Part, NewFile, ack_with, is_completing, counted-from_IsIn}
 use Rattle.ckpt_model.proofs.Names.{common_steps}
 use Rattle.ckpt_ids.specs.declared.reply.Reply.TheVariants as reply
 use Rattle.ckpt_model.proofs.Records.Counts.{IsIn-from_find}
@@ -59,21 +58,7 @@ refused_known m now id n s w early known = grind (arith, common_steps, row_fails
 
 -- and no other
 pub accepted_unknown : (m : State) (now id : ℕ) (n : NewFile) → IsSound m → Awaits m id n → leb (2 ^ 62) now ≡ false → is_known m n.file ≡ false → refusal m (ack_with now id n) ≡ None
-accepted_unknown m now id n s w early unknown =
-    let r : Record = w.r in
-    let found : pending_of m.records id ≡ Some r = w.found in
-    let its : Lacks r n = w.lacks in
-    let same : (x : Record) → pending_of m.records id ≡ Some x → r ≡ x = λ x e. cc in
-    not_refused-ack m now id n.subtask (n.file ∷ []) [] (record {
-      moment = leb-false (2 ^ 62) now early;
-      few = omega arith;
-      once = refl;
-      given = was_given m id r s found;
-      of_subtask = λ x e. ap (λ y. is_subtask y.shape n.subtask) (sym (same x e)) ∙ its.0;
-      first = λ x e. ap (λ y. has_acknowledged y n.subtask) (sym (same x e)) ∙ its.1;
-      unknown = λ x e. cond-false (is_known m n.file) (Some n.file) None unknown;
-      present = λ x e. refl;
-    })
+accepted_unknown m now id n s w early unknown = grind (arith, common_steps, not_refused-ack, leb-false, was_given, cond-false)
 
 -- what one does
 
@@ -133,11 +118,7 @@ after_first m now id a b wa wb ne P refused pending =
 pub awaits_after : (m : State) (now id : ℕ) (a b : NewFile) → IsSound m → Awaits m id a → Awaits m id b → (a.subtask ≡ b.subtask → ⊥) → Awaits (step m (ack_with now id a)).0 id b
 awaits_after m now id a b s wa wb ne =
     let P : Stepped → Type 0 = λ x. Awaits x.0 id b in
-    after_first m now id a b wa wb ne P (λ why. wb) (record {
-      r = with_new wa.r a;
-      found = found_after m now id wa.r a s wa.found;
-      lacks = lacks_still wa.r a b ne (same_record wa wb);
-    })
+    after_first m now id a b wa wb ne P (λ why. wb) (grind (arith, common_steps, found_after m now id wa.r a s wa.found, lacks_still wa.r a b ne, ne, same_record wa wb) steps 1000000)
 
 -- a file that is not the first's is known after it if it was known before
 pub known_after : (m : State) (now id : ℕ) (a b : NewFile) (f : ℕ) → IsSound m → Awaits m id a → Awaits m id b → (a.subtask ≡ b.subtask → ⊥) → (f ≡ a.file → ⊥) → is_known (step m (ack_with now id a)).0 f ≡ is_known m f
@@ -181,29 +162,17 @@ exchanged_known m now id a b s wa wb ne other early known =
 exchanged_unknown : (m : State) (now id : ℕ) (a b : NewFile) → IsSound m → Awaits m id a → Awaits m id b → (a.subtask ≡ b.subtask → ⊥) → (a.file ≡ b.file → ⊥) → leb (2 ^ 62) now ≡ false → is_known m a.file ≡ false → is_known m b.file ≡ false → Exchanged m (ack_with now id a) (ack_with now id b)
 exchanged_unknown m now id a b s wa wb ne other early ka kb =
     let A : Call = ack_with now id a in
-    let B : Call = ack_with now id b in
     let ea : refusal m A ≡ None = accepted_unknown m now id a s wa early ka in
     let pending : is_ack_pending (step m A).1 ≡ true = ap (λ (x : Stepped). is_ack_pending x.1) (left m now id wa.r a b wa.found (same_record wa wb) ne ea) in
     let wb1 : Awaits (step m A).0 id b = awaits_after m now id a b s wa wb ne in
     let kb1 : is_known (step m A).0 b.file ≡ false = known_after m now id a b b.file s wa wb ne (λ e. other (sym e)) ∙ kb in
-    let eb1 : refusal (step m A).0 B ≡ None = accepted_unknown (step m A).0 now id b (step_keeps m A tt s) wb1 early kb1 in
+    let eb1 : refusal (step m A).0 (ack_with now id b) ≡ None = accepted_unknown (step m A).0 now id b (step_keeps m A tt s) wb1 early kb1 in
     let both = exchange m now id (part_of a) (part_of b) s ne (λ f h k. k) pending (taken (step m A).0 now id b wb1 eb1) in
-    record {
-      state = sym (ap (λ (x : Stepped). x.0) both.1);
-      answers = inl (both.0, ap (λ (x : Stepped). x.1) both.1);
-    }
+    grind (arith, common_steps)
 
 pub exchanged_new : (m : State) (now id : ℕ) (a b : NewFile) → IsSound m → Awaits m id a → Awaits m id b → (a.subtask ≡ b.subtask → ⊥) → (a.file ≡ b.file → ⊥) → Exchanged m (ack_with now id a) (ack_with now id b)
 exchanged_new m now id a b s wa wb ne other =
     let A : Call = ack_with now id a in
     let B : Call = ack_with now id b in
     let late : leb (2 ^ 62) now ≡ true → Exchanged m A B = λ (e : leb (2 ^ 62) now ≡ true). exchanged_refused m A B MomentTooLarge (refused_late m now id a e) (refused_late (step m B).0 now id a e) in
-    let early : leb (2 ^ 62) now ≡ false → Exchanged m A B = λ (e : leb (2 ^ 62) now ≡ false).
-    ⊎_elim
-    (λ (ka : is_known m a.file ≡ true). exchanged_known m now id a b s wa wb ne other e ka)
-    (λ (ka : is_known m a.file ≡ false). ⊎_elim
-    (λ (kb : is_known m b.file ≡ true). exchanged_back (exchanged_known m now id b a s wb wa (λ x. ne (sym x)) (λ x. other (sym x)) e kb))
-    (λ (kb : is_known m b.file ≡ false). exchanged_unknown m now id a b s wa wb ne other e ka kb)
-    (cases_Bool (is_known m b.file)))
-    (cases_Bool (is_known m a.file)) in
-    ⊎_elim late early (cases_Bool (leb (2 ^ 62) now))
+    grind (arith, common_steps, exchanged_known, exchanged_back, exchanged_unknown, cases_Bool) steps 1000000

@@ -1,6 +1,6 @@
 -- Lists with the same elements in another order. Two lists in which each seat has the same elements in the same order are such lists.
-use Rattle.ckpt_model.proofs.Names.{◌≡◌, ℕ, Bool, true, false, cond, eqb, List, [], ◌∷◌, ◌++◌, map, refl, sym, ap, subst, ◌∙◌, ◌⊎◌, inl, inr, ⊎_elim, arith, count_by, filter, cases_Bool, cond-true}
-use Rattle.ckpt_model.proofs.Names.{cond-false, eqb-true, eq-eqb, map-append, IsIn, count_by-cons, IsIn-append_left, IsIn-append_right, IsIn-append_cases, of_seat, SameBySeat, common_steps}
+use Rattle.ckpt_model.proofs.Names.{◌≡◌, ℕ, Bool, true, false, cond, eqb, List, [], ◌∷◌, ◌++◌, map, refl, sym, ap, subst, ◌∙◌, ◌⊎◌, arith, count_by, filter, cases_Bool, cond-true, cond-false}
+use Rattle.ckpt_model.proofs.Names.{eqb-true, eq-eqb, map-append, IsIn, IsIn-append_left, IsIn-append_right, IsIn-append_cases, of_seat, SameBySeat, common_steps}
 
 -- ys has the elements of xs, in some order
 abbrev pub Rearranged : {X : Type 0} → List X → List X → Type 0
@@ -9,24 +9,12 @@ Rearranged {X} (x ∷ xs) ys = (front : List X) × (back : List X) × (ys ≡ fr
 
 -- an element in the midst is first or one of the others
 pub IsIn-midst : {X : Type 0} (y x : X) (front back : List X) → IsIn y (front ++ x ∷ back) → (y ≡ x) ⊎ IsIn y (front ++ back)
-IsIn-midst y x front back h =
-    ⊎_elim
-    (λ (k : IsIn y front). inr (IsIn-append_left y front back k))
-    (λ (k : IsIn y (x ∷ back)). ⊎_elim (λ (e : y ≡ x). inl e) (λ (l : IsIn y back). inr (IsIn-append_right y front back l)) k)
-    (IsIn-append_cases y front (x ∷ back) h)
+IsIn-midst y x front back h = grind (arith, common_steps, IsIn-append_left y front back, IsIn-append_right y front back, IsIn-append_cases y front (x ∷ back) h)
 
 -- each element was there
 pub IsIn-rearranged : {X : Type 0} (y : X) (xs ys : List X) → Rearranged xs ys → IsIn y ys → IsIn y xs
 IsIn-rearranged {X} y [] ys e h = let P : List X → Type 0 = λ zs. IsIn y zs in subst P e h
-IsIn-rearranged {X} y (x ∷ xs) ys r h =
-    let P : List X → Type 0 = λ zs. IsIn y zs in
-    let rest : IsIn y ((r.0) ++ (r.1)) → IsIn y xs = IsIn-rearranged y xs ((r.0) ++ (r.1)) r.3 in
-    ⊎_elim (λ (e : y ≡ x). inl e) (λ (k : IsIn y ((r.0) ++ (r.1))). inr (rest k)) (IsIn-midst y x r.0 r.1 (subst P r.2 h))
-
--- as many pass a test
-count_by-midst : {X : Type 0} (p : X → Bool) (x : X) (front back : List X) → count_by p (front ++ x ∷ back) ≡ count_by p (x ∷ front ++ back)
-count_by-midst p x [] back = grind (arith, common_steps)
-count_by-midst p x (y ∷ front) back = grind (arith, common_steps, count_by-midst p x front back)
+IsIn-rearranged {X} y (x ∷ xs) ys r h = grind (arith, common_steps, IsIn-midst y x r.0 r.1, IsIn-rearranged y xs ((r.0) ++ (r.1)) r.3)
 
 pub count_by-rearranged : {X : Type 0} (p : X → Bool) (xs ys : List X) → Rearranged xs ys → count_by p xs ≡ count_by p ys
 count_by-rearranged p [] ys e = grind (arith, common_steps)
@@ -53,9 +41,7 @@ Rearranged-from_map f [] ys e = ([], e, refl)
 Rearranged-from_map {X} {Y} f (x ∷ xs) ys r =
     let rest = Rearranged-from_map f xs ((r.0) ++ (r.1)) r.3 in
     let p = parts-from_map f r.0 r.1 rest.0 rest.1 in
-    let P : List X → Type 0 = λ zs. Rearranged xs zs in
-    let made : ys ≡ map f ((p.0) ++ x ∷ p.1) = r.2 ∙ ap (λ zs. zs ++ f x ∷ r.1) p.3 ∙ ap (λ zs. map f p.0 ++ f x ∷ zs) p.4 ∙ sym (map-append f p.0 (x ∷ p.1)) in
-    ((p.0) ++ x ∷ p.1, made, (p.0, p.1, refl, subst P p.2 rest.2))
+    ((p.0) ++ x ∷ p.1, (r.2 ∙ ap (λ zs. zs ++ f x ∷ r.1) p.3 ∙ ap (λ zs. map f p.0 ++ f x ∷ zs) p.4 ∙ sym (map-append f p.0 (x ∷ p.1))), (p.0, p.1, refl, rw (← p.2) rest.2))
 
 -- of one seat
 
@@ -117,20 +103,11 @@ pub rearranged_by_seat : {X : Type 0} (xs ys : List (ℕ × X)) → SameBySeat x
 rearranged_by_seat [] ys same = empty-by_seat ys same
 rearranged_by_seat {X} (x ∷ xs) ys same =
     let f : IsFirst x.0 x.1 (of_seat x.0 xs) ys = first_of_seat x.0 x.1 (of_seat x.0 xs) ys (sym (same x.0) ∙ of_seat-its x.0 x xs (eq-eqb x.0 x.0 refl)) in
-    let without : List (ℕ × X) = f.front ++ f.back in
-    let P : ℕ → Type 0 = λ seat. of_seat seat xs ≡ of_seat seat without in
-    let still : SameBySeat xs without = λ seat.
-    ⊎_elim
-    (λ (at : eqb x.0 seat ≡ true). subst P (eqb-true x.0 seat at) (sym f.its))
-    (λ (at : eqb x.0 seat ≡ false). sym (of_seat-other seat x xs at) ∙ same seat ∙ sym (f.others seat at))
-    (cases_Bool (eqb x.0 seat)) in
-    (f.front, f.back, f.is, rearranged_by_seat xs without still)
+    grind (arith, common_steps, f.front, eqb-true, of_seat-other, cases_Bool, rearranged_by_seat xs)
 
 -- whatever is asked of the values, as many answer
 pub as_often_by_seat : {X : Type 0} (xs ys : List (ℕ × X)) → SameBySeat xs ys → (asked : X → Bool) → count_by asked (map (λ (x : ℕ × X). x.1) xs) ≡ count_by asked (map (λ (x : ℕ × X). x.1) ys)
-as_often_by_seat {X} xs ys same asked =
-    let value : ℕ × X → X = λ x. x.1 in
-    count_by-rearranged asked (map value xs) (map value ys) (Rearranged-map value xs ys (rearranged_by_seat xs ys same))
+as_often_by_seat {X} xs ys same asked = grind (arith, common_steps, count_by-rearranged, Rearranged-map, rearranged_by_seat)
 
 -- what a seat has of a list of things that know their seat
 pub of_seat-map : {E X : Type 0} (seat_of : E → ℕ) (value_of : E → X) (seat : ℕ) (es : List E) → of_seat seat (map (λ e. (seat_of e, value_of e)) es) ≡ map value_of (filter (λ e. eqb (seat_of e) seat) es)

@@ -1,9 +1,9 @@
 -- An acknowledgement that leaves its record pending keeps a coordinator sound; and lemmas on one that completes it, for Completions.
-use Rattle.ckpt_model.proofs.Names.{◌≡◌, ℕ, ◌≤◌, Bool, true, false, not, ◌&&◌, ◌||◌, cond, ltb, leb, eqb, List, [], ◌∷◌, ◌++◌, map, refl, sym, ap, subst, ◌∙◌, inl, inr, ⊎_elim, arith, count_by}
-use Rattle.ckpt_model.proofs.Names.{Option, Some, None, filter, list_any, cases_Bool, both_ways, not-true, not-false, not_from_false, and_parts, and_left, and_cases, and_from, or_parts, cond_both}
-use Rattle.ckpt_model.proofs.Names.{ltb-false, SubtaskId, Acked, IsIn, IsInOrder, AreDistinct, ascending, Record, uses, is_present, missing, has_acknowledged, acknowledged, is_subtask}
-use Rattle.ckpt_model.proofs.Names.{IsIn-append_cases, IsIn-from_in_order, filter-all, not_in-from_test, State, is_checkpoint, is_pending, is_done_checkpoint, is_subsumed, is_surplus, is_known}
-use Rattle.ckpt_model.proofs.Names.{in_outbox, kept, unpinned, pending_of, replaced, with_records, superseded, IsSound, IsRecord, id_before, common_steps}
+use Rattle.ckpt_model.proofs.Names.{◌≡◌, ℕ, ◌≤◌, Bool, true, false, not, ◌&&◌, ltb, leb, eqb, List, [], ◌∷◌, ◌++◌, map, refl, sym, ap, ◌∙◌, ⊎_elim, arith, count_by, Option, Some, filter, list_any}
+use Rattle.ckpt_model.proofs.Names.{both_ways, not-true, not-false, not_from_false, and_parts, and_left, and_cases, and_from, or_parts, SubtaskId, Acked, IsIn, IsInOrder, AreDistinct, ascending}
+use Rattle.ckpt_model.proofs.Names.{Record, uses, is_present, missing, has_acknowledged, acknowledged, is_subtask, IsIn-append_cases, IsIn-from_in_order, filter-all, not_in-from_test, State}
+use Rattle.ckpt_model.proofs.Names.{is_checkpoint, is_pending, is_done_checkpoint, is_known, in_outbox, kept, unpinned, pending_of, replaced, with_records, superseded, IsSound, IsRecord, id_before}
+use Rattle.ckpt_model.proofs.Names.{common_steps}
 use Rattle.ckpt_model.proofs.Records.Counts.{count_by-changed, IsIn-from_changed, IsIn-from_find, fails-from_find}
 use Rattle.ckpt_model.proofs.Records.Present.{Holds, IsHeld, Holds-put_ack, absent-from_not_held, not_held}
 use Rattle.ckpt_model.proofs.Records.Released.{distinct-from_test}
@@ -28,15 +28,7 @@ pub record IsAcking (m : State) (q : Record) (subtask : SubtaskId) (fresh reused
 pub acking : (m : State) (now id : ℕ) (subtask : SubtaskId) (fresh reused : List ℕ) (q : Record) → IsAcceptedAck m now id subtask fresh reused → pending_of m.records id ≡ Some q → IsAcking m q subtask fresh reused
 acking m now id subtask fresh reused q a e =
     let found = IsIn-from_find (λ r. is_pending r && eqb r.id id) q m.records e in
-    record {
-      there = found.0;
-      pending = not-true q.done (and_parts (is_pending q) (eqb q.id id) found.1).0;
-      of_subtask = a.of_subtask q e;
-      first = a.first q e;
-      once = distinct-from_test (fresh ++ reused) a.once;
-      unknown = λ f h. fails-from_find (is_known m) f fresh (a.unknown q e) h;
-      present = λ f h. not-false (is_present (uses m.records) f) (fails-from_find (λ g. not (is_present (uses m.records) g)) f reused (a.present q e) h);
-    }
+    grind (arith, common_steps, not-true, and_parts, a.of_subtask, distinct-from_test, fails-from_find, a.unknown, not-false, a.present)
 
 -- the moment is the only thing that an accepted call changes before its effect, and an acknowledgement does not read it
 pub acking_at : (m : State) (latest : ℕ) (q : Record) (subtask : SubtaskId) (fresh reused : List ℕ) → IsAcking m q subtask fresh reused → IsAcking (record m { latest = latest }) q subtask fresh reused
@@ -61,18 +53,12 @@ files_not_out {m} {q} {subtask} {fresh} {reused} s a f h out =
 -- the outbox beside a list of records with one acknowledgement more
 pub outbox_acked : {m : State} {q : Record} {subtask : SubtaskId} {fresh reused : List ℕ} (new : Record) → IsSound m → IsAcking m q subtask fresh reused → new.id ≡ q.id → new.acks ≡ (with_ack q subtask fresh reused).acks → new.pins ≡ q.pins → IsSoundOutbox (map (put_in new) m.records) m.waiting m.taken
 outbox_acked {m} {q} {subtask} {fresh} {reused} new s a id acks pins =
-    let p : IsReplacing (put_in new) q new m.records = put_in_replaces q new m.records s.records.in_order a.there id in
-    let w : Record = with_ack q subtask fresh reused in
     let its : Acked = record { subtask = subtask; files = ascending (fresh ++ reused) } in
-    let in_with : (f : ℕ) → Holds f new → Holds f w = λ f h.
-    ⊎_elim
-    (λ (k : (b : Acked) × IsIn b new.acks × IsIn f b.files). let P : List Acked → Type 0 = λ bs. IsIn k.0 bs in inl (k.0, subst P acks k.1, k.2))
-    (λ (k : IsIn f new.pins). let P : List ℕ → Type 0 = λ fs. IsIn f fs in inr (subst P pins k))
-    h in
+    let in_with : (f : ℕ) → Holds f new → Holds f (with_ack q subtask fresh reused) = grind (arith, common_steps) in
     let none : (f : ℕ) → IsIn f (m.waiting ++ m.taken) → IsHeld f (map (put_in new) m.records) → ⊥ = λ f out h.
     let old : IsHeld f m.records → ⊥ = not_held f m.records ((outbox_of s).unused f out) in
     let by_new : Holds f new → ⊥ = λ (k : Holds f new). ⊎_elim (λ (i : IsIn f its.files). files_not_out s a f i out) (λ (i : Holds f q). old (q, a.there, i)) (Holds-put_ack f its q (in_with f k)) in
-    ⊎_elim by_new old (held_after_put f m.records q new p h) in
+    ⊎_elim by_new old (held_after_put f m.records q new (put_in_replaces q new m.records s.records.in_order a.there id) h) in
     record {
       unused = λ f out. absent-from_not_held f (map (put_in new) m.records) (none f out);
       apart = (outbox_of s).apart;
@@ -98,7 +84,6 @@ ack_pending_is_sound m q subtask fresh reused s a lacks =
     let p : IsReplacing (put_in w) q w rs = put_in_replaces q w rs s.records.in_order a.there refl in
     let i : IsRecord w = acknowledged_pending q subtask (ascending (fresh ++ reused)) (s.records.each q a.there) a.pending (with_ack_is s a) lacks in
     let records : AreSoundRecords m.opening m.next (map (put_in w) (filter (λ _. true) rs)) = replaced_records (λ _. true) s.records p a.pending refl refl i (and_left q.done (is_checkpoint q) a.pending) in
-    let Any : List Record → Type 0 = λ xs. AreSoundRecords m.opening m.next xs in
     sound_from (with_records m (replaced rs w)) (record {
       config = s.config;
       shape = s.shape;
@@ -109,7 +94,7 @@ ack_pending_is_sound m q subtask fresh reused s a lacks =
       base = λ id e. ap (list_any (is_savepoint id)) (sym (nothing_dropped (put_in w) rs)) ∙ savepoint_beside id p a.pending (s.base id e);
       idle = λ ne. absurd (both_ways q.done a.pending (s.idle ne q a.there));
       failures = s.failures;
-    }) (subst Any (nothing_dropped (put_in w) rs) records) (outbox_acked w s a refl refl refl)
+    }) (rw (← (nothing_dropped (put_in w) rs)) records) (outbox_acked w s a refl refl refl)
 
 -- completion
 
@@ -117,10 +102,6 @@ ack_pending_is_sound m q subtask fresh reused s a lacks =
 pub fused : (u g : Record → Record) (k : Record → Bool) (rs : List Record) → map u (filter k (map g rs)) ≡ map (λ x. u (g x)) (filter (λ x. k (g x)) rs)
 fused u g k [] = grind (arith, common_steps)
 fused u g k (x ∷ rs) = grind (arith, common_steps, fused u g k rs)
-
--- a record without its pins holds no more
-Holds-unpinned : (f : ℕ) (ended : Option ℕ) (x : Record) → Holds f (unpinned ended x) → Holds f x
-Holds-unpinned f ended x h3 = grind (arith, common_steps, cond_both)
 
 -- what is held after a completion's drop was held before
 pub held_before_kept : (dropped : Record → Bool) (ended : Option ℕ) (rs : List Record) (f : ℕ) → IsHeld f (kept dropped ended rs) → IsHeld f rs
@@ -135,15 +116,10 @@ pub retained_after : (m : State) (r : Record) → is_checkpoint r ≡ true → I
 retained_after m r checkpoint order =
     let n : ℕ = m.opening.config.retained in
     let test : Record → Bool = λ x. is_done_checkpoint x && not (leb n (later is_done_checkpoint x m.records)) in
-    let passes : (x : Record) → IsIn x m.records → not (superseded m r x) ≡ true → is_done_checkpoint (unpinned (Some r.id) x) ≡ true → test x ≡ true = λ x _ stays d.
-    let done : is_done_checkpoint x ≡ true = sym (unpinned_checkpoint r.id x) ∙ d in
-    let either : (is_subsumed r.id x || is_surplus m x) ≡ false = ⊎_elim (λ (e : is_checkpoint r ≡ false). absurd (both_ways (is_checkpoint r) e checkpoint)) (λ (e : (is_subsumed r.id x || is_surplus m x) ≡ false). e) (and_cases (is_checkpoint r) (is_subsumed r.id x || is_surplus m x) (not-true (superseded m r x) stays)) in
-    let no_surplus : is_surplus m x ≡ false = (or_parts (is_subsumed r.id x) (is_surplus m x) either).1 in
-    let few : leb n (later is_done_checkpoint x m.records) ≡ false = ⊎_elim (λ (e : is_done_checkpoint x ≡ false). absurd (both_ways (is_done_checkpoint x) e done)) (λ (e : leb n (later is_done_checkpoint x m.records) ≡ false). e) (and_cases (is_done_checkpoint x) (leb n (later is_done_checkpoint x m.records)) no_surplus) in
-    and_from (is_done_checkpoint x) (not (leb n (later is_done_checkpoint x m.records))) done (not_from_false (leb n (later is_done_checkpoint x m.records)) few) in
+    let passes : (x : Record) → IsIn x m.records → not (superseded m r x) ≡ true → is_done_checkpoint (unpinned (Some r.id) x) ≡ true → test x ≡ true =
+    grind (arith, common_steps, unpinned_checkpoint, both_ways, and_cases, not-true, or_parts, later, and_from, not_from_false) in
     let fewer : count_by is_done_checkpoint (kept (superseded m r) (Some r.id) m.records) ≤ count_by test m.records = count_by-changed is_done_checkpoint test (unpinned (Some r.id)) (λ x. not (superseded m r x)) m.records passes in
-    let most : count_by test m.records ≤ n = newest_at_most is_done_checkpoint n m.records order in
-    omega arith
+    omega (arith, newest_at_most is_done_checkpoint n m.records order)
 
 -- what is not subsumed does not come before
 pub not_before : (m : State) (r x : Record) → is_checkpoint r ≡ true → not (superseded m r x) ≡ true → is_pending_checkpoint x ≡ true → r.id ≤ x.id

@@ -1,9 +1,9 @@
 -- An acknowledgement that completes a record keeps a coordinator sound, and so does a late one.
-use Rattle.ckpt_model.proofs.Names.{◌≡◌, ℕ, ◌<◌, ◌≤◌, Bool, true, false, not, eqb, List, [], ◌++◌, map, refl, sym, ap, subst, ◌∙◌, ⊎_elim, arith, count_by, Option, Some, None, filter, list_any}
-use Rattle.ckpt_model.proofs.Names.{cases_Bool, both_ways, not-true, not_from_false, and_left, and_right, or_parts, ltb-true, lt-ltb, SubtaskId, IsIn, IsInOrder, AreDistinct, Record, uses, is_present}
-use Rattle.ckpt_model.proofs.Names.{missing, IsIn-append_left, IsIn-append_right, IsIn-append_cases, IsIn-from_filter, IsInOrder-map, AreDistinct-append, AreDistinct-left, AreDistinct-right}
-use Rattle.ckpt_model.proofs.Names.{AreDistinct-apart, AreDistinct-filter, test-from_IsIn, Running, State, is_checkpoint, is_done_checkpoint, is_known, in_outbox, kept, unpinned, drop, released_by}
-use Rattle.ckpt_model.proofs.Names.{replaced, with_records, superseded, ack, IsSound, IsRecord, id_before}
+use Rattle.ckpt_model.proofs.Names.{common_steps, ◌≡◌, ℕ, ◌<◌, ◌≤◌, Bool, true, false, not, eqb, List, [], ◌++◌, map, refl, sym, ap, subst, ◌∙◌, ⊎_elim, arith, count_by, Option, Some, None, filter}
+use Rattle.ckpt_model.proofs.Names.{list_any, cases_Bool, both_ways, not-true, not_from_false, and_left, and_right, or_parts, ltb-true, lt-ltb, SubtaskId, IsIn, IsInOrder, AreDistinct, Record, uses}
+use Rattle.ckpt_model.proofs.Names.{is_present, missing, IsIn-append_left, IsIn-append_right, IsIn-append_cases, IsIn-from_filter, IsInOrder-map, AreDistinct-append, AreDistinct-left}
+use Rattle.ckpt_model.proofs.Names.{AreDistinct-right, AreDistinct-apart, AreDistinct-filter, test-from_IsIn, Running, State, is_checkpoint, is_done_checkpoint, is_known, in_outbox, kept, unpinned}
+use Rattle.ckpt_model.proofs.Names.{drop, released_by, replaced, with_records, superseded, ack, IsSound, IsRecord, id_before}
 use Rattle.ckpt_model.proofs.Records.Lists.{AreSoundRecords, IsSoundOutbox, sound_from, outbox_of, is_pending_checkpoint}
 use Rattle.ckpt_model.proofs.Records.Replacing.{put_in, IsReplacing, put_in_replaces, unpinned_replaces, cond_same, replaced_records, completed_records}
 use Rattle.ckpt_model.proofs.Records.Acknowledged.{completed_is}
@@ -55,21 +55,16 @@ records_completed m q c s i =
     let rs : List Record = m.records in
     let p : IsReplacing (ending c) q (record c { pins = [] }) rs = unpinned_replaces q c rs s.records.in_order i.there i.id in
     let g : IsReplacing (put_in c) q c rs = put_in_replaces q c rs s.records.in_order i.there i.id in
-    let Any : List Record → Type 0 = λ xs. AreSoundRecords m.opening m.next xs in
     let Few : List Record → Type 0 = λ xs. count_by is_done_checkpoint xs ≤ m.opening.config.retained in
     let of_checkpoint : is_checkpoint c ≡ true → AreSoundRecords m.opening m.next (map (ending c) (filter (staying m c) rs)) = λ (e : is_checkpoint c ≡ true).
     let order : IsInOrder id_before (map (put_in c) rs) = in_order-put_in q c rs s.records.in_order i.there i.id in
-    let few : Few (map (ending c) (filter (staying m c) rs)) = subst Few (left_is m c) (retained_after (having m c) c e order) in
     let after : (x : Record) → IsIn x rs → staying m c x ≡ true → ending c x ≡ x → is_pending_checkpoint x ≡ true → q.id ≤ x.id = λ x _ stays same waits.
     let still : is_pending_checkpoint (put_in c x) ≡ true = sym (pending_of_ending c x) ∙ ap is_pending_checkpoint same ∙ waits in
-    let from : c.id ≤ (put_in c x).id = not_before (having m c) c (put_in c x) e stays still in
-    let there : (put_in c x).id ≡ x.id = g.same x in
-    let its : c.id ≡ q.id = i.id in
-    omega arith in
-    completed_records (staying m c) s.records p i.pending i.done i.kind i.started i.free few after in
+    omega (arith, i.id, g.same x, not_before (having m c) c (put_in c x) e stays still) in
+    completed_records (staying m c) s.records p i.pending i.done i.kind i.started i.free (subst Few (left_is m c) (retained_after (having m c) c e order)) after in
     let of_savepoint : is_checkpoint c ≡ false → AreSoundRecords m.opening m.next (map (ending c) (filter (staying m c) rs)) = λ (e : is_checkpoint c ≡ false).
     replaced_records (staying m c) s.records p i.pending i.kind i.started i.free (and_right c.done (is_checkpoint c) e) in
-    subst Any (sym (left_is m c)) (⊎_elim of_checkpoint of_savepoint (cases_Bool (is_checkpoint c)))
+    rw (left_is m c) (⊎_elim of_checkpoint of_savepoint (cases_Bool (is_checkpoint c)))
   where
     in_order-put_in : (q c : Record) (rs : List Record) → IsInOrder id_before rs → IsIn q rs → c.id ≡ q.id → IsInOrder id_before (map (put_in c) rs)
     in_order-put_in q c rs a there id =
@@ -81,9 +76,7 @@ pub savepoints_left : (m : State) (q c : Record) (id : ℕ) → IsSound m → Is
 savepoints_left m q c id s i e there =
     let rs : List Record = m.records in
     let p : IsReplacing (ending c) q (record c { pins = [] }) rs = unpinned_replaces q c rs s.records.in_order i.there i.id in
-    let stays : (x : Record) → IsIn x rs → is_savepoint id x ≡ true → (staying m c x ≡ true) × (ending c x ≡ x) = λ x h t.
-    (not_from_false (superseded (having m c) c (put_in c x)) (and_left (is_checkpoint c) _ e), ⊎_elim (λ (k : (x ≡ q) × (ending c x ≡ record c { pins = [] })). absurd (savepoint_is_other id x q i.pending t k.0)) (λ (k : (x.id ≡ q.id → ⊥) × (ending c x ≡ x)). k.1) (p.cases x h)) in
-    ap (list_any (is_savepoint id)) (left_is m c) ∙ savepoint_stays (ending c) (staying m c) id rs stays there
+    grind (arith, common_steps, is_savepoint, not_from_false, put_in, and_left, savepoint_is_other, p.cases, left_is, savepoint_stays) steps 1000000
 
 -- and so is the outbox
 outbox_completed : (m : State) (q c : Record) → IsSound m → IsCompleting m q c → IsSoundOutbox (left_by m c) (m.waiting ++ released_by (having m c) (superseded (having m c) c) (Some c.id)) m.taken
@@ -140,14 +133,4 @@ late_is_sound m subtask fresh reused s once =
           let front : AreDistinct (m.waiting ++ unknown) = AreDistinct-append m.waiting unknown (AreDistinct-left m.waiting m.taken o.apart) (AreDistinct-filter (λ f. not (is_known m f)) fresh (AreDistinct-left fresh reused once)) (λ f w u. out f u (IsIn-append_left f m.waiting m.taken w)) in
           AreDistinct-append (m.waiting ++ unknown) m.taken front (AreDistinct-right m.waiting m.taken o.apart) (λ f h t. ⊎_elim (λ (w : IsIn f m.waiting). AreDistinct-apart m.waiting m.taken o.apart f w t) (λ (u : IsIn f unknown). out f u (IsIn-append_right f m.waiting m.taken t)) (IsIn-append_cases f m.waiting unknown h));
     } in
-    sound_from (record m { waiting = m.waiting ++ unknown }) (record {
-      config = s.config;
-      shape = s.shape;
-      latest = s.latest;
-      first = s.first;
-      next_from = s.next_from;
-      next_to = s.next_to;
-      base = s.base;
-      idle = s.idle;
-      failures = s.failures;
-    }) s.records outbox
+    sound_from (record m { waiting = m.waiting ++ unknown }) (grind (arith, common_steps) steps 1000000) s.records outbox

@@ -1,12 +1,12 @@
 -- After a drop of records, done savepoints, idle states and the outbox are still as in a sound state. A later moment keeps a state sound.
-use Rattle.ckpt_model.proofs.Names.{◌≡◌, ◌≢◌, ℕ, ◌<◌, ◌^◌, max, Bool, true, false, not, ◌&&◌, eqb, List, ◌++◌, map, ap, subst, ◌∙◌, ⊎_elim, arith, filter, list_any, cases_Bool, both_ways, not-true}
+use Rattle.ckpt_model.proofs.Names.{◌≡◌, ◌≢◌, ℕ, ◌<◌, ◌^◌, max, Bool, true, false, not, ◌&&◌, eqb, List, ◌++◌, map, ap, ◌∙◌, ⊎_elim, arith, filter, list_any, cases_Bool, both_ways, not-true}
 use Rattle.ckpt_model.proofs.Names.{not_from_false, IsIn, AreDistinct, Record, uses, is_present, released, IsIn-append_left, IsIn-append_right, IsIn-append_cases, IsIn-from_list_any}
 use Rattle.ckpt_model.proofs.Names.{list_any-from_IsIn, AreDistinct-append, AreDistinct-left, AreDistinct-right, AreDistinct-apart, AreDistinct-from_order, Running, State, is_checkpoint, is_pending}
 use Rattle.ckpt_model.proofs.Names.{IsSound, numbers_in_order, common_steps}
 use Rattle.ckpt_model.proofs.Records.Counts.{IsIn-changed, IsIn-from_changed}
-use Rattle.ckpt_model.proofs.Records.Present.{Holds, IsHeld, IsHeld_before}
+use Rattle.ckpt_model.proofs.Records.Present.{IsHeld, IsHeld_before}
 use Rattle.ckpt_model.proofs.Records.Released.{ascending-released, after-from_released, held-from_released}
-use Rattle.ckpt_model.proofs.Records.Lists.{IsSoundOutbox, sound_from, outbox_of}
+use Rattle.ckpt_model.proofs.Records.Lists.{IsSoundOutbox}
 
 -- a done savepoint with this number
 abbrev pub is_savepoint : ℕ → Record → Bool
@@ -14,10 +14,7 @@ is_savepoint id r = r.done && not (is_checkpoint r) && eqb r.id id
 
 -- a done savepoint that is kept and not changed stays
 pub savepoint_stays : (h : Record → Record) (q : Record → Bool) (id : ℕ) (rs : List Record) → ((r : Record) → IsIn r rs → is_savepoint id r ≡ true → (q r ≡ true) × (h r ≡ r)) → list_any (is_savepoint id) rs ≡ true → list_any (is_savepoint id) (map h (filter q rs)) ≡ true
-savepoint_stays h q id rs stays e =
-    let p = IsIn-from_list_any (is_savepoint id) rs e in
-    let s = stays p.0 p.1 p.2 in
-    list_any-from_IsIn (is_savepoint id) (h p.0) (map h (filter q rs)) (IsIn-changed h q p.0 rs p.1 s.0) (ap (is_savepoint id) s.1 ∙ p.2)
+savepoint_stays h q id rs stays e = grind (arith, common_steps, IsIn-from_list_any, stays, list_any-from_IsIn, IsIn-changed)
 
 -- what is held after filtering was held before
 pub held_before_filter : (q : Record → Bool) (rs : List Record) (f : ℕ) → IsHeld f (map (λ r. r) (filter q rs)) → IsHeld f rs
@@ -32,10 +29,7 @@ outbox_dropped before after waiting taken s was =
     record {
       unused = λ f h.
           ⊎_elim
-          (λ (k : IsIn f (waiting ++ out)). ⊎_elim
-          (λ (w : IsIn f waiting). gone f (IsIn-append_left f waiting taken w))
-          (λ (r : IsIn f out). after-from_released f (uses before) (uses after) r)
-          (IsIn-append_cases f waiting out k))
+          (λ (k : IsIn f (waiting ++ out)). grind (arith, common_steps, gone f, IsIn-append_left f waiting taken, after-from_released f, IsIn-append_cases f waiting out k))
           (λ (t : IsIn f taken). gone f (IsIn-append_right f waiting taken t))
           (IsIn-append_cases f (waiting ++ out) taken h);
       apart =

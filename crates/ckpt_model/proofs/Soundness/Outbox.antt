@@ -1,24 +1,13 @@
 -- Fetching files, and what is reported of them, keeps a coordinator sound.
-use Rattle.ckpt_model.proofs.Names.{◌≡◌, ℕ, true, not, eqb, List, [], ◌∷◌, ◌++◌, take, sym, subst, ⊎_elim, list_any, not-true, eqb-true, eqb-false, take-append-drop, IsIn, AreDistinct, Record}
+use Rattle.ckpt_model.proofs.Names.{common_steps, arith, ◌≡◌, ℕ, true, not, eqb, List, [], ◌∷◌, ◌++◌, ⊎_elim, list_any, not-true, eqb-true, eqb-false, take-append-drop, IsIn, AreDistinct, Record}
 use Rattle.ckpt_model.proofs.Names.{IsIn-append_left, IsIn-append_right, IsIn-append_cases, IsIn-from_filter, IsIn-from_list_any, AreDistinct-append, AreDistinct-left, AreDistinct-right}
 use Rattle.ckpt_model.proofs.Names.{AreDistinct-apart, AreDistinct-filter, only_one, State, take_files, without, IsSound}
-use Rattle.std.proofs.Common.{drop}
 use Rattle.ckpt_model.proofs.Records.Lists.{IsSoundOutbox, sound_from, outbox_of}
 
 -- the outbox alone is changed
 pub outbox_is_sound : (m : State) (waiting taken : List ℕ) → IsSound m → IsSoundOutbox m.records waiting taken → IsSound (record m { waiting = waiting; taken = taken })
 outbox_is_sound m waiting taken s o =
-    sound_from (record m { waiting = waiting; taken = taken }) (record {
-      config = s.config;
-      shape = s.shape;
-      latest = s.latest;
-      first = s.first;
-      next_from = s.next_from;
-      next_to = s.next_to;
-      base = s.base;
-      idle = s.idle;
-      failures = s.failures;
-    }) s.records o
+    sound_from (record m { waiting = waiting; taken = taken }) (grind (arith, common_steps)) s.records o
 
 -- the prefix moves behind the end
 outbox_rotated : (rs : List Record) (xs ys taken : List ℕ) → IsSoundOutbox rs (xs ++ ys) taken → IsSoundOutbox rs ys (taken ++ xs)
@@ -33,20 +22,13 @@ outbox_rotated rs xs ys taken o =
           (λ (k : IsIn f (taken ++ xs)). ⊎_elim (λ (t : IsIn f taken). IsIn-append_right f (xs ++ ys) taken t) (λ (x : IsIn f xs). IsIn-append_left f (xs ++ ys) taken (IsIn-append_left f xs ys x)) (IsIn-append_cases f taken xs k))
           (IsIn-append_cases f ys (taken ++ xs) h) in
           o.unused f in_all;
-      apart = AreDistinct-append ys (taken ++ xs) (AreDistinct-right xs ys front) behind (λ f h k.
-          ⊎_elim
-          (λ (t : IsIn f taken). AreDistinct-apart (xs ++ ys) taken o.apart f (IsIn-append_right f xs ys h) t)
-          (λ (x : IsIn f xs). AreDistinct-apart xs ys front f x h)
-          (IsIn-append_cases f taken xs k));
+      apart = grind (arith, common_steps, AreDistinct-append, AreDistinct-right, AreDistinct-apart, o.apart, IsIn-append_right, IsIn-append_cases);
     }
 
 -- a Take
 pub take_is_sound : (m : State) (most : ℕ) → IsSound m → IsSound (take_files m most).0
 unfolding take_files
-take_is_sound m most s =
-    let Whole : List ℕ → Type 0 = λ xs. IsSoundOutbox m.records xs m.taken in
-    let whole : IsSoundOutbox m.records (take most m.waiting ++ drop most m.waiting) m.taken = subst Whole (sym (take-append-drop most m.waiting)) (outbox_of s) in
-    outbox_is_sound m (drop most m.waiting) (m.taken ++ take most m.waiting) s (outbox_rotated m.records (take most m.waiting) (drop most m.waiting) m.taken whole)
+take_is_sound m most s = grind (arith, common_steps, take-append-drop most m.waiting, outbox_of s, outbox_is_sound m, outbox_rotated m.records)
 
 -- without a file, of which there was one at most
 outbox_without : (rs : List Record) (f : ℕ) (waiting taken : List ℕ) → IsSoundOutbox rs waiting taken → IsSoundOutbox rs waiting (without f taken)
@@ -61,13 +43,13 @@ outbox_without rs f waiting taken o =
 outbox_back : (rs : List Record) (f : ℕ) (waiting taken : List ℕ) → IsSoundOutbox rs waiting taken → IsIn f taken → IsSoundOutbox rs (waiting ++ f ∷ []) (without f taken)
 outbox_back rs f waiting taken o there =
     let w = outbox_without rs f waiting taken o in
-    let P : ℕ → Type 0 = λ g. IsIn g taken in
-    let front : AreDistinct (waiting ++ f ∷ []) = AreDistinct-append waiting (f ∷ []) (AreDistinct-left waiting taken o.apart) (λ n. n, tt) (λ g h k. AreDistinct-apart waiting taken o.apart g h (subst P (sym (only_one g f k)) there)) in
+    let front : AreDistinct (waiting ++ f ∷ []) =
+    AreDistinct-append waiting (f ∷ []) (AreDistinct-left waiting taken o.apart) (λ n. n, tt) (λ g h k. AreDistinct-apart waiting taken o.apart g h (rw (only_one g f k) there)) in
     let gone : (g : ℕ) → g ≡ f → IsIn g (without f taken) → ⊥ = λ g e h. eqb-false g f (not-true (eqb g f) (IsIn-from_filter (λ x. not (eqb x f)) g taken h).1) e in
     record {
       unused = λ g h.
           ⊎_elim
-          (λ (k : IsIn g (waiting ++ f ∷ [])). ⊎_elim (λ (i : IsIn g waiting). o.unused g (IsIn-append_left g waiting taken i)) (λ (i : IsIn g (f ∷ [])). o.unused g (IsIn-append_right g waiting taken (subst P (sym (only_one g f i)) there))) (IsIn-append_cases g waiting (f ∷ []) k))
+          (λ (k : IsIn g (waiting ++ f ∷ [])). ⊎_elim (λ (i : IsIn g waiting). o.unused g (IsIn-append_left g waiting taken i)) (λ (i : IsIn g (f ∷ [])). o.unused g (IsIn-append_right g waiting taken (rw (only_one g f i) there))) (IsIn-append_cases g waiting (f ∷ []) k))
           (λ (k : IsIn g (without f taken)). w.unused g (IsIn-append_right g waiting (without f taken) k))
           (IsIn-append_cases g (waiting ++ f ∷ []) (without f taken) h);
       apart = AreDistinct-append (waiting ++ f ∷ []) (without f taken) front (AreDistinct-right waiting (without f taken) w.apart) (λ g h k.
@@ -83,7 +65,4 @@ deleted_is_sound m file s = outbox_is_sound m m.waiting (without file m.taken) s
 
 -- an Undeleted of a fetched file
 pub undeleted_is_sound : (m : State) (file : ℕ) → IsSound m → list_any (λ f. eqb f file) m.taken ≡ true → IsSound (record m { taken = without file m.taken; waiting = m.waiting ++ file ∷ [] })
-undeleted_is_sound m file s there =
-    let q = IsIn-from_list_any (λ f. eqb f file) m.taken there in
-    let P : ℕ → Type 0 = λ g. IsIn g m.taken in
-    outbox_is_sound m (m.waiting ++ file ∷ []) (without file m.taken) s (outbox_back m.records file m.waiting m.taken (outbox_of s) (subst P (eqb-true q.0 file q.2) q.1))
+undeleted_is_sound m file s there = grind (arith, common_steps, IsIn-from_list_any, outbox_is_sound m (m.waiting ++ file ∷ []), outbox_back m.records file m.waiting m.taken, outbox_of s, eqb-true)

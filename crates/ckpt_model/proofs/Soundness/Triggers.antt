@@ -1,12 +1,10 @@
 -- Triggering a checkpoint or savepoint keeps a coordinator sound, and when a tick may trigger one.
-use Rattle.ckpt_model.proofs.Names.{◌≡◌, ℕ, ◌+◌, ◌<◌, ◌≤◌, ◌^◌, Bool, true, false, not, ◌&&◌, cond, ltb, leb, eqb, List, [], ◌∷◌, ◌++◌, map, sum, length, refl, sym, ap, subst, ◌∙◌, inl, ⊎_elim, arith}
-use Rattle.ckpt_model.proofs.Names.{count_by, Option, Some, None, list_any, cases_Bool, both_ways, and_left, and_cases, or_left, leb-false, ltb-false, sum_by-cons, list_any-append, append-nil}
-use Rattle.ckpt_model.proofs.Names.{SubtaskId, Kind, Choice, Configuration, IsIn, IsAscendingSet, Record, Use, uses, uses_of, missing, has_acknowledged, IsShape, subtasks, same_subtask}
-use Rattle.ckpt_model.proofs.Names.{numbers_in_order, length-subtasks_from, IsIn-append_cases, IsIn-from_map, IsIn-from_in_order_once, IsInOrder-in_order_once, hold, limit, pause_ends, Hold, Interval}
-use Rattle.ckpt_model.proofs.Names.{AtOnce, Pause, Go, Running, State, is_checkpoint, is_pending, is_expired, files_of, chosen, choice_of, pins_now, savepoints, triggered, pending_checkpoints}
-use Rattle.ckpt_model.proofs.Names.{IsSound, IsRecord, count_by-append, count_by_yes, count_by_no, counted-from_IsIn, common_steps}
+use Rattle.ckpt_model.proofs.Names.{◌≡◌, ℕ, ◌+◌, ◌<◌, ◌≤◌, ◌^◌, Bool, false, not, ◌&&◌, ltb, leb, List, [], ◌∷◌, ◌++◌, map, sum, length, refl, subst, inl, ⊎_elim, arith, count_by, Option, Some, None}
+use Rattle.ckpt_model.proofs.Names.{both_ways, and_left, or_left, sum_by-cons, list_any-append, append-nil, Kind, Choice, Configuration, IsIn, IsAscendingSet, Record, Use, uses, missing, IsShape}
+use Rattle.ckpt_model.proofs.Names.{numbers_in_order, length-subtasks_from, IsIn-append_cases, IsIn-from_map, IsIn-from_in_order_once, IsInOrder-in_order_once, hold, limit, Go, Running, State}
+use Rattle.ckpt_model.proofs.Names.{is_checkpoint, is_pending, is_expired, files_of, chosen, choice_of, pins_now, savepoints, triggered, pending_checkpoints, IsSound, IsRecord, count_by-append}
+use Rattle.ckpt_model.proofs.Names.{count_by_yes, count_by_no, counted-from_IsIn, common_steps}
 use Rattle.ckpt_ids.specs.declared.numbers.Kind.TheVariants as kind
-use Rattle.ckpt_ids.specs.declared.reply.Choice.TheVariants as choice
 use Rattle.ckpt_model.proofs.Records.Counts.{IsIn-from_find}
 use Rattle.ckpt_model.proofs.Records.Present.{Holds, IsHeld, Holds-from_use, absent-from_not_held, not_held}
 use Rattle.ckpt_model.proofs.Records.Lists.{AreSoundRecords, IsSoundOutbox, sound_from, outbox_of, appended_records, is_pending_checkpoint}
@@ -20,10 +18,7 @@ held-from_files_of f None rs there h = absurd h
 held-from_files_of f (Some r) rs there h =
     let file : Use → ℕ = λ u. u.file in
     let q = IsIn-from_map file f (uses (r ∷ [])) (IsIn-from_in_order_once ltb f (map file (uses (r ∷ []))) h) in
-    let P : List Use → Type 0 = λ us. IsIn q.0 us in
-    let its_use : IsIn q.0 (uses_of r) = subst P (append-nil (uses_of r)) q.1 in
-    let Q : ℕ → Type 0 = λ g. Holds g r in
-    (r, there r refl, subst Q (sym q.2) (Holds-from_use q.0 r its_use))
+    grind (arith, common_steps, append-nil, there r, Holds-from_use q.0 r)
 
 -- the record of a choice is live
 pub chosen_in : (m : State) (c : Choice) (r : Record) → chosen c m ≡ Some r → IsIn r m.records
@@ -98,17 +93,8 @@ outbox_triggered m kind s =
 triggered_is_sound : (m : State) (kind : Kind) (due : ℕ) → IsSound m → m.mode ≡ Running → m.next < 2 ^ 62 → count_by is_pending_checkpoint (m.records ++ new_record m kind ∷ []) ≤ limit m.opening.config → count_by (λ r. not (is_checkpoint r)) (m.records ++ new_record m kind ∷ []) ≤ 1000 → IsSound (record (triggered m kind) { due = due })
 unfolding triggered
 triggered_is_sound m kind due s running room at_once savepoints_to =
-    sound_from (record (triggered m kind) { due = due }) (record {
-      config = s.config;
-      shape = s.shape;
-      latest = s.latest;
-      first = s.first;
-      next_from = let old : m.opening.first ≤ m.next = s.next_from in omega arith;
-      next_to = omega arith;
-      base = λ id e. list_any-append (is_savepoint id) m.records (new_record m kind ∷ []) ∙ or_left (list_any (is_savepoint id) m.records) (list_any (is_savepoint id) (new_record m kind ∷ [])) (s.base id e);
-      idle = λ ne. absurd (ne running);
-      failures = s.failures;
-    }) (records_triggered m kind s at_once savepoints_to) (outbox_triggered m kind s)
+    sound_from (record (triggered m kind) { due = due }) (grind (arith, common_steps, list_any-append, is_savepoint, or_left)) (records_triggered m kind s at_once savepoints_to)
+    (outbox_triggered m kind s)
 
 -- a checkpoint, if one more may be pending
 pub checkpoint_is_sound : (m : State) (due : ℕ) → IsSound m → m.mode ≡ Running → m.next < 2 ^ 62 → pending_checkpoints m < limit m.opening.config → IsSound (record (triggered m kind.Checkpoint) { due = due })

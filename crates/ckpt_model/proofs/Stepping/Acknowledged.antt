@@ -1,6 +1,6 @@
 -- What an acknowledgement that is accepted for a pending record changes: the record gets it, or is completed by it.
-use Rattle.ckpt_model.proofs.Names.{◌≡◌, ℕ, ◌≤◌, true, false, eqb, List, [], ◌++◌, refl, arith, Option, Some, list_any, cond_both, eqb-true, Kind, SubtaskId, ascending, Record, missing, Running}
-use Rattle.ckpt_model.proofs.Names.{State, is_checkpoint, drop, Stepped, superseded, cleared, with_records, replaced, completed_with, acknowledged_in, IsSound, given_as, is_ack_taken, common_steps}
+use Rattle.ckpt_model.proofs.Names.{◌≡◌, ℕ, ◌≤◌, true, false, List, [], ◌++◌, refl, arith, Option, Some, list_any, eqb-true, Kind, SubtaskId, ascending, Record, missing, Running, State, is_checkpoint}
+use Rattle.ckpt_model.proofs.Names.{drop, Stepped, superseded, cleared, completed_with, acknowledged_in, IsSound, given_as, is_ack_taken, common_steps}
 use Rattle.ckpt_ids.specs.declared.numbers.Kind.TheVariants as kind
 use Rattle.ckpt_model.proofs.Records.Lists.{is_savepoint-kind}
 use Rattle.ckpt_model.proofs.Soundness.Drops.{is_savepoint}
@@ -35,8 +35,7 @@ unfolding completed_with drop
 completion_is m q subtask fresh reused a none =
     let c : Record = completed q subtask fresh reused in
     let n : State = having m c in
-    let after : State = drop n (superseded n c) (Some c.id) in
-    let by_kind : Kind → State = λ k. cleared after (record c { kind = k }) in
+    let by_kind : Kind → State = λ k. cleared (drop n (superseded n c) (Some c.id)) (record c { kind = k }) in
     let left : is_checkpoint c ≡ false → IsSound m → (id : ℕ) → m.base ≡ Some id → list_any (is_savepoint id) (left_by m c) ≡ true = λ e s id base.
     savepoints_left m q c id s (completing m q subtask fresh reused s a none) e (s.base id base) in
     elim q.kind as (λ k. q.kind ≡ k → IsAcked m q subtask fresh reused (by_kind k, (completed_with n c).1)) [
@@ -52,16 +51,4 @@ acknowledged_is_taken m w = grind (arith, common_steps)
 -- an accepted acknowledgement of a pending record
 pub acked_is : (m : State) (q : Record) (subtask : SubtaskId) (fresh reused : List ℕ) → IsAcking m q subtask fresh reused → IsAcked m q subtask fresh reused (acknowledged_in m (with_ack q subtask fresh reused))
 unfolding acknowledged_in
-acked_is m q subtask fresh reused a =
-    let w : Record = with_ack q subtask fresh reused in
-    let c : Record = completed q subtask fresh reused in
-    cond_both (eqb (missing w) 0) (completed_with (having m c) c) (with_records m (replaced m.records w), _) (λ (x : Stepped). IsAcked m q subtask fresh reused x)
-    (λ (e : eqb (missing w) 0 ≡ true). completion_is m q subtask fresh reused a (eqb-true (missing w) 0 e))
-    (λ (e : eqb (missing w) 0 ≡ false). record {
-      opening = refl;
-      next = refl;
-      gives_none = refl;
-      sound = λ s. ack_pending_is_sound m q subtask fresh reused s a e;
-      taken = λ s. taken_pending m q subtask fresh reused s a;
-      spreads = λ s. pending_spreads m q subtask fresh reused s a;
-    })
+acked_is m q subtask fresh reused a = grind (arith, common_steps, with_ack, completed, having, completion_is, eqb-true, ack_pending_is_sound, taken_pending, pending_spreads) steps 1000000

@@ -1,7 +1,7 @@
 -- What any call changes; and what one that is no acknowledgement changes: nothing, the outbox, or records, by a drop with new settings or by a trigger.
-use Rattle.ckpt_model.proofs.Names.{◌≡◌, ◌≢◌, ℕ, ◌+◌, ◌≤◌, Bool, true, false, not, ◌&&◌, eqb, List, [], ◌∷◌, ◌++◌, length, refl, sym, ap, subst, ◌∙◌, ◌⊎◌, inl, inr, ⊎_elim, Option, Some, None}
-use Rattle.ckpt_model.proofs.Names.{list_any, not-true, not_from_false, and_parts, eqb-true, SubtaskId, Kind, Call, Ack, Refusal, Answer, Refused, IsIn, ascending, Record, IsShape, Mode, Running}
-use Rattle.ckpt_model.proofs.Names.{State, is_checkpoint, is_pending, drop, pins_now, Stepped, triggered, IsSound, IsCall, given_as, is_ack_taken, common_steps, arith}
+use Rattle.ckpt_model.proofs.Names.{◌≡◌, ◌≢◌, ℕ, ◌+◌, ◌≤◌, Bool, true, false, not, List, [], ◌∷◌, ◌++◌, length, refl, sym, subst, ◌⊎◌, inl, inr, ⊎_elim, Option, Some, None, list_any, not_from_false}
+use Rattle.ckpt_model.proofs.Names.{SubtaskId, Kind, Call, Ack, Refusal, Answer, Refused, IsIn, ascending, Record, IsShape, Mode, Running, State, is_checkpoint, is_pending, drop, pins_now, Stepped}
+use Rattle.ckpt_model.proofs.Names.{triggered, IsSound, IsCall, given_as, is_ack_taken, common_steps, arith}
 use Rattle.std.specs.Prelude as prelude
 use Rattle.ckpt_model.proofs.Records.Lists.{sound_from, outbox_of, filtered_records}
 use Rattle.ckpt_model.proofs.Soundness.Drops.{is_savepoint, savepoint_stays, idle_stays, none_pending_left, outbox_filtered}
@@ -67,8 +67,7 @@ unchanged m call = grind (arith, common_steps, disposed_of, unmoved, unspread)
 
 -- a refused call changes no record
 refused_records : (m : State) (call : Call) (why : Refusal) → ChangesRecords m call (m, Refused why)
-refused_records m (Ack now id subtask fresh reused) why = inl (record { records = refl; not_taken = refl })
-refused_records m call why = unmoved m (disposed_by call (Refused why))
+refused_records m call why = grind (arith, common_steps, unmoved, disposed_by) steps 1000000
 
 -- nor anything else
 pub refusal_step : (m : State) (call : Call) (why : Refusal) → IsStep m call (m, Refused why)

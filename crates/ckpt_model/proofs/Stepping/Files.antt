@@ -48,11 +48,10 @@ spread_settled {m} {n} {in_} i =
       even = λ f. (i.even).even f ∙ ap (λ xs. times f xs + one_if (is_present (uses n.records) f)) (sym handed);
       stays = λ f h. inl (there f (⊎_elim (λ (k : IsIn f m.waiting). inl (IsIn-append_left f m.waiting i.out k)) (λ (k : IsIn f m.taken). inr k) (IsIn-append_cases f m.waiting m.taken h)));
       comes = λ f h.
-          let Front : List ℕ → Type 0 = λ xs. IsIn f (xs ++ n.taken) in
           ⊎_elim
           (λ (k : IsIn f (m.waiting ++ i.out)). ⊎_elim (λ (j : IsIn f m.waiting). inl (IsIn-append_left f m.waiting m.taken j)) (λ (j : IsIn f i.out). inr (subst (In f) (sym handed) j)) (IsIn-append_cases f m.waiting i.out k))
           (λ (k : IsIn f m.taken). inl (IsIn-append_right f m.waiting m.taken k))
-          (IsIn-append_cases f (m.waiting ++ i.out) m.taken (subst (Behind f) i.fetched (subst Front i.waits h)));
+          (IsIn-append_cases f (m.waiting ++ i.out) m.taken (subst (Behind f) i.fetched (rw (← i.waits) h)));
       were = λ f h. absurd h;
       out = λ f h. there f (inl (IsIn-append_right f m.waiting i.out (subst (In f) handed h)));
       gone = λ f h. absurd h;
@@ -103,17 +102,13 @@ deleted_settled m file s there =
     inward_settled m m.waiting (without file m.taken) (file ∷ []) (omega arith)
     (λ f h. ⊎_elim (λ (k : IsIn f m.waiting). inl (IsIn-append_left f m.waiting (without file m.taken) k)) (λ (k : IsIn f m.taken). ⊎_elim (λ (e : f ≡ file). inr (inl e)) (λ (i : IsIn f (without file m.taken)). inl (IsIn-append_right f m.waiting (without file m.taken) i)) (reported_or_taken f file m.taken k)) (IsIn-append_cases f m.waiting m.taken h))
     (λ f h.
-    ⊎_elim
-    (λ (k : IsIn f (m.waiting ++ without file m.taken)). ⊎_elim (λ (i : IsIn f m.waiting). IsIn-append_left f m.waiting m.taken i) (λ (i : IsIn f (without file m.taken)). IsIn-append_right f m.waiting m.taken (IsIn-from_filter (λ g. not (eqb g file)) f m.taken i).0) (IsIn-append_cases f m.waiting (without file m.taken) k))
-    (λ (k : IsIn f (file ∷ [])). IsIn-append_right f m.waiting m.taken (was_taken f k))
-    h)
+    grind (arith, common_steps, IsIn-append_left f m.waiting m.taken, IsIn-append_right f m.waiting m.taken, IsIn-from_filter, IsIn-append_cases f m.waiting, was_taken f))
     (λ f h. (outbox_of s).unused f (IsIn-append_right f m.waiting m.taken (was_taken f h)))
 
 -- of an Undeleted
 pub undeleted_settled : (m : State) (file : ℕ) → list_any (λ f. eqb f file) m.taken ≡ true → IsSettled m (record m { taken = without file m.taken; waiting = m.waiting ++ file ∷ [] }) [] [] []
 undeleted_settled m file there =
     let q = IsIn-from_list_any (λ g. eqb g file) m.taken there in
-    let InTaken : ℕ → Type 0 = λ g. IsIn g m.taken in
     let front : List ℕ = m.waiting ++ file ∷ [] in
     let left : List ℕ = without file m.taken in
     record {
@@ -121,7 +116,7 @@ undeleted_settled m file there =
       stays = λ f h. inl (⊎_elim (λ (k : IsIn f m.waiting). IsIn-append_left f front left (IsIn-append_left f m.waiting (file ∷ []) k)) (λ (k : IsIn f m.taken). ⊎_elim (λ (e : f ≡ file). IsIn-append_left f front left (IsIn-append_right f m.waiting (file ∷ []) (inl e))) (λ (i : IsIn f left). IsIn-append_right f front left i) (reported_or_taken f file m.taken k)) (IsIn-append_cases f m.waiting m.taken h));
       comes = λ f h.
           ⊎_elim
-          (λ (k : IsIn f (m.waiting ++ file ∷ [])). ⊎_elim (λ (i : IsIn f m.waiting). inl (IsIn-append_left f m.waiting m.taken i)) (⊎_elim (λ (e : f ≡ file). inl (IsIn-append_right f m.waiting m.taken (subst InTaken (eqb-true q.0 file q.2 ∙ sym e) q.1))) (λ (n : ⊥). absurd n)) (IsIn-append_cases f m.waiting (file ∷ []) k))
+          (λ (k : IsIn f (m.waiting ++ file ∷ [])). ⊎_elim (λ (i : IsIn f m.waiting). inl (IsIn-append_left f m.waiting m.taken i)) (⊎_elim (λ (e : f ≡ file). inl (IsIn-append_right f m.waiting m.taken (rw (← (eqb-true q.0 file q.2 ∙ sym e)) q.1))) (λ (n : ⊥). absurd n)) (IsIn-append_cases f m.waiting (file ∷ []) k))
           (λ (k : IsIn f left). inl (IsIn-append_right f m.waiting m.taken (IsIn-from_filter (λ g. not (eqb g file)) f m.taken k).0))
           (IsIn-append_cases f front left h);
       were = λ f h. absurd h;

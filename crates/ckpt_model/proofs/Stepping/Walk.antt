@@ -1,11 +1,11 @@
 -- The walk over all calls of `step`: what each changes.
-use Rattle.ckpt_model.proofs.Names.{◌≡◌, ℕ, ◌+◌, ◌<◌, ◌≤◌, ◌^◌, max, Bool, true, false, not, ◌&&◌, ◌||◌, ltb, eqb, List, [], ◌∷◌, ◌++◌, take, refl, sym, ap, subst, ◌∙◌, inl, inr, ⊎_elim, arith}
-use Rattle.ckpt_model.proofs.Names.{count_by, Option, Some, None, unwrap_or, IfSome, filter, list_any, cases_Bool, both_ways, not-true, and_parts, and_left, and_right, or_from, or_left, cond_both}
-use Rattle.ckpt_model.proofs.Names.{eqb-true, eqb-false, ltb-false, SubtaskId, Kind, Target, Call, Tick, Savepoint, Ack, Decline, Dispose, Restore, Cancel, Take, Deleted, Undeleted, Show, Count}
-use Rattle.ckpt_model.proofs.Names.{Answer, Done, IsIn, Record, IsShape, hold, gap, Hold, Interval, AtOnce, Pause, Go, Running, Failed, Cancelled, State, is_checkpoint, is_pending, is_expired}
-use Rattle.ckpt_model.proofs.Names.{is_known, record_of, drop, pins_now, refusal, moment_of, pending_of, is_done_savepoint, is_number, savepoints, Stepped, pending_checkpoints, dropped_by, triggered}
-use Rattle.ckpt_model.proofs.Names.{failed_over, start_or_hold, after_expiry, tick, ack, failures_with, fails_the_job, decline, decline_pending, dropping, dispose, restore, restarted, rolled_back}
-use Rattle.ckpt_model.proofs.Names.{cancel, cancelled, take_files, without, show, effect, at_moment, step, IsSound, given_as, is_ack_taken, registered_as, common_steps}
+use Rattle.ckpt_model.proofs.Names.{◌≡◌, ℕ, ◌+◌, ◌<◌, ◌≤◌, ◌^◌, max, Bool, true, false, not, ◌&&◌, ◌||◌, ltb, eqb, List, [], ◌∷◌, ◌++◌, take, refl, sym, ap, ◌∙◌, inl, inr, ⊎_elim, arith, count_by}
+use Rattle.ckpt_model.proofs.Names.{Option, Some, None, unwrap_or, IfSome, filter, cases_Bool, both_ways, not-true, and_parts, and_left, and_right, or_from, or_left, cond_both, eqb-true, eqb-false}
+use Rattle.ckpt_model.proofs.Names.{ltb-false, SubtaskId, Target, Call, Tick, Savepoint, Ack, Decline, Dispose, Restore, Cancel, Take, Deleted, Undeleted, Show, Count, Answer, Done, IsIn, Record}
+use Rattle.ckpt_model.proofs.Names.{IsShape, hold, gap, Hold, Interval, AtOnce, Pause, Go, Running, Failed, Cancelled, State, is_checkpoint, is_pending, is_expired, is_known, record_of, drop}
+use Rattle.ckpt_model.proofs.Names.{pins_now, refusal, moment_of, pending_of, is_done_savepoint, is_number, savepoints, Stepped, pending_checkpoints, dropped_by, triggered, failed_over, start_or_hold}
+use Rattle.ckpt_model.proofs.Names.{after_expiry, tick, ack, failures_with, fails_the_job, decline, decline_pending, dropping, dispose, restore, restarted, rolled_back, cancel, cancelled, take_files}
+use Rattle.ckpt_model.proofs.Names.{without, show, effect, at_moment, step, IsSound, given_as, is_ack_taken, registered_as, common_steps}
 use Rattle.std.specs.Prelude as prelude
 use Rattle.ckpt_ids.specs.declared.numbers.Kind.TheVariants as kind
 use Rattle.ckpt_ids.specs.declared.call.Target.TheVariants as target
@@ -13,7 +13,8 @@ use Rattle.ckpt_ids.specs.declared.reply.Reply.TheVariants as reply
 use Rattle.ckpt_model.proofs.Records.Counts.{IsIn-from_find}
 use Rattle.ckpt_model.proofs.Records.Replacing.{same_record}
 use Rattle.ckpt_model.proofs.Records.Released.{distinct-from_test}
-use Rattle.ckpt_model.proofs.Answering.Accepted.{IsAcceptedAck, accepted_tick, accepted_savepoint, accepted_ack, accepted_decline, accepted_dispose, accepted_restore, accepted_restore_savepoint, accepted_cancel, accepted_deleted, accepted_undeleted}
+use Rattle.ckpt_model.proofs.Answering.Accepted.{IsAcceptedAck, accepted_tick, accepted_savepoint, accepted_ack, accepted_decline, accepted_dispose, accepted_restore, accepted_restore_savepoint}
+use Rattle.ckpt_model.proofs.Answering.Accepted.{accepted_cancel, accepted_deleted, accepted_undeleted}
 use Rattle.ckpt_model.proofs.Answering.StepCases.{step_by}
 use Rattle.ckpt_model.proofs.Soundness.Drops.{is_savepoint, moment_is_sound}
 use Rattle.ckpt_model.proofs.Soundness.Triggers.{checkpoint_is_sound, savepoint_is_sound, fewer-from_go, few_failures, expired_is_pending}
@@ -24,7 +25,7 @@ use Rattle.ckpt_model.proofs.Records.Pins.{pins_stay}
 use Rattle.ckpt_model.proofs.Histories.Moves.{unmoved}
 use Rattle.ckpt_model.proofs.Histories.Spreads.{late_spreads}
 use Rattle.ckpt_model.proofs.Stepping.Changes.{IsStep, IsPlain, settings, plain_step, plain_at, unchanged, refusal_step, outbox_step, dropped_is, triggered_is}
-use Rattle.ckpt_model.proofs.Stepping.Files.{IsSettled, hands, spread_settled, take_settled, deleted_settled, undeleted_settled}
+use Rattle.ckpt_model.proofs.Stepping.Files.{spread_settled, take_settled, deleted_settled, undeleted_settled}
 use Rattle.ckpt_model.proofs.Stepping.Acknowledged.{acknowledged_is_taken, acked_is}
 
 -- a done record is not pending
@@ -34,13 +35,7 @@ done_not_pending r done = ap not done
 -- failing over, whatever the failures
 failed_over_is : (m : State) (call : Call) (failures : ℕ) → IsPlain m call (failed_over (record m { failures = failures })) []
 unfolding failed_over drop
-failed_over_is m call failures = dropped_is m call (record (settings m) { mode = Failed; failures = failures }) is_pending (record {
-  shape = λ _ h. h;
-  savepoints = λ _ r _ done _. inl (done_not_pending r done);
-  base = λ s. s.base;
-  idle = λ _. inr (λ r e. e);
-  failures = λ _ e. absurd (cc);
-})
+failed_over_is m call failures = dropped_is m call (record (settings m) { mode = Failed; failures = failures }) is_pending (grind (arith, common_steps, done_not_pending))
 
 -- a start, or what holds it back
 start_is : (m k : State) (call : Call) (expired : ℕ) (h : Hold) → hold k.opening.config k.due k.completed k.latest (pending_checkpoints k) ≡ h → IsPlain m call k [] → k.next ≡ m.next → (IsSound m → pins_now k ≡ pins_now m) → k.mode ≡ Running → k.next < 2 ^ 62 → IsPlain m call (start_or_hold k expired h).0 (given_as (start_or_hold k expired h).1)
@@ -63,13 +58,8 @@ tick_is m call running room =
     let fails : Bool = ltb 0 late && ltb m.opening.config.tolerable (m.failures + late) in
     let keeps : (r : Record) → r.done ≡ true → expired r ≡ false = λ r done. expired_is_pending m m.latest r (done_not_pending r done) in
     let pins : IsSound m → pins_now k ≡ pins_now m = λ s. pins_stay m k (λ r. not (expired r)) s refl refl (λ r _ done. ap not (keeps r done)) in
-    let going : fails ≡ false → IsPlain m call k [] = λ (e : fails ≡ false). dropped_is m call (record (settings m) { failures = m.failures + late }) expired (record {
-      shape = λ _ h. h;
-      savepoints = λ _ r _ done _. inl (keeps r done);
-      base = λ s. s.base;
-      idle = λ ne. inl ne;
-      failures = λ s runs. few_failures late m.failures m.opening.config.tolerable (s.failures runs) e;
-    }) in
+    let going : fails ≡ false → IsPlain m call k [] = λ (e : fails ≡ false). dropped_is m call (record (settings m) { failures = m.failures + late }) expired
+    (grind (arith, common_steps, keeps, few_failures) steps 1000000) in
     cond_both fails (failed_over counted, _) (after_expiry k (dropped_by m expired)) (λ (x : Stepped). IsPlain m call x.0 (given_as x.1))
     (λ _. failed_over_is m call (m.failures + late))
     (λ (e : fails ≡ false). start_is m k call (dropped_by m expired) (hold k.opening.config k.due k.completed k.latest (pending_checkpoints k)) refl (going e) refl pins running room)
@@ -81,11 +71,7 @@ savepoint_is m call running room fewer = triggered_is m m call kind.Savepoint m.
 
 -- if a decline does not fail over, few enough have failed
 few_after_decline : (m : State) (r : Record) → m.failures ≤ m.opening.config.tolerable → fails_the_job m r ≡ false → failures_with m r ≤ m.opening.config.tolerable
-few_after_decline m r few = by_kind r.kind
-  where
-    by_kind : (k : Kind) → fails_the_job m (record r { kind = k }) ≡ false → failures_with m (record r { kind = k }) ≤ m.opening.config.tolerable
-    by_kind kind.Checkpoint e = ltb-false m.opening.config.tolerable (m.failures + 1) e
-    by_kind kind.Savepoint e = few
+few_after_decline m r few = grind (arith, common_steps, ltb-false) steps 1000000
 
 -- a decline
 decline_is : (m : State) (call : Call) (id : ℕ) (o : Option Record) → pending_of m.records id ≡ o → IsPlain m call (decline m o).0 (given_as (decline m o).1)
@@ -99,13 +85,7 @@ decline_is m call id (Some r) e =
     let other : IsSound m → (x : Record) → IsIn x m.records → x.done ≡ true → mine x ≡ false = λ s x h done. ⊎_elim (λ (t : eqb x.id r.id ≡ true). absurd (both_ways r.done pending (ap (λ z. z.done) (sym (same_record x r m.records s.records.in_order h found.0 (eqb-true x.id r.id t))) ∙ done))) (λ (t : eqb x.id r.id ≡ false). t) (cases_Bool (eqb x.id r.id)) in
     cond_both (fails_the_job m r) (failed_over counted, _) (drop counted mine None, _) (λ (x : Stepped). IsPlain m call x.0 (given_as x.1))
     (λ _. failed_over_is m call (failures_with m r))
-    (λ (e : fails_the_job m r ≡ false). dropped_is m call (record (settings m) { failures = failures_with m r }) mine (record {
-      shape = λ _ h. h;
-      savepoints = λ s x h done _. inl (other s x h done);
-      base = λ s. s.base;
-      idle = λ ne. inl ne;
-      failures = λ s runs. few_after_decline m r (s.failures runs) e;
-    }))
+    (λ (e : fails_the_job m r ≡ false). dropped_is m call (record (settings m) { failures = failures_with m r }) mine (grind (arith, common_steps, few_after_decline) steps 1000000))
 
 -- a number that is not the base's
 not_the_base : (base : Option ℕ) (id : ℕ) → is_number base id ≡ false → base ≡ Some id → ⊥
@@ -114,13 +94,7 @@ not_the_base base id h2 h3 = grind (arith, common_steps, eqb-false)
 -- a dispose of a savepoint that is not the base
 dispose_is : (m : State) (id : ℕ) → is_number m.base id ≡ false → IsPlain m (Dispose id) (dispose m id).0 (given_as (dispose m id).1)
 unfolding dispose dropping
-dispose_is m id other = dropped_is m (Dispose id) (settings m) (λ r. eqb r.id id) (record {
-  shape = λ _ h. h;
-  savepoints = λ _ r _ _ _. ⊎_elim (λ (e : eqb r.id id ≡ true). inr (ap Some (sym (eqb-true r.id id e)), λ b. not_the_base m.base id other (b ∙ ap Some (eqb-true r.id id e)))) (λ (e : eqb r.id id ≡ false). inl e) (cases_Bool (eqb r.id id));
-  base = λ s. s.base;
-  idle = λ ne. inl ne;
-  failures = λ s. s.failures;
-})
+dispose_is m id other = dropped_is m (Dispose id) (settings m) (λ r. eqb r.id id) (grind (arith, common_steps, eqb-true, not_the_base, cases_Bool))
 
 -- the shape after a restore
 shape_after : (shape : Option (List ℕ)) (old : List ℕ) → IfSome shape IsShape → IsShape old → IsShape (unwrap_or shape old)
@@ -133,24 +107,18 @@ done_savepoint_stays r b done savepoint = or_from (is_pending r) (r.done && is_c
 -- a restore to the latest checkpoint
 restore_latest_is : (m : State) (now : ℕ) (shape : Option (List ℕ)) → IsPlain m (Restore now target.Latest shape) (restore m target.Latest shape).0 (given_as (restore m target.Latest shape).1)
 unfolding restore restarted drop
-restore_latest_is m now shape = dropped_is m (Restore now target.Latest shape) (record { shape = unwrap_or shape m.shape; mode = Running; due = m.latest + gap m.opening.config; completed = None; failures = 0; base = m.base }) is_pending (record {
-  shape = λ c h. shape_after shape m.shape c h;
-  savepoints = λ _ r _ done _. inl (done_not_pending r done);
-  base = λ s. s.base;
-  idle = λ ne. absurd (ne refl);
-  failures = λ _ _. omega arith;
-})
+restore_latest_is m now shape =
+    dropped_is m (Restore now target.Latest shape)
+    (record { shape = unwrap_or shape m.shape; mode = Running; due = m.latest + gap m.opening.config; completed = None; failures = 0; base = m.base }) is_pending
+    (grind (arith, common_steps, shape_after, done_not_pending))
 
 -- a restore to a savepoint
 restore_savepoint_is : (m : State) (now id : ℕ) (shape : Option (List ℕ)) → is_done_savepoint m id ≡ true → IsPlain m (Restore now (target.Savepoint id) shape) (restore m (target.Savepoint id) shape).0 (given_as (restore m (target.Savepoint id) shape).1)
 unfolding restore restarted drop
-restore_savepoint_is m now id shape there = dropped_is m (Restore now (target.Savepoint id) shape) (record { shape = unwrap_or shape m.shape; mode = Running; due = m.latest + gap m.opening.config; completed = None; failures = 0; base = Some id }) (rolled_back (target.Savepoint id)) (record {
-  shape = λ c h. shape_after shape m.shape c h;
-  savepoints = λ _ r _ done savepoint. inl (or_from (is_pending r) (r.done && is_checkpoint r) (done_not_pending r done) (and_right r.done (is_checkpoint r) savepoint));
-  base = λ _ b e. let same : id ≡ b = cc in let P : ℕ → Type 0 = λ i. list_any (is_savepoint i) m.records ≡ true in subst P same there;
-  idle = λ ne. absurd (ne refl);
-  failures = λ _ _. omega arith;
-})
+restore_savepoint_is m now id shape there =
+    dropped_is m (Restore now (target.Savepoint id) shape)
+    (record { shape = unwrap_or shape m.shape; mode = Running; due = m.latest + gap m.opening.config; completed = None; failures = 0; base = Some id }) (rolled_back (target.Savepoint id))
+    (grind (arith, common_steps, shape_after, or_from, done_not_pending, and_right, is_savepoint))
 
 -- a restore
 restore_is : (m : State) (now : ℕ) (target : Target) (shape : Option (List ℕ)) → refusal m (Restore now target shape) ≡ None → (latest : ℕ) → IsPlain (record m { latest = latest }) (Restore now target shape) (restore (record m { latest = latest }) target shape).0 (given_as (restore (record m { latest = latest }) target shape).1)
@@ -160,13 +128,7 @@ restore_is m now (target.Savepoint id) shape e latest = restore_savepoint_is (re
 -- a cancel
 cancel_is : (m : State) (call : Call) → IsPlain m call (cancel m).0 (given_as (cancel m).1)
 unfolding cancel drop
-cancel_is m call = dropped_is m call (record (settings m) { mode = Cancelled; base = None }) (cancelled m) (record {
-  shape = λ _ h. h;
-  savepoints = λ _ r _ done savepoint. inl (done_savepoint_stays r (not m.opening.config.keep_on_cancel) done savepoint);
-  base = λ _ id e. absurd (cc);
-  idle = λ _. inr (λ r e. or_left (is_pending r) (r.done && is_checkpoint r && not m.opening.config.keep_on_cancel) e);
-  failures = λ _ e. absurd (cc);
-})
+cancel_is m call = dropped_is m call (record (settings m) { mode = Cancelled; base = None }) (cancelled m) (grind (arith, common_steps, done_savepoint_stays, or_left))
 
 -- an acknowledgement that is taken registers its fresh files
 pub registered_taken : (a : Answer) (fresh unknown : List ℕ) → is_ack_taken a ≡ true → registered_as a fresh unknown ≡ fresh
@@ -189,14 +151,12 @@ ack_is m now id subtask fresh reused (Some q) a e =
     let x : Stepped = ack n (Some q) subtask fresh reused in
     let is_taken : is_ack_taken x.1 ≡ true = acknowledged_is_taken n (with_ack q subtask fresh reused) in
     let found = IsIn-from_find (λ r. is_pending r && eqb r.id id) q m.records e in
-    let unknown : List ℕ = filter (λ f. not (is_known m f)) fresh in
-    let Any : List ℕ → Type 0 = λ xs. IsSettled m x.0 xs (hands m (Ack now id subtask fresh reused) x.0) [] in
     record {
       opening = i.opening;
       gives = inl (i.gives_none, i.next);
       sound = λ _ s. i.sound (moment_is_sound m now s a.moment);
       records = λ s. inr (record { q = q; its_id = eqb-true q.id id (and_parts (is_pending q) (eqb q.id id) found.1).1; acking = k; taken = i.taken (moment_is_sound m now s a.moment); is_taken = is_taken });
-      files = λ s. subst Any (sym (registered_taken x.1 fresh unknown is_taken)) (spread_settled (i.spreads (moment_is_sound m now s a.moment)));
+      files = λ s. rw (registered_taken x.1 fresh (filter (λ f. not (is_known m f)) fresh) is_taken) (spread_settled (i.spreads (moment_is_sound m now s a.moment)));
     }
 
 -- a Show says something of a record, or refuses
