@@ -1,35 +1,26 @@
 -- A record is full exactly if no subtask is missing.
-use Rattle.ckpt_pending.proofs.Names.{◌≡◌, true, false, not, List, map, sym, ap, subst, ⊎_elim, cases_Bool, both_ways, SubtaskId, Acked, IsIn, is_before, acknowledges_before, subtasks, same_subtask}
-use Rattle.ckpt_pending.proofs.Names.{Record, missing, has_acknowledged, IsFull, subtasks_in_order, same_subtask-Decides, same_from_members, IsInOrder-map, IsIn-map, IsIn-from_map, IsIn-from_list_any}
-use Rattle.ckpt_pending.proofs.Names.{list_any-from_IsIn, IsPending, count_by-none}
+use Rattle.ckpt_pending.proofs.Names.{arith, nat_tests, ◌≡◌, true, not, map, ap, SubtaskId, Acked, IsIn, is_before, acknowledges_before, subtasks, same_subtask, Record, missing, has_acknowledged}
+use Rattle.ckpt_pending.proofs.Names.{IsFull, subtasks_in_order, same_subtask-Decides, same_from_members, IsInOrder-map, IsIn-map, IsIn-from_map, IsIn-from_list_any, list_any-from_IsIn, IsPending}
+use Rattle.ckpt_pending.proofs.Names.{count_by-none}
 use Rattle.ckpt_pending.proofs.SubtaskLemmas.{IsInOrder-subtasks, IsIn-subtasks, none_counted}
 
 -- a subtask of a full record has acknowledged
 IsIn-acknowledged : (r : Record) (s : SubtaskId) → has_acknowledged r s ≡ true → IsIn s (map (λ a. a.subtask) r.acks)
 IsIn-acknowledged r s h =
     let q = IsIn-from_list_any (λ (a : Acked). same_subtask s a.subtask) r.acks h in
-    let e : s ≡ q.0.subtask = (same_subtask-Decides s q.0.subtask).0 q.2 in
-    let P : SubtaskId → Type 0 = λ w. IsIn w (map (λ a. a.subtask) r.acks) in
-    subst P (sym e) (IsIn-map (λ (a : Acked). a.subtask) q.0 r.acks q.1)
+    rw ((same_subtask-Decides s q.0.subtask).0 q.2) (IsIn-map (λ (a : Acked). a.subtask) q.0 r.acks q.1)
 
 pub full_from_missing : (r : Record) → IsPending r → missing r ≡ 0 → IsFull r
 full_from_missing r p none =
     let forth : (s : SubtaskId) → IsIn s (map (λ a. a.subtask) r.acks) → IsIn s (subtasks r.shape) = λ s h.
-    let q = IsIn-from_map (λ (a : Acked). a.subtask) s r.acks h in
-    let P : SubtaskId → Type 0 = λ w. IsIn w (subtasks r.shape) in
-    subst P (sym q.2) (IsIn-subtasks r.shape q.0.subtask (p.expected q.0 q.1)) in
+    let q = IsIn-from_map (λ (a : Acked). a.subtask) s r.acks h in rw q.2 (IsIn-subtasks r.shape q.0.subtask (p.expected q.0 q.1)) in
     let back : (s : SubtaskId) → IsIn s (subtasks r.shape) → IsIn s (map (λ a. a.subtask) r.acks) = λ s h.
-    let not_missing : not (has_acknowledged r s) ≡ false = none_counted (λ t. not (has_acknowledged r t)) s (subtasks r.shape) none h in
-    let there : has_acknowledged r s ≡ true = ⊎_elim (λ (e : has_acknowledged r s ≡ true). e) (λ (e : has_acknowledged r s ≡ false). absurd (both_ways (not (has_acknowledged r s)) not_missing (ap not e))) (cases_Bool (has_acknowledged r s)) in
-    IsIn-acknowledged r s there in
-    same_from_members subtasks_in_order (map (λ a. a.subtask) r.acks) (subtasks r.shape) (IsInOrder-map acknowledges_before is_before (λ (a : Acked). a.subtask) r.acks (λ x y h. h) p.in_order) (IsInOrder-subtasks r.shape) forth back
+    IsIn-acknowledged r s (grind (arith, nat_tests, none_counted (λ t. not (has_acknowledged r t)) s (subtasks r.shape) none h)) in
+    same_from_members subtasks_in_order _ _ (IsInOrder-map acknowledges_before is_before (λ (a : Acked). a.subtask) r.acks (λ x y h. h) p.in_order) (IsInOrder-subtasks r.shape) forth back
 
 -- the converse
 pub missing_from_full : (r : Record) → IsFull r → missing r ≡ 0
 missing_from_full r full =
-    count_by-none (λ s. not (has_acknowledged r s)) (subtasks r.shape)
-    (λ s h.
-    let P : List SubtaskId → Type 0 = λ xs. IsIn s xs in
-    let q = IsIn-from_map (λ (a : Acked). a.subtask) s r.acks (subst P (sym full) h) in
-    let same : same_subtask s q.0.subtask ≡ true = (same_subtask-Decides s q.0.subtask).1 q.2 in
-    ap not (list_any-from_IsIn (λ (a : Acked). same_subtask s a.subtask) q.0 r.acks q.1 same))
+    count_by-none (λ s. not (has_acknowledged r s)) (subtasks r.shape) (λ s h.
+    let q = IsIn-from_map (λ (a : Acked). a.subtask) s r.acks (rw full h) in
+    ap not (list_any-from_IsIn (λ (a : Acked). same_subtask s a.subtask) q.0 r.acks q.1 ((same_subtask-Decides s q.0.subtask).1 q.2)))

@@ -6,3 +6,10 @@ mod Names
 pub mod PendingLemmas
 pub mod PlaceLemmas
 pub mod SubtaskLemmas
+pub use AckLemmas.*
+pub use FileLemmas.*
+pub use FullLemmas.*
+pub use Names.*
+pub use PendingLemmas.*
+pub use PlaceLemmas.*
+pub use SubtaskLemmas.*

@@ -12,15 +12,15 @@ pub use Rattle.ckpt_ids.specs.Ascending.{ascending_set}
 pub use Rattle.ckpt_ids.specs.Counting.{one_if}
 pub use Rattle.ckpt_ids.specs.Ordered.{IsIn, IsInOrder, put}
 pub use Rattle.ckpt_ids.specs.Places.{BelongsAt, LiesAt}
-pub use Rattle.ckpt_ids.specs.Records.{Holder, IsFull, Pin, Record, Subtask, Use, has_acknowledged, missing, uses}
+pub use Rattle.ckpt_ids.specs.Records.{Holder, IsFull, Record, Subtask, Use, has_acknowledged, missing, uses}
 pub use Rattle.ckpt_ids.specs.Shapes.{IsShape, is_subtask, same_subtask, subtasks, subtasks_from}
 pub use Rattle.ckpt_ids.specs.declared.ack.Acked.{Acked}
 pub use Rattle.ckpt_ids.specs.declared.numbers.Kind.{Kind}
 pub use Rattle.ckpt_ids.specs.declared.subtask.SubtaskId.{SubtaskId}
 pub use Rattle.ckpt_pending.specs.Acknowledging.{IsCounted, IsDone, IsPending, files_from, pending_record, subtask_of, without_ack}
-pub use Rattle.std.proofs.Common.{Bool, Err, IfErr, IfOk, IsOk, IsSome, List, None, Ok, OnSome, Option, Result, Some, [], ap, arith, cond, eqb, false, get_or, inl, inr, leb, length, ltb, map, not}
-pub use Rattle.std.proofs.Common.{refl, rules, subst, suc, sum, sym, true, zero, ℕ, ⊎_elim, ◌&&◌, ◌++◌, ◌+◌, ◌-◌, ◌<◌, ◌||◌, ◌↔◌, ◌∙◌, ◌∷◌, ◌≡◌, ◌≤◌}
-pub use Rattle.std.proofs.lemmas.Bool.{and_from, and_parts, both_ways, cases_Bool, eq-eqb, leb-true, lt-ltb, or_left, or_right}
+pub use Rattle.std.proofs.Common.{Bool, Err, IfErr, IfOk, IsOk, IsSome, List, None, Ok, OnOk, OnSome, Option, Result, Some, [], ap, arith, false, get_or, inl, inr, leb, length, ltb, map, not, refl}
+pub use Rattle.std.proofs.Common.{rules, suc, sym, true, zero, ℕ, ⊎_elim, ◌&&◌, ◌++◌, ◌+◌, ◌-◌, ◌<◌, ◌||◌, ◌↔◌, ◌∙◌, ◌∷◌, ◌≡◌, ◌≤◌}
+pub use Rattle.std.proofs.lemmas.Bool.{and_parts, both_ways, cases_Bool, leb-true, lt-ltb, or_left}
 pub use Rattle.std.proofs.lemmas.Bool.Decides.{nat_tests}
 pub use Rattle.std.proofs.lemmas.List.{append-nil, map-append}
 pub use Rattle.std.proofs.lemmas.List.Sums.{count_by-le-length}
@@ -29,5 +29,5 @@ pub use Rattle.std.proofs.lemmas.Result.{IfOk-weaker}
 pub use Rattle.std.specs.List.{filter, flat_map, insert, list_any, range_with_len, remove}
 pub use Rattle.std.specs.Option.{option_copied, option_map}
 pub use Rattle.std.specs.Prelude.{count_by, find}
-pub use Rattle.std.specs.Result.{is_ok, result_ok}
+pub use Rattle.std.specs.Result.{is_err, is_ok, result_ok}
 pub use Rattle.std.specs.VecDeque.Iter.{deque_iter_rest}

@@ -1,15 +1,15 @@
 -- What one change of the counters does to the count of each file.
-use Rattle.ckpt_registry.proofs.Names.{◌≡◌, ℕ, zero, suc, ◌+◌, ◌<◌, ◌≤◌, ◌^◌, cond, eqb, ltb, nat_eq, List, [], ◌∷◌, ◌++◌, length, get_or, take, refl, sym, ap, ◌∙◌, ⊎_elim, arith, Option, Some, None}
-use Rattle.ckpt_registry.proofs.Names.{Result, Ok, Err, unwrap_or, is_some, IfOk, if◌then◌else◌, cases_eq, eq-eqb, eqb-true, ne_eqb, lt-ltb, le-ltb, cases_lt, cond-true, cond-false, none-some}
-use Rattle.ckpt_registry.proofs.Names.{same_Some, sum_by_more, sum_by-take-le, IsOk, OnOk, false≢true, position, slice_get, lookup, keys_of, values_of, position-Some, get, keys, values, one_if-true}
-use Rattle.ckpt_registry.proofs.Names.{one_if-false, count_by_push, Counts, Released, counter, counted_once, AreInRange, AreLowered, AreReleased, HasRoom, one_if, times, common_steps}
+use Rattle.ckpt_registry.proofs.Names.{IsIn, IsIn-at, ◌≡◌, ℕ, zero, suc, ◌+◌, ◌<◌, ◌≤◌, ◌^◌, cond, eqb, ltb, nat_eq, List, [], ◌∷◌, ◌++◌, length, get_or, take, refl, ap, ◌∙◌, arith, Option, Some}
+use Rattle.ckpt_registry.proofs.Names.{None, Result, unwrap_or, is_some, IfOk, if◌then◌else◌, eqb-true, ne_eqb, lt-ltb, le-ltb, cond-false, none-some, sum_by_more, IsOk, OnOk, false≢true, position}
+use Rattle.ckpt_registry.proofs.Names.{slice_get, lookup, keys_of, values_of, position-Some, get, keys, values, one_if-true, one_if-false, count_by_push, Counts, Released, counter, counted_once}
+use Rattle.ckpt_registry.proofs.Names.{AreInRange, AreLowered, AreReleased, HasRoom, one_if, times, common_steps, released}
 
 -- n has w at k, and else what m has
 abbrev pub Sets : Counts → Counts → ℕ → Option ℕ → Type 0
 Sets m n k w = (q : ℕ) → get nat_eq n q ≡ cond (eqb k q) w (get nat_eq m q)
 
 pub get-set_at : (m n : Counts) (k : ℕ) (w : Option ℕ) → Sets m n k w → (f : ℕ) → k ≡ f → get nat_eq n f ≡ w
-get-set_at m n k w s f e = s f ∙ cond-true (eqb k f) w (get nat_eq m f) (eq-eqb k f e)
+get-set_at m n k w s f e = grind (arith, s f)
 
 pub get-set_off : (m n : Counts) (k : ℕ) (w : Option ℕ) → Sets m n k w → (f : ℕ) → (k ≡ f → ⊥) → get nat_eq n f ≡ get nat_eq m f
 get-set_off m n k w s f ne = s f ∙ cond-false (eqb k f) w (get nat_eq m f) (ne_eqb k f ne)
@@ -27,7 +27,7 @@ counter-set_off m n k w s f ne = ap value_of (get-set_off m n k w s f ne)
 
 entry_at : (es : List (ℕ × ℕ)) (i k v d : ℕ) → k ≡ get_or (keys_of es) i d → slice_get (values_of es) i ≡ Some v → slice_get es i ≡ Some (k, v)
 entry_at [] i k v d here at = absurd (none-some v at)
-entry_at (e ∷ es) zero k v d here at = let same : e.1 ≡ v = same_Some e.1 v at in λ j. Some (sym here j, same j)
+entry_at (e ∷ es) zero k v d here at = grind (arith, common_steps)
 entry_at (e ∷ es) (suc i) k v d here at = entry_at es i k v d here at
 
 pub entry_found : (m : Counts) (i k v : ℕ) → position (nat_eq k) (keys m) ≡ Some i → slice_get (values m) i ≡ Some v → slice_get m.entries i ≡ Some (k, v)
@@ -35,26 +35,14 @@ entry_found m i k v found at = entry_at m.entries i k v k (eqb-true k (get_or (k
 
 -- a counter above 0 is there
 pub get-from_counter : (m : Counts) (f : ℕ) → 0 < counter m f → get nat_eq m f ≡ Some (counter m f)
-get-from_counter m f h = by (get nat_eq m f) h
-  where
-    by : (o : Option ℕ) → 0 < unwrap_or o 0 → o ≡ Some (unwrap_or o 0)
-    by None h = absurd (omega arith)
-    by (Some n) h = refl
+get-from_counter m f h = grind (arith, common_steps)
 
 -- a file that is not counted has no counter
 pub get-none : (m : Counts) → AreInRange m → (f : ℕ) → counter m f ≡ 0 → get nat_eq m f ≡ None
-get-none m r f h = by (get nat_eq m f) refl
-  where
-    by : (o : Option ℕ) → get nat_eq m f ≡ o → o ≡ None
-    by None e = refl
-    by (Some n) e = let p = (r f n e).0 in let v : counter m f ≡ n = ap (λ o. unwrap_or o 0) e in absurd (omega (arith, p))
+get-none m r f h = grind (arith, common_steps, r f)
 
 pub AreInRange-below : (m : Counts) → AreInRange m → (f : ℕ) → counter m f < 2 ^ 32
-AreInRange-below m r f = by (get nat_eq m f) refl
-  where
-    by : (o : Option ℕ) → get nat_eq m f ≡ o → unwrap_or o 0 < 2 ^ 32
-    by None e = omega arith
-    by (Some n) e = (r f n e).1
+AreInRange-below m r f = grind (arith, common_steps, r f)
 
 pub AreInRange-set : (m n : Counts) (k v : ℕ) → Sets m n k (Some v) → AreInRange m → 0 < v → v < 2 ^ 32 → AreInRange n
 AreInRange-set m n k v s r above below = grind (arith, common_steps)
@@ -94,7 +82,8 @@ pub times_more : (f : ℕ) (xs : List ℕ) (i d : ℕ) → i < length xs → tim
 times_more f xs i d h = sum_by_more (λ y. one_if (eqb y f)) xs i d h
 
 -- one more file counted, of a list of which i were
-pub counter_more : (was m n : Counts) (xs : List ℕ) (i k w : ℕ) → Sets m n k (Some w) → w ≡ counter m k + 1 → i < length xs → k ≡ get_or xs i k → ((f : ℕ) → counter m f ≡ counter was f + times f (take i xs)) → (f : ℕ) → counter n f ≡ counter was f + times f (take (i + 1) xs)
+pub counter_more : (was m n : Counts) (xs : List ℕ) (i k w : ℕ) → Sets m n k (Some w) → w ≡ counter m k + 1 → i < length xs → k ≡ get_or xs i k
+    → ((f : ℕ) → counter m f ≡ counter was f + times f (take i xs)) → (f : ℕ) → counter n f ≡ counter was f + times f (take (i + 1) xs)
 counter_more was m n xs i k w s more within at inv f = grind (arith, common_steps)
 
 -- a call that succeeds does what it promises
@@ -113,6 +102,11 @@ length_fresh r o l n h4 h5 h6 h7 = grind (arith, common_steps, false≢true)
 pub times_through : (xs : List ℕ) (i k : ℕ) → i < length xs → k ≡ get_or xs i k → times k (take i xs) + 1 ≤ times k xs
 times_through xs i k within at = grind (arith, common_steps)
 
+-- the next file of a list of which i were counted has room for its count
+pub next_fits : (was now : Counts) (xs : List ℕ) (i k : ℕ) → i < length xs → k ≡ get_or xs i k → ((f : ℕ) → counter now f ≡ counter was f + times f (take i xs))
+    → ((f : ℕ) → IsIn f xs → counter was f + times f xs < 2 ^ 32) → counter now k + 1 < 2 ^ 32
+next_fits was now xs i k within at counted fits = omega (arith, counted k, fits k (IsIn-at xs i k within at), times_through xs i k within at)
+
 pub counted_once-le : (m : Counts) (f : ℕ) → counted_once m f ≤ 1
 counted_once-le m f = grind (arith, common_steps)
 
@@ -124,18 +118,14 @@ zero_from_counted_once m f c = grind (arith, common_steps)
 
 -- a file that is counted has a counter, and no other has
 pub is_some-get : (m : Counts) → AreInRange m → (f : ℕ) → is_some (get nat_eq m f) ≡ ltb 0 (counter m f)
-is_some-get m r f = by (get nat_eq m f) refl
-  where
-    by : (o : Option ℕ) → get nat_eq m f ≡ o → is_some o ≡ ltb 0 (unwrap_or o 0)
-    by None e = refl
-    by (Some n) e = sym (lt-ltb 0 n (r f n e).0)
+is_some-get m r f = grind (arith, common_steps, r f)
 
 -- room that was made changes no counter
 pub counter-unchanged : (m n : Counts) → n.entries ≡ m.entries → (f : ℕ) → counter n f ≡ counter m f
 counter-unchanged m n same f = ap (λ es. unwrap_or (lookup (eqb f) es) 0) same
 
 pub AreInRange-unchanged : (m n : Counts) → n.entries ≡ m.entries → AreInRange m → AreInRange n
-AreInRange-unchanged m n same r = λ f v h. r f v (ap (λ es. lookup (eqb f) es) (sym same) ∙ h)
+AreInRange-unchanged m n same r = λ f v h. r f v (rw same at h)
 
 -- and at most one more in any case
 pub length_more : {E : Type 0} (r : Result (Option ℕ) E) (l n : ℕ) → IsOk r → IfOk r (λ old. n ≡ l + (if is_some old then 0 else 1)) → n ≤ l + 1
@@ -155,7 +145,8 @@ HasRoom-released m n out more room a = omega (arith, room, a.len, a.capacity)
 pub AreLowered-none : (m : Counts) (out : Released) → AreInRange m → AreLowered (λ f. 0) m out m out
 AreLowered-none m out range = record { lowered = λ f. omega arith; released = AreReleased-none m out; range = range }
 
-pub AreLowered-then : (first later all : ℕ → ℕ) (m n k : Counts) (out more most : Released) → ((f : ℕ) → first f + later f ≡ all f) → AreLowered first m out n more → AreLowered later n more k most → AreLowered all m out k most
+pub AreLowered-then : (first later all : ℕ → ℕ) (m n k : Counts) (out more most : Released) → ((f : ℕ) → first f + later f ≡ all f) → AreLowered first m out n more → AreLowered later n more k most
+    → AreLowered all m out k most
 AreLowered-then first later all m n k out more most both a b = grind (arith, common_steps)
 
 pub AreLowered-same : (less all : ℕ → ℕ) (m n : Counts) (out more : Released) → ((f : ℕ) → less f ≡ all f) → AreLowered less m out n more → AreLowered all m out n more

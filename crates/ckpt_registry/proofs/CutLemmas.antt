@@ -1,7 +1,7 @@
 -- How a record's list of files stands for its parts.
-use Rattle.ckpt_registry.proofs.Names.{◌≡◌, ℕ, zero, suc, ◌+◌, ◌-◌, ◌<◌, ◌≤◌, List, [], ◌∷◌, ◌++◌, length, get_or, take, drop, refl, sym, ap, subst, ◌∙◌, arith, append_assoc, length-append, between}
-use Rattle.ckpt_registry.proofs.Names.{append-nil, drop-drop, drop_at, get_or-take, get_or_default, length-take, take-append-le, take_all, take_at, take_more, take-take, between_from_start}
-use Rattle.ckpt_registry.proofs.Names.{between_is, take-add, IsAscending, times, times-append, Cut, AreCut, IsCutAt, Part, files_in, files_of, parts_from, common_steps}
+use Rattle.ckpt_registry.proofs.Names.{◌≡◌, ℕ, zero, suc, ◌+◌, ◌-◌, ◌<◌, ◌≤◌, List, [], ◌∷◌, ◌++◌, length, get_or, take, drop, refl, sym, ap, subst, ◌∙◌, arith, length-append, between, drop-drop}
+use Rattle.ckpt_registry.proofs.Names.{drop_at, get_or-take, get_or_default, length-take, take-append-le, take_all, take_at, take_more, take-take, between_from_start, between_is, take-add}
+use Rattle.ckpt_registry.proofs.Names.{IsAscending, times, times-append, Cut, AreCut, IsCutAt, Part, files_in, files_of, parts_from, common_steps}
 use Rattle.ckpt_registry.proofs.PartLemmas.{times_of_take}
 
 -- where the last of these parts ends, if the first begins here
@@ -14,22 +14,18 @@ end_of-push start [] cut = refl
 end_of-push start (c ∷ cuts) cut = end_of-push c.end cuts cut
 
 pub end_of-more : (start : ℕ) (cuts : List Cut) (i : ℕ) (cut : Cut) → i < length cuts → cut ≡ get_or cuts i cut → end_of start (take (i + 1) cuts) ≡ cut.end
-end_of-more start cuts i cut within at = ap (end_of start) (take_more cuts i cut within) ∙ end_of-push start (take i cuts) (get_or cuts i cut) ∙ ap (λ (c : Cut). c.end) (sym at)
+end_of-more start cuts i cut within at = rw (take_more cuts i cut within, ← at) (end_of-push start (take i cuts) cut)
 
 -- files from one place to another
 
 between-append : (a b c : ℕ) (xs : List ℕ) → a ≤ b → b ≤ c → between a b xs ++ between b c xs ≡ between a c xs
-between-append a b c xs ab bc =
-    let there : b ≡ a + (b - a) = omega arith in
-    let whole : (b - a) + (c - b) ≡ c - a = omega arith in
-    let at : drop b xs ≡ drop (b - a) (drop a xs) = ap (λ n. drop n xs) there ∙ sym (drop-drop (b - a) a xs) in
-    ap (λ ys. between a b xs ++ take (c - b) ys) at ∙ sym (take-add (b - a) (c - b) (drop a xs)) ∙ ap (λ n. take n (drop a xs)) whole
+between-append a b c xs ab bc = grind (arith, common_steps, take-add (b - a) (c - b) (drop a xs), drop-drop (b - a) a xs)
 
 between-same : (a : ℕ) (xs : List ℕ) → between a a xs ≡ []
 between-same a xs = let none : a - a ≡ 0 = omega arith in ap (λ n. take n (drop a xs)) none
 
 between-left : (a b : ℕ) (xs ys : List ℕ) → b ≤ length xs → between a b (xs ++ ys) ≡ between a b xs
-between-left a b xs ys within = between_is (xs ++ ys) a b ∙ ap (drop a) (take-append-le b xs ys within) ∙ sym (between_is xs a b)
+between-left a b xs ys within = rw (between_is, between_is, take-append-le b xs ys within)
 
 between_at : (xs ys zs : List ℕ) (a b : ℕ) → length xs ≡ a → length xs + length ys ≡ b → between a b (xs ++ (ys ++ zs)) ≡ ys
 between_at xs ys zs a b start end = ap (take (b - a)) (drop_at xs (ys ++ zs) a start) ∙ take_at ys zs (b - a) (omega arith)
@@ -68,10 +64,9 @@ end_of_all start (cut ∷ cuts) files h = end_of_all cut.end cuts files h.4
 
 pub files_of_all : (cuts : List Cut) (files : List ℕ) → AreCut 0 cuts files → files_in (parts_from 0 cuts files) ≡ files
 files_of_all cuts files h =
-    let n : ℕ = length cuts in
-    let all : take n (parts_from 0 cuts files) ≡ parts_from 0 cuts files = take_all n (parts_from 0 cuts files) (omega (arith, length-parts_from 0 cuts files)) in
-    let end : end_of 0 (take n cuts) ≡ length files = ap (end_of 0) (take_all n cuts (omega arith)) ∙ end_of_all 0 cuts files h in
-    ap files_in (sym all) ∙ files_of_first n cuts files h ∙ take_all (end_of 0 (take n cuts)) files (omega (arith, end))
+    let end : end_of 0 (take (length cuts) cuts) ≡ length files = ap (end_of 0) (take_all (length cuts) cuts (omega arith)) ∙ end_of_all 0 cuts files h in
+    ap files_in (sym (take_all (length cuts) (parts_from 0 cuts files) (omega (arith, length-parts_from 0 cuts files)))) ∙ files_of_first (length cuts) cuts files h ∙ take_all _ files
+    (omega (arith, end))
 
 -- what is known of the part at a place
 cut_at : (i start : ℕ) (cuts : List Cut) (files : List ℕ) (d : Cut) → AreCut start cuts files → i < length cuts → IsCutAt (end_of start (take i cuts)) (get_or cuts i d) files
@@ -90,15 +85,17 @@ module _ (files fresh reused : List ℕ) (cut : Cut) (middle : length files + le
 
   reused_at : between cut.middle cut.end all ≡ reused
   reused_at =
-      let split : all ≡ (files ++ fresh) ++ (reused ++ []) = sym (append_assoc files fresh reused) ∙ ap (λ xs. (files ++ fresh) ++ xs) (sym (append-nil reused)) in
-      ap (between cut.middle cut.end) split ∙ between_at (files ++ fresh) reused [] cut.middle cut.end (omega (arith, length-append files fresh)) (omega (arith, length-append files fresh))
+      let split : all ≡ (files ++ fresh) ++ (reused ++ []) = grind (arith, common_steps) in
+      rw split (between_at (files ++ fresh) reused [] cut.middle cut.end (omega (arith, length-append files fresh)) (omega (arith, length-append files fresh)))
 
   length_all : length all ≡ cut.end
   length_all = omega (arith, length-append files (fresh ++ reused), length-append fresh reused)
 
-  pub parts_from-push : (start : ℕ) (cuts : List Cut) → AreCut start cuts files → parts_from start (cuts ++ cut ∷ []) all ≡ parts_from start cuts files ++ record { subtask = cut.subtask; fresh = fresh; reused = reused } ∷ []
+  pub parts_from-push : (start : ℕ) (cuts : List Cut) → AreCut start cuts files
+      → parts_from start (cuts ++ cut ∷ []) all ≡ parts_from start cuts files ++ record { subtask = cut.subtask; fresh = fresh; reused = reused } ∷ []
   parts_from-push start [] h =
-      ap (λ (xs : List ℕ). record { subtask = cut.subtask; fresh = xs; reused = between cut.middle cut.end all } ∷ []) (fresh_at start h) ∙ ap (λ (xs : List ℕ). record { subtask = cut.subtask; fresh = fresh; reused = xs } ∷ []) reused_at
+      ap (λ (xs : List ℕ). record { subtask = cut.subtask; fresh = xs; reused = between cut.middle cut.end all } ∷ []) (fresh_at start h) ∙ ap
+      (λ (xs : List ℕ). record { subtask = cut.subtask; fresh = fresh; reused = xs } ∷ []) reused_at
   parts_from-push start (c ∷ cuts) h =
       let below : c.end ≤ length files = start_within c.end cuts files h.4 in
       let rest : List Part = parts_from c.end (cuts ++ cut ∷ []) all in
@@ -109,30 +106,40 @@ module _ (files fresh reused : List ℕ) (cut : Cut) (middle : length files + le
   pub AreCut-push : (start : ℕ) (cuts : List Cut) → IsAscending fresh → IsAscending reused → AreCut start cuts files → AreCut start (cuts ++ cut ∷ []) all
   AreCut-push start [] f r h = (omega arith, omega arith, subst IsAscending (sym (fresh_at start h)) f, subst IsAscending (sym reused_at) r, sym length_all)
   AreCut-push start (c ∷ cuts) f r h =
-      let below : c.end ≤ length files = start_within c.end cuts files h.4 in
-      (h.0, h.1, subst IsAscending (sym (between-left start c.middle files (fresh ++ reused) (omega (arith, below, h.1)))) h.2, subst IsAscending (sym (between-left c.middle c.end files (fresh ++ reused) below)) h.3, AreCut-push c.end cuts f r h.4)
+      let below : c.end ≤ length files = start_within c.end cuts files h.4 in (
+        h.0,
+        h.1,
+        subst IsAscending (sym (between-left start c.middle files (fresh ++ reused) (omega (arith, below, h.1)))) h.2,
+        subst IsAscending
+            (sym (between-left c.middle c.end files (fresh ++ reused) below)) h.3,
+        AreCut-push c.end cuts f r h.4,
+      )
 
 -- how often files from one place to another have a file
 
-pub times-between : (f start : ℕ) (cut : Cut) (files : List ℕ) → IsCutAt start cut files → times f (between start cut.end files) ≡ times f (between start cut.middle files) + times f (between cut.middle cut.end files)
-times-between f start cut files h =
-    ap (times f) (sym (between-append start cut.middle cut.end files h.begins h.ends)) ∙ times-append f (between start cut.middle files) (between cut.middle cut.end files)
+pub times-between : (f start : ℕ) (cut : Cut) (files : List ℕ) → IsCutAt start cut files
+    → times f (between start cut.end files) ≡ times f (between start cut.middle files) + times f (between cut.middle cut.end files)
+times-between f start cut files h = rw (← between-append start cut.middle cut.end files h.begins h.ends) (times-append f (between start cut.middle files) (between cut.middle cut.end files))
 
 -- the files of one part more
 times-more : (f i : ℕ) (cuts : List Cut) (files : List ℕ) (cut : Cut) → AreCut 0 cuts files → i < length cuts → cut ≡ get_or cuts i cut
     → times f (files_in (take (i + 1) (parts_from 0 cuts files))) ≡ times f (files_in (take i (parts_from 0 cuts files))) + times f (between (end_of 0 (take i cuts)) cut.end files)
 times-more f i cuts files cut h within at =
     let start : ℕ = end_of 0 (take i cuts) in
-    let end : end_of 0 (take (i + 1) cuts) ≡ cut.end = end_of-more 0 cuts i cut within at in
-    let C : Cut → Type 0 = λ k. IsCutAt start k files in
-    let here : IsCutAt start cut files = subst C (sym at) (cut_at i 0 cuts files cut h within) in
-    let all : files_in (take (i + 1) (parts_from 0 cuts files)) ≡ between 0 cut.end files = files_between (i + 1) 0 cuts files h ∙ ap (λ n. between 0 n files) end in
-    let before : files_in (take i (parts_from 0 cuts files)) ≡ between 0 start files = files_between i 0 cuts files h in
-    ap (times f) (all ∙ sym (between-append 0 start cut.end files (omega arith) (omega (arith, here.begins, here.ends))) ∙ ap (λ xs. xs ++ between start cut.end files) (sym before)) ∙ times-append f (files_in (take i (parts_from 0 cuts files))) (between start cut.end files)
+    let here : IsCutAt start cut files = rw at (cut_at i 0 cuts files cut h within) in
+    rw (
+      files_between (i + 1) 0 cuts files h,
+      end_of-more 0 cuts i cut within at,
+      files_between i 0 cuts files h,
+      ← between-append 0 start cut.end files (omega arith)
+          (omega (arith, here.begins, here.ends)),
+    )
+    (times-append f (between 0 start files) (between start cut.end files))
 
 -- What a walk over the first parts knows of the next one, and what it knows after it.
 
-module _ (cuts : List Cut) (files : List ℕ) (n i : ℕ) (row : List Cut) (given : List ℕ) (d : Cut) (is : row ≡ cuts) (are : given ≡ files) (within : n ≤ length cuts) (below : i < length (take n row)) (whole : AreCut 0 cuts files) where
+module _ (cuts : List Cut) (files : List ℕ) (n i : ℕ) (row : List Cut) (given : List ℕ) (d : Cut) (is : row ≡ cuts) (are : given ≡ files) (within : n ≤ length cuts) (below : i < length (take n row))
+    (whole : AreCut 0 cuts files) where
   abbrev next : Cut
   next = get_or (take n row) i d
 
@@ -143,22 +150,15 @@ module _ (cuts : List Cut) (files : List ℕ) (n i : ℕ) (row : List Cut) (give
   next_is = ap (λ cs. get_or (take n cs) i d) is ∙ get_or-take n cuts i d next_below.0 ∙ get_or_default cuts i d next next_below.1
 
   pub next_cut : (start : ℕ) → start ≡ end_of 0 (take i cuts) → IsCutAt start next given
-  next_cut start at =
-      let C : Cut → Type 0 = λ k. IsCutAt (end_of 0 (take i cuts)) k files in
-      let S : ℕ → Type 0 = λ s. IsCutAt s next files in
-      let G : List ℕ → Type 0 = λ xs. IsCutAt start next xs in
-      subst G (sym are) (subst S (sym at) (subst C (sym next_is) (cut_at i 0 cuts files next whole next_below.1)))
+  next_cut start at = rw (at, are) (subst (λ k. IsCutAt (end_of 0 (take i cuts)) k files) (sym next_is) (cut_at i 0 cuts files next whole next_below.1))
 
   pub next_end : next.end ≡ end_of 0 (take (i + 1) cuts)
   next_end = sym (end_of-more 0 cuts i next next_below.1 next_is)
 
-  pub next_times : (f start : ℕ) → start ≡ end_of 0 (take i cuts) → times f (files_in (take (i + 1) (parts_from 0 cuts files))) ≡ times f (files_in (take i (parts_from 0 cuts files))) + times f (between start next.end given)
-  next_times f start at =
-      times-more f i cuts files next whole next_below.1 next_is ∙ ap (λ s. times f (files_in (take i (parts_from 0 cuts files))) + times f (between s next.end files)) (sym at) ∙ ap (λ xs. times f (files_in (take i (parts_from 0 cuts files))) + times f (between start next.end xs)) (sym are)
+  pub next_times : (f start : ℕ) → start ≡ end_of 0 (take i cuts)
+      → times f (files_in (take (i + 1) (parts_from 0 cuts files))) ≡ times f (files_in (take i (parts_from 0 cuts files))) + times f (between start next.end given)
+  next_times f start at = rw (at, are) (times-more f i cuts files next whole next_below.1 next_is)
 
   -- no more than in all that the walk will visit
   pub next_among : (f : ℕ) → times f (files_in (take (i + 1) (parts_from 0 cuts files))) ≤ times f (files_in (take n (parts_from 0 cuts files)))
-  next_among f =
-      let parts : List Part = parts_from 0 cuts files in
-      let both : times f (files_in (take (i + 1) (take n parts))) ≡ times f (files_in (take (i + 1) parts)) = ap (λ ps. times f (files_in ps)) (take-take (i + 1) n parts (omega (arith, next_below.0))) in
-      omega (arith, both, times_of_take files_of f (i + 1) (take n parts))
+  next_among f = rw (← take-take (i + 1) n (parts_from 0 cuts files) (omega (arith, next_below.0))) (times_of_take files_of f (i + 1) (take n (parts_from 0 cuts files)))

@@ -1,10 +1,11 @@
 -- What a change of what one record holds does to the uses that the row stands for.
-use Rattle.ckpt_registry.proofs.Names.{◌≡◌, ℕ, ◌+◌, ◌<◌, ◌≤◌, Bool, true, false, not, cond, eqb, ltb, ◌&&◌, ◌||◌, length, get_or, take, List, [], ◌∷◌, ◌++◌, refl, sym, ap, subst, ◌∙◌, ⊎_elim, arith}
-use Rattle.ckpt_registry.proofs.Names.{count_by, ◌⊎◌, inl, inr, filter, flat_map, cases_Bool, cond-true, cond-false, cases_eq, eq-eqb, ne_eqb, nat_tests, append-nil, take_more, sum_by-filter_both}
-use Rattle.ckpt_registry.proofs.Names.{filter-append, flat_map-append, times, IsIn, Use, Subtask, count, count_by-append, count_by-map, times-append, IsIn-from_flat_map, IsIn-from_map}
-use Rattle.ckpt_registry.proofs.Names.{IsInOrder-filter, filter-all, filter-same, filter-none, filter-filter, Holding, Acknowledged, AreRising, Extends, parts_of, uses_by, uses_in, triples, is_owned}
-use Rattle.ckpt_registry.proofs.Names.{without, without_record, Part, files_in, files_of, common_steps}
+use Rattle.ckpt_registry.proofs.Names.{◌≡◌, ℕ, ◌+◌, ◌<◌, ◌≤◌, Bool, not, cond, eqb, ltb, ◌&&◌, length, get_or, take, List, [], ◌∷◌, ◌++◌, refl, sym, ap, subst, ◌∙◌, ⊎_elim, arith, count_by, ◌⊎◌, inl}
+use Rattle.ckpt_registry.proofs.Names.{inr, filter, flat_map, cases_eq, eq-eqb, ne_eqb, nat_tests, append-nil, take_more, sum_by-filter_both, filter-append, flat_map-append, times, IsIn, Use, Subtask}
+use Rattle.ckpt_registry.proofs.Names.{count, count_by-append, times-append, IsIn-from_flat_map, IsIn-from_map, IsInOrder-filter, filter-all, filter-same, filter-none, filter-filter, Holding}
+use Rattle.ckpt_registry.proofs.Names.{Acknowledged, AreRising, Extends, parts_of, uses_by, uses_in, triples, is_owned, without, without_record, Part, files_in, files_of, common_steps}
 use Rattle.ckpt_registry.proofs.ListLemmas.{count_by-filter, count_by-filter_le}
+use Rattle.std.proofs.lemmas.Bool.{cond_both}
+use Rattle.ckpt_ids.proofs.OrderedLemmas.{only_one}
 
 abbrev pub number : Holding → ℕ
 number h = h.id
@@ -31,13 +32,11 @@ uses_in-filter t [] = refl
 uses_in-filter t (h ∷ hs) =
     let q : Use → Bool = λ u. t u.id in
     let own : List Use = uses_by h.id h.parts in
-    let both : filter q (own ++ uses_in hs) ≡ filter q own ++ filter q (uses_in hs) = filter-append q own (uses_in hs) in
-    let rest = uses_in-filter t hs in
+    let left : List Holding = filter (λ (o : Holding). t o.id) hs in
     let same : (u : Use) → IsIn u own → q u ≡ t h.id = λ u k. ap t (uses_by-id h.id h.parts u k) in
-    let Goal : Bool → Type 0 = λ b. filter q (uses_in (h ∷ hs)) ≡ uses_in (cond b (h ∷ filter (λ (o : Holding). t o.id) hs) (filter (λ (o : Holding). t o.id) hs)) in
-    let kept : t h.id ≡ true → Goal (t h.id) = λ (e : t h.id ≡ true). subst Goal (sym e) (both ∙ ap (λ us. us ++ filter q (uses_in hs)) (filter-all q own (λ u k. same u k ∙ e)) ∙ ap (λ us. own ++ us) rest) in
-    let gone : t h.id ≡ false → Goal (t h.id) = λ (e : t h.id ≡ false). subst Goal (sym e) (both ∙ ap (λ us. us ++ filter q (uses_in hs)) (filter-none q own (λ u k. same u k ∙ e)) ∙ rest) in
-    ⊎_elim kept gone (cases_Bool (t h.id))
+    filter-append q own (uses_in hs) ∙ ap (λ us. filter q own ++ us) (uses_in-filter t hs)
+    ∙ cond_both (t h.id) (h ∷ left) left (λ os. filter q own ++ uses_in left ≡ uses_in os) (λ e. ap (λ us. us ++ uses_in left) (filter-all q own (λ u k. same u k ∙ e)))
+    (λ e. ap (λ us. us ++ uses_in left) (filter-none q own (λ u k. same u k ∙ e)))
 
 -- how often a record's parts have a file
 pub count-uses_by : (id f : ℕ) (parts : List Part) → count (uses_by id parts) f ≡ times f (files_in parts)
@@ -47,20 +46,23 @@ count-uses_by id f (part ∷ parts) = grind (arith, common_steps, count-uses_by 
 -- how often what these records hold has a file
 count-uses_in : (hs : List Holding) (f : ℕ) → count (uses_in hs) f ≡ times f (files_in (parts_in hs))
 count-uses_in [] f = refl
-count-uses_in (h ∷ hs) f =
-    let used : count (uses_in (h ∷ hs)) f ≡ count (uses_by h.id h.parts) f + count (uses_in hs) f = count_by-append (λ (u : Use). eqb u.file f) (uses_by h.id h.parts) (uses_in hs) in
-    let files : times f (files_in (parts_in (h ∷ hs))) ≡ times f (files_in h.parts ++ files_in (parts_in hs)) = ap (times f) (flat_map-append files_of h.parts (parts_in hs)) in
-    omega (arith, used, files, count-uses_by h.id f h.parts, count-uses_in hs f, times-append f (files_in h.parts) (files_in (parts_in hs)))
+count-uses_in (h ∷ hs) f = grind (arith, common_steps, count-uses_by h.id f h.parts, count-uses_in hs f, count_by-append, times-append)
 
 -- a record uses the files of its parts, and the others use theirs
 pub count-used_by : (m : Acknowledged) (id f : ℕ) → count_by (λ (u : Use). eqb u.id id && eqb u.file f) (uses_in m.items) ≡ times f (files_in (parts_of m id))
 count-used_by m id f =
-    sym (count_by-filter (λ (u : Use). eqb u.file f) (λ (u : Use). eqb u.id id) (uses_in m.items)) ∙ ap (λ us. count us f) (uses_in-filter (λ k. eqb k id) m.items) ∙ count-uses_in (filter (has_id id) m.items) f
+    rw (← count_by-filter (λ (u : Use). eqb u.file f) (λ (u : Use). eqb u.id id) (uses_in m.items), uses_in-filter (λ k. eqb k id) m.items) (count-uses_in (filter (has_id id) m.items) f)
 
 -- what a record uses is used
 pub count-parts_of : (m : Acknowledged) (id f : ℕ) → times f (files_in (parts_of m id)) ≤ count (uses_in m.items) f
 count-parts_of m id f =
-    omega (arith, count-used_by m id f, count_by-filter (λ (u : Use). eqb u.file f) (λ (u : Use). eqb u.id id) (uses_in m.items), count_by-filter_le (λ (u : Use). eqb u.file f) (λ (u : Use). eqb u.id id) (uses_in m.items))
+    omega (
+      arith,
+      count-used_by m id f,
+      count_by-filter (λ (u : Use). eqb u.file f) (λ (u : Use). eqb u.id id) (uses_in m.items),
+      count_by-filter_le (λ (u : Use). eqb u.file f)
+          (λ (u : Use). eqb u.id id) (uses_in m.items),
+    )
 
 -- those that pass a test and the others
 count_by-both : {X : Type 0} (p q : X → Bool) (xs : List X) → count_by p xs ≡ count_by p (filter q xs) + count_by p (filter (λ x. not (q x)) xs)
@@ -75,34 +77,40 @@ module _ (m n : Acknowledged) (id : ℕ) (gone : n.items ≡ filter (λ (h : Hol
   -- the uses of one record and those of the others
   pub count-gone : (f : ℕ) → count (uses_in m.items) f ≡ times f (files_in (parts_of m id)) + count (uses_in n.items) f
   count-gone f =
-      let others : count (uses_in n.items) f ≡ count (without_record id (uses_in m.items)) f = ap (λ us. count us f) uses_in-gone in
-      omega (arith, others, count-used_by m id f, count_by-filter (λ (u : Use). eqb u.file f) (λ (u : Use). eqb u.id id) (uses_in m.items), count_by-both (λ (u : Use). eqb u.file f) (λ (u : Use). eqb u.id id) (uses_in m.items))
+      rw uses_in-gone (omega (
+        arith,
+        count-used_by m id f,
+        count_by-filter (λ (u : Use). eqb u.file f) (λ (u : Use). eqb u.id id) (uses_in m.items),
+        count_by-both (λ (u : Use). eqb u.file f)
+            (λ (u : Use). eqb u.id id) (uses_in m.items),
+      ))
 
   pub parts_of-gone : (d : ℕ) → (d ≡ id → ⊥) → parts_of n d ≡ parts_of m d
   parts_of-gone d ne =
       let other : (h : Holding) → IsIn h m.items → (not (eqb h.id id) && eqb h.id d) ≡ eqb h.id d = λ h k. grind (arith, nat_tests) in
-      ap parts_in (ap (filter (has_id d)) gone ∙ filter-filter (has_id d) (λ (h : Holding). not (eqb h.id id)) m.items ∙ filter-same (λ (h : Holding). not (eqb h.id id) && eqb h.id d) (has_id d) m.items other)
+      ap parts_in (ap (filter (has_id d)) gone ∙ filter-filter (has_id d) (λ (h : Holding). not (eqb h.id id)) m.items ∙ filter-same (λ (h : Holding). not (eqb h.id id) && eqb h.id d)
+      (has_id d) m.items other)
 
   pub AreRising-gone : AreRising m.items → AreRising n.items
   AreRising-gone a = subst AreRising (sym gone) (IsInOrder-filter (λ g h. ltb g.id h.id) (λ h. not (eqb h.id id)) m.items a)
 
 -- A record gets more parts. What it held is between the records of other numbers.
 
-module _ (m n : Acknowledged) (id : ℕ) (before old after : List Holding) (new : Holding) (more : List Part) (had : m.items ≡ before ++ (old ++ after)) (has : n.items ≡ before ++ new ∷ after) (own : new.id ≡ id)
+module _ (m n : Acknowledged) (id : ℕ) (before old after : List Holding) (new : Holding) (more : List Part) (had : m.items ≡ before ++ (old ++ after)) (has : n.items ≡ before ++ new ∷ after)
+    (own : new.id ≡ id)
     (all : (h : Holding) → IsIn h old → h.id ≡ id) (grown : new.parts ≡ parts_in old ++ more) where
   uses_old : (hs : List Holding) → ((h : Holding) → IsIn h hs → h.id ≡ id) → uses_in hs ≡ uses_by id (parts_in hs)
   uses_old [] ids = refl
-  uses_old (h ∷ hs) ids =
-      ap (λ k. uses_by k h.parts ++ uses_in hs) (ids h (inl refl)) ∙ ap (λ us. uses_by id h.parts ++ us) (uses_old hs (λ x k. ids x (inr k))) ∙ sym (flat_map-append (part_uses id) h.parts (parts_in hs))
+  uses_old (h ∷ hs) ids = rw (ids h (inl refl), uses_old hs (λ x k. ids x (inr k)), flat_map-append (part_uses id) h.parts (parts_in hs))
 
   uses_new : uses_by new.id new.parts ≡ uses_in old ++ uses_by id more
-  uses_new = ap (λ k. uses_by k new.parts) own ∙ ap (uses_by id) grown ∙ flat_map-append (part_uses id) (parts_in old) more ∙ ap (λ us. us ++ uses_by id more) (sym (uses_old old all))
+  uses_new = rw (own, grown, flat_map-append (part_uses id) (parts_in old) more, uses_old old all)
 
   was : uses_in m.items ≡ uses_in before ++ (uses_in old ++ uses_in after)
-  was = ap uses_in had ∙ flat_map-append _ before (old ++ after) ∙ ap (λ us. uses_in before ++ us) (flat_map-append _ old after)
+  was = rw (had, flat_map-append, flat_map-append)
 
   is : uses_in n.items ≡ uses_in before ++ ((uses_in old ++ uses_by id more) ++ uses_in after)
-  is = ap uses_in has ∙ flat_map-append _ before (new ∷ after) ∙ ap (λ us. uses_in before ++ (us ++ uses_in after)) uses_new
+  is = rw (has, flat_map-append, uses_new)
 
   pub uses-grown : (p : Use → Bool) → count_by p (uses_in n.items) ≡ count_by p (uses_in m.items) + count_by p (uses_by id more)
   uses-grown p =
@@ -129,42 +137,30 @@ module _ (m n : Acknowledged) (id : ℕ) (before old after : List Holding) (new 
   Extends-grown apart = λ q.
       let Goal : Type 0 = (x : List Part) × (parts_of n q ≡ parts_of m q ++ x) in
       let held : List Holding → List Part = λ hs. parts_in (filter (has_id q) hs) in
-      let whole : parts_of m q ≡ held before ++ (held old ++ held after) = ap held had ∙ held_by q before (old ++ after) ∙ ap (λ ps. held before ++ ps) (held_by q old after) in
-      let after_all : parts_of n q ≡ held before ++ (held (new ∷ []) ++ held after) = ap held has ∙ held_by q before (new ∷ after) ∙ ap (λ ps. held before ++ ps) (held_by q (new ∷ []) after) in
-      let same : q ≡ id → Goal = λ (e : q ≡ id).
-      let none_before : held before ≡ [] = ap parts_in (filter-none (has_id q) before (λ x k. ne_eqb x.id q (λ i. apart x (inl k) (i ∙ e)))) in
-      let none_after : held after ≡ [] = ap parts_in (filter-none (has_id q) after (λ x k. ne_eqb x.id q (λ i. apart x (inr k) (i ∙ e)))) in
+      let none : (hs : List Holding) → ((h : Holding) → IsIn h hs → h.id ≡ q → ⊥) → held hs ≡ [] = λ hs ne. ap parts_in (filter-none (has_id q) hs (λ x k. ne_eqb x.id q (ne x k))) in
+      let whole : parts_of m q ≡ held before ++ (held old ++ held after) = rw (had, held_by q before (old ++ after), held_by q old after) in
+      let after_all : parts_of n q ≡ held before ++ (held (new ∷ []) ++ held after) = rw (has, held_by q before (new ∷ after), held_by q (new ∷ []) after) in
+      let same : q ≡ id → Goal = λ e.
       let old_parts : held old ≡ parts_in old = ap parts_in (filter-all (has_id q) old (λ x k. eq-eqb x.id q (all x k ∙ sym e))) in
-      let new_parts : held (new ∷ []) ≡ new.parts = ap parts_in (cond-true (eqb new.id q) _ _ (eq-eqb new.id q (own ∙ sym e))) ∙ append-nil new.parts in
-      let first : parts_of m q ≡ parts_in old = whole ∙ ap (λ ps. ps ++ (held old ++ held after)) none_before ∙ ap (λ ps. held old ++ ps) none_after ∙ append-nil (held old) ∙ old_parts in
-      let last : parts_of n q ≡ new.parts = after_all ∙ ap (λ ps. ps ++ (held (new ∷ []) ++ held after)) none_before ∙ ap (λ ps. held (new ∷ []) ++ ps) none_after ∙ append-nil (held (new ∷ [])) ∙ new_parts in
-      (more, last ∙ grown ∙ ap (λ ps. ps ++ more) (sym first)) in
-      let other : (q ≡ id → ⊥) → Goal = λ (ne : q ≡ id → ⊥).
-      let old_parts : held old ≡ [] = ap parts_in (filter-none (has_id q) old (λ x k. ne_eqb x.id q (λ i. ne (sym i ∙ all x k)))) in
-      let new_parts : held (new ∷ []) ≡ [] = ap parts_in (cond-false (eqb new.id q) _ _ (ne_eqb new.id q (λ i. ne (sym i ∙ own)))) in
-      ([], after_all ∙ ap (λ ps. held before ++ (ps ++ held after)) (new_parts ∙ sym old_parts) ∙ sym whole ∙ sym (append-nil (parts_of m q))) in
+      let new_parts : held (new ∷ []) ≡ new.parts = rw (eq-eqb new.id q (own ∙ sym e), append-nil) in
+      (more, rw (after_all, whole, new_parts, old_parts, none before (λ x k i. apart x (inl k) (i ∙ e)), none after (λ x k i. apart x (inr k) (i ∙ e))) (simp append-nil grown)) in
+      let other : (q ≡ id → ⊥) → Goal = λ ne.
+      ([], rw (after_all, whole, none old (λ x k i. ne (sym i ∙ all x k)), none (new ∷ []) (λ x k i. ne (sym i ∙ ap number (only_one x new k) ∙ own))) (simp append-nil)) in
       ⊎_elim same other (cases_eq q id)
 
 abbrev stays : List ℕ → Use → Bool
 stays owners u = not (is_owned owners u)
 
 stays_push : (owners : List ℕ) (owner : ℕ) (u : Use) → stays (owners ++ owner ∷ []) u ≡ (stays owners u && not (eqb u.id owner))
-stays_push [] owner u = by (eqb u.id owner)
-  where
-    by : (b : Bool) → not (b || false) ≡ (true && not b)
-    by true = refl
-    by false = refl
-stays_push (o ∷ owners) owner u = by (eqb u.id o) (stays_push owners owner u)
-  where
-    by : (b : Bool) → stays (owners ++ owner ∷ []) u ≡ (stays owners u && not (eqb u.id owner)) → not (b || is_owned (owners ++ owner ∷ []) u) ≡ (not (b || is_owned owners u) && not (eqb u.id owner))
-    by true h = refl
-    by false h = h
+stays_push [] owner u = grind arith
+stays_push (o ∷ owners) owner u = grind (arith, stays_push owners owner u)
 
 without-push : (owners : List ℕ) (owner : ℕ) (us : List Use) → without (owners ++ owner ∷ []) us ≡ without_record owner (without owners us)
 without-push owners owner us = grind (arith, common_steps, filter-filter, filter-same, stays_push)
 
 -- one record more is released, of a list of which i were
-pub without_more : (owners : List ℕ) (i owner : ℕ) (us now : List Use) → i < length owners → owner ≡ get_or owners i owner → now ≡ without (take i owners) us → without_record owner now ≡ without (take (i + 1) owners) us
+pub without_more : (owners : List ℕ) (i owner : ℕ) (us now : List Use) → i < length owners → owner ≡ get_or owners i owner → now ≡ without (take i owners) us
+    → without_record owner now ≡ without (take (i + 1) owners) us
 without_more owners i owner us now within at kept = grind (arith, common_steps, take_more, without-push)
 
 -- all stay if no record goes

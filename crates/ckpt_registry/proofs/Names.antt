@@ -18,7 +18,7 @@ pub use Rattle.ckpt_ids.specs.Places.{BelongsAt, LiesAt}
 pub use Rattle.ckpt_ids.specs.Records.{Holder, Pin, Subtask, Use, count, holder_before, is_present, released, same_holder, use_before}
 pub use Rattle.ckpt_ids.specs.declared.subtask.SubtaskId.{SubtaskId}
 pub use Rattle.ckpt_registry.specs.Counters.{AreInRange, AreLowered, AreReleased, Counts, HasRoom, Released, counted_once, counter}
-pub use Rattle.ckpt_registry.specs.Holdings.{Acknowledged, Adds, AreRising, Extends, parts_of, uses_by, uses_in}
+pub use Rattle.ckpt_registry.specs.Holdings.{Acknowledged, AreRising, Extends, parts_of, uses_by, uses_in}
 pub use Rattle.ckpt_registry.specs.Parts.{AreCut, IsCutAt, Part, files_in, files_of, parts_from}
 pub use Rattle.ckpt_registry.specs.Pins.{AreKept, AreSettled, IsKept, IsLook, IsSettled, each_file, first_of, is_named, named_by, own_files, own_in, own_of, parts_pinned, pinned_by, pins_in}
 pub use Rattle.ckpt_registry.specs.Pins.{pins_of_records}
@@ -32,19 +32,19 @@ pub use Rattle.ckpt_registry.specs.declared.pins.Pinner.{Pinner}
 pub use Rattle.ckpt_registry.specs.declared.pins.Pins.{Pins}
 pub use Rattle.ckpt_registry.specs.declared.pins.Pins.TheVariants.{Files, Record}
 pub use Rattle.indexmap.proofs.CallerLemmas.{index_map_len-with_value_at, updates-with_value_at}
-pub use Rattle.indexmap.specs.IndexMap.{IsUnique, Updates, get, index_map_len, keys, spare, values, with_value_at}
-pub use Rattle.std.proofs.Common.{Bool, Equal, Err, Greater, IfOk, IfSome, List, None, Ok, Option, Result, Some, [], ap, append_assoc, arith, cond, count_by, drop, eqb, false, get_or, if◌then◌else◌}
-pub use Rattle.std.proofs.Common.{inl, inr, length, length-append, ltb, map, nat_eq, not, refl, rules, set, subst, suc, sym, take, true, unwrap_or, zero, ℕ, ⊎_elim, ◌&&◌, ◌++◌, ◌+◌, ◌-◌, ◌<◌, ◌^◌}
-pub use Rattle.std.proofs.Common.{◌||◌, ◌∙◌, ◌∷◌, ◌≡◌, ◌≤◌, ◌⊎◌}
+pub use Rattle.indexmap.specs.IndexMap.{IsUnique, get, index_map_len, keys, spare, values, with_value_at}
+pub use Rattle.std.proofs.Common.{Bool, Equal, Err, Greater, IfOk, List, None, Ok, Option, Result, Some, [], ap, append_assoc, arith, cond, count_by, drop, eqb, false, get_or, if◌then◌else◌, inl, inr}
+pub use Rattle.std.proofs.Common.{length, length-append, ltb, map, nat_eq, not, refl, rules, set, subst, suc, sym, take, true, unwrap_or, zero, ℕ, ⊎_elim, ◌&&◌, ◌++◌, ◌+◌, ◌-◌, ◌<◌, ◌^◌, ◌||◌, ◌∙◌}
+pub use Rattle.std.proofs.Common.{◌∷◌, ◌≡◌, ◌≤◌, ◌⊎◌}
 pub use Rattle.std.proofs.Math.Bool.{or-false}
 pub use Rattle.std.proofs.Math.Seq.{take-add}
 pub use Rattle.std.proofs.lemmas.Bool.{and_parts, both_ways, cases_Bool, cases_eq, cases_lt, cond-false, cond-true, eq-eqb, eqb-false, eqb-true, false≢true, le-ltb, lt-ltb, ltb-false, ltb-true}
 pub use Rattle.std.proofs.lemmas.Bool.{ne_eqb, not-true}
 pub use Rattle.std.proofs.lemmas.Bool.Decides.{nat_tests}
 pub use Rattle.std.proofs.lemmas.Cmp.{nat_eq_equiv}
-pub use Rattle.std.proofs.lemmas.Grind.{flat_map-append}
-pub use Rattle.std.proofs.lemmas.List.{append-nil, drop-drop, drop-set-lt, drop_all, drop_at, drop_more, get_or-drop, get_or-take, get_or_at, get_or_default, length-drop, length-map, length-set}
-pub use Rattle.std.proofs.lemmas.List.{length-take, length-take-le, map-append, set-get_or, set_split, take-append-drop, take-append-le, take-take, take_all, take_at, take_more, take_more_set}
+pub use Rattle.std.proofs.lemmas.Grind.{common_steps, flat_map-append}
+pub use Rattle.std.proofs.lemmas.List.{append-nil, drop-drop, drop-set-lt, drop_all, drop_at, drop_more, get_or-drop, get_or-take, get_or_at, get_or_default, length-map, length-set, length-take}
+pub use Rattle.std.proofs.lemmas.List.{length-take-le, map-append, set-get_or, set_split, take-append-drop, take-append-le, take-take, take_all, take_at, take_more, take_more_set}
 pub use Rattle.std.proofs.lemmas.List.Elements.{filter-append}
 pub use Rattle.std.proofs.lemmas.List.Filters.{sum_by-filter_both}
 pub use Rattle.std.proofs.lemmas.List.Quantifiers.{position-Some}
@@ -52,7 +52,7 @@ pub use Rattle.std.proofs.lemmas.List.Sorted.{IsPermutation-refl, non_decreasing
 pub use Rattle.std.proofs.lemmas.List.Sums.{sum_by-cons, sum_by-take-le, sum_by_more}
 pub use Rattle.std.proofs.lemmas.Map.Entries.{hash_map_get_place}
 pub use Rattle.std.proofs.lemmas.Map.Keys.{IsDistinct-head, IsDistinct-tail}
-pub use Rattle.std.proofs.lemmas.Option.{none-some, same_Some}
+pub use Rattle.std.proofs.lemmas.Option.{none-some}
 pub use Rattle.std.proofs.lemmas.Slice.{between_from_start, between_is}
 pub use Rattle.std.specs.Cmp.{nat_cmp_is}
 pub use Rattle.std.specs.List.{AllByRecursion, IsDistinct, between, filter, flat_map, insert, position, remove, slice_get}
@@ -66,4 +66,3 @@ pub use Rattle.std.specs.Vec.{vec_capacity}
 pub use Rattle.std.specs.VecDeque.{deque_with_item}
 pub use Rattle.std.specs.declared.alloc.Global.{Global}
 pub use Rattle.std.specs.declared.vec.Vec.{Vec}
-pub use Rattle.std.proofs.lemmas.Grind.{common_steps}

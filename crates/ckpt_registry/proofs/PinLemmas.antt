@@ -1,14 +1,15 @@
 -- What the pins of records come to, and how they change with the records.
 use Rattle.ckpt_registry.proofs.Names.{◌≡◌, ℕ, ◌+◌, ◌<◌, ◌≤◌, Bool, true, false, not, cond, eqb, ltb, List, [], ◌∷◌, ◌++◌, length, get_or, take, drop, set, refl, sym, ap, subst, ◌∙◌, inl, inr, ⊎_elim}
-use Rattle.ckpt_registry.proofs.Names.{arith, ◌||◌, append_assoc, length-append, filter, vec_capacity, cases_Bool, cond-true, cond-false, flat_map-append, append-nil, drop_at, drop_more, get_or_at}
-use Rattle.ckpt_registry.proofs.Names.{length-drop, take_at, take_more, take_more_set, get_or-drop, drop-set-lt, drop-drop, take-append-le, filter-append, sum_by-cons, one_if, times, IsIn, Use, Pin}
-use Rattle.ckpt_registry.proofs.Names.{Subtask, count, same_holder, eqb_turned, count_by-append, count_by-map, times-append, IsIn-from_filter, IsIn-from_flat_map, IsIn-from_map, IsIn-get_or}
-use Rattle.ckpt_registry.proofs.Names.{IsIn-append_cases, filter-all, filter-none, Holding, FirstParts, Pinner, Pins, Record, Files, Acknowledged, Extends, parts_of, uses_by, uses_in, AreKept}
-use Rattle.ckpt_registry.proofs.Names.{AreSettled, IsKept, IsSettled, each_file, first_of, is_named, own_files, own_in, own_of, parts_pinned, pinned_by, pins_in, pins_of_records, is_owned, triples}
-use Rattle.ckpt_registry.proofs.Names.{without, Part, files_in, files_of, common_steps}
+use Rattle.ckpt_registry.proofs.Names.{arith, length-append, filter, flat_map-append, append-nil, drop_more, get_or_at, take_more, take_more_set, get_or-drop, drop-set-lt, drop-drop, take-append-le}
+use Rattle.ckpt_registry.proofs.Names.{filter-append, sum_by-cons, one_if, times, IsIn, Use, Pin, Subtask, count, same_holder, eqb_turned, count_by-map, IsIn-from_filter, IsIn-from_flat_map}
+use Rattle.ckpt_registry.proofs.Names.{IsIn-from_map, IsIn-append_cases, filter-all, filter-none, Holding, FirstParts, Pinner, Pins, Record, Files, Acknowledged, Extends, parts_of, uses_by, uses_in}
+use Rattle.ckpt_registry.proofs.Names.{AreKept, AreSettled, IsKept, IsSettled, each_file, first_of, is_named, own_files, own_in, own_of, parts_pinned, pinned_by, pins_in, pins_of_records, is_owned}
+use Rattle.ckpt_registry.proofs.Names.{triples, without, Part, files_in, files_of, common_steps, IsIn-at}
 use Rattle.ckpt_registry.proofs.HoldingLemmas.{count-parts_of}
 use Rattle.ckpt_registry.proofs.ListLemmas.{times-ascending_set}
 use Rattle.ckpt_registry.proofs.PartLemmas.{times_of_take}
+use Rattle.std.proofs.lemmas.Bool.{cond_both}
+use Rattle.ckpt_ids.proofs.OrderedLemmas.{only_one}
 
 -- how often pins name a file
 
@@ -44,16 +45,12 @@ parts_pinned-extended m n (Files own) more kept = refl
 
 pub pins_in-extended : (m n : Acknowledged) (pinned : List Pinner) → Extends m n → AreKept m pinned → pins_in n pinned ≡ pins_in m pinned
 pins_in-extended m n [] more kept = refl
-pins_in-extended m n (one ∷ pinned) more kept =
-    let here : pinned_by n one.pins ≡ pinned_by m one.pins = ap (λ ps. each_file ps ++ own_files one.pins) (parts_pinned-extended m n one.pins more (kept one (inl refl))) in
-    ap (λ fs. triples one.id Pin fs ++ pins_in n pinned) here ∙ ap (λ us. triples one.id Pin (pinned_by m one.pins) ++ us) (pins_in-extended m n pinned more (λ o h. kept o (inr h)))
+pins_in-extended m n (one ∷ pinned) more kept = rw (parts_pinned-extended m n one.pins more (kept one (inl refl)), pins_in-extended m n pinned more (λ o h. kept o (inr h)))
 
 IsKept-extended : (m n : Acknowledged) (pins : Pins) → Extends m n → IsKept m pins → IsKept n pins
 IsKept-extended m n (Record first room) more kept =
     let e = more first.id in
-    let longer : length (parts_of n first.id) ≡ length (parts_of m first.id) + length e.0 = ap (λ ps. length ps) e.1 ∙ length-append (parts_of m first.id) e.0 in
-    let same : length (files_in (first_of n first)) ≡ length (files_in (first_of m first)) = ap (λ ps. length (files_in ps)) (parts_pinned-extended m n (Record first room) more kept) in
-    (omega (arith, kept.0, longer), kept.1, omega (arith, kept.2, same))
+    (omega (arith, kept.0, ap (λ ps. length ps) e.1, length-append (parts_of m first.id) e.0), kept.1, rw (parts_pinned-extended m n (Record first room) more kept) kept.2)
 IsKept-extended m n (Files own) more kept = tt
 
 pub AreKept-extended : (m n : Acknowledged) (pinned : List Pinner) → Extends m n → AreKept m pinned → AreKept n pinned
@@ -61,29 +58,27 @@ AreKept-extended m n pinned more kept = λ one h. IsKept-extended m n one.pins m
 
 -- what one of the pinners keeps
 pub IsKept-at : (m : Acknowledged) (pinned : List Pinner) (i : ℕ) (one : Pinner) → AreKept m pinned → i < length pinned → one ≡ get_or pinned i one → IsKept m one.pins
-IsKept-at m pinned i one kept within at = let P : Pinner → Type 0 = λ o. IsIn o pinned in kept one (subst P (sym at) (IsIn-get_or pinned i one within))
+IsKept-at m pinned i one kept within at = kept one (IsIn-at pinned i one within at)
 
 -- one more pins
 
 pub pins_in-push : (m : Acknowledged) (pinned : List Pinner) (one : Pinner) → pins_in m (pinned ++ one ∷ []) ≡ pins_in m pinned ++ triples one.id Pin (pinned_by m one.pins)
-pins_in-push m pinned one = flat_map-append (λ o. triples o.id Pin (pinned_by m o.pins)) pinned (one ∷ []) ∙ ap (λ us. pins_in m pinned ++ us) (append-nil (triples one.id Pin (pinned_by m one.pins)))
+pins_in-push m pinned one = simp (flat_map-append, append-nil)
 
 pub own_in-push : (f : ℕ) (pinned : List Pinner) (one : Pinner) → times f (own_in (pinned ++ one ∷ [])) ≡ times f (own_in pinned) + times f (own_files one.pins)
 own_in-push f pinned one = grind (arith, common_steps)
 
 pub AreKept-push : (m : Acknowledged) (pinned : List Pinner) (one : Pinner) → AreKept m pinned → IsKept m one.pins → AreKept m (pinned ++ one ∷ [])
-AreKept-push m pinned one kept new = λ o h.
-    let P : Pinner → Type 0 = λ x. IsKept m x.pins in
-    ⊎_elim (λ (k : IsIn o pinned). kept o k) (λ (k : IsIn o (one ∷ [])). ⊎_elim (λ (e : o ≡ one). subst P (sym e) new) (λ (e : ⊥). absurd e) k) (IsIn-append_cases o pinned (one ∷ []) h)
+AreKept-push m pinned one kept new = λ o h. ⊎_elim (λ k. kept o k) (λ k. rw (only_one o one k) new) (IsIn-append_cases o pinned (one ∷ []) h)
 
 -- some no longer pin
 
 owned_by_name : (owners : List ℕ) (u : Use) → is_owned owners u ≡ is_named owners u.id
 owned_by_name [] u = refl
-owned_by_name (o ∷ owners) u = ap (λ b. b || is_owned owners u) (eqb_turned u.id o) ∙ ap (λ b. eqb o u.id || b) (owned_by_name owners u)
+owned_by_name (o ∷ owners) u = rw (eqb_turned u.id o, owned_by_name owners u)
 
 triples-id : (id : ℕ) (files : List ℕ) (u : Use) → IsIn u (triples id Pin files) → u.id ≡ id
-triples-id id files u h = ap (λ (v : Use). v.id) (IsIn-from_map (λ (x : ℕ). record { id = id; holder = Pin; file = x }) u files h).2
+triples-id id files u h = grind (arith, common_steps, IsIn-from_map)
 
 abbrev pub goes : List ℕ → Pinner → Bool
 goes owners one = is_named owners one.id
@@ -92,18 +87,13 @@ pub pins_in-filter : (m : Acknowledged) (owners : List ℕ) (pinned : List Pinne
 pins_in-filter m owners [] = refl
 pins_in-filter m owners (one ∷ pinned) =
     let here : List Use = triples one.id Pin (pinned_by m one.pins) in
+    let left : List Pinner = filter (λ o. not (is_named owners o.id)) pinned in
     let stays : Use → Bool = λ u. not (is_owned owners u) in
-    let both : without owners (pins_in m (one ∷ pinned)) ≡ without owners here ++ without owners (pins_in m pinned) = filter-append stays here (pins_in m pinned) in
-    let rest = pins_in-filter m owners pinned in
     let same : (u : Use) → IsIn u here → stays u ≡ not (goes owners one) = λ u h. ap not (owned_by_name owners u ∙ ap (is_named owners) (triples-id one.id (pinned_by m one.pins) u h)) in
-    let Goal : Bool → Type 0 = λ b. pins_in m (cond (not b) (one ∷ filter (λ o. not (is_named owners o.id)) pinned) (filter (λ o. not (is_named owners o.id)) pinned)) ≡ without owners (pins_in m (one ∷ pinned)) in
-    let gone : goes owners one ≡ true → Goal (goes owners one) = λ (e : goes owners one ≡ true).
-    let none : without owners here ≡ [] = filter-none stays here (λ u h. same u h ∙ ap not e) in
-    subst Goal (sym e) (rest ∙ sym (both ∙ ap (λ us. us ++ without owners (pins_in m pinned)) none)) in
-    let kept : goes owners one ≡ false → Goal (goes owners one) = λ (e : goes owners one ≡ false).
-    let all : without owners here ≡ here = filter-all stays here (λ u h. same u h ∙ ap not e) in
-    subst Goal (sym e) (ap (λ us. here ++ us) rest ∙ sym (both ∙ ap (λ us. us ++ without owners (pins_in m pinned)) all)) in
-    ⊎_elim gone kept (cases_Bool (goes owners one))
+    cond_both (not (goes owners one)) (one ∷ left) left (λ ps. pins_in m ps ≡ without owners here ++ pins_in m left)
+    (λ e. ap (λ us. us ++ pins_in m left) (sym (filter-all stays here (λ u h. same u h ∙ e))))
+    (λ e. ap (λ us. us ++ pins_in m left) (sym (filter-none stays here (λ u h. same u h ∙ e))))
+    ∙ ap (λ us. without owners here ++ us) (pins_in-filter m owners pinned) ∙ sym (filter-append stays here (pins_in m pinned))
 
 -- the files of the pinners that are removed, and of those that stay
 pub own_in-parts : (f : ℕ) (owners : List ℕ) (pinned : List Pinner) → times f (own_of owners pinned) + times f (own_in (filter (λ one. not (is_named owners one.id)) pinned)) ≡ times f (own_in pinned)
@@ -135,14 +125,11 @@ module _ (m n : Acknowledged) (c : ℕ) (others : (d : ℕ) → (d ≡ c → ⊥
   pins_in-settled [] [] all = refl
   pins_in-settled [] (x ∷ ns) all = absurd all
   pins_in-settled (o ∷ os) [] all = absurd all
-  pins_in-settled (o ∷ os) (x ∷ ns) all =
-      ap (λ id. triples id Pin (pinned_by n x.pins) ++ pins_in n ns) all.0 ∙ ap (λ fs. triples o.id Pin fs ++ pins_in n ns) (pinned_by-settled o.pins x.pins all.1) ∙ ap (λ us. triples o.id Pin (pinned_by m o.pins) ++ us) (pins_in-settled os ns all.2)
+  pins_in-settled (o ∷ os) (x ∷ ns) all = rw (all.0, pinned_by-settled o.pins x.pins all.1, pins_in-settled os ns all.2)
 
   IsKept-settled : (o x : Pins) → IsKept m o → IsSettled c (parts_of m c) o x → IsKept n x
   IsKept-settled (Record first room) (Files own) kept s = tt
-  IsKept-settled (Record first room) (Record same left) kept s =
-      let P : List Part → Type 0 = λ ps. (first.parts ≤ length ps) × (room.items ≡ []) × (length (files_in (take first.parts ps)) ≤ vec_capacity room) in
-      subst (IsKept n) (sym s.1) (subst P (sym (others first.id s.0)) kept)
+  IsKept-settled (Record first room) (Record same left) kept s = subst (IsKept n) (sym s.1) (rw (others first.id s.0) kept)
   IsKept-settled (Files own) x kept s = subst (IsKept n) (sym s) tt
 
   pub AreKept-settled : (os ns : List Pinner) → AreKept m os → AreSettled c (parts_of m c) os ns → AreKept n ns
@@ -150,45 +137,37 @@ module _ (m n : Acknowledged) (c : ℕ) (others : (d : ℕ) → (d ≡ c → ⊥
   AreKept-settled [] (x ∷ ns) kept all = absurd all
   AreKept-settled (o ∷ os) [] kept all = absurd all
   AreKept-settled (o ∷ os) (x ∷ ns) kept all = λ y h.
-      let P : Pinner → Type 0 = λ p. IsKept n p.pins in
-      ⊎_elim (λ (e : y ≡ x). subst P (sym e) (IsKept-settled o.pins x.pins (kept o (inl refl)) all.1)) (λ (k : IsIn y ns). AreKept-settled os ns (λ p q. kept p (inr q)) all.2 y k) h
+      ⊎_elim (λ e. rw e (IsKept-settled o.pins x.pins (kept o (inl refl)) all.1)) (λ k. AreKept-settled os ns (λ p q. kept p (inr q)) all.2 y k) h
 
 -- the files that become a pinner's own are those that it pins of the record
 own-settled : (m : Acknowledged) (c f : ℕ) (o x : Pins) → IsSettled c (parts_of m c) o x
     → (times f (own_files o) ≤ times f (own_files x)) × (times f (own_files x) ≤ times f (own_files o) + times f (each_file (parts_pinned m o)))
 own-settled m c f o x h5 = grind (arith, common_steps)
 
-pub own_in-settled : (m : Acknowledged) (c f : ℕ) (os ns : List Pinner) → AreSettled c (parts_of m c) os ns → (times f (own_in os) ≤ times f (own_in ns)) × (times f (own_in ns) ≤ times f (own_in os) + pins_of_records m f os)
+pub own_in-settled : (m : Acknowledged) (c f : ℕ) (os ns : List Pinner) → AreSettled c (parts_of m c) os ns
+    → (times f (own_in os) ≤ times f (own_in ns)) × (times f (own_in ns) ≤ times f (own_in os) + pins_of_records m f os)
 own_in-settled m c f [] [] all = (omega arith, omega arith)
 own_in-settled m c f [] (x ∷ ns) all = absurd all
 own_in-settled m c f (o ∷ os) [] all = absurd all
-own_in-settled m c f (o ∷ os) (x ∷ ns) all =
-    let here = own-settled m c f o.pins x.pins all.1 in
-    let rest = own_in-settled m c f os ns all.2 in
-    let more = sum_by-cons (λ (p : Pinner). times f (each_file (parts_pinned m p.pins))) o os in
-    let new = times-append f (own_files x.pins) (own_in ns) in
-    let old = times-append f (own_files o.pins) (own_in os) in
-    (omega (arith, here.0, rest.0, new, old), omega (arith, here.1, rest.1, more, new, old))
+own_in-settled m c f (o ∷ os) (x ∷ ns) all = grind (arith, common_steps, own-settled m c f o.pins x.pins all.1, own_in-settled m c f os ns all.2)
 
 -- one pinner more has been looked at
 module _ (chosen : ℕ) (parts : List Part) (old now : List Pinner) (i : ℕ) (d : Pinner) (within : i < length now) (same_length : length now ≡ length old) (left : drop i now ≡ drop i old) where
   pub item_left : get_or now i d ≡ get_or old i d
-  item_left =
-      let here : i + 0 ≡ i = omega arith in
-      ap (λ k. get_or now k d) (sym here) ∙ sym (get_or-drop i now 0 d) ∙ ap (λ xs. get_or xs 0 d) left ∙ get_or-drop i old 0 d ∙ ap (λ k. get_or old k d) here
+  item_left = grind (arith, get_or-drop i now 0 d, get_or-drop i old 0 d)
 
   pub left_more : (y : Pinner) → drop (i + 1) (set now i y) ≡ drop (i + 1) old
-  left_more y = drop-set-lt (i + 1) now i y (omega arith) ∙ sym (drop-drop 1 i now) ∙ ap (drop 1) left ∙ drop-drop 1 i old
+  left_more y = grind (arith, drop-set-lt (i + 1) now i y, drop-drop 1 i now, drop-drop 1 i old)
 
-  pub settled_more : (y : Pinner) → AreSettled chosen parts (take i old) (take i now) → y.id ≡ (get_or old i d).id → IsSettled chosen parts (get_or old i d).pins y.pins → AreSettled chosen parts (take (i + 1) old) (take (i + 1) (set now i y))
+  pub settled_more : (y : Pinner) → AreSettled chosen parts (take i old) (take i now) → y.id ≡ (get_or old i d).id → IsSettled chosen parts (get_or old i d).pins y.pins
+      → AreSettled chosen parts (take (i + 1) old) (take (i + 1) (set now i y))
   settled_more y all same new =
-      let P : List Pinner → Type 0 = λ os. AreSettled chosen parts os (take (i + 1) (set now i y)) in
-      let Q : List Pinner → Type 0 = λ ns. AreSettled chosen parts (take i old ++ get_or old i d ∷ []) ns in
-      subst P (sym (take_more old i d (omega (arith, within, same_length)))) (subst Q (sym (take_more_set now i y within)) (AreSettled-push chosen parts (take i old) (take i now) (get_or old i d) y all same new))
+      rw (take_more old i d (omega (arith, within, same_length)), take_more_set now i y within) (AreSettled-push chosen parts (take i old) (take i now) (get_or old i d) y all same new)
 
 -- the files of the pinners that are removed, for one pinner more
 
-own_of-push : (f : ℕ) (owners : List ℕ) (pinned : List Pinner) (one : Pinner) → times f (own_of owners (pinned ++ one ∷ [])) ≡ times f (own_of owners pinned) + cond (goes owners one) (times f (own_files one.pins)) 0
+own_of-push : (f : ℕ) (owners : List ℕ) (pinned : List Pinner) (one : Pinner)
+    → times f (own_of owners (pinned ++ one ∷ [])) ≡ times f (own_of owners pinned) + cond (goes owners one) (times f (own_files one.pins)) 0
 own_of-push f owners pinned one = grind (arith, common_steps)
 
 pub own_of-more : (f : ℕ) (owners : List ℕ) (pinned : List Pinner) (i : ℕ) (one : Pinner) → i < length pinned → one ≡ get_or pinned i one
@@ -203,7 +182,8 @@ own_of-le f owners n pinned = omega (arith, own_in-parts f owners (take n pinned
 abbrev pub staying : List ℕ → List Pinner → List Pinner
 staying owners pinned = filter (λ one. not (is_named owners one.id)) pinned
 
-module _ (owners : List ℕ) (old row : List Pinner) (i place : ℕ) (one : Pinner) (is : row ≡ staying owners (take i old) ++ drop i old) (at : place ≡ length (staying owners (take i old))) (here : one ≡ get_or row place one) (below : i < length old) where
+module _ (owners : List ℕ) (old row : List Pinner) (i place : ℕ) (one : Pinner) (is : row ≡ staying owners (take i old) ++ drop i old) (at : place ≡ length (staying owners (take i old)))
+    (here : one ≡ get_or row place one) (below : i < length old) where
   abbrev kept : List Pinner
   kept = staying owners (take i old)
 
@@ -221,30 +201,27 @@ module _ (owners : List ℕ) (old row : List Pinner) (i place : ℕ) (one : Pinn
 
   module _ (e : goes owners one ≡ true) where
     none_more : staying owners (take (i + 1) old) ≡ kept
-    none_more = more ∙ ap (λ os. kept ++ os) (cond-false (not (goes owners one)) _ _ (ap not e)) ∙ append-nil kept
+    none_more = grind (arith, common_steps, more)
 
     pub walked_out : take place row ++ drop (place + 1) row ≡ staying owners (take (i + 1) old) ++ drop (i + 1) old
-    walked_out =
-        let before : take place row ≡ kept = ap (take place) split ∙ take_at kept (first ∷ drop (i + 1) old) place (sym at) in
-        let whole : row ≡ (kept ++ first ∷ []) ++ drop (i + 1) old = split ∙ sym (append_assoc kept (first ∷ []) (drop (i + 1) old)) in
-        let after : drop (place + 1) row ≡ drop (i + 1) old = ap (drop (place + 1)) whole ∙ drop_at (kept ++ first ∷ []) (drop (i + 1) old) (place + 1) (omega (arith, at, length-append kept (first ∷ []))) in
-        ap (λ os. os ++ drop (place + 1) row) (before ∙ sym none_more) ∙ ap (λ os. staying owners (take (i + 1) old) ++ os) after
+    walked_out = grind (arith, common_steps, split, none_more)
 
     pub place_same : place ≡ length (staying owners (take (i + 1) old))
     place_same = at ∙ ap (λ os. length os) (sym none_more)
 
   module _ (e : goes owners one ≡ false) where
     one_more : staying owners (take (i + 1) old) ≡ kept ++ one ∷ []
-    one_more = more ∙ ap (λ os. kept ++ os) (cond-true (not (goes owners one)) _ _ (ap not e))
+    one_more = grind (arith, common_steps, more)
 
     pub walked_on : row ≡ staying owners (take (i + 1) old) ++ drop (i + 1) old
-    walked_on = split ∙ ap (λ o. kept ++ o ∷ drop (i + 1) old) (sym walked_one) ∙ sym (append_assoc kept (one ∷ []) (drop (i + 1) old)) ∙ ap (λ os. os ++ drop (i + 1) old) (sym one_more)
+    walked_on = grind (arith, common_steps, split, one_more, walked_one)
 
     pub place_next : place + 1 ≡ length (staying owners (take (i + 1) old))
-    place_next = let same : length (staying owners (take (i + 1) old)) ≡ length (kept ++ one ∷ []) = ap (λ os. length os) one_more in omega (arith, same, at, length-append kept (one ∷ []))
+    place_next = grind (arith, common_steps, one_more)
 
 -- before the end of the walk the row has one more
-pub walk_within : (owners : List ℕ) (old row : List Pinner) (i place : ℕ) → row ≡ staying owners (take i old) ++ drop i old → place ≡ length (staying owners (take i old)) → i < length old → place < length row
+pub walk_within : (owners : List ℕ) (old row : List Pinner) (i place : ℕ) → row ≡ staying owners (take i old) ++ drop i old → place ≡ length (staying owners (take i old)) → i < length old
+    → place < length row
 walk_within owners old row i place is at below = grind (arith, common_steps)
 
 -- the holder of a use

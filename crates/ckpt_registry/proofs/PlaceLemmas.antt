@@ -40,15 +40,12 @@ module _ (place : ℕ) (hs : List Holding) (h : Holding) (within : place < lengt
   pub apart_at : AreRising hs → (x : Holding) → IsIn x (take place hs) ⊎ IsIn x (drop (suc place) hs) → x.id ≡ h.id → ⊥
   apart_at a x side same =
       let apart : AreDistinct (around h.id) = subst (λ ks. AreDistinct ks) numbers_split (AreDistinct-from_order numbers_in_order (numbers hs) (numbers_rise hs a)) in
-      ⊎_elim
-      (λ (k : IsIn x (take place hs)). AreDistinct-apart (numbers (take place hs)) (h.id ∷ numbers (drop (suc place) hs)) apart x.id (IsIn-map number x (take place hs) k) (inl same))
-      (λ (k : IsIn x (drop (suc place) hs)). (AreDistinct-right (numbers (take place hs)) (h.id ∷ numbers (drop (suc place) hs)) apart).0 (subst (λ n. IsIn n (numbers (drop (suc place) hs))) same (IsIn-map number x (drop (suc place) hs) k)))
-      side
+      ⊎_elim (λ k. AreDistinct-apart (numbers (take place hs)) (h.id ∷ numbers (drop (suc place) hs)) apart x.id (IsIn-map number x (take place hs) k) (inl same))
+      (λ k. (AreDistinct-right (numbers (take place hs)) (h.id ∷ numbers (drop (suc place) hs)) apart).0
+      (subst (λ n. IsIn n (numbers (drop (suc place) hs))) same (IsIn-map number x (drop (suc place) hs) k))) side
 
   pub rising_same : (w : Holding) → AreRising hs → w.id ≡ h.id → AreRising (take place hs ++ w ∷ drop (suc place) hs)
-  rising_same w a same =
-      let after : List Holding = take place hs ++ w ∷ drop (suc place) hs in
-      IsInOrder-of_keys ltb number after (subst (λ ks. IsAscendingSet ks) (numbers_split ∙ ap around (sym same) ∙ sym (map-append number (take place hs) (w ∷ drop (suc place) hs))) (numbers_rise hs a))
+  rising_same w a same = IsInOrder-of_keys ltb number (take place hs ++ w ∷ drop (suc place) hs) (rw (map-append, same) (subst (λ ks. IsAscendingSet ks) numbers_split (numbers_rise hs a)))
 
 -- the place at which a record belongs that is not there
 
@@ -59,5 +56,5 @@ pub rising_insert : (x : Holding) (hs : List Holding) (place : ℕ) → AreRisin
 rising_insert x hs place a belongs =
     let before : Holding → Holding → Bool = λ g h. ltb g.id h.id in
     let turns : (h : Holding) → IsIn h hs → before h x ≡ false → before x h ≡ true = λ h k e.
-    ⊎_elim (λ (t : before x h ≡ true). t) (λ (t : before x h ≡ false). absurd (apart_from number numbers_in_order x.id hs place belongs h k (numbers_in_order.total h.id x.id e t))) (cases_Bool (before x h)) in
-    subst AreRising (sym (insert_belongs number numbers_in_order x hs place belongs)) (IsInOrder-put_between before (λ g h i. numbers_in_order.transitive g.id h.id i.id) x hs turns a)
+    ⊎_elim (λ t. t) (λ t. absurd (apart_from number numbers_in_order x.id hs place belongs h k (numbers_in_order.total h.id x.id e t))) (cases_Bool (before x h)) in
+    rw (insert_belongs number numbers_in_order x hs place belongs) (IsInOrder-put_between before (λ g h i. numbers_in_order.transitive g.id h.id i.id) x hs turns a)

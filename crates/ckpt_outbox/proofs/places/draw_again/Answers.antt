@@ -1,12 +1,9 @@
 -- Answers the goals of `draw_again`.
-use Rattle.ckpt_outbox.proofs.Names.{◌∙◌, get_or, nat_eq, sym, set_value_same, ticket}
-use Rattle.std.specs.HashMap as hash
-use Rattle.ckpt_outbox.proofs.TicketLemmas.{ticket_found}
+use Rattle.ckpt_outbox.proofs.{◌∙◌, nat_eq, sym, map_get, set_value_same, ticket_found}
 use Rattle.ckpt_outbox.proofs.places.draw_again.Goals as goal
 
 pub waits-requires : goal.waits-requires
-waits-requires c = λ place within same.
-    ticket_found (hash.get nat_eq c.args.index.now) c.args.file (get_or c.args.waiting.now.items place 0) c.in-Some.drawn.now (ticket c.args.front place) c.in-Some.ensures.value same (c.requires place within)
+waits-requires c = λ place within same. ticket_found (map_get nat_eq c.args.index.now) c.args.file _ _ _ c.in-Some.ensures.value same (c.requires place within)
 
 pub returns-in_default-clause-kept : goal.returns-in_default-clause-kept
 returns-in_default-clause-kept c = λ _.

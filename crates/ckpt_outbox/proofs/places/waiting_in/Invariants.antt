@@ -1,5 +1,5 @@
 -- The loop invariants of `waiting_in`.
-use Rattle.ckpt_outbox.proofs.Names.{◌≡◌, ◌++◌, deque_iter_rest}
+use Rattle.ckpt_outbox.proofs.{◌≡◌, ◌++◌, deque_iter_rest}
 use Rattle.ckpt_outbox.proofs.places.waiting_in.Given as goal
 
 abbrev pub invariant-loop-file : goal.invariant-loop-file

@@ -1,5 +1,5 @@
 -- The loop invariants of `all_files`.
-use Rattle.ckpt_pending.proofs.Names.{◌≡◌, ◌++◌, flat_map, deque_iter_rest}
+use Rattle.ckpt_pending.proofs.{◌≡◌, ◌++◌, flat_map, deque_iter_rest}
 use Rattle.ckpt_pending.proofs.pending.all_files.Given as goal
 
 abbrev pub invariant-loop-acked : goal.invariant-loop-acked

@@ -1,5 +1,5 @@
 -- The loop invariants of `copies`.
-use Rattle.ckpt_pending.proofs.Names.{◌≡◌, ◌++◌, deque_iter_rest}
+use Rattle.ckpt_pending.proofs.{◌≡◌, ◌++◌, deque_iter_rest}
 use Rattle.ckpt_pending.proofs.pending.copies.Given as goal
 
 abbrev pub invariant-loop-acked : goal.invariant-loop-acked

@@ -1,5 +1,5 @@
 -- The loop invariants of `count_each`.
-use Rattle.ckpt_registry.proofs.Names.{◌≡◌, ℕ, ◌+◌, ◌≤◌, length, take, index_map_len, spare, times, counter, AreInRange}
+use Rattle.ckpt_registry.proofs.{◌≡◌, ℕ, ◌+◌, ◌≤◌, length, take, index_map_len, spare, times, counter, AreInRange}
 use Rattle.ckpt_registry.proofs.counters.count_each.Given as goal
 
 abbrev pub invariant-loop-file : goal.invariant-loop-file

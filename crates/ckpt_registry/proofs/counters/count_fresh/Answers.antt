@@ -1,6 +1,6 @@
 -- Answers the goals of `count_fresh`.
-use Rattle.ckpt_registry.proofs.Names.{◌≡◌, ℕ, ◌<◌, length, take, Some, sym, subst, arith, IsOk, IsIn, IsIn-get_or, counter, times, times_at_most_once}
-use Rattle.ckpt_registry.proofs.CounterLemmas.{Sets, OnOk-at, counter_more, AreInRange-set, get-none, times_before, length_fresh}
+use Rattle.ckpt_registry.proofs.{◌≡◌, ℕ, ◌<◌, length, take, Some, arith, IsOk, IsIn, counter, times, times_at_most_once, Sets, OnOk-at, counter_more, AreInRange-set, get-none, times_before}
+use Rattle.ckpt_registry.proofs.{length_fresh, IsIn-at}
 use Rattle.ckpt_registry.proofs.counters.count_fresh.Goals as goal
 
 pub loop-file-preserved : goal.loop-file-preserved
@@ -14,7 +14,7 @@ loop-file-preserved c =
     let within : i < length files = c.loop-file-test.true in
     let ok : IsOk c.insert.result = c.insert.ensures.succeeds (omega (arith, before.room)) in
     let sets : Sets m n file (Some 1) = (OnOk-at c.insert.result _ ok c.insert.ensures.updates).0 in
-    let among : IsIn file files = let P : ℕ → Type 0 = λ x. IsIn x files in subst P (sym c.file-item.is) (IsIn-get_or files i file within) in
+    let among : IsIn file files = IsIn-at files i file within c.file-item.is in
     let first : times file (take i files) ≡ 0 = times_before files i file (times_at_most_once file files c.requires.each_once) within c.file-item.is in
     let none : counter m file ≡ 0 = omega (arith, before.counted file, c.requires.absent file among) in
     record {

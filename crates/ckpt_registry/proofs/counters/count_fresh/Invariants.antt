@@ -1,5 +1,5 @@
 -- The loop invariants of `count_fresh`.
-use Rattle.ckpt_registry.proofs.Names.{◌≡◌, ℕ, ◌+◌, ◌≤◌, length, take, index_map_len, spare, counter, AreInRange, times}
+use Rattle.ckpt_registry.proofs.{◌≡◌, ℕ, ◌+◌, ◌≤◌, length, take, index_map_len, spare, counter, AreInRange, times}
 use Rattle.ckpt_registry.proofs.counters.count_fresh.Given as goal
 
 abbrev pub invariant-loop-file : goal.invariant-loop-file

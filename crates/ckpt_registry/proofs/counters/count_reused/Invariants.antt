@@ -1,5 +1,5 @@
 -- The loop invariants of `count_reused`.
-use Rattle.ckpt_registry.proofs.Names.{◌≡◌, ℕ, ◌+◌, take, index_map_len, counter, AreInRange, times}
+use Rattle.ckpt_registry.proofs.{◌≡◌, ℕ, ◌+◌, take, index_map_len, counter, AreInRange, times}
 use Rattle.ckpt_registry.proofs.counters.count_reused.Given as goal
 
 abbrev pub invariant-loop-file : goal.invariant-loop-file

@@ -1,7 +1,7 @@
 -- Answers the goals of `lower`.
-use Rattle.ckpt_registry.proofs.Names.{◌≡◌, ℕ, ◌+◌, ◌-◌, ◌<◌, Option, Some, None, IfSome, if◌then◌else◌, nat_eq, unwrap_or, sym, ap, subst, ◌∙◌, refl, arith, rules, nat_eq_equiv, slice_get, is_some}
-use Rattle.ckpt_registry.proofs.Names.{hash_map_get_place, IsUnique, Updates, index_map_len, with_value_at, index_map_len-with_value_at, updates-with_value_at, Counts, counter}
-use Rattle.ckpt_registry.proofs.CounterLemmas.{Sets, entry_found, counter-lowered, counted_once-kept, times-released, AreInRange-below, AreInRange-set, AreInRange-gone}
+use Rattle.ckpt_registry.proofs.{AreInRange-below, AreInRange-gone, AreInRange-set, Counts, IsUnique, None, Sets, Some, ap, arith, counted_once-kept, counter, counter-lowered, entry_found}
+use Rattle.ckpt_registry.proofs.{hash_map_get_place, index_map_len-with_value_at, nat_eq, nat_eq_equiv, refl, released, rules, slice_get, sym, times-released, unwrap_or, updates-with_value_at}
+use Rattle.ckpt_registry.proofs.{with_value_at, ℕ, ◌-◌, ◌<◌, ◌∙◌, ◌≡◌}
 use Rattle.ckpt_registry.proofs.counters.lower.Goals as goal
 
 -- what a counter is, and what a write of it does, by the entry
@@ -11,9 +11,6 @@ module _ (m : Counts) (i k v : ℕ) (unique : IsUnique nat_eq m) (at : slice_get
 
   set_at : (w : ℕ) → Sets m (with_value_at m i w) k (Some w)
   set_at w = (updates-with_value_at m i w nat_eq_equiv unique k v at).0
-
-gone_at : (m n : Counts) (k v : ℕ) (r : Option (ℕ × ℕ)) → r ≡ Some (k, v) → IfSome r (λ e. Updates nat_eq m n e.0 None) → Sets m n k None
-gone_at m n k v r e gone = let P : Option (ℕ × ℕ) → Type 0 = λ o. IfSome o (λ e. Updates nat_eq m n e.0 None) in (subst P e gone).0
 
 -- if the file has other uses
 
@@ -43,26 +40,23 @@ returns-then-count-gt1 c =
 
 -- if it had one use, and has no counter any more
 
-last : (c : goal.After-push_reserved) → slice_get c.args.counts.now.entries c.unwrap-index.result ≡ Some (c.args.file, c.index-count.result.now)
-last c = entry_found c.args.counts.now c.unwrap-index.result c.args.file c.index-count.result.now (sym c.get_index_of.ensures.index ∙ c.unwrap-index.ensures) c.index-count.ensures
-
-went : (c : goal.After-push_reserved) → Sets c.args.counts.now c.swap_remove_index.new.self c.args.file None
-went c = gone_at c.args.counts.now c.swap_remove_index.new.self c.args.file c.index-count.result.now c.swap_remove_index.result (c.swap_remove_index.ensures.entry ∙ last c) c.swap_remove_index.ensures.updates
-
 pub returns : goal.returns
 returns c =
     let m : Counts = c.args.counts.now in
     let n : Counts = c.swap_remove_index.new.self in
     let file : ℕ = c.args.file in
-    let had : c.index-count.result.now ≡ counter m file = counter_at m c.unwrap-index.result file c.index-count.result.now c.get_index_of.ensures.unique (last c) in
-    let P : Option (ℕ × ℕ) → Type 0 = λ o. index_map_len n + (if is_some o then 1 else 0) ≡ index_map_len m in
-    let fewer : P (Some (file, c.index-count.result.now)) = subst P (c.swap_remove_index.ensures.entry ∙ last c) c.swap_remove_index.ensures.len in
+    let v : ℕ = c.index-count.result.now in
+    let last : slice_get m.entries c.unwrap-index.result ≡ Some (file, v) = entry_found m c.unwrap-index.result file v
+    (sym c.get_index_of.ensures.index ∙ c.unwrap-index.ensures) c.index-count.ensures in
+    let entry = c.swap_remove_index.ensures.entry ∙ last in
+    let went : Sets m n file None = (rw entry at c.swap_remove_index.ensures.updates).0 in
+    let had : v ≡ counter m file = counter_at m c.unwrap-index.result file v c.get_index_of.ensures.unique last in
     record {
-      lowered = counter-lowered m n file (counter m file) None (went c) refl (omega (arith, had, c.requires.counted, c.if-count-gt1.false));
+      lowered = counter-lowered m n file (counter m file) None went refl (omega (arith, had, c.requires.counted, c.if-count-gt1.false));
       released = record {
-        each = rw c.push_reserved.ensures.items (times-released m n file c.args.released.now.items (went c) c.requires.counted);
-        len = omega (arith, fewer, c.push_reserved.ensures.len);
+        each = rw c.push_reserved.ensures.items (times-released m n file c.args.released.now.items went c.requires.counted);
+        len = omega (arith, rw entry at c.swap_remove_index.ensures.len, c.push_reserved.ensures.len);
         capacity = search rules;
       };
-      range = AreInRange-gone m n file (went c) c.requires.range;
+      range = AreInRange-gone m n file went c.requires.range;
     }

@@ -1,5 +1,5 @@
 -- The loop invariants of `lower_each`.
-use Rattle.ckpt_registry.proofs.Names.{take, times, AreLowered}
+use Rattle.ckpt_registry.proofs.{take, times, AreLowered}
 use Rattle.ckpt_registry.proofs.holdings.lower_each.Given as goal
 
 abbrev pub invariant-loop-file : goal.invariant-loop-file

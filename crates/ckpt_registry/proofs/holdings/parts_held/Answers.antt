@@ -1,7 +1,6 @@
 -- Answers the goals of `parts_held`.
+use Rattle.ckpt_registry.proofs.{parts_in, none_found, parts_found}
 use Rattle.std.proofs.Common.{ap, sym}
-use Rattle.ckpt_registry.proofs.HoldingLemmas.{parts_in}
-use Rattle.ckpt_registry.proofs.PlaceLemmas.{none_found, parts_found}
 use Rattle.ckpt_registry.proofs.holdings.parts_held.Goals as goal
 
 pub returns-in-Ok-clause-some : goal.returns-in-Ok-clause-some

@@ -1,7 +1,5 @@
 -- Answers the goals of `is_in_part`.
-use Rattle.ckpt_registry.proofs.Names.{◌≡◌, ◌<◌, ltb, sym, ◌∙◌, ap, arith, between, is_ok, ltb-true, ltb-false, lt-ltb, times}
-use Rattle.ckpt_registry.proofs.CutLemmas.{times-between}
-use Rattle.ckpt_registry.proofs.PartLemmas.{times-from_search}
+use Rattle.ckpt_registry.proofs.{◌≡◌, ◌<◌, ltb, sym, ◌∙◌, ap, arith, between, is_ok, ltb-true, ltb-false, lt-ltb, times, times-between, times-from_search}
 use Rattle.ckpt_registry.proofs.parts.is_in_part.Goals as goal
 
 pub returns-then-is_ok : goal.returns-then-is_ok
@@ -22,7 +20,8 @@ returns-else-is_ok c =
     let fresh = between c.args.start cut.middle files in
     let reused = between cut.middle cut.end files in
     let first : is_ok c.binary_search.result ≡ ltb 0 (times file fresh) = times-from_search fresh file c.binary_search.result c.requires.fresh c.binary_search.ensures.position in
-    let second : is_ok c.binary_search-else-is_ok.result ≡ ltb 0 (times file reused) = times-from_search reused file c.binary_search-else-is_ok.result c.requires.reused c.binary_search-else-is_ok.ensures.position in
+    let second : is_ok c.binary_search-else-is_ok.result ≡ ltb 0 (times file reused) =
+    times-from_search reused file c.binary_search-else-is_ok.result c.requires.reused c.binary_search-else-is_ok.ensures.position in
     let none = ltb-false 0 (times file fresh) (sym first ∙ sym c.is_ok.ensures.value ∙ c.if-is_ok.false) in
     let same : times file reused ≡ times file (between c.args.start cut.end files) = omega (arith, none, times-between file c.args.start cut files c.requires) in
     c.is_ok-else-is_ok.ensures.value ∙ second ∙ ap (ltb 0) same

@@ -1,5 +1,5 @@
 -- Answers the goals of `files_pinned`.
-use Rattle.ckpt_registry.proofs.PinLemmas.{IsKept-at}
+use Rattle.ckpt_registry.proofs.{IsKept-at}
 use Rattle.ckpt_registry.proofs.pins.files_pinned.Goals as goal
 
 pub files-requires-clause-kept : goal.files-requires-clause-kept

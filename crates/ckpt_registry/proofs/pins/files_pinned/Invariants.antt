@@ -1,5 +1,5 @@
 -- The loop invariants of `files_pinned`.
-use Rattle.ckpt_registry.proofs.Names.{◌≡◌, take, named_by}
+use Rattle.ckpt_registry.proofs.{◌≡◌, take, named_by}
 use Rattle.ckpt_registry.proofs.pins.files_pinned.Given as goal
 
 abbrev pub invariant-loop-one : goal.invariant-loop-one

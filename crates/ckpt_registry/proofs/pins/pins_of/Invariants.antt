@@ -1,5 +1,5 @@
 -- The loop invariants of `pins_of`.
-use Rattle.ckpt_registry.proofs.Names.{◌≡◌, take, IsLook, pins_of_records}
+use Rattle.ckpt_registry.proofs.{◌≡◌, take, IsLook, pins_of_records}
 use Rattle.ckpt_registry.proofs.pins.pins_of.Given as goal
 
 abbrev pub invariant-loop-one : goal.invariant-loop-one

@@ -1,5 +1,5 @@
 -- The loop invariants of `settle`.
-use Rattle.ckpt_registry.proofs.Names.{◌≡◌, ℕ, ◌+◌, take, drop, length, index_map_len, times, counter, AreInRange, AreSettled, own_in}
+use Rattle.ckpt_registry.proofs.{◌≡◌, ℕ, ◌+◌, take, drop, length, index_map_len, times, counter, AreInRange, AreSettled, own_in}
 use Rattle.ckpt_registry.proofs.pins.settle.Given as goal
 
 abbrev pub invariant-loop-one : goal.invariant-loop-one

@@ -1,6 +1,5 @@
 -- The loop invariants of `unpin`.
-use Rattle.ckpt_registry.proofs.Names.{◌≡◌, ◌++◌, [], length, take, drop, times, AreLowered, own_of}
-use Rattle.ckpt_registry.proofs.PinLemmas.{staying}
+use Rattle.ckpt_registry.proofs.{◌≡◌, ◌++◌, [], length, take, drop, times, AreLowered, own_of, staying}
 use Rattle.ckpt_registry.proofs.pins.unpin.Given as goal
 
 abbrev pub invariant-loop : goal.invariant-loop

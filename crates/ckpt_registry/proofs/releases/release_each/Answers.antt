@@ -1,9 +1,5 @@
 -- Answers the goals of `release_each`.
-use Rattle.ckpt_registry.proofs.Names.{ℕ, ◌<◌, length, sym, ap, ◌∙◌, uses_in, pins_in}
-use Rattle.ckpt_registry.proofs.CounterLemmas.{AreReleased-then, HasRoom-released}
-use Rattle.ckpt_registry.proofs.HoldingLemmas.{without_more, without-none}
-use Rattle.ckpt_registry.proofs.PinLemmas.{pins_in-filter}
-use Rattle.ckpt_registry.proofs.SoundLemmas.{AreCounted-unpinned}
+use Rattle.ckpt_registry.proofs.{ℕ, ◌<◌, length, sym, ap, ◌∙◌, uses_in, pins_in, AreReleased-then, without_more, without-none, pins_in-filter, AreCounted-unpinned, released, spare}
 use Rattle.ckpt_registry.proofs.releases.release_each.Goals as goal
 
 pub loop-owner-init : goal.loop-owner-init
@@ -18,9 +14,6 @@ loop-owner-init c =
       spare = c.requires.spare;
       no_files = e.no_files;
     }
-
-pub drop_uses-requires-clause-room : goal.drop_uses-requires-clause-room
-drop_uses-requires-clause-room c = HasRoom-released c.args.counts.now c.loop-owner.counts c.args.released.now c.loop-owner.released c.requires.room c.loop-owner.invariant.released
 
 pub loop-owner-preserved : goal.loop-owner-preserved
 loop-owner-preserved c =

@@ -1,5 +1,5 @@
 -- The loop invariants of `release_each`.
-use Rattle.ckpt_registry.proofs.Names.{◌≡◌, [], take, AreReleased, uses_in, pins_in, AreCounted, without}
+use Rattle.ckpt_registry.proofs.{◌≡◌, [], take, AreReleased, uses_in, pins_in, AreCounted, without}
 use Rattle.ckpt_registry.proofs.releases.release_each.Given as goal
 
 abbrev pub invariant-loop-owner : goal.invariant-loop-owner

@@ -1,6 +1,6 @@
 -- Answers the goals of `sort`.
-use Rattle.ckpt_registry.proofs.Names.{◌≡◌, ℕ, ◌+◌, ◌<◌, ◌≤◌, List, true, false, get_or, sym, ap, subst, ⊎_elim, arith, Equal, Greater, IsNonDecreasing, IsSorted, nat_cmp, is_lt, nat_cmp_is, cases_lt}
-use Rattle.ckpt_registry.proofs.Names.{IsPermutation-refl, non_decreasing_from_is_sorted}
+use Rattle.ckpt_registry.proofs.{◌≡◌, ℕ, ◌+◌, ◌<◌, ◌≤◌, List, true, false, get_or, sym, ap, subst, ⊎_elim, arith, Equal, Greater, IsNonDecreasing, IsSorted, nat_cmp, is_lt, nat_cmp_is, cases_lt}
+use Rattle.ckpt_registry.proofs.{IsPermutation-refl, non_decreasing_from_is_sorted}
 use Rattle.ckpt_registry.proofs.sorting.sort.Goals as goal
 
 not_less : (a b : ℕ) → b ≤ a → is_lt (nat_cmp a b) ≡ false

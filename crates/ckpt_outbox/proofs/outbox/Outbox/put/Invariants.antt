@@ -1,5 +1,5 @@
 -- The loop invariants of `Outbox::put`.
-use Rattle.std.proofs.Common.{◌≡◌, ◌-◌, ◌++◌, take}
+use Rattle.ckpt_outbox.proofs.{◌≡◌, ◌-◌, ◌++◌, take}
 use Rattle.ckpt_outbox.proofs.outbox.Outbox.put.Given as goal
 
 abbrev pub invariant-loop-file : goal.invariant-loop-file

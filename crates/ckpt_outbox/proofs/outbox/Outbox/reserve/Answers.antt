@@ -1,5 +1,5 @@
 -- Answers the goals of `Outbox::reserve`.
-use Rattle.ckpt_outbox.proofs.Names.{◌≡◌, ◌∙◌, ◌++◌, ℕ, List, is_some, get_or, sym, ap, arith, is_in}
+use Rattle.ckpt_outbox.proofs.{◌≡◌, get_or, arith}
 use Rattle.ckpt_outbox.proofs.outbox.Outbox.reserve.Goals as goal
 
 pub invariant_of-self-2 : goal.invariant_of-self-2
@@ -7,8 +7,8 @@ invariant_of-self-2 c =
     let items : c.grow.new.queue.items ≡ c.self.inside.waiting.items = c.grow.ensures.items in
     record {
       distinct = rw items c.self.invariant.distinct;
-      place_room = omega (arith, c.in_ok-grow.ensures.ok, c.saturating_add-room.ensures, c.len.ensures, c.grow.new.queue.ok.0, c.grow.new.queue.small.0);
+      place_room = omega (arith, c.in_ok-grow.ensures.ok, c.grow.new.queue.ok.0, c.grow.new.queue.small.0);
       index_room = c.in_ok-reserve.ensures.ok;
-      known = λ q. ap is_some (c.reserve.ensures.entries.2 q) ∙ c.self.invariant.known q ∙ ap (λ (ws : List ℕ). is_in q (ws ++ c.self.inside.taken)) (sym items);
-      ticketed = rw items (λ place within. c.reserve.ensures.entries.2 (get_or c.self.inside.waiting.items place 0) ∙ c.self.invariant.ticketed place within);
+      known = λ q. rw (items, c.reserve.ensures.entries.2 q) (c.self.invariant.known q);
+      ticketed = rw items (λ place within. rw (c.reserve.ensures.entries.2 (get_or c.self.inside.waiting.items place 0)) (c.self.invariant.ticketed place within));
     }

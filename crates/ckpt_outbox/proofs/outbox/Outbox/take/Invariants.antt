@@ -1,5 +1,5 @@
 -- The loop invariants of `Outbox::take`.
-use Rattle.std.proofs.Common.{◌≡◌, ◌≤◌, ◌++◌, take, drop, vec_len, vec_capacity}
+use Rattle.ckpt_outbox.proofs.{◌≡◌, ◌≤◌, ◌++◌, take, drop, vec_len, vec_capacity}
 use Rattle.ckpt_outbox.proofs.outbox.Outbox.take.Given as goal
 
 abbrev pub invariant-loop : goal.invariant-loop

@@ -1,9 +1,5 @@
 -- Answers the goals of `Outbox::take_one`.
-use Rattle.ckpt_outbox.proofs.Names.{◌≡◌, ◌∙◌, ◌+◌, ℕ, List, [], ◌∷◌, ◌++◌, length, length-append, nat_eq, sym, ap, subst, arith, is_in, IsTicketed}
-use Rattle.std.specs.HashMap as hash
-use Rattle.ckpt_outbox.specs.Queues.{AreDistinct}
-use Rattle.ckpt_outbox.proofs.QueueLemmas.{distinct_taken, is_in-taken}
-use Rattle.ckpt_outbox.proofs.TicketLemmas.{ticketed_taken}
+use Rattle.ckpt_outbox.proofs.{◌≡◌, ℕ, List, [], ◌∷◌, arith, nat_eq, map_get, distinct_taken, ticketed_taken, common_steps}
 use Rattle.ckpt_outbox.proofs.outbox.Outbox.take_one.Goals as goal
 
 pub invariant_of-self : goal.invariant_of-self
@@ -12,16 +8,10 @@ invariant_of-self c =
     let rest : List ℕ = c.pop_front.new.self.items in
     let taken : List ℕ = c.self.inside.taken in
     let items : c.self.inside.waiting.items ≡ file ∷ rest = c.in-Some.ensures.items in
-    let distinct : AreDistinct ((file ∷ rest) ++ taken) = subst (λ (ws : List ℕ). AreDistinct (ws ++ taken)) items c.self.invariant.distinct in
-    let longer : length c.push.new.self ≡ length taken + 1 = ap length c.push.ensures ∙ length-append taken (file ∷ []) in
     record {
-      distinct = rw c.push.ensures (distinct_taken (file ∷ []) rest taken distinct);
-      place_room = omega (arith, c.self.invariant.place_room, ap length items, longer, c.pop_front.ensures.capacity);
+      distinct = rw c.push.ensures (distinct_taken (file ∷ []) rest taken (rw items at c.self.invariant.distinct));
+      place_room = grind (arith, common_steps);
       index_room = c.self.invariant.index_room;
-      known = λ q.
-          c.self.invariant.known q
-          ∙ ap (λ (ws : List ℕ). is_in q (ws ++ taken)) items
-          ∙ sym (is_in-taken q file rest taken)
-          ∙ ap (λ (ts : List ℕ). is_in q (rest ++ ts)) (sym c.push.ensures);
-      ticketed = ticketed_taken (hash.get nat_eq c.self.inside.index) c.self.inside.front file rest (subst (λ (ws : List ℕ). IsTicketed (hash.get nat_eq c.self.inside.index) c.self.inside.front ws) items c.self.invariant.ticketed);
+      known = λ q. rw c.push.ensures (grind (arith, common_steps, rw items at (c.self.invariant.known q)));
+      ticketed = ticketed_taken (map_get nat_eq c.self.inside.index) c.self.inside.front file rest (rw items at c.self.invariant.ticketed);
     }

@@ -1,13 +1,10 @@
 -- Answers the goals of `Outbox::taken_files`.
-use Rattle.ckpt_outbox.proofs.Names.{◌∙◌, ap, nat_eq, ascending, Queues}
-use Rattle.std.specs.HashMap as hash
-use Rattle.ckpt_outbox.proofs.TakenLemmas.{taken-from_index}
+use Rattle.ckpt_outbox.proofs.{◌∙◌, ap, nat_eq, ascending, Queues, taken-from_index, map_get, map_keys}
 use Rattle.ckpt_outbox.proofs.outbox.Outbox.taken_files.Goals as goal
 
 pub returns : goal.returns
 returns c =
     let o = c.self.inside in
-    c.of.ensures
-    ∙ ap ascending c.in_ok-files.ensures.files
-    ∙ taken-from_index (hash.get nat_eq o.index) (hash.keys o.index) o.waiting.items o.taken c.in_ok-files.ensures.unique c.in_ok-files.ensures.has c.self.invariant.distinct c.self.invariant.known
+    c.of.ensures ∙ ap ascending c.in_ok-files.ensures.files
+    ∙ taken-from_index (map_get nat_eq o.index) (map_keys o.index) o.waiting.items o.taken c.in_ok-files.ensures.unique c.in_ok-files.ensures.has c.self.invariant.distinct c.self.invariant.known
     ∙ ap (λ (q : Queues). ascending q.taken) c.self.view_is

@@ -1,6 +1,5 @@
 -- Answers the goals of `Done::files`.
-use Rattle.ckpt_pending.proofs.Names.{◌≡◌, ◌∙◌, ◌∷◌, [], sym, ap, map, flat_map, IfOk-weaker, ascending_set, uses}
-use Rattle.ckpt_pending.proofs.FileLemmas.{files_of_uses}
+use Rattle.ckpt_pending.proofs.{◌≡◌, ◌∙◌, ◌∷◌, [], sym, ap, map, flat_map, IfOk-weaker, ascending_set, uses, files_of_uses}
 use Rattle.ckpt_pending.proofs.done.Done.files.Goals as goal
 
 pub returns : goal.returns

@@ -1,5 +1,5 @@
 -- Answers the goals of `Done::of`.
-use Rattle.ckpt_pending.proofs.PendingLemmas.{IsDone-from_pending}
+use Rattle.ckpt_pending.proofs.{IsDone-from_pending}
 use Rattle.ckpt_pending.proofs.done.Done.of.Goals as goal
 
 pub invariant_of-result : goal.invariant_of-result

@@ -1,5 +1,5 @@
 -- Answers the goals of `Pending::finish`.
-use Rattle.ckpt_pending.proofs.Names.{◌≡◌, ◌∙◌, sym, ap, arith, missing}
+use Rattle.ckpt_pending.proofs.{◌≡◌, ◌∙◌, sym, ap, arith, missing}
 use Rattle.ckpt_pending.proofs.pending.Pending.finish.Goals as goal
 
 pub returns-then-self-eq0-clause-missing : goal.returns-then-self-eq0-clause-missing

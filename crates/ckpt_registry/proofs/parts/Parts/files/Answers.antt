@@ -1,6 +1,5 @@
 -- Answers the goals of `Parts::files`.
-use Rattle.ckpt_registry.proofs.Names.{ap, sym, ◌∙◌, files_in}
-use Rattle.ckpt_registry.proofs.CutLemmas.{files_of_all}
+use Rattle.ckpt_registry.proofs.{ap, sym, ◌∙◌, files_in, files_of_all}
 use Rattle.ckpt_registry.proofs.parts.Parts.files.Goals as goal
 
 pub returns : goal.returns

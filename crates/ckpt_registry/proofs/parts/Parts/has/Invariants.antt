@@ -1,6 +1,5 @@
 -- The loop invariants of `Parts::has`.
-use Rattle.ckpt_registry.proofs.Names.{◌≡◌, take, times, files_in, parts_from}
-use Rattle.ckpt_registry.proofs.CutLemmas.{end_of}
+use Rattle.ckpt_registry.proofs.{◌≡◌, take, times, files_in, parts_from, end_of}
 use Rattle.ckpt_registry.proofs.parts.Parts.has.Given as goal
 
 abbrev pub invariant-loop-cut : goal.invariant-loop-cut

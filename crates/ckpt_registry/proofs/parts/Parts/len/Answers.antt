@@ -1,6 +1,5 @@
 -- Answers the goals of `Parts::len`.
-use Rattle.ckpt_registry.proofs.Names.{ap, sym, ◌∙◌, length, List, Part}
-use Rattle.ckpt_registry.proofs.CutLemmas.{length-parts_from}
+use Rattle.ckpt_registry.proofs.{ap, sym, ◌∙◌, length, List, Part, length-parts_from}
 use Rattle.ckpt_registry.proofs.parts.Parts.len.Goals as goal
 
 pub returns : goal.returns

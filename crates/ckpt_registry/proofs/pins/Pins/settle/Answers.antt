@@ -1,6 +1,5 @@
 -- Answers the goals of `Pins::settle`.
-use Rattle.ckpt_registry.proofs.Names.{◌≡◌, ap, take, arith, times, times-from_IsIn, IsIn-from_times, files_in, files_of}
-use Rattle.ckpt_registry.proofs.PartLemmas.{times_of_take}
+use Rattle.ckpt_registry.proofs.{◌≡◌, ap, take, arith, times, times-from_IsIn, IsIn-from_times, files_in, files_of, times_of_take}
 use Rattle.ckpt_registry.proofs.pins.Pins.settle.Goals as goal
 
 pub count_once-requires-clause-present : goal.count_once-requires-clause-present
