@@ -10,7 +10,7 @@ use Rattle.ckpt_ids.specs.declared.call.Target.{Target}
 use Rattle.ckpt_ids.specs.declared.call.Target.TheVariants as target
 use Rattle.ckpt_ids.specs.declared.subtask.SubtaskId.{SubtaskId}
 use Rattle.ckpt_ids.proofs.AscendingLemmas.{ascending_already}
-use Rattle.ckpt_image.proofs.RoundTrip.{shape_holds}
+use Rattle.ckpt_ids.proofs.LimitLemmas.{shape_holds}
 use Rattle.ckpt_lines.specs.declared.meaning.Meaning.TheVariants as meant
 use Rattle.ckpt_lines.specs.Meanings.{is_new_shape, meaning, restoring}
 use Rattle.ckpt_lines.specs.CallTexts.{line_of_call, parallelisms}

@@ -2,6 +2,7 @@
 pub mod AscendingLemmas
 pub mod ComparisonLemmas
 pub mod CountLemmas
+pub mod LimitLemmas
 mod Names
 pub mod OrderLemmas
 pub mod OrderedLemmas

@@ -1,11 +1,10 @@
 -- The text that is written for a state is read as that state.
 use Rattle.std.proofs.Common.{◌≡◌, ℕ, ◌<◌, ◌^◌, Bool, true, false, List, [], ◌∷◌, map, refl, sym, ap, ◌∙◌, inl, inr, Some, None, Option}
-use Rattle.std.specs.Prelude.{length, nat_le, nat_lt, option_and_then, sum}
+use Rattle.std.specs.Prelude.{nat_lt, option_and_then}
 use Rattle.std.specs.Option.{option_map}
 use Rattle.std.proofs.lemmas.Bool.{le-leb, lt-ltb}
-use Rattle.std.proofs.lemmas.List.Sums.{list_all-from_AllPass}
 use Rattle.ckpt_ids.specs.declared.ack.Acked.{Acked}
-use Rattle.ckpt_ids.specs.declared.limits.TheConstants.{LEAST_INTERVAL, LONGEST_DURATION, MOST_AT_ONCE, MOST_RETAINED, MOST_SUBTASKS, MOST_TOLERABLE, MOST_VERTICES}
+use Rattle.ckpt_ids.specs.declared.limits.TheConstants.{LEAST_INTERVAL, LONGEST_DURATION, MOST_AT_ONCE, MOST_RETAINED, MOST_TOLERABLE}
 use Rattle.ckpt_ids.specs.declared.numbers.Kind.{Kind}
 use Rattle.ckpt_ids.specs.declared.numbers.Kind.TheVariants.{Checkpoint, Savepoint}
 use Rattle.ckpt_ids.specs.Acknowledged.{AreInSubtaskOrder}
@@ -15,6 +14,7 @@ use Rattle.ckpt_ids.specs.Ordered.{IsIn}
 use Rattle.ckpt_ids.specs.Records.{Record}
 use Rattle.ckpt_ids.specs.Shapes.{IsShape, is_shape}
 use Rattle.ckpt_ids.proofs.AscendingLemmas.{ascending_already}
+use Rattle.ckpt_ids.proofs.LimitLemmas.{shape_holds}
 use Rattle.ckpt_model.specs.declared.mode.Mode.{Mode}
 use Rattle.ckpt_model.specs.declared.mode.Mode.TheVariants.{Running, Failed, Cancelled}
 use Rattle.ckpt_model.specs.State.{Opening, State}
@@ -70,10 +70,6 @@ modes Failed = refl
 modes Cancelled = refl
 
 -- ---- tests that the types keep
-
-pub shape_holds : (shape : List ℕ) → IsShape shape → is_shape shape ≡ true
-shape_holds shape s =
-    rw (le-leb 1 (length shape) s.vertices_from, le-leb (length shape) MOST_VERTICES s.vertices_to, list_all-from_AllPass (nat_le 1) shape (λ k d within. le-leb 1 _ (s.each k d within)), le-leb (sum shape) MOST_SUBTASKS s.size_to) refl
 
 limits_hold : (c : Configuration) → IsWithinLimits c → is_within_limits c ≡ true
 limits_hold c l =

@@ -1,13 +1,11 @@
 -- Answers the goals of `says_back`.
 use Rattle.std.proofs.Common.{◌≡◌, ℕ, Bool, true, false, eqb, List, [], ◌∷◌, Some, None, Ok, refl, ap, sym, arith}
-use Rattle.std.proofs.lemmas.Bool.{eqb-true, le-leb}
-use Rattle.std.proofs.lemmas.List.Sums.{list_all-from_AllPass}
-use Rattle.std.specs.Prelude.{nat_le, length, sum}
+use Rattle.std.proofs.lemmas.Bool.{eqb-true}
 use Rattle.ckpt_ids.specs.declared.call.Call.{Call}
 use Rattle.ckpt_ids.specs.declared.call.Call.TheVariants as made
 use Rattle.ckpt_ids.specs.declared.call.Target.{Target}
-use Rattle.ckpt_ids.specs.declared.limits.TheConstants.{MOST_SUBTASKS, MOST_VERTICES}
-use Rattle.ckpt_ids.specs.Shapes.{IsShape, is_shape}
+use Rattle.ckpt_ids.specs.Shapes.{IsShape}
+use Rattle.ckpt_ids.proofs.LimitLemmas.{shape_holds}
 use Rattle.ckpt_lines.specs.declared.meaning.Meaning.TheVariants as meant
 use Rattle.ckpt_lines.specs.Meanings.{meaning, restoring}
 use Rattle.ckpt_lines.specs.CallTexts.{line_of_call}
@@ -19,10 +17,6 @@ use Rattle.ckpt_term_lines.specs.declared.meaning.TermMeaning.TheVariants.{Call 
 use Rattle.ckpt_term_lines.specs.TermMeanings.{term_meaning}
 use Rattle.ckpt_term_lines.specs.TermTexts.{line_of_term_call}
 use Rattle.ckpt_term_lines.proofs.laws.says_back.Goals as goal
-
-shape_holds : (shape : List ℕ) → IsShape shape → is_shape shape ≡ true
-shape_holds shape s =
-    rw (le-leb 1 (length shape) s.vertices_from, le-leb (length shape) MOST_VERTICES s.vertices_to, list_all-from_AllPass (nat_le 1) shape (λ k d within. le-leb 1 _ (s.each k d within)), le-leb (sum shape) MOST_SUBTASKS s.size_to) refl
 
 -- a script's line of a call says the call
 restored : (now : ℕ) (t : Target) (shape : List ℕ) → IsShape shape → meaning (line_of_call (made.Restore now t (Some shape))) ≡ Ok (meant.Call (made.Restore now t (Some shape)))
