@@ -2,3 +2,6 @@
 mod Names
 pub mod RowLemmas
 pub mod StoreLemmas
+pub use Names.*
+pub use RowLemmas.*
+pub use StoreLemmas.*

@@ -1,24 +1,22 @@
 -- A store stays one through each change.
-use Rattle.ckpt_store.proofs.Names.{◌≡◌, ℕ, ◌+◌, ◌-◌, ◌^◌, ◌<◌, ◌≤◌, Bool, true, false, not, cond, List, [], ◌∷◌, ◌++◌, length, drop, refl, sym, ap, subst, ◌∙◌, inr, ⊎_elim, arith, ◌&&◌, Option, Some}
-use Rattle.ckpt_store.proofs.Names.{None, IfSome, length-append, filter, slice_get, list_any, find, cases_Bool, both_ways, lt-ltb, eq-eqb, eqb-true, ne_eqb, or_right, length-filter_both, Kind, IsIn}
-use Rattle.ckpt_store.proofs.Names.{put, LiesAt, Record, IsIn-append_cases, IsIn-put_cases, IsIn-from_filter, IsInOrder-append, IsInOrder-filter, IsInOrder-put_between, list_any-from_IsIn, find-none}
-use Rattle.ckpt_store.proofs.Names.{some_at, numbers_in_order, IsDone, list_any-put, list_any-filter, list_any_same, Stored, IsStored, by_id, AreRising, AreDone, IsAbove, has_id, id_of, has_savepoint}
+use Rattle.ckpt_store.proofs.Names.{◌≡◌, ℕ, ◌+◌, ◌-◌, ◌^◌, ◌<◌, ◌≤◌, Bool, true, false, not, List, [], ◌∷◌, ◌++◌, length, drop, refl, sym, ap, subst, ◌∙◌, inr, ⊎_elim, arith, ◌&&◌, Option, Some, None}
+use Rattle.ckpt_store.proofs.Names.{IfSome, length-append, filter, slice_get, list_any, find, cases_Bool, both_ways, lt-ltb, eq-eqb, or_right, length-filter_both, Kind, IsIn, put, LiesAt, Record}
+use Rattle.ckpt_store.proofs.Names.{IsIn-append_cases, IsIn-put_cases, IsIn-from_filter, IsInOrder-append, IsInOrder-filter, IsInOrder-put_between, list_any-from_IsIn, find-none, some_at}
+use Rattle.ckpt_store.proofs.Names.{numbers_in_order, IsDone, list_any-put, list_any-filter, list_any_same, Stored, IsStored, by_id, AreRising, AreDone, IsAbove, has_id, id_of, has_savepoint}
 use Rattle.ckpt_store.proofs.Names.{record_of}
-use Rattle.ckpt_ids.specs.declared.numbers.Kind.TheVariants as kind
 use Rattle.ckpt_store.proofs.RowLemmas.{find-place}
+use Rattle.ckpt_ids.proofs.OrderedLemmas.{only_one}
+use Rattle.std.proofs.lemmas.Bool.Decides.{nat_tests}
+use Rattle.ckpt_ids.specs.declared.numbers.Kind.TheVariants as kind
 
 -- rows
 
 AreRising-push : (row : List Record) (done : Record) → AreRising row → IsAbove row done.id → AreRising (row ++ done ∷ [])
 AreRising-push row done a above =
-    IsInOrder-append by_id row (done ∷ []) a (tt, tt) (λ x y h k. ⊎_elim (λ (e : y ≡ done). ap (by_id x) e ∙ lt-ltb x.id done.id (above x h)) (λ (b : ⊥). absurd b) k)
+    IsInOrder-append by_id row (done ∷ []) a (tt, tt) (λ x y h k. rw (only_one y done k) (lt-ltb x.id done.id (above x h)))
 
 AreDone-push : (k : Kind) (row : List Record) (done : Record) → AreDone k row → IsDone done → done.kind ≡ k → AreDone k (row ++ done ∷ [])
-AreDone-push k row done a d e = λ r h.
-    let Goal : Type 0 = IsDone r × (r.kind ≡ k) in
-    let P : Record → Type 0 = λ q. IsDone q × (q.kind ≡ k) in
-    let last : IsIn r (done ∷ []) → Goal = λ (m : IsIn r (done ∷ [])). ⊎_elim (λ (same : r ≡ done). subst P (sym same) (d, e)) (λ (b : ⊥). absurd b) m in
-    ⊎_elim (λ (m : IsIn r row). a r m) last (IsIn-append_cases r row (done ∷ []) h)
+AreDone-push k row done a d e = λ r h. ⊎_elim (λ m. a r m) (λ m. rw (only_one r done m) (d, e)) (IsIn-append_cases r row (done ∷ []) h)
 
 pub AreRising-drop : (row : List Record) → AreRising row → AreRising (drop 1 row)
 AreRising-drop [] a = tt
@@ -34,11 +32,7 @@ length-drop_one (r ∷ row) = omega arith
 
 length-put : (x : Record) (row : List Record) → length (put by_id x row) ≡ length row + 1
 length-put x [] = refl
-length-put x (r ∷ row) =
-    let P : Bool → Type 0 = λ b. length (cond b (r ∷ put by_id x row) (x ∷ r ∷ row)) ≡ length (r ∷ row) + 1 in
-    let later : P true = let rest : length (put by_id x row) ≡ length row + 1 = length-put x row in omega arith in
-    let here : P false = omega arith in
-    ⊎_elim (λ (e : by_id r x ≡ true). subst P (sym e) later) (λ (e : by_id r x ≡ false). subst P (sym e) here) (cases_Bool (by_id r x))
+length-put x (r ∷ row) = grind (arith, length-put x row)
 
 -- what holds of a base
 
@@ -49,20 +43,11 @@ IfSome_map (Some x) P Q f h = f x refl h
 -- changes
 
 pub IsStored-spare : (s : Stored) (spare : ℕ) → IsStored s → IsStored (record s { spare = spare })
-IsStored-spare s spare h = record {
-  retained_from = h.retained_from;
-  retained_to = h.retained_to;
-  few = h.few;
-  checkpoints_rise = h.checkpoints_rise;
-  checkpoints_done = h.checkpoints_done;
-  savepoints_rise = h.savepoints_rise;
-  savepoints_done = h.savepoints_done;
-  savepoints_fit = h.savepoints_fit;
-  base_is_savepoint = h.base_is_savepoint;
-}
+IsStored-spare s spare h = grind arith
 
 -- row is what stays of the checkpoints
-pub IsStored-complete : (s : Stored) (row : List Record) (done : Record) (spare : ℕ) → IsStored s → AreRising row → ((r : Record) → IsIn r row → IsIn r s.checkpoints) → length row + 1 ≤ s.retained → IsDone done → done.kind ≡ kind.Checkpoint → IsAbove s.checkpoints done.id → IsStored (record s { checkpoints = row ++ done ∷ []; base = None; spare = spare })
+pub IsStored-complete : (s : Stored) (row : List Record) (done : Record) (spare : ℕ) → IsStored s → AreRising row → ((r : Record) → IsIn r row → IsIn r s.checkpoints) → length row + 1 ≤ s.retained
+    → IsDone done → done.kind ≡ kind.Checkpoint → IsAbove s.checkpoints done.id → IsStored (record s { checkpoints = row ++ done ∷ []; base = None; spare = spare })
 IsStored-complete s row done spare h rises within few d e above = record {
   retained_from = h.retained_from;
   retained_to = h.retained_to;
@@ -88,14 +73,12 @@ IsStored-drop s spare h = record {
   base_is_savepoint = h.base_is_savepoint;
 }
 
-pub IsStored-add : (s : Stored) (done : Record) (spare : ℕ) → IsStored s → IsDone done → done.kind ≡ kind.Savepoint → has_savepoint s done.id ≡ false → length s.savepoints + 1 < 2 ^ 32 → IsStored (record s { savepoints = put by_id done s.savepoints; spare = spare })
+pub IsStored-add : (s : Stored) (done : Record) (spare : ℕ) → IsStored s → IsDone done → done.kind ≡ kind.Savepoint → has_savepoint s done.id ≡ false → length s.savepoints + 1 < 2 ^ 32
+    → IsStored (record s { savepoints = put by_id done s.savepoints; spare = spare })
 IsStored-add s done spare h d e absent few =
     let turns : (r : Record) → IsIn r s.savepoints → by_id r done ≡ false → by_id done r ≡ true = λ r m t.
     let other : r.id ≡ done.id → ⊥ = λ same. both_ways (has_savepoint s done.id) absent (list_any-from_IsIn (has_id done.id) r s.savepoints m (eq-eqb r.id done.id same)) in
-    ⊎_elim (λ (u : by_id done r ≡ true). u) (λ (u : by_id done r ≡ false). absurd (other (numbers_in_order.total r.id done.id t u))) (cases_Bool (by_id done r)) in
-    let each : AreDone kind.Savepoint (put by_id done s.savepoints) = λ r m.
-    let P : Record → Type 0 = λ q. IsDone q × (q.kind ≡ kind.Savepoint) in
-    ⊎_elim (λ (same : r ≡ done). subst P (sym same) (d, e)) (λ (k : IsIn r s.savepoints). h.savepoints_done r k) (IsIn-put_cases by_id done r s.savepoints m) in
+    ⊎_elim (λ u. u) (λ u. absurd (other (numbers_in_order.total r.id done.id t u))) (cases_Bool (by_id done r)) in
     let stays : (id : ℕ) → s.base ≡ Some id → has_savepoint s id ≡ true → list_any (has_id id) (put by_id done s.savepoints) ≡ true = λ id q there.
     list_any-put (has_id id) by_id done s.savepoints ∙ or_right (has_id id done) (list_any (has_id id) s.savepoints) there in
     record {
@@ -105,7 +88,7 @@ IsStored-add s done spare h d e absent few =
       checkpoints_rise = h.checkpoints_rise;
       checkpoints_done = h.checkpoints_done;
       savepoints_rise = IsInOrder-put_between by_id (λ x y z. numbers_in_order.transitive x.id y.id z.id) done s.savepoints turns h.savepoints_rise;
-      savepoints_done = each;
+      savepoints_done = λ r m. ⊎_elim (λ same. rw same (d, e)) (λ k. h.savepoints_done r k) (IsIn-put_cases by_id done r s.savepoints m);
       savepoints_fit = omega (arith, length-put done s.savepoints);
       base_is_savepoint = IfSome_map s.base (λ id. has_savepoint s id ≡ true) (λ id. list_any (has_id id) (put by_id done s.savepoints) ≡ true) stays h.base_is_savepoint;
     }
@@ -117,16 +100,9 @@ twice false = refl
 pub IsStored-dispose : (s : Stored) (id spare : ℕ) → IsStored s → (s.base ≡ Some id → ⊥) → IsStored (record s { savepoints = filter (λ r. not (has_id id r)) s.savepoints; spare = spare })
 IsStored-dispose s id spare h unused =
     let keep : Record → Bool = λ r. not (has_id id r) in
-    let kept : (b : ℕ) → (b ≡ id → ⊥) → (r : Record) → (has_id b r && keep r) ≡ has_id b r = λ b ne r.
-    let P : Bool → Type 0 = λ t. (t && keep r) ≡ t in
-    let yes : has_id b r ≡ true → P (has_id b r) = λ (t : has_id b r ≡ true).
-    let same : r.id ≡ b = eqb-true r.id b t in
-    subst P (sym t) (ap not (ne_eqb r.id id (λ e. ne (sym same ∙ e)))) in
-    ⊎_elim yes (λ (t : has_id b r ≡ false). subst P (sym t) refl) (cases_Bool (has_id b r)) in
     let stays : (b : ℕ) → s.base ≡ Some b → has_savepoint s b ≡ true → list_any (has_id b) (filter keep s.savepoints) ≡ true = λ b e there.
     let ne : b ≡ id → ⊥ = λ same. unused (e ∙ ap (λ x. Some x) same) in
-    list_any-filter (has_id b) keep s.savepoints ∙ list_any_same (λ r. has_id b r && keep r) (has_id b) s.savepoints (kept b ne) ∙ there in
-    let fits : length s.savepoints < 2 ^ 32 = h.savepoints_fit in
+    list_any-filter (has_id b) keep s.savepoints ∙ list_any_same (λ r. has_id b r && keep r) (has_id b) s.savepoints (λ r. grind (arith, nat_tests)) ∙ there in
     record {
       retained_from = h.retained_from;
       retained_to = h.retained_to;
@@ -135,7 +111,7 @@ IsStored-dispose s id spare h unused =
       checkpoints_done = h.checkpoints_done;
       savepoints_rise = IsInOrder-filter by_id keep s.savepoints h.savepoints_rise;
       savepoints_done = λ r m. h.savepoints_done r (IsIn-from_filter keep r s.savepoints m).0;
-      savepoints_fit = omega (arith, length-filter_both keep (has_id id) (λ r. twice (has_id id r)) s.savepoints);
+      savepoints_fit = omega (arith, h.savepoints_fit, length-filter_both keep (has_id id) (λ r. twice (has_id id r)) s.savepoints);
       base_is_savepoint = IfSome_map s.base (λ b. has_savepoint s b ≡ true) (λ b. list_any (has_id b) (filter keep s.savepoints) ≡ true) stays h.base_is_savepoint;
     }
 

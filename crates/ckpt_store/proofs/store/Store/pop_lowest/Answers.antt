@@ -1,5 +1,5 @@
 -- Answers the goals of `Store::pop_lowest`.
-use Rattle.ckpt_store.proofs.StoreLemmas.{IsStored-drop}
+use Rattle.ckpt_store.proofs.{IsStored-drop}
 use Rattle.ckpt_store.proofs.store.Store.pop_lowest.Goals as goal
 
 pub invariant_of-self-2 : goal.invariant_of-self-2

@@ -1,5 +1,5 @@
 -- Answers the goals of `Store::reserve`.
-use Rattle.ckpt_store.proofs.StoreLemmas.{IsStored-spare}
+use Rattle.ckpt_store.proofs.{IsStored-spare}
 use Rattle.ckpt_store.proofs.store.Store.reserve.Goals as goal
 
 pub invariant_of-self : goal.invariant_of-self
