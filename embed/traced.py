@@ -16,24 +16,31 @@ AHEAD = 200  # lines that may be committed, and that nobody has told an answer o
 
 
 class Merged:
-    """The trace so far, and a coordinator that has made the calls of its lines."""
+    """The trace so far, in parts: one more begins with each line of the log. And a coordinator that has made the calls of these lines."""
 
     def __init__(self, opening, log):
-        self.trace, self.log, self.opening, self.next = [], log, opening.splitlines(), 0
+        self.parts, self.log, self.opening = [[]], log, opening.splitlines()
+        self.core = self.opened()
+        self.process, self.started = None, 0
+
+    def opened(self):
         settings, shape, start, *named = (line.encode() for line in self.opening)
-        self.core = Coordinator(lines.line_says(settings), lines.line_says(shape).shape, lines.line_says(start).now)
+        core = Coordinator(lines.line_says(settings), lines.line_says(shape).shape, lines.line_says(start).now)
         for line in named:
-            self.core.line(line)
-        self.process = None
+            core.line(line)
+        return core
+
+    @property
+    def next(self):
+        return len(self.parts) - 1
+
+    def tell(self, *told):
+        self.parts[-1] += told
 
     def put_line(self):
-        """The next line of the log. A task's message says in its line whose it is: a subtask's start has the number of its term."""
+        """The next line of the log."""
         line = self.log[self.next]
-        self.next += 1
-        words = line.split(" ")
-        if words[0] == "in":
-            self.trace.append(f"from {words[5]} {words[1]}")
-        self.trace += [line, "log synced"]
+        self.parts.append([*sender(line), line, "log synced"])
         self.core.line(line.encode())
 
     def put_until(self, place):
@@ -46,30 +53,45 @@ class Merged:
                 return
             self.put_line()
 
-    def is_refused(self, line):
-        with Coordinator.open_saved(self.core.save()) as copy:
-            try:
-                copy.line(line.encode())
-            except (Refused, Fenced):
-                return True
-            except Error as fault:
-                raise AssertionError(f"{line}: {fault}") from fault
-            return False
+    def sent_in(self, line):
+        """The part in which the task sent this message, or in which the process started that refused the call."""
+        words = line.split(" ")
+        begins = f"task {words[5]} {words[1]} sends " if words[0] == "in" else "no message"
+        sent = (place for place in range(self.next, self.started, -1) if any(it.startswith(begins) for it in self.parts[place]))
+        return next(sent, self.started)
+
+    def was_refused_in(self, line):
+        """The last part in which the library refused this call, since it was sent; None if there is none."""
+        core, begin, found = self.opened(), self.sent_in(line), None
+        for place in range(self.next):
+            if place >= begin and is_refused(core, line):
+                found = place
+            core.line(self.log[place].encode())
+        return found
+
+    def put_refused(self, line):
+        """A call that the library refused when it came. Before that was told, others may have been made, after which it would be taken: a message of a
+        record that was pending is late once the record is done. Then it is put where it was refused."""
+        part = self.next if is_refused(self.core, line) else self.was_refused_in(line)
+        if part is None:
+            self.put_until_so(lambda: is_refused(self.core, line))
+            part = self.next
+        self.parts[part] += [*sender(line), f"refused {line}"]
 
     def start_process(self, text):
         if self.process is not None:  # it was killed
-            self.trace += [f"process {self.process} ends", "log cut"]
-        self.trace.append(text)
-        if self.process is None and self.opening:
-            self.trace += [*self.opening, "log synced"]
-            self.opening = []
-        self.process = text.split(" ")[1]
+            self.tell(f"process {self.process} ends", "log cut")
+        is_first = self.process is None and not any(self.parts)
+        self.tell(text, *([*self.opening, "log synced"] if is_first else ()))
+        self.process, self.started = text.split(" ")[1], self.next
 
     def put(self, place, text):
         self.put_until(place)
         words = text.split(" ")
         if words[0] == "process" and words[2] == "starts":
             return self.start_process(text)
+        if words[0] == "refused":
+            return self.put_refused(text.partition(" ")[2])
         if words[0] == "process":
             self.process = None
         elif words[0] == "discarder":
@@ -78,9 +100,24 @@ class Merged:
             self.put_until_so(lambda: self.core.garbage([int(words[2])]).garbage)
         elif words[0] == "task" and words[3] == "writes":
             self.put_until_so(lambda: self.core.term().next_name > int(words[4]))
-        elif words[0] == "refused":
-            self.put_until_so(lambda: self.is_refused(text.partition(" ")[2]))
-        self.trace.append(text)
+        self.tell(text)
+
+
+def sender(line):
+    """Whose message a line of the log is, if it is one: a subtask's start has the number of its term."""
+    words = line.split(" ")
+    return [f"from {words[5]} {words[1]}"] if words[0] == "in" else []
+
+
+def is_refused(core, line):
+    with Coordinator.open_saved(core.save()) as copy:
+        try:
+            copy.line(line.encode())
+        except (Refused, Fenced):
+            return True
+        except Error as fault:
+            raise AssertionError(f"{line}: {fault}") from fault
+        return False
 
 
 def merged(folder, told):
@@ -95,7 +132,7 @@ def merged(folder, told):
             place = next((then for then, other in events[at:] if other.endswith(" starts") and other.startswith("process ")), len(rows))
         it.put(place, text)
     it.put_until(len(rows))
-    return it.trace
+    return [line for part in it.parts for line in part]
 
 
 def find(trace, begins):

@@ -52,7 +52,6 @@ def tell_refusal(call: Call) -> None:
     elif call.kind in (header.CALL_ACK, header.CALL_DECLINE):
         line = lines.ack_line if call.kind == header.CALL_ACK else lines.decline_line
         files = (call.first, call.second) if call.kind == header.CALL_ACK else ()
-        tracing.tell("from %d.%d" % subtask + f" {call.term}")
         tracing.tell("refused " + line(0, call.number, *subtask, *files, term=call.term))
 
 

@@ -134,15 +134,11 @@ static relkvanu_answer made(struct coordinator *c, relkvanu_store_call call) {
 }
 
 /* A call of a task that is refused has no line in the log: so the trace has it, with a moment that counts as the greatest. */
-static void trace_refusal(struct caller task, relkvanu_store_call call) {
+static void trace_refusal(relkvanu_store_call call) {
     static _Thread_local uint8_t line[8 * 1024];
     call.call.now = 0;
     relkvanu_answer written = relkvanu_call_line(&call.call, call.first, call.first_len, call.second, call.second_len, line, sizeof line);
     CHECK(written.code == RELKVANU_DONE, "a line can't be written: %" PRIu32, written.what);
-    bool is_message = call.call.kind == RELKVANU_CALL_ACK || call.call.kind == RELKVANU_CALL_DECLINE;
-    if (is_message) {
-        trace("from 0.%u %" PRIu64, task.index, task.term);
-    }
     trace("refused %.*s", (int)written.a, (const char *)line);
 }
 
@@ -151,7 +147,7 @@ static relkvanu_answer made_by(struct coordinator *c, struct caller task, relkva
     call.call.term = task.term;
     relkvanu_answer answer = made(c, call);
     if (answer.code != RELKVANU_DONE && trace_is_on()) {
-        trace_refusal(task, call);
+        trace_refusal(call);
     }
     return answer;
 }
