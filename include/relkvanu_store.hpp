@@ -274,6 +274,16 @@ public:
         return store_code(status);
     }
 
+    /* A discarder and a sweep of any storage: the engine's own, or a Folder. */
+    [[nodiscard]] std::error_code discard_storage(Storage &storage, std::size_t batch = 0) noexcept {
+        relkvanu_storage functions = storage.functions();
+        return store_code(relkvanu_store_discard_storage(store_, batch, &functions));
+    }
+    [[nodiscard]] std::error_code sweep_storage(Storage &storage, std::size_t &left) noexcept {
+        relkvanu_storage functions = storage.functions();
+        return store_code(relkvanu_store_sweep_storage(store_, &functions, &left));
+    }
+
     [[nodiscard]] int folder() const noexcept { return relkvanu_store_folder(store_); }
 
     /* A discarder in a thread of the engine, until stop, which it returns as store_error::stopped: gone(file) says whether the file is not there any
@@ -298,16 +308,6 @@ public:
     [[nodiscard]] std::error_code sweep(std::size_t &left) noexcept { return store_code(relkvanu_store_sweep(store_, &left)); }
     [[nodiscard]] std::error_code discard_files(std::size_t batch = 0) noexcept {
         return store_code(relkvanu_store_discard(store_, batch, relkvanu_store_delete_files, store_));
-    }
-
-    /* A discarder and a sweep of any storage: the engine's own, or a Folder. */
-    [[nodiscard]] std::error_code discard_storage(Storage &storage, std::size_t batch = 0) noexcept {
-        relkvanu_storage functions = storage.functions();
-        return store_code(relkvanu_store_discard_storage(store_, batch, &functions));
-    }
-    [[nodiscard]] std::error_code sweep_storage(Storage &storage, std::size_t &left) noexcept {
-        relkvanu_storage functions = storage.functions();
-        return store_code(relkvanu_store_sweep_storage(store_, &functions, &left));
     }
 
     void stop() noexcept { relkvanu_store_stop(store_); }
