@@ -5,11 +5,14 @@
 - Each call that writes, syncs, makes or cuts a file fails once, and from then on; so do reads, short writes, full disks and quotas.
 - The same, at fewer calls, of jobs with names whose tasks put files, and of a job that gets names at its recovery. Power is lost at a call, too: each file
   in use is there, and the next process leaves no other.
+- The same while a backup is made. Each backup that has its name is whole, and has what was answered before; what fails for the backup alone stops no
+  call; and the next backup of that name succeeds.
 - A crowd of threads is killed at random moments; loses power, so that only synced bytes are left, or a mix of both states sector by
   sector; and goes on after syncs that fail. ROUNDS (default 1) multiplies these.
 
 The last line has the counts."""
 import concurrent.futures
+import errno
 import os
 import pathlib
 import random
@@ -23,6 +26,7 @@ import time
 LISTS = 14  # of the scenario
 WORKERS = 3
 SECTOR = 512
+NOT_PUT = 15
 
 
 class Run:
@@ -31,9 +35,11 @@ class Run:
     def __init__(self, bin_folder, work, mode="plain"):
         self.bin, self.work, self.mode = bin_folder, pathlib.Path(work), mode
         self.folder, self.told, self.safe = self.work / "job", self.work / "told", self.work / "safe"
+        self.later, self.backup = self.work / "told later", self.folder / "backups/b.db"
 
     def begin(self):
         (self.folder / "storage").mkdir(parents=True)
+        (self.folder / "backups").mkdir()
         self.safe.mkdir()
         return self
 
@@ -52,6 +58,23 @@ class Run:
         assert ran.returncode in (0, -signal.SIGKILL), ran.stdout
         return ran.returncode, ran.stdout
 
+    def saves(self, **what):
+        """Makes calls, a backup, and calls again. Returns the exit status, the statuses of the backup and of the last calls, and its error."""
+        command = [self.bin / "saves", self.folder, self.told, self.later, self.backup]
+        ran = subprocess.run(command, env=self.environment(**what), stdout=subprocess.PIPE, stderr=subprocess.STDOUT, text=True, timeout=120)
+        assert ran.returncode in (0, -signal.SIGKILL), ran.stdout
+        return (ran.returncode, *(map(int, ran.stdout.split()[:3]) if ran.returncode == 0 else (None, None, None)))
+
+    def verify_backup(self, work):
+        """Looks at the backup as at a job: it has the calls that were told before it was made, and no others."""
+        shutil.copytree(self.work, work)
+        back = Run(self.bin, work, self.mode)
+        for name in ("x.db-wal", "x.db-shm", "x.db.lock"):
+            (back.folder / name).unlink(missing_ok=True)
+        os.replace(back.backup, back.folder / "x.db")
+        back.verify(0, "backup")
+        shutil.rmtree(work)
+
     def crowd(self, program, seconds, images, **what):
         process = subprocess.Popen([self.bin / program, self.folder, self.told, str(images), self.mode], env=self.environment(**what), stdout=subprocess.PIPE, stderr=subprocess.STDOUT, text=True)
         time.sleep(seconds)
@@ -59,8 +82,8 @@ class Run:
         told, _ = process.communicate()
         assert process.returncode == -signal.SIGKILL, told
 
-    def verify(self, most, has_files=False):
-        ran = subprocess.run([self.bin / "verify", self.folder, self.told, str(most), *(["files"] if has_files else [])], stdout=subprocess.PIPE, stderr=subprocess.STDOUT, text=True, timeout=120)
+    def verify(self, most, what=None):
+        ran = subprocess.run([self.bin / "verify", self.folder, self.told, str(most), *([what] if what else [])], stdout=subprocess.PIPE, stderr=subprocess.STDOUT, text=True, timeout=120)
         assert ran.returncode == 0, ran.stdout
         words = ran.stdout.split()
         return int(words[0]), words[-1] == "whole"
@@ -91,6 +114,10 @@ class Run:
             if not path.exists():  # it was removed, and the folder was not synced
                 path.write_bytes(safe.read_bytes())
         self.keep_safe()
+
+
+def files_of(mode):
+    return "files" if mode == "names" else None
 
 
 def mixed(now, kept, chance):
@@ -130,7 +157,7 @@ class Tests:
         run = self.new(mode)
         run.scenario(lists=30, images=15, die=150 if mode == "plain" else 600)
         copy = run.copy(self.folder())
-        copy.verify(5, mode == "names")
+        copy.verify(5, files_of(mode))
         shutil.copy(copy.told, run.told)
         run.keep_safe()
         return run
@@ -144,22 +171,59 @@ class Tests:
         status, told = run.scenario(**given, **({"safe": run.safe} if loss else {}))
         if loss:
             run.lose_power(random.Random(number) if loss == "mix" else None)
-        run.verify(5, run.mode == "names")
+        run.verify(5, files_of(run.mode))
         if self.rounds > 1 or run.mode != "plain" or number % 5 == 1:  # the job goes on
             again, words = run.scenario(lists=3)
             assert again == 0 and words.startswith("calls 0"), words
-            run.verify(5, run.mode == "names")
+            run.verify(5, files_of(run.mode))
         shutil.rmtree(folder)
         return status != 0 or not told.startswith("calls 0")
 
-    def each(self, base, most, step=1, **what):
+    def backup_at(self, base, number, what):
+        """One fault while a job makes a backup. Returns whether it was reached."""
+        folder = self.work / f"{base.work.name}-backup-{'-'.join(map(str, what.values())).replace('/', '')}-{number}"
+        run = base.copy(folder)
+        given = {name: value if value != "N" else number for name, value in what.items()}
+        loss = given.pop("loss", None)
+        ended, status, calls, error = run.saves(**given, **({"safe": run.safe} if loss else {}))
+        if loss:
+            run.lose_power(random.Random(number) if loss == "mix" else None)
+        check(ended != 0 or calls == 0 or "on" not in given, f"the calls after the backup: status {calls}")
+        check(status is None or (status == 0) == run.backup.exists(), f"the backup: status {status}")
+        check(given.get("fault") not in ("full", "quota") or status != NOT_PUT or error in (errno.ENOSPC, errno.EDQUOT), f"the backup: error {error}")
+        if run.backup.exists():
+            run.verify_backup(self.work / f"{folder.name}-back")
+            run.backup.unlink()
+        with open(run.told, "a") as told, open(run.later, "a+") as later:
+            later.seek(0)
+            told.write(later.read())
+        run.verify(5, files_of(run.mode))
+        run.later.unlink()
+        again = run.saves()
+        check(again[:3] == (0, 0, 0), f"the next backup: {again}")
+        check(sorted(it.name for it in run.backup.parent.iterdir()) == ["b.db"], f"{list(run.backup.parent.iterdir())}")
+        run.verify_backup(self.work / f"{folder.name}-back")
+        shutil.rmtree(folder)
+        return ended != 0 or status != 0 or calls != 0
+
+    def backups(self, base):
+        self.each(base, 3000, self.backup_at, die="N")
+        self.each(base, 3000, self.backup_at, step=self.step(3), die="N", die_after=1)
+        for loss in ("power", "mix"):
+            self.each(base, 3000, self.backup_at, step=self.step(3), die="N", loss=loss)
+        for often in (1, 0):
+            for fault in ("any", "short", "full", "quota", "sync", "read"):
+                self.each(base, 3000, self.backup_at, step=self.step(1 if fault == "any" else 2), fault=fault, at="N", on="/backups", **{"for": often})
+        self.each(base, 3000, self.backup_at, step=self.step(5), fault="any", at="N", **{"for": 1})
+
+    def each(self, base, most, run_at=None, step=1, **what):
         """The n-th call for each n, until the scenario ends without the fault."""
         name = f"{base.work.name} {what}"
         reached = 0
         with concurrent.futures.ThreadPoolExecutor(WORKERS) as pool:
             for begin in range(1, most, 30 * step):
                 numbers = range(begin, begin + 30 * step, step)
-                found = list(pool.map(lambda it: self.note(f"{name} at {it}", self.at, base, it, what), numbers))
+                found = list(pool.map(lambda it: self.note(f"{name} at {it}", run_at or self.at, base, it, what), numbers))
                 reached += sum(it is True for it in found)
                 if not any(found):
                     break
@@ -241,6 +305,9 @@ def main(bin_folder, rounds="1"):
         before = tests.passed
         tests.names(tests.new("names"), tests.killed("names"), killed)
         print(f"store: faults of jobs with names: {tests.passed - before} passed, {time.monotonic() - began:.0f} s", flush=True)
+        before = tests.passed
+        tests.backups(killed)
+        print(f"store: faults of backups: {tests.passed - before} passed, {time.monotonic() - began:.0f} s", flush=True)
         for kind in ("kill", "power", "mix", "faults"):
             tests.crowds(kind)
             print(f"store: crowds with {kind}: {tests.failed} failed so far, {time.monotonic() - began:.0f} s", flush=True)

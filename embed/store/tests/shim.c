@@ -348,14 +348,14 @@ static void make_name(const char *path) {
     pthread_mutex_unlock(&mutex);
 }
 
-int renameat(int from, const char *name, int to, const char *other) {
+static int rename_of(int from, const char *name, int to, const char *other, unsigned flags) {
     char path[PATH], target[PATH], before[2 * PATH], safe[2 * PATH];
     full_path(from, name, path);
     full_path(to, other, target);
     if (is_in(path) && !changes(path)) {
         return -1;
     }
-    int result = (int)syscall(SYS_renameat, from, name, to, other);
+    int result = (int)syscall(SYS_renameat2, from, name, to, other, flags);
     if (result == 0 && is_in(path) && getenv("STORE_SAFE") != NULL) {
         make_name(target);
         safe_path(find(path), find(path)->is_named, before);
@@ -368,6 +368,14 @@ int renameat(int from, const char *name, int to, const char *other) {
         may_die(true);
     }
     return result;
+}
+
+int renameat(int from, const char *name, int to, const char *other) {
+    return rename_of(from, name, to, other, 0);
+}
+
+int renameat2(int from, const char *name, int to, const char *other, unsigned flags) {
+    return rename_of(from, name, to, other, flags);
 }
 
 static int open_of(int at, const char *name, int flags, int mode) {
