@@ -291,11 +291,11 @@ void relkvanu_store_stop(relkvanu_store *store);
 
 /* Makes a backup of the job in the file path, which may not be there: a copy of PATH with each call that was answered before, and perhaps
  * later ones. Other threads go on with their calls: a part of 1 MiB is copied at a time. The copy is written to path.part, read once more,
- * synced, renamed, and its folder is synced. So there is a whole backup at path after RELKVANU_STORE_OK, whatever happens, and none after
- * another status. A process that ends leaves path.part and path.part-wal at most, which the next backup of this path begins anew. The file
- * is private. It may be on another file system, and it may not be in the folder options.storage. message is the address of message_len
- * bytes: what went wrong, as a text with a zero at its end; empty after RELKVANU_STORE_OK and RELKVANU_STORE_NO_MEMORY. No status of it
- * closes the store.
+ * synced, renamed, and its folder is synced. So there is a whole backup at path after RELKVANU_STORE_OK, whatever happens. After another
+ * status there is none, unless the folder could neither be synced nor the file removed from it. A process that ends leaves path.part,
+ * path.part-wal and path.part-journal at most, which the next backup of this path begins anew. The file is private. It may be on another
+ * file system, and it may not be in the folder options.storage. message is the address of message_len bytes: what went wrong, as a text
+ * with a zero at its end; empty after RELKVANU_STORE_OK and RELKVANU_STORE_NO_MEMORY. No status of it closes the store.
  *
  * RELKVANU_STORE_PRESENT: there is such a file, and it stays; RELKVANU_STORE_NOT_NOW: another thread or process writes path.part;
  * RELKVANU_STORE_NOT_PUT: the disk is full, say; RELKVANU_STORE_CLOSED: a commit failed meanwhile.

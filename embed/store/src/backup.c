@@ -37,14 +37,15 @@ static int failed(struct backup *b, const char *name, int error) {
     return status;
 }
 
-/* What SQLite says of the copy. */
+/* What SQLite says of the copy. It does not note the error of the system each time. So errno is 0 before each call of it. */
 static int lite_failed(struct backup *b, int code) {
-    int error = b->db != NULL ? sqlite3_system_errno(b->db) : 0, primary = code & 255;
+    int left = errno, error = b->db != NULL ? sqlite3_system_errno(b->db) : 0, primary = code & 255;
     if (primary == SQLITE_NOMEM || code == SQLITE_IOERR_NOMEM) {
         return RELKVANU_STORE_NO_MEMORY;
     }
-    told(b, RELKVANU_STORE_NOT_PUT, b->part, sqlite3_errstr(code));
-    errno = error != 0 ? error : primary == SQLITE_FULL ? ENOSPC : EIO;
+    error = primary == SQLITE_FULL ? ENOSPC : error != 0 ? error : left != 0 ? left : EIO;
+    snprintf(b->message, b->message_len, "%.300s: %s: %s (SQLite %d)", b->part, sqlite3_errstr(code), strerror(error), code);
+    errno = error;
     return RELKVANU_STORE_NOT_PUT;
 }
 
@@ -98,6 +99,7 @@ static int begin_part(struct backup *b) {
 
 /* Nothing of the part has to be durable, or to be rolled back, before it is whole. */
 static int open_part(struct backup *b) {
+    errno = 0;
     int code = sqlite3_open_v2(b->part, &b->db, SQLITE_OPEN_READWRITE | SQLITE_OPEN_NOMUTEX, NULL);
     if (code == SQLITE_OK) {
         sqlite3_extended_result_codes(b->db, 1);
@@ -117,13 +119,16 @@ static int copy_pages(relkvanu_store *s, struct backup *b) {
         if (status != RELKVANU_STORE_OK) {
             continue;
         }
+        errno = 0;
         copy = copy != NULL ? copy : sqlite3_backup_init(b->db, "main", s->db, "main");
         code = copy != NULL ? sqlite3_backup_step(copy, PAGES) : sqlite3_extended_errcode(b->db);
+        int error = errno;
         if (code != SQLITE_OK) {
             sqlite3_backup_finish(copy);
             copy = NULL;
         }
         relkvanu_store_read_end(s);
+        errno = error;
     }
     if (copy != NULL) { /* the store was closed meanwhile: nobody leads any more */
         pthread_mutex_lock(&s->mutex);
@@ -142,6 +147,7 @@ static int first_text(void *words, int columns, char **values, char **names) {
 /* Reads all of the copy once more. */
 static int check_part(struct backup *b) {
     char found[64] = "";
+    errno = 0;
     int code = sqlite3_exec(b->db, "PRAGMA quick_check(1)", first_text, found, NULL);
     if (code != SQLITE_OK) {
         return lite_failed(b, code);
@@ -156,6 +162,7 @@ static int check_part(struct backup *b) {
 /* Says in the copy that it is a backup, and makes one file of it: the job is in the mode WAL. */
 static int mark_part(struct backup *b) {
     char format[64] = "", sql[120];
+    errno = 0;
     int code = sqlite3_exec(b->db, "PRAGMA user_version", first_text, format, NULL);
     if (code == SQLITE_OK) {
         snprintf(sql, sizeof sql, "PRAGMA user_version=%d; PRAGMA journal_mode=DELETE", atoi(format) + RKS_BACKUP);

@@ -99,10 +99,10 @@ class Run:
             if path.is_file():
                 shutil.copy(path, self.safe_of(path))
 
-    def lose_power(self, chance=None):
+    def lose_power(self, of_all=None, of_backups=None):
         """Leaves what was synced. With a chance each other sector and size is of one state or of the other."""
         for path in [it for it in self.folder.rglob("*") if it.is_file()]:
-            safe = self.safe_of(path)
+            safe, chance = self.safe_of(path), (of_backups or of_all) if path.parent == self.backup.parent else of_all
             if not safe.exists():
                 if chance is None or chance.random() < 0.5:
                     path.unlink()
@@ -187,9 +187,11 @@ class Tests:
         loss = given.pop("loss", None)
         ended, status, calls, error = run.saves(**given, **({"safe": run.safe} if loss else {}))
         if loss:
-            run.lose_power(random.Random(number) if loss == "mix" else None)
+            run.lose_power(of_backups=random.Random(number) if loss == "mix" else None)
         check(ended != 0 or calls == 0 or "on" not in given, f"the calls after the backup: status {calls}")
-        check(status is None or (status == 0) == run.backup.exists(), f"the backup: status {status}")
+        # one whose folder could not be synced, and that could not be removed either, is there, whole
+        may_stay = given.get("fault") == "any" and given.get("for") == 0
+        check(status is None or (status == 0) == run.backup.exists() or may_stay, f"the backup: status {status}")
         check(given.get("fault") not in ("full", "quota") or status != NOT_PUT or error in (errno.ENOSPC, errno.EDQUOT), f"the backup: error {error}")
         if run.backup.exists():
             run.verify_backup(self.work / f"{folder.name}-back")

@@ -13,7 +13,7 @@ static int make(relkvanu_store *store, const char *told) {
     relkvanu_store_call calls[LIST] = {0};
     int to = told_file(told);
     for (size_t i = 0; i < LIST; i++) {
-        calls[i].call = (relkvanu_call){.kind = RELKVANU_CALL_SAVEPOINT, .now = RELKVANU_STORE_NOW};
+        calls[i].call = (relkvanu_call){.kind = RELKVANU_CALL_SAVEPOINT};
     }
     int status = relkvanu_store_calls(store, calls, LIST);
     for (size_t i = 0; i < LIST && status == RELKVANU_STORE_OK; i++) {
