@@ -1,5 +1,5 @@
-/* bench FOLDER [SECONDS [ROUNDS]]: durable acknowledgements a second, of 1, 16 and 256 threads, beside commits of one row by SQLite alone in the
- * same run, and of 256 threads in a job with names. A job of 4096 subtasks, 3 files in each acknowledgement, an image every 10,000 calls, and nothing
+/* bench FOLDER [SECONDS [ROUNDS]]: durable acknowledgements a second, of 1, 16 and 256 threads, in a job without names and in one with names,
+ * beside commits of one row by SQLite alone in the same run. A job of 4096 subtasks, 3 files in each acknowledgement, an image every 10,000 calls, and nothing
  * is discarded. */
 #define _GNU_SOURCE
 #include "../../include/relkvanu_store.h"
@@ -140,10 +140,10 @@ int main(int argc, char **argv) {
     snprintf(path, sizeof path, "%s/bench-%d.db", argv[1], (int)getpid());
     for (unsigned i = 0; i < rounds; i++) {
         measure_sqlite(path, seconds);
-        measure(path, 1, seconds, false);
-        measure(path, 16, seconds, false);
-        measure(path, 256, seconds, false);
-        measure(path, 256, seconds, true);
+        for (unsigned threads = 1; threads <= MOST_THREADS; threads *= 16) {
+            measure(path, threads, seconds, false);
+            measure(path, threads, seconds, true);
+        }
     }
     return 0;
 }
