@@ -133,7 +133,7 @@ static void measure(const char *path, unsigned len, unsigned seconds, enum kind 
 
 static void measure_sqlite(const char *path, unsigned seconds) {
     static const char setup[] = "PRAGMA locking_mode=EXCLUSIVE; PRAGMA journal_mode=WAL; PRAGMA synchronous=FULL; CREATE TABLE log(place INTEGER PRIMARY KEY, line TEXT)";
-    sqlite3 *db;
+    sqlite3 *db = NULL;
     sqlite3_stmt *insert;
     check("SQLite", sqlite3_open(path, &db) == SQLITE_OK && sqlite3_exec(db, setup, NULL, NULL, NULL) == SQLITE_OK &&
                         sqlite3_prepare_v2(db, "INSERT INTO log(line) VALUES('ack 1000000 1000000 0.1000 +100000001 +100000002 +100000003')", -1, &insert, NULL) == SQLITE_OK,

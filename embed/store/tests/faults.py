@@ -7,12 +7,13 @@
   in use is there, and the next process leaves no other.
 - The same while a backup is made. Each backup that has its name is whole, and has what was answered before; what fails for the backup alone stops no
   call; and the next backup of that name succeeds.
-- A crowd of threads is killed at random moments; loses power, so that only synced bytes are left, or a mix of both states sector by
+- A crowd of threads is killed at 200 random moments; loses power, so that only synced bytes are left, or a mix of both states sector by
   sector; and goes on after syncs that fail. ROUNDS (default 1) multiplies these.
 
 The last line has the counts."""
 import concurrent.futures
 import errno
+import itertools
 import os
 import pathlib
 import random
@@ -27,6 +28,8 @@ LISTS = 14  # of the scenario
 WORKERS = 3
 SECTOR = 512
 NOT_PUT = 15
+STOPS = 4  # of a crowd's job
+KILLED = 50  # jobs of crowds that are killed: 200 random moments
 
 
 class Run:
@@ -131,11 +134,10 @@ class Tests:
     def __init__(self, bin_folder, rounds, work):
         self.bin, self.rounds, self.work = pathlib.Path(bin_folder), rounds, pathlib.Path(work)
         self.passed = self.failed = 0
-        self.number = 0
+        self.numbers = itertools.count(1)  # also for several threads
 
     def folder(self):
-        self.number += 1
-        return self.work / str(self.number)
+        return self.work / str(next(self.numbers))
 
     def note(self, name, run, *words):
         try:
@@ -274,20 +276,29 @@ class Tests:
         told, is_whole = run.verify(most)
         return told if is_whole else -told
 
+    def crowd_job(self, kind, job):
+        """A job that is stopped four times. Returns how many calls were answered, and after how many stops all of them could be made again."""
+        chance = random.Random(f"{kind} {job} {os.environ.get('SEED', time.time())}")
+        run = self.new("names" if job % 4 in (1, 2) else "plain")
+        images = 10 ** 9 if job % 2 == 0 or kind == "faults" else 300
+        calls = whole = 0
+        for _ in range(STOPS):
+            told = self.note(f"a crowd with {kind} in {run.work}", self.crowd_run, run, chance, kind, images, 24 * 6 * (40 if kind == "faults" else 1))
+            if told is None:
+                break
+            calls += abs(told)
+            whole += told > 0
+        shutil.rmtree(run.work)
+        return calls, whole
+
     def crowds(self, kind):
-        chance = random.Random(f"{kind} {os.environ.get('SEED', time.time())}")
-        calls = whole = runs = 0
-        for job in range(2 * self.rounds):
-            run = self.new("names" if job % 4 in (1, 2) else "plain")
-            images = 10 ** 9 if job % 2 == 0 or kind == "faults" else 300
-            for _ in range(4):
-                told = self.note(f"a crowd with {kind} in {run.work}", self.crowd_run, run, chance, kind, images, 24 * 6 * (40 if kind == "faults" else 1))
-                runs += 1
-                if told is None:
-                    break
-                calls += abs(told)
-                whole += told > 0
-        self.note(f"crowds with {kind}", lambda: check(calls > 1000 and 2 * whole > runs, f"{calls} calls, {whole} of {runs} whole"))
+        """Returns how many calls were answered."""
+        jobs = (KILLED if kind == "kill" else 2) * self.rounds
+        with concurrent.futures.ThreadPoolExecutor(WORKERS) as pool:
+            found = list(pool.map(lambda job: self.crowd_job(kind, job), range(jobs)))
+        calls, whole = sum(it[0] for it in found), sum(it[1] for it in found)
+        self.note(f"crowds with {kind}", lambda: check(calls > 1000 and 2 * whole > STOPS * jobs, f"{calls} calls, {whole} of {STOPS * jobs} whole"))
+        return calls, STOPS * jobs
 
 
 def check(is_so, words):
@@ -311,8 +322,8 @@ def main(bin_folder, rounds="1"):
         tests.backups(killed)
         print(f"store: faults of backups: {tests.passed - before} passed, {time.monotonic() - began:.0f} s", flush=True)
         for kind in ("kill", "power", "mix", "faults"):
-            tests.crowds(kind)
-            print(f"store: crowds with {kind}: {tests.failed} failed so far, {time.monotonic() - began:.0f} s", flush=True)
+            calls, stops = tests.crowds(kind)
+            print(f"store: crowds with {kind}: {stops} times, {calls} answered calls, {tests.failed} failed so far, {time.monotonic() - began:.0f} s", flush=True)
     print(f"{tests.passed} passed, {tests.failed} failed")
     return 1 if tests.failed or not tests.passed else 0
 
