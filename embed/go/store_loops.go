@@ -3,6 +3,7 @@
 package relkvanu
 
 // #include <relkvanu_store.h>
+// #include <stdlib.h>
 import "C"
 
 import (
