@@ -360,12 +360,30 @@ fn limits() {
         settings
     };
     let settings = [
-        (bad(|it| it.interval = 9), "interval is 9, and has to be 10 to 2^40 ms"),
-        (bad(|it| it.pause = (1 << 40) + 1), "pause is 1099511627777, and has to be 0 to 2^40 ms"),
-        (bad(|it| it.at_once = 65), "at_once is 65, and has to be 1 to 64"),
-        (bad(|it| it.timeout = 0), "timeout is 0, and has to be 1 to 2^40 ms"),
-        (bad(|it| it.tolerable = 1001), "tolerable is 1001, and has to be 0 to 1000"),
-        (bad(|it| it.retained = 0), "retained is 0, and has to be 1 to 1000"),
+        (
+            bad(|it| it.interval = 9),
+            "interval is 9, and has to be 10 to 2^40 ms",
+        ),
+        (
+            bad(|it| it.pause = (1 << 40) + 1),
+            "pause is 1099511627777, and has to be 0 to 2^40 ms",
+        ),
+        (
+            bad(|it| it.at_once = 65),
+            "at_once is 65, and has to be 1 to 64",
+        ),
+        (
+            bad(|it| it.timeout = 0),
+            "timeout is 0, and has to be 1 to 2^40 ms",
+        ),
+        (
+            bad(|it| it.tolerable = 1001),
+            "tolerable is 1001, and has to be 0 to 1000",
+        ),
+        (
+            bad(|it| it.retained = 0),
+            "retained is 0, and has to be 1 to 1000",
+        ),
     ];
     for (settings, words) in settings {
         let mut options = Options::new(settings, &[2]);
@@ -376,7 +394,10 @@ fn limits() {
     let shapes: [(&[u64], &str); 4] = [
         (&[], "0 vertices, and has to have 1 to 256"),
         (&[1; 257], "257 vertices, and has to have 1 to 256"),
-        (&[1, 0], "0 subtasks in vertex 1, and has to have at least 1 in each"),
+        (
+            &[1, 0],
+            "0 subtasks in vertex 1, and has to have at least 1 in each",
+        ),
         (&[4096, 1], "4097 subtasks, and has to have at most 4096"),
     ];
     for (shape, words) in shapes {
