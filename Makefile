@@ -30,6 +30,10 @@ filled = sed -e 's|@PREFIX@|$(PREFIX)|g' -e 's|@LIBDIR@|$(patsubst $(PREFIX)/%,$
 # The programs that are built: in a release in build/bin.
 BUILT = $(wildcard $(PROGRAMS:%=build/bin/%) $(foreach it,$(PROGRAMS),crates/$(it)/out/$(it)))
 
+# The sources of the packages of Rust and Go are installed, and so the samples that name their folders find them there.
+GO_SOURCES = $(filter-out %_test.go,$(wildcard embed/go/*.go)) embed/go/example_test.go
+OF_CRATES = Cargo.toml durable-rust/Cargo.toml go/go.mod
+
 # The manual pages of the service, which a release may have.
 MANUAL = $(wildcard service/deploy/man/*.1)
 
@@ -82,6 +86,15 @@ install: $(LIBRARY) $(STORE) $(PAGES)/docs
 	$(INSTALL) -m 644 examples/*.script examples/*.stdout $(into)/share/doc/relkvanu/examples
 	cp -R $(PAGES)/samples/. $(into)/share/doc/relkvanu/examples/engine
 	chmod -R u=rwX,go=rX $(into)/share/doc/relkvanu/examples/engine
+	$(INSTALL) -d $(into)/share/relkvanu/rust $(into)/share/gocode/src/relkvanu
+	$(INSTALL) -m 644 embed/rust/Cargo.toml embed/rust/Cargo.lock $(into)/share/relkvanu/rust
+	cp -R embed/rust/relkvanu embed/rust/relkvanu-sys $(into)/share/relkvanu/rust
+	chmod -R u=rwX,go=rX $(into)/share/relkvanu
+	$(INSTALL) -m 644 embed/go/go.mod $(GO_SOURCES) $(into)/share/gocode/src/relkvanu
+	for it in $(OF_CRATES); do \
+	    sed -e 's|"[./]*embed/rust/|"$(PREFIX)/share/relkvanu/rust/|' -e 's|=> [./]*embed/go$$|=> $(PREFIX)/share/gocode/src/relkvanu|' $(PAGES)/samples/$$it | \
+	        $(INSTALL) -m 644 /dev/stdin $(into)/share/doc/relkvanu/examples/engine/$$it || exit 1; \
+	done
 	for it in $(BUILT); do \
 	    $(INSTALL) -m 755 $$it $(into)/bin && $(INSTALL) -m 644 packaging/man/$${it##*/}.1 $(into)/share/man/man1 || exit 1; \
 	done
@@ -100,7 +113,7 @@ uninstall:
 	rm -f $(into)/include/relkvanu_storage.h $(into)/include/relkvanu_storage.hpp
 	rm -f $(into)/share/man/man3/relkvanu.3 $(into)/share/man/man3/relkvanu_*.3
 	rm -f $(patsubst %,$(into)/bin/%,$(PROGRAMS) relkvanu) $(PROGRAMS:%=$(into)/share/man/man1/%.1) $(into)/share/man/man1/relkvanu.1 $(into)/share/man/man1/relkvanu-*.1
-	rm -rf $(libraries)/cmake/relkvanu $(into)/share/doc/relkvanu
+	rm -rf $(libraries)/cmake/relkvanu $(into)/share/doc/relkvanu $(into)/share/relkvanu $(into)/share/gocode/src/relkvanu
 	@[ -n "$(DESTDIR)" ] || echo "If ldconfig was run after the install, run it again."
 
 # What only the repository has.

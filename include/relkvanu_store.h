@@ -6,8 +6,8 @@
  * call. While one of them commits, the calls of the others gather, and the first of them commits all of these together.
  *
  * Files: PATH (the log and the images), PATH-wal, PATH-shm and PATH.lock. Never delete one of them, also not when the store is closed.
- * While a store is open no other program or connection can read PATH, and nobody may copy it. PATH has to be on a local file system, not
- * on NFS. The folder options.storage may be on another one, where a rename is atomic and fsync of a file and of a folder makes both durable. A
+ * While a store is open no other program or connection can read PATH, and nobody may copy it but relkvanu_store_backup. PATH has to be
+ * on a local file system, not on NFS. The folder options.storage may be on another one, where a rename is atomic and fsync of a file and of a folder makes both durable. A
  * network file system that promises this will do; none has been tested.
  *
  * A job has names unless it was made with RELKVANU_STORE_PLAIN. Then its files are safe as follows:
@@ -50,17 +50,17 @@ typedef struct relkvanu_store relkvanu_store;
 #define RELKVANU_STORE_NO_MEMORY 2    /* make the same call again later */
 #define RELKVANU_STORE_IN_USE 3       /* open: another process, or this one, has the job open. The message names it */
 #define RELKVANU_STORE_ABSENT 4       /* open: there is no job, and the flags don't allow to make one */
-#define RELKVANU_STORE_PRESENT 5      /* open: there is a job, and RELKVANU_STORE_CREATE_ONLY forbids it; put: there is a file of this number, or a part of one */
+#define RELKVANU_STORE_PRESENT 5      /* open: there is a job, and RELKVANU_STORE_CREATE_ONLY forbids it; put: there is a file of this number, or a part of one; backup: there is a file of this name */
 #define RELKVANU_STORE_NOT_A_STORE 6  /* open: another kind of file, or one of a later version */
 #define RELKVANU_STORE_DIFFERS 7      /* open: a call of the log gets another answer, or is refused. The message says which */
 #define RELKVANU_STORE_DAMAGED 8      /* open: an image, a call or the file is damaged. The message says which */
-#define RELKVANU_STORE_STORAGE 9      /* open: the storage folder is not that of this job, or a new job's has files, or PATH is an older copy */
+#define RELKVANU_STORE_STORAGE 9      /* open: the storage folder is not that of this job, or a new job's has files, or PATH is an older copy or a backup */
 #define RELKVANU_STORE_CLOSED 10      /* an earlier commit failed */
 #define RELKVANU_STORE_FORKED 11      /* this process is a child of the one that opened the store */
 #define RELKVANU_STORE_TIMED_OUT 12   /* await: the time is up */
-#define RELKVANU_STORE_NOT_NOW 13     /* unknown: no sweep of a job without names is safe now; discard: another thread discards */
+#define RELKVANU_STORE_NOT_NOW 13     /* unknown: no sweep of a job without names is safe now; discard: another thread discards; backup: another one writes this file */
 #define RELKVANU_STORE_STOPPED 14     /* await, discard: relkvanu_store_stop was called */
-#define RELKVANU_STORE_NOT_PUT 15     /* put: the file was not made, and errno says why */
+#define RELKVANU_STORE_NOT_PUT 15     /* put, backup: the file was not made, and errno says why */
 /* What failed at an opening, or in a commit, which closes the store. */
 #define RELKVANU_STORE_FAILED 16        /* a read, write or sync */
 #define RELKVANU_STORE_FULL 17          /* the disk is full */
@@ -78,6 +78,7 @@ typedef struct relkvanu_store relkvanu_store;
 #define RELKVANU_STORE_ADOPT 4u         /* makes a job also if the storage folder has files. THE NEXT SWEEP DELETES THEM ALL, if their names are numbers */
 #define RELKVANU_STORE_EARLIER_IMAGE 8u /* begins with the image before the last one, which is damaged. The log after it is whole */
 #define RELKVANU_STORE_PLAIN 16u        /* a job that is made has no names: the engine gives out the numbers of files, and sweeps only when no task runs */
+#define RELKVANU_STORE_BACKUP 32u       /* PATH is a backup: READ relkvanu_store_backup FIRST. Makes no job */
 
 /* A moment of a call: that of the store's clock. The clock goes on from the greatest moment of the log, and never jumps. */
 #define RELKVANU_STORE_NOW UINT64_MAX
@@ -301,6 +302,26 @@ int relkvanu_store_sweep_storage(relkvanu_store *store, const relkvanu_storage *
 /* Lets relkvanu_store_await_tick, relkvanu_store_discard and relkvanu_store_discard_storage return RELKVANU_STORE_STOPPED, now and later. What was taken is reported first. What waits is
  * left for the next opening: an engine that is to leave no file stops when relkvanu_file_counts in a read has no waiting and no taken ones. */
 void relkvanu_store_stop(relkvanu_store *store);
+
+/* Makes a backup of the job in the file path, which may not be there: a copy of PATH with each call that was answered before, and perhaps
+ * later ones. Other threads go on with their calls: a part of 1 MiB is copied at a time. The copy is written to path.part, read once more,
+ * synced, renamed, and its folder is synced. So there is a whole backup at path after RELKVANU_STORE_OK, whatever happens. After another
+ * status there is none, unless the folder could neither be synced nor the file removed from it. A process that ends leaves path.part,
+ * path.part-wal and path.part-journal at most, which the next backup of this path begins anew. The file is private. It may be on another
+ * file system, and it may not be in the folder options.storage. message is the address of message_len bytes: what went wrong, as a text
+ * with a zero at its end; empty after RELKVANU_STORE_OK and RELKVANU_STORE_NO_MEMORY. No status of it closes the store.
+ *
+ * RELKVANU_STORE_PRESENT: there is such a file, and it stays; RELKVANU_STORE_NOT_NOW: another thread or process writes path.part;
+ * RELKVANU_STORE_NOT_PUT: the disk is full, say; RELKVANU_STORE_CLOSED: a commit failed meanwhile.
+ *
+ * A BACKUP LACKS THE CALLS SINCE IT WAS MADE. The files of its records may have been deleted since, and files of later records are garbage
+ * to it. So it is opened with RELKVANU_STORE_BACKUP, once, and without that flag it is refused: RELKVANU_STORE_STORAGE. (With the flag
+ * another file is refused: RELKVANU_STORE_BAD_ARGUMENT.) Before it is opened over the storage of the job, each process and task of the job
+ * has ended, also on other hosts, since terms and numbers of records are given again. The opening counts as later than all that have used
+ * the storage, so another store over this folder puts and deletes nothing more. It gives out each name up to the greatest that
+ * options.storage has a file of; without options.storage the engine reserves so many before its restore. Then the engine restores a record
+ * whose files are all there (docs/EMBEDDING.md, section 14), and sweeps. */
+int relkvanu_store_backup(relkvanu_store *store, const char *path, char *message, size_t message_len);
 
 /* Counts since the opening. */
 typedef struct {

@@ -87,6 +87,12 @@ struct not_opened {
     std::string message;
 };
 
+/* Why no backup was made, and what the system says. */
+struct no_backup {
+    std::error_code why;
+    std::string message;
+};
+
 /* A durable coordinator. After a move the old one is empty: only its destructor and an assignment to it may be called. */
 class Store {
 public:
@@ -308,6 +314,17 @@ public:
     [[nodiscard]] std::error_code sweep(std::size_t &left) noexcept { return store_code(relkvanu_store_sweep(store_, &left)); }
     [[nodiscard]] std::error_code discard_files(std::size_t batch = 0) noexcept {
         return store_code(relkvanu_store_discard(store_, batch, relkvanu_store_delete_files, store_));
+    }
+
+    /* Makes a backup of the job in a new file, while other threads call: relkvanu_store_backup has what it is, and when it may be opened. */
+    [[nodiscard]] std::optional<no_backup> backup(const std::string &path) {
+        std::string text(RELKVANU_STORE_MESSAGE, '\0');
+        int status = relkvanu_store_backup(store_, path.c_str(), text.data(), text.size());
+        if (status == RELKVANU_STORE_OK) {
+            return std::nullopt;
+        }
+        text.resize(text.find('\0'));
+        return no_backup{store_code(status), text};
     }
 
     void stop() noexcept { relkvanu_store_stop(store_); }

@@ -25,6 +25,7 @@ type StoreOptions struct {
 	CreateOnly   bool // makes a job, and there may be none
 	Adopt        bool // makes a job also if the storage has files. The next sweep deletes them all, if their names are numbers
 	EarlierImage bool // begins with the image before the last one, which is damaged. The log after it is whole
+	Backup       bool // it is a backup, which is opened so once, after all processes and tasks of the job have ended: see Store.Backup. Makes no job
 	Plain        bool // a job that is made has no names: the engine gives out the numbers of files, and sweeps only when no task runs
 
 	Patience   time.Duration // for which a commit tries again if the disk is full, SQLite has no memory or a lock is held
@@ -125,7 +126,7 @@ func (o *StoreOptions) inC() C.relkvanu_store_options {
 	flags := C.uint32_t(0)
 	for flag, is := range map[C.uint32_t]bool{
 		C.RELKVANU_STORE_CREATE: o.Create, C.RELKVANU_STORE_CREATE_ONLY: o.CreateOnly, C.RELKVANU_STORE_ADOPT: o.Adopt,
-		C.RELKVANU_STORE_EARLIER_IMAGE: o.EarlierImage, C.RELKVANU_STORE_PLAIN: o.Plain,
+		C.RELKVANU_STORE_EARLIER_IMAGE: o.EarlierImage, C.RELKVANU_STORE_PLAIN: o.Plain, C.RELKVANU_STORE_BACKUP: o.Backup,
 	} {
 		if is {
 			flags |= flag

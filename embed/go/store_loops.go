@@ -3,6 +3,7 @@
 package relkvanu
 
 // #include <relkvanu_store.h>
+// #include <stdlib.h>
 import "C"
 
 import (
@@ -202,6 +203,31 @@ func (s *Store) Put(file uint64, contents []byte) error {
 		return &StoreError{Fault: StoreNotPut, Message: why.Error(), Cause: why}
 	}
 	return s.check(status)
+}
+
+// Backup makes a backup of the job in a new file, while other goroutines call. It is whole and durable when this returns nil. Otherwise there is none,
+// and the store goes on: StorePresent if there is such a file; StoreNotNow if another backup writes it; StoreNotPut if it can't be written, which
+// wraps why: errors.Is(err, syscall.ENOSPC).
+//
+// A backup lacks the calls since it was made. StoreOptions.Backup opens it, once, after all processes and tasks of the job have ended, and then the
+// engine restores a record whose files are all there: docs/EMBEDDING.md, section 14. Without that option the opening is refused as StoreStorage.
+func (s *Store) Backup(path string) error {
+	if err := s.enter(); err != nil {
+		return err
+	}
+	defer s.leave()
+	name := C.CString(path)
+	defer C.free(unsafe.Pointer(name))
+	var message [C.RELKVANU_STORE_MESSAGE]C.char
+	status, why := C.relkvanu_store_backup(s.store, name, &message[0], C.size_t(len(message)))
+	if status == C.RELKVANU_STORE_OK {
+		return nil
+	}
+	err := storeError(status, C.GoString(&message[0]))
+	if it, is := err.(*StoreError); is && status == C.RELKVANU_STORE_NOT_PUT {
+		it.Cause = why
+	}
+	return err
 }
 
 // Sweep deletes the files of the storage folder that Unknown returns, also what is there in part, and syncs the folder. It returns how many it

@@ -335,6 +335,58 @@ func TestStoreDiscarderPanics(t *testing.T) {
 	fails(t, err, relkvanu.StoreStopped)
 }
 
+// The message names what is wrong and what is allowed.
+func TestStoreLimits(t *testing.T) {
+	path := newStoreFolder(t).job
+	refuses := func(change func(*relkvanu.StoreOptions), words string) {
+		t.Helper()
+		options := storeOptions()
+		change(&options)
+		equal(t, fails(t, errorOf(relkvanu.OpenStore(path, options)), relkvanu.StoreBadArgument), "relkvanu: the store: BadArgument: "+path+": "+words)
+	}
+	settings := func(change func(*relkvanu.Settings), words string) {
+		t.Helper()
+		refuses(func(options *relkvanu.StoreOptions) { change(&options.Settings) }, "settings."+words)
+	}
+	settings(func(it *relkvanu.Settings) { it.Interval = 9 }, "interval is 9, and has to be 10 to 2^40 ms")
+	settings(func(it *relkvanu.Settings) { it.Pause = 1<<40 + 1 }, "pause is 1099511627777, and has to be 0 to 2^40 ms")
+	settings(func(it *relkvanu.Settings) { it.AtOnce = 65 }, "at_once is 65, and has to be 1 to 64")
+	settings(func(it *relkvanu.Settings) { it.Timeout = 0 }, "timeout is 0, and has to be 1 to 2^40 ms")
+	settings(func(it *relkvanu.Settings) { it.Tolerable = 1001 }, "tolerable is 1001, and has to be 0 to 1000")
+	settings(func(it *relkvanu.Settings) { it.Retained = 0 }, "retained is 0, and has to be 1 to 1000")
+	shape := func(shape []uint64, words string) {
+		t.Helper()
+		refuses(func(options *relkvanu.StoreOptions) { options.Shape = shape }, "the shape has "+words)
+	}
+	shape(nil, "0 vertices, and has to have 1 to 256")
+	shape(make([]uint64, 257), "257 vertices, and has to have 1 to 256")
+	shape([]uint64{1, 0}, "0 subtasks in vertex 1, and has to have at least 1 in each")
+	shape([]uint64{4096, 1}, "4097 subtasks, and has to have at most 4096")
+}
+
+func TestStoreBackup(t *testing.T) {
+	folder, options := newStoreFolder(t), storeOptions()
+	copied := folder.job + ".copy"
+	store := must(relkvanu.OpenStore(folder.job, options))
+	completes(t, store, 1)
+	equal(t, store.Backup(copied), nil)
+	equal(t, must(os.Stat(copied)).Mode(), os.FileMode(0o600))
+	equal(t, strings.Contains(fails(t, store.Backup(copied), relkvanu.StorePresent), copied), true)
+	nowhere := store.Backup(folder.job + "/copy")
+	equal(t, errors.Is(nowhere, relkvanu.StoreNotPut) && errors.Is(nowhere, syscall.ENOTDIR), true)
+	completes(t, store, 11)
+	options.Create = false
+	equal(t, strings.Contains(fails(t, errorOf(relkvanu.OpenStore(copied, options)), relkvanu.StoreStorage), "it is a backup"), true)
+	options.Backup = true
+	back := must(relkvanu.OpenStore(copied, options))
+	report := back.Report()
+	equal(t, fmt.Sprint(report.IsRecovered, report.Epoch, report.ImagePlace+report.Replayed), "true 2 3")
+	back.Close()
+	fails(t, errorOf(relkvanu.OpenStore(copied, options)), relkvanu.StoreBadArgument)
+	store.Close()
+	fails(t, store.Backup(copied), relkvanu.ErrClosed)
+}
+
 // The numbers of the faults are those of the header; StoreError says whether it closes the store.
 func TestStoreErrors(t *testing.T) {
 	full := error(&relkvanu.StoreError{Fault: relkvanu.StoreFull, Message: "job.db: no space"})

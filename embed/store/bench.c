@@ -1,6 +1,6 @@
-/* bench FOLDER [SECONDS [ROUNDS]]: durable acknowledgements a second, of 1, 16 and 256 threads, beside commits of one row by SQLite alone in the
- * same run, and of 256 threads in a job with names. A job of 4096 subtasks, 3 files in each acknowledgement, an image every 10,000 calls, and nothing
- * is discarded. */
+/* bench FOLDER [SECONDS [ROUNDS]]: durable acknowledgements a second, of 1, 16 and 256 threads, in a job without names, in one with names, and in
+ * one with names and a discarder, beside commits of one row by SQLite alone in the same run. A job of 4096 subtasks, 3 files in each
+ * acknowledgement, and an image every 10,000 calls. */
 #define _GNU_SOURCE
 #include "../../include/relkvanu_store.h"
 
@@ -71,7 +71,7 @@ static void tell(const char *what, uint64_t began) {
     double seconds = (double)(now_ns() - began) / 1e9;
     size_t len = times_len < MOST_TIMES ? times_len : MOST_TIMES;
     qsort(times, len, sizeof *times, by_length);
-    printf("%-30s %8.0f a second, half of them within %.2f ms, 99 %% within %.2f ms\n", what, (double)times_len / seconds, times[len / 2] / 1e4, times[len * 99 / 100] / 1e4);
+    printf("%-40s %8.0f a second, half of them within %.2f ms, 99 %% within %.2f ms\n", what, (double)times_len / seconds, times[len / 2] / 1e4, times[len * 99 / 100] / 1e4);
     fflush(stdout);
 }
 
@@ -84,12 +84,25 @@ static void remove_job(const char *path) {
     }
 }
 
-static void measure(const char *path, unsigned len, unsigned seconds, bool has_names) {
-    pthread_t threads[MOST_THREADS];
-    char what[32];
+enum kind { PLAIN, NAMES, DISCARDER, KINDS };
+
+static void deletes(void *with, const uint64_t *files, size_t files_len, uint8_t *is_gone) {
+    (void)with, (void)files;
+    memset(is_gone, 1, files_len); /* the bench makes no files */
+}
+
+static void *discards(void *unused) {
+    check("discard", relkvanu_store_discard(store, 4000, deletes, NULL) == RELKVANU_STORE_STOPPED, "it has failed");
+    return unused;
+}
+
+static void measure(const char *path, unsigned len, unsigned seconds, enum kind kind) {
+    static const char *const kinds[KINDS] = {"", ", names", ", names, a discarder"};
+    pthread_t threads[MOST_THREADS], discarder;
+    char what[60];
     relkvanu_store_report report;
     uint64_t shape[VERTICES] = {1024, 1024, 1024, 1024};
-    relkvanu_store_options options = {.flags = RELKVANU_STORE_CREATE_ONLY | (has_names ? 0 : RELKVANU_STORE_PLAIN),
+    relkvanu_store_options options = {.flags = RELKVANU_STORE_CREATE_ONLY | (kind == PLAIN ? RELKVANU_STORE_PLAIN : 0),
         .settings = {.interval = 10, .at_once = 64, .timeout = 1u << 30, .retained = 1}, .shape = shape, .shape_len = VERTICES};
     check("open", relkvanu_store_open(&store, path, &options, &report) == RELKVANU_STORE_OK, report.message);
     term = report.term;
@@ -98,6 +111,7 @@ static void measure(const char *path, unsigned len, unsigned seconds, bool has_n
     for (uint64_t record = 1; record <= AHEAD; record++) {
         trigger(record);
     }
+    check("thread", kind != DISCARDER || pthread_create(&discarder, NULL, discards, NULL) == 0, "none");
     uint64_t began = now_ns();
     for (unsigned i = 0; i < len; i++) {
         check("thread", pthread_create(&threads[i], NULL, acknowledges, NULL) == 0, "none");
@@ -107,15 +121,19 @@ static void measure(const char *path, unsigned len, unsigned seconds, bool has_n
     for (unsigned i = 0; i < len; i++) {
         pthread_join(threads[i], NULL);
     }
-    snprintf(what, sizeof what, "store, %u threads%s:", len, has_names ? ", names" : "");
+    snprintf(what, sizeof what, "store, %u threads%s:", len, kinds[kind]);
     tell(what, began);
+    relkvanu_store_stop(store);
+    if (kind == DISCARDER) {
+        pthread_join(discarder, NULL);
+    }
     relkvanu_store_close(store);
     remove_job(path);
 }
 
 static void measure_sqlite(const char *path, unsigned seconds) {
     static const char setup[] = "PRAGMA locking_mode=EXCLUSIVE; PRAGMA journal_mode=WAL; PRAGMA synchronous=FULL; CREATE TABLE log(place INTEGER PRIMARY KEY, line TEXT)";
-    sqlite3 *db;
+    sqlite3 *db = NULL;
     sqlite3_stmt *insert;
     check("SQLite", sqlite3_open(path, &db) == SQLITE_OK && sqlite3_exec(db, setup, NULL, NULL, NULL) == SQLITE_OK &&
                         sqlite3_prepare_v2(db, "INSERT INTO log(line) VALUES('ack 1000000 1000000 0.1000 +100000001 +100000002 +100000003')", -1, &insert, NULL) == SQLITE_OK,
@@ -140,10 +158,11 @@ int main(int argc, char **argv) {
     snprintf(path, sizeof path, "%s/bench-%d.db", argv[1], (int)getpid());
     for (unsigned i = 0; i < rounds; i++) {
         measure_sqlite(path, seconds);
-        measure(path, 1, seconds, false);
-        measure(path, 16, seconds, false);
-        measure(path, 256, seconds, false);
-        measure(path, 256, seconds, true);
+        for (unsigned threads = 1; threads <= MOST_THREADS; threads *= 16) {
+            for (enum kind kind = PLAIN; kind < KINDS; kind++) {
+                measure(path, threads, seconds, kind);
+            }
+        }
     }
     return 0;
 }

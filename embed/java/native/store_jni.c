@@ -242,6 +242,15 @@ JNIEXPORT jint JNICALL Java_relkvanu_StoreNative_put(JNIEnv *env, jclass of, jlo
     return status;
 }
 
+JNIEXPORT jint JNICALL Java_relkvanu_StoreNative_backup(JNIEnv *env, jclass of, jlong store, jbyteArray path, jbyteArray message) {
+    (void)of;
+    char *copy = text_of(env, path), text[RELKVANU_STORE_MESSAGE] = "";
+    int status = copy == NULL ? RELKVANU_STORE_NO_MEMORY : relkvanu_store_backup(store_at(store), copy, text, sizeof text);
+    (*env)->SetByteArrayRegion(env, message, 0, sizeof text, (const jbyte *)text);
+    free(copy);
+    return status;
+}
+
 JNIEXPORT jint JNICALL Java_relkvanu_StoreNative_sweep(JNIEnv *env, jclass of, jlong store, jlongArray told) {
     (void)of;
     size_t left = 0;

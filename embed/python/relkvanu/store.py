@@ -249,13 +249,14 @@ class Store:
         adopt: bool = False,
         earlier_image: bool = False,
         plain: bool = False,
+        backup: bool = False,
         patience: int = 0,
         image_calls: Optional[int] = 10_000,
         most_ahead: int = 0,
     ) -> None:
         """Recovers the job at `path`, or makes one if `create` says so. `storage` is the folder of the state files, which has to exist.
         `image_calls` is None for no images. The settings are those of a new job; `report.settings_differ` compares them. So is `plain`: a job
-        that is made so has no names, and its engine gives out the numbers of files."""
+        that is made so has no names, and its engine gives out the numbers of files. `backup` opens a backup, once: see backup()."""
         self._store = ctypes.c_void_p()
         self._process = os.getpid()
         self._users = threading.Condition()
@@ -266,7 +267,7 @@ class Store:
         flags = create * store_header.CREATE | only_create * store_header.CREATE_ONLY | adopt * store_header.ADOPT
         words, found = _words(shape), store_header.relkvanu_store_report()
         options = store_header.relkvanu_store_options(
-            flags | earlier_image * store_header.EARLIER_IMAGE | plain * store_header.PLAIN, _within(patience, 32),
+            flags | earlier_image * store_header.EARLIER_IMAGE | plain * store_header.PLAIN | backup * store_header.BACKUP, _within(patience, 32),
             store_header.NO_IMAGES if image_calls is None else _u64(image_calls), _u64(most_ahead),
             None if storage is None else os.fsencode(storage), _settings(settings), ctypes.cast(words, ctypes.POINTER(U64)), len(shape))
         status = _library.relkvanu_store_open(ctypes.byref(self._store), os.fsencode(path), ctypes.byref(options), ctypes.byref(found))
@@ -509,6 +510,18 @@ class Store:
         with self._use() as store:
             self._check(_library.relkvanu_store_sweep(store, ctypes.byref(left)))
         return left.value
+
+    def backup(self, path: Path) -> None:
+        """Makes a backup of the job in a new file, while other threads call. It is whole and durable when this returns. Raises StoreError "Present",
+        "NotNow" (another backup writes it) or "NotPut" (a full disk, say): then there is none, and the store goes on.
+
+        A BACKUP LACKS THE CALLS SINCE IT WAS MADE. Store(.., backup=True) opens it, once, after all processes and tasks of the job have ended, and then
+        the engine restores a record whose files are all there: docs/EMBEDDING.md, section 14. Without that it raises StoreError("Storage")."""
+        message = ctypes.create_string_buffer(512)
+        with self._use() as store:
+            status = _library.relkvanu_store_backup(store, os.fsencode(path), message, len(message))
+        if status != store_header.OK:
+            self._raise(status, message.value.decode(errors="replace"))
 
     def folder(self) -> Optional[int]:
         """The descriptor of the storage folder, for os.unlink(.., dir_fd=..), which reaches no folder that is mounted over it."""

@@ -16,6 +16,7 @@ CREATE_ONLY = 2
 ADOPT = 4
 EARLIER_IMAGE = 8
 PLAIN = 16
+BACKUP = 32
 NOW = (1 << 64) - 1
 NO_IMAGES = (1 << 64) - 1
 MOST_CALLS = 4096
@@ -140,6 +141,7 @@ FUNCTIONS: Dict[str, Tuple[Any, List[Any]]] = {
     "relkvanu_store_garbage": (
         c_int, [c_void_p, POINTER(c_uint64), c_size_t, POINTER(c_uint64), POINTER(c_uint64), POINTER(relkvanu_answer)]),
     "relkvanu_store_unknown": (c_int, [c_void_p, POINTER(c_uint64), POINTER(c_size_t)]),
+    "relkvanu_store_backup": (c_int, [c_void_p, c_char_p, c_char_p, c_size_t]),
     "relkvanu_store_put": (c_int, [c_void_p, c_uint64, c_char_p, c_size_t]),
     "relkvanu_store_sweep": (c_int, [c_void_p, POINTER(c_size_t)]),
     "relkvanu_store_folder": (c_int, [c_void_p]),

@@ -132,17 +132,23 @@ int rks_owner(const relkvanu_store *s) {
     return strcmp(s->identity, identity) == 0 && marked <= s->epoch ? RELKVANU_STORE_OK : RELKVANU_STORE_STORAGE;
 }
 
-int rks_check_marker(relkvanu_store *s, const char *folder, uint64_t epoch) {
+int rks_read_marker(relkvanu_store *s, const char *folder, uint64_t *marked) {
     char identity[RKS_IDENTITY + 1] = "";
-    uint64_t marked = 0;
     int file = openat(s->folder, MARKER, O_RDONLY | O_CLOEXEC);
     if (file < 0) {
         return storage_fault(s, folder, errno == ENOENT ? "it has no marker: is the storage mounted?" : strerror(errno), "");
     }
-    bool is_marker = parses(file, identity, &marked);
+    bool is_marker = parses(file, identity, marked);
     close(file);
-    if (!is_marker || strcmp(s->identity, identity) != 0) {
-        return storage_fault(s, folder, "it has the marker of another job than ", s->identity);
+    bool is_of_job = is_marker && strcmp(s->identity, identity) == 0;
+    return is_of_job ? RELKVANU_STORE_OK : storage_fault(s, folder, "it has the marker of another job than ", s->identity);
+}
+
+int rks_check_marker(relkvanu_store *s, const char *folder, uint64_t epoch) {
+    uint64_t marked = 0;
+    int status = rks_read_marker(s, folder, &marked);
+    if (status != RELKVANU_STORE_OK || marked <= epoch) {
+        return status;
     }
-    return marked <= epoch ? RELKVANU_STORE_OK : storage_fault(s, folder, "a later opening of the job has used it, and the job's file is an older copy", "");
+    return storage_fault(s, folder, "a later opening of the job has used it, and the job's file is an older copy", "");
 }

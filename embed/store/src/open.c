@@ -12,6 +12,7 @@
 #include <unistd.h>
 
 enum { APPLICATION = 0x52564b53, LINES = 16384, NO_STORAGE = 0, TO_MARK = 1, MARKED = 2 };
+enum { MOST_NAMES = 65536, MOST_PASSED = 1 << 24 }; /* of a reservation; that an opening of a backup gives out */
 static const uint64_t DAY = 86400000, IMAGE_CALLS = 10000;
 
 /* The tables. The lines of the opening are kept as they are written, to compare them with those of a later opening. */
@@ -25,7 +26,8 @@ static const char TABLES[] =
 
 /* What a file says of its job. */
 struct job {
-    int64_t is_there, epoch, storage;
+    int64_t is_there, epoch, storage, format; /* RKS_PLAIN or RKS_NAMED */
+    bool is_backup;
     char identity[RKS_IDENTITY + 1], opening[LINES];
 };
 
@@ -34,8 +36,13 @@ static int told(relkvanu_store *s, int status, const char *words) {
     return status;
 }
 
+static bool wants_backup(const relkvanu_store *s) {
+    return (s->options.flags & RELKVANU_STORE_BACKUP) != 0;
+}
+
+/* A backup that is not where it should be makes no new job. */
 static bool may_create(const relkvanu_store *s) {
-    return (s->options.flags & (RELKVANU_STORE_CREATE | RELKVANU_STORE_CREATE_ONLY)) != 0;
+    return (s->options.flags & (RELKVANU_STORE_CREATE | RELKVANU_STORE_CREATE_ONLY)) != 0 && !wants_backup(s);
 }
 
 /* Opens the file, which is made if there may be a new job. */
@@ -61,10 +68,26 @@ static int open_files(relkvanu_store *s, const char *path) {
     return status == RELKVANU_STORE_OK ? rks_open_database(s) : status;
 }
 
+/* Whether the format is one of this library, and is that of a backup if one is to be opened, and of none otherwise. */
+static int check_format(relkvanu_store *s, struct job *job) {
+    job->is_backup = job->format == RKS_PLAIN + RKS_BACKUP || job->format == RKS_NAMED + RKS_BACKUP;
+    job->format -= job->is_backup ? RKS_BACKUP : 0;
+    if (job->format != RKS_PLAIN && job->format != RKS_NAMED) {
+        return told(s, RELKVANU_STORE_NOT_A_STORE, "a later version of the library made it");
+    }
+    if (job->is_backup && !wants_backup(s)) {
+        return told(s, RELKVANU_STORE_STORAGE, "it is a backup, which lacks the calls since it was made: RELKVANU_STORE_BACKUP opens it");
+    }
+    if (!job->is_backup && wants_backup(s)) {
+        return told(s, RELKVANU_STORE_BAD_ARGUMENT, "it is no backup, or was opened before: open it without RELKVANU_STORE_BACKUP");
+    }
+    return RELKVANU_STORE_OK;
+}
+
 static int read_job(relkvanu_store *s, struct job *job) {
-    int64_t application = 0, format = 0, tables = 0;
+    int64_t application = 0, tables = 0;
     int status = rks_ask(s, "PRAGMA application_id", &application, NULL, 0);
-    status = status == RELKVANU_STORE_OK ? rks_ask(s, "PRAGMA user_version", &format, NULL, 0) : status;
+    status = status == RELKVANU_STORE_OK ? rks_ask(s, "PRAGMA user_version", &job->format, NULL, 0) : status;
     status = status == RELKVANU_STORE_OK ? rks_ask(s, "SELECT count(*) FROM sqlite_schema", &tables, NULL, 0) : status;
     if (status != RELKVANU_STORE_OK || (tables == 0 && application == 0)) {
         return status;
@@ -72,10 +95,8 @@ static int read_job(relkvanu_store *s, struct job *job) {
     if (application != APPLICATION) {
         return told(s, RELKVANU_STORE_NOT_A_STORE, "it is another kind of database");
     }
-    if (format != RKS_PLAIN && format != RKS_NAMED) {
-        return told(s, RELKVANU_STORE_NOT_A_STORE, "a later version of the library made it");
-    }
-    status = rks_ask(s, "SELECT epoch FROM job", &job->epoch, NULL, 0);
+    status = check_format(s, job);
+    status = status == RELKVANU_STORE_OK ? rks_ask(s, "SELECT epoch FROM job", &job->epoch, NULL, 0) : status;
     status = status == RELKVANU_STORE_OK ? rks_ask(s, "SELECT storage FROM job", &job->storage, NULL, 0) : status;
     status = status == RELKVANU_STORE_OK ? rks_ask(s, "SELECT identity FROM job", NULL, job->identity, sizeof job->identity) : status;
     status = status == RELKVANU_STORE_OK ? rks_ask(s, "SELECT opening FROM job", NULL, job->opening, sizeof job->opening) : status;
@@ -88,10 +109,20 @@ static int read_job(relkvanu_store *s, struct job *job) {
 }
 
 /* The lines of an opening, as a text with a zero; empty if no coordinator can be opened so. */
-static int opening_lines(const relkvanu_store_options *o, char lines[LINES]) {
+static relkvanu_answer opening_lines(const relkvanu_store_options *o, char lines[LINES]) {
     relkvanu_answer answer = relkvanu_opening_lines(&o->settings, o->shape, o->shape_len, 0, (uint8_t *)lines, LINES - 1);
     lines[answer.code == RELKVANU_DONE ? answer.a : 0] = 0;
-    return answer.code == RELKVANU_DONE ? RELKVANU_STORE_OK : answer.code == RELKVANU_NO_MEMORY ? RELKVANU_STORE_NO_MEMORY : RELKVANU_STORE_BAD_ARGUMENT;
+    return answer;
+}
+
+/* The status of an answer to an opening, which says which of the settings is refused, or what of the shape. */
+static int opened(relkvanu_store *s, const relkvanu_store_options *o, relkvanu_answer answer) {
+    char words[200] = "";
+    if (answer.code == RELKVANU_DONE) {
+        return RELKVANU_STORE_OK;
+    }
+    int status = answer.code == RELKVANU_NO_MEMORY ? RELKVANU_STORE_NO_MEMORY : rks_tell_limit(o, answer.what, words, sizeof words);
+    return status == RELKVANU_STORE_BAD_ARGUMENT ? told(s, status, words) : status;
 }
 
 static bool is_plain(const relkvanu_store *s) {
@@ -129,7 +160,8 @@ static int begin_job(relkvanu_store *s, const relkvanu_store_options *o, char li
         size_t len = strlen(lines);
         snprintf(lines + len, LINES - len, "fence %" PRIu64 "\n", name);
     }
-    return answer.code == RELKVANU_DONE ? rks_save(s) : answer.code == RELKVANU_NO_MEMORY ? RELKVANU_STORE_NO_MEMORY : told(s, RELKVANU_STORE_BAD_ARGUMENT, "bad settings or shape");
+    status = opened(s, o, answer);
+    return status == RELKVANU_STORE_OK ? rks_save(s) : status;
 }
 
 static int insert_job(relkvanu_store *s, const char *lines, int storage) {
@@ -163,16 +195,21 @@ static int create(relkvanu_store *s, const relkvanu_store_options *o) {
         return told(s, RELKVANU_STORE_ABSENT, "it has no job");
     }
     int status = rks_check_new_folder(s, o->storage);
-    status = status == RELKVANU_STORE_OK ? opening_lines(o, lines) : status;
-    if (status == RELKVANU_STORE_BAD_ARGUMENT) {
-        return told(s, status, "bad settings or shape");
-    }
+    status = status == RELKVANU_STORE_OK ? opened(s, o, opening_lines(o, lines)) : status;
     status = status == RELKVANU_STORE_OK ? begin_job(s, o, lines) : status;
     return status == RELKVANU_STORE_OK ? write_job(s, lines, o->storage == NULL ? NO_STORAGE : TO_MARK) : status;
 }
 
+/* Lets the opening of a backup be later than each that has used the storage since, so that these put and delete nothing more. */
+static int pass_openings(relkvanu_store *s, struct job *job, const char *folder) {
+    uint64_t marked = 0;
+    int status = rks_read_marker(s, folder, &marked);
+    job->epoch = (int64_t)marked > job->epoch ? (int64_t)marked : job->epoch;
+    return status;
+}
+
 /* Checks that the storage is that of the job. A process may have ended before the marker of a new job was there. */
-static int check_storage(relkvanu_store *s, const struct job *job, const char *folder) {
+static int check_storage(relkvanu_store *s, struct job *job, const char *folder) {
     if (job->storage == NO_STORAGE) {
         return folder == NULL ? RELKVANU_STORE_OK : told(s, RELKVANU_STORE_STORAGE, "the job was made without a storage folder");
     }
@@ -182,17 +219,50 @@ static int check_storage(relkvanu_store *s, const struct job *job, const char *f
     if (job->storage == TO_MARK && !rks_has_marker(s)) {
         return rks_check_new_folder(s, folder);
     }
-    return rks_check_marker(s, folder, (uint64_t)job->epoch);
+    return job->is_backup ? pass_openings(s, job, folder) : rks_check_marker(s, folder, (uint64_t)job->epoch);
 }
 
-/* An image after the one that was opened is damaged. */
-static int begin_epoch(relkvanu_store *s) {
-    char sql[128];
-    snprintf(sql, sizeof sql, "BEGIN IMMEDIATE; UPDATE job SET epoch = epoch + 1; DELETE FROM image WHERE place > %" PRIu64 "; COMMIT", s->image_place);
+/* Gives out each name from the next one up to the last. */
+static int give_names(relkvanu_store *s, uint64_t term, uint64_t next, uint64_t last) {
+    relkvanu_answer made = {.code = RELKVANU_DONE};
+    int status = RELKVANU_STORE_OK;
+    s->next_image = UINT64_MAX; /* fill() says when the first one is due */
+    while (next <= last && status == RELKVANU_STORE_OK && made.code == RELKVANU_DONE) {
+        uint64_t left = last - next + 1;
+        status = relkvanu_store_reserve(s, term, left < MOST_NAMES ? left : MOST_NAMES, &made);
+        next = made.a + made.b;
+    }
+    return status == RELKVANU_STORE_OK && made.code != RELKVANU_DONE ? RELKVANU_STORE_NO_MEMORY : status;
+}
+
+/* Gives out the names that the job gave out after the backup was made, as far as the storage folder has files of them. The engine's restore
+ * ends the term, so that they are garbage. Until the file is no backup any more each opening does so. */
+static int pass_names(relkvanu_store *s) {
+    uint64_t greatest = 0;
+    relkvanu_answer term = relkvanu_term(&s->handle);
+    if (s->folder < 0 || term.code != RELKVANU_DONE || relkvanu_mode(&s->handle).what == RELKVANU_MODE_CANCELLED) {
+        return RELKVANU_STORE_OK;
+    }
+    int status = rks_greatest_file(s, &greatest);
+    if (status != RELKVANU_STORE_OK) {
+        return told(s, status, "the storage folder can't be read");
+    }
+    if (greatest >= term.b + MOST_PASSED) {
+        return told(s, RELKVANU_STORE_STORAGE, "the storage folder has a file with a number 2^24 or more above the names of the backup");
+    }
+    return give_names(s, term.a, term.b, greatest);
+}
+
+/* Begins the opening. An image after the one that was opened is damaged. A backup is none any more. */
+static int begin_epoch(relkvanu_store *s, const struct job *job) {
+    char sql[200];
+    snprintf(sql, sizeof sql,
+        "BEGIN IMMEDIATE; UPDATE job SET epoch = %" PRId64 "; DELETE FROM image WHERE place > %" PRIu64 "; PRAGMA user_version=%" PRId64 "; COMMIT",
+        job->epoch + 1, s->image_place, job->format);
     return rks_run(s, sql);
 }
 
-static int recover(relkvanu_store *s, const struct job *job, const relkvanu_store_options *o, relkvanu_store_report *report) {
+static int recover(relkvanu_store *s, struct job *job, const relkvanu_store_options *o, relkvanu_store_report *report) {
     char lines[LINES];
     if ((o->flags & RELKVANU_STORE_CREATE_ONLY) != 0) {
         return told(s, RELKVANU_STORE_PRESENT, "it has a job");
@@ -200,11 +270,12 @@ static int recover(relkvanu_store *s, const struct job *job, const relkvanu_stor
     int status = check_storage(s, job, o->storage);
     status = status == RELKVANU_STORE_OK ? rks_prepare(s) : status;
     status = status == RELKVANU_STORE_OK ? rks_replay(s, report) : status;
-    status = status == RELKVANU_STORE_OK ? begin_epoch(s) : status;
+    status = status == RELKVANU_STORE_OK && job->is_backup ? pass_names(s) : status;
+    status = status == RELKVANU_STORE_OK ? begin_epoch(s, job) : status;
     if (status == RELKVANU_STORE_OK) {
         report->is_recovered = true;
         /* the line of the names, if there is one, comes last */
-        report->settings_differ = opening_lines(o, lines) != RELKVANU_STORE_OK || strncmp(lines, job->opening, strlen(lines)) != 0;
+        report->settings_differ = opening_lines(o, lines).code != RELKVANU_DONE || strncmp(lines, job->opening, strlen(lines)) != 0;
     }
     return status;
 }
@@ -304,16 +375,27 @@ static void release(relkvanu_store *s) {
     free(s);
 }
 
-static bool are_known(const relkvanu_store_options *o) {
-    const uint32_t flags = RELKVANU_STORE_CREATE | RELKVANU_STORE_CREATE_ONLY | RELKVANU_STORE_ADOPT | RELKVANU_STORE_EARLIER_IMAGE | RELKVANU_STORE_PLAIN;
-    return (o->flags & ~flags) == 0 && (o->reserved[0] | o->reserved[1] | o->reserved[2] | o->reserved[3]) == 0;
+/* Whether the flags are known and the reserved fields are 0. Otherwise says which is not. */
+static bool are_known(const relkvanu_store_options *o, char *message) {
+    const uint32_t flags = RELKVANU_STORE_CREATE | RELKVANU_STORE_CREATE_ONLY | RELKVANU_STORE_ADOPT | RELKVANU_STORE_EARLIER_IMAGE | RELKVANU_STORE_PLAIN |
+                           RELKVANU_STORE_BACKUP;
+    if ((o->flags & ~flags) != 0) {
+        snprintf(message, RKS_MESSAGE, "flags has 0x%" PRIx32 ", which is not known", o->flags & ~flags);
+        return false;
+    }
+    for (size_t i = 0; i < sizeof o->reserved / sizeof *o->reserved; i++) {
+        if (o->reserved[i] != 0) {
+            snprintf(message, RKS_MESSAGE, "reserved[%zu] is %" PRIu64 ", and has to be 0", i, o->reserved[i]);
+            return false;
+        }
+    }
+    return true;
 }
 
 int relkvanu_store_open(relkvanu_store **store, const char *path, const relkvanu_store_options *options, relkvanu_store_report *report) {
     *store = NULL;
     *report = (relkvanu_store_report){0};
-    if (!are_known(options)) {
-        snprintf(report->message, sizeof report->message, "a flag that is not known, or a reserved field that is not 0");
+    if (!are_known(options, report->message)) {
         return RELKVANU_STORE_BAD_ARGUMENT;
     }
     relkvanu_store *s = calloc(1, sizeof *s);

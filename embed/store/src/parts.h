@@ -20,8 +20,9 @@
 
 enum { RKS_CUT = 1000, RKS_MESSAGE = RELKVANU_STORE_MESSAGE, RKS_IDENTITY = 32 };
 
-/* The format of a file, its user_version: of a job without names, and of one with names. Libraries that know no names refuse the second. */
-enum { RKS_PLAIN = 1, RKS_NAMED = 2 };
+/* The format of a file, its user_version: of a job without names, and of one with names. Libraries that know no names refuse the second. A backup
+ * has the format of its job and RKS_BACKUP: libraries that know no backups refuse it, and this one unless it is told to open a backup. */
+enum { RKS_PLAIN = 1, RKS_NAMED = 2, RKS_BACKUP = 100 };
 
 /* No name is greater, and no first name either. */
 #define RKS_MOST_NAME (UINT64_C(1) << 62)
@@ -119,6 +120,9 @@ struct relkvanu_store {
     relkvanu_store *older; /* in the list of all stores of the process */
 };
 
+/* limits.c: the words for an opening whose argument the coordinator has refused. RELKVANU_STORE_BAD_ARGUMENT, or _NO_MEMORY. */
+int rks_tell_limit(const relkvanu_store_options *o, uint32_t argument, char *words, size_t len);
+
 /* lock.c */
 int rks_lock(relkvanu_store *s, const char *path);
 void rks_unlock(relkvanu_store *s);
@@ -141,6 +145,9 @@ int rks_open_folder(relkvanu_store *s, const char *folder);
 int rks_check_new_folder(relkvanu_store *s, const char *folder);
 int rks_write_marker(relkvanu_store *s, const char *folder, uint64_t epoch);
 int rks_check_marker(relkvanu_store *s, const char *folder, uint64_t epoch);
+
+/* The opening that the marker names, which has to be one of this job. */
+int rks_read_marker(relkvanu_store *s, const char *folder, uint64_t *marked);
 bool rks_has_marker(const relkvanu_store *s);
 
 /* Whether the folder of the storage is also that of PATH; whether the name is that of one of the job's own files there. */

@@ -51,20 +51,98 @@ static void needs_a_flag(void) {
     relkvanu_store_close(opens(&options, RELKVANU_STORE_OK));
     options.flags = RELKVANU_STORE_CREATE_ONLY;
     opens(&options, RELKVANU_STORE_PRESENT);
-    options.flags = 1u << 20;
+    options.flags = 1u << 20 | RELKVANU_STORE_CREATE;
     opens(&options, RELKVANU_STORE_BAD_ARGUMENT);
+    CHECK(says("flags has 0x100000, which is not known"), "%s", report.message);
     options.flags = RELKVANU_STORE_CREATE;
     options.reserved[3] = 1;
     opens(&options, RELKVANU_STORE_BAD_ARGUMENT);
+    CHECK(says("reserved[3] is 1, and has to be 0"), "%s", report.message);
+}
+
+/* A value that is outside the limits, and what the message says of it. */
+struct outside {
+    uint64_t *value;
+    uint64_t least, below, most, above; /* the same value twice: there is no such one */
+    const char *name, *limits;
+};
+
+static void refuses(const relkvanu_store_options *options, const struct outside *it, uint64_t value) {
+    char words[120];
+    snprintf(words, sizeof words, "settings.%s is %" PRIu64 ", and has to be %s", it->name, value, it->limits);
+    opens(options, RELKVANU_STORE_BAD_ARGUMENT);
+    CHECK(says(words), "%s, and not %s", report.message, words);
+}
+
+static void accepts(const relkvanu_store_options *options) {
+    relkvanu_store_close(opens(options, RELKVANU_STORE_OK));
+    CHECK(!report.is_recovered, "a job is there");
+    unlink(in("x.db"));
+    unlink(in("x.db-wal"));
+}
+
+/* Each setting at its limits, which are accepted, and outside of them. */
+static void checks_each_setting(void) {
+    const uint64_t long_time = UINT64_C(1) << 40;
+    relkvanu_store_options options = job_options(RELKVANU_STORE_CREATE, 0);
+    relkvanu_settings *given = &options.settings;
+    const struct outside all[] = {
+        {&given->interval, 10, 9, long_time, long_time + 1, "interval", "10 to 2^40 ms"},
+        {&given->pause, 0, 0, long_time, long_time + 1, "pause", "0 to 2^40 ms"},
+        {&given->at_once, 1, 0, 64, 65, "at_once", "1 to 64"},
+        {&given->timeout, 1, 0, long_time, long_time + 1, "timeout", "1 to 2^40 ms"},
+        {&given->tolerable, 0, 0, 1000, 1001, "tolerable", "0 to 1000"},
+        {&given->retained, 1, 0, 1000, UINT64_MAX, "retained", "1 to 1000"},
+    };
+    for (size_t i = 0; i < sizeof all / sizeof *all; i++) {
+        relkvanu_store_options before = options;
+        *all[i].value = all[i].least;
+        accepts(&options);
+        *all[i].value = all[i].most;
+        accepts(&options);
+        *all[i].value = all[i].above;
+        refuses(&options, &all[i], all[i].above);
+        *all[i].value = all[i].below;
+        if (all[i].below != all[i].least) {
+            refuses(&options, &all[i], all[i].below);
+        }
+        options = before;
+    }
+}
+
+static void refuses_shape(uint64_t *shape, size_t len, const char *words) {
+    relkvanu_store_options options = job_options(RELKVANU_STORE_CREATE, 0);
+    options.shape = shape;
+    options.shape_len = len;
+    opens(&options, RELKVANU_STORE_BAD_ARGUMENT);
+    CHECK(says(words), "%s, and not %s", report.message, words);
+}
+
+static void checks_the_shape(void) {
+    uint64_t shape[257];
+    relkvanu_store_options options = job_options(RELKVANU_STORE_CREATE, 0);
+    for (size_t i = 0; i < 257; i++) {
+        shape[i] = 16;
+    }
+    refuses_shape(shape, 0, "the shape has 0 vertices, and has to have 1 to 256");
+    refuses_shape(shape, 257, "the shape has 257 vertices, and has to have 1 to 256");
+    options.shape = shape;
+    options.shape_len = 256; /* 4096 subtasks */
+    accepts(&options);
+    shape[255] = 17;
+    refuses_shape(shape, 256, "the shape has 4097 subtasks, and has to have at most 4096");
+    shape[1] = 0;
+    refuses_shape(shape, 256, "the shape has 0 subtasks in vertex 1, and has to have at least 1 in each");
+    shape[0] = shape[1] = UINT64_MAX;
+    refuses_shape(shape, 2, "the shape has 18446744073709551615 subtasks, and has to have at most 4096");
 }
 
 static void checks_the_settings(void) {
     relkvanu_store_options options = job_options(RELKVANU_STORE_CREATE, 0);
     options.settings.interval = 9;
-    opens(&options, RELKVANU_STORE_BAD_ARGUMENT);
-    options = job_options(RELKVANU_STORE_CREATE, 0);
     options.shape_len = 0;
     opens(&options, RELKVANU_STORE_BAD_ARGUMENT);
+    CHECK(says("x.db: settings.interval is 9"), "%s", report.message); /* the first fault */
     options = job_options(RELKVANU_STORE_CREATE, 0);
     relkvanu_store_close(opens(&options, RELKVANU_STORE_OK));
     CHECK(!report.is_recovered, "it was made by a refused opening");
@@ -222,6 +300,6 @@ static void a_read_only_file(void) {
     }
 }
 
-const struct test open_cases[] = {{"makes_and_recovers", makes_and_recovers}, {"needs_a_flag", needs_a_flag}, {"checks_the_settings", checks_the_settings},
+const struct test open_cases[] = {{"makes_and_recovers", makes_and_recovers}, {"needs_a_flag", needs_a_flag}, {"checks_the_settings", checks_the_settings}, {"checks_each_setting", checks_each_setting}, {"checks_the_shape", checks_the_shape},
     {"makes_private_files", makes_private_files}, {"one_at_a_time", one_at_a_time}, {"a_forked_child", a_forked_child},
     {"a_child_that_outlives", a_child_that_outlives}, {"a_reader_of_another_program", a_reader_of_another_program}, {"a_read_only_file", a_read_only_file}, {NULL, NULL}};

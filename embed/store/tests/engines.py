@@ -1,7 +1,7 @@
 #!/usr/bin/env python3
-"""engines.py KILLS COMMAND..: starts the engine `COMMAND FOLDER`, kills it at a random moment, KILLS times, and lets it run to its end. After each kill
-each file that the coordinator names as in use is there. In the end the folder has what the coordinator knows, and nothing else. TASKS is
-their number in the environment, and MARKER that of a folder which the store does not know."""
+"""engines.py KILLS COMMAND..: starts the engine `COMMAND FOLDER`, and kills it at a random moment, KILLS times. After each kill each file that the
+coordinator names as in use is there. After each second one, and in the end, the engine recovers and runs to a checkpoint: then the folder has what
+the coordinator knows, and nothing else. TASKS is their number in the environment, and MARKER that of a folder which the store does not know."""
 import os
 import pathlib
 import random
@@ -68,12 +68,22 @@ def await_checkpoints(folder, process, before):
         time.sleep(0.001)
 
 
+def recovers(folder, command, last):
+    """The engine goes on up to this checkpoint. Returns the files in use."""
+    ran = subprocess.run([*command, folder, str(last)], stderr=subprocess.PIPE, text=True, timeout=120)
+    assert ran.returncode == 0, ran.stderr
+    used, waiting, taken, _ = known(folder)
+    assert not taken, f"nobody deletes {taken}"  # what a process took that was killed, too
+    assert listed(folder) == used | waiting and len(used) >= TASKS, (listed(folder), used, waiting)
+    return used
+
+
 def main(kills, *command):
     chance = random.Random(os.environ.get("SEED", time.time()))
     with tempfile.TemporaryDirectory() as name:
         folder = pathlib.Path(name)
         (folder / "state").mkdir()
-        reached = []
+        reached, exact = [], 0
         for nth in range(int(kills)):
             before = listed(folder)
             with subprocess.Popen([*command, folder], stderr=subprocess.PIPE, text=True) as process:
@@ -88,14 +98,13 @@ def main(kills, *command):
                 used, _, _, last = known(folder)
                 assert used <= listed(folder), used - listed(folder)
                 reached.append(last)
+                if nth % 2 == 1:
+                    recovers(folder, command, last + 5)
+                    exact += 1
         last = max(reached, default=0) + 20
-        ran = subprocess.run([*command, folder, str(last)], stderr=subprocess.PIPE, text=True, timeout=120)
-        assert ran.returncode == 0, ran.stderr
-        used, waiting, taken, _ = known(folder)
-        assert not taken, f"nobody deletes {taken}"  # what a process took that was killed, too
-        assert listed(folder) == used | waiting and len(used) >= TASKS, (listed(folder), used, waiting)
+        used = recovers(folder, command, last)
         assert reached and max(reached) > 3, f"no checkpoint was completed: {reached}"
-        print(f"{kills} kills, {last} checkpoints, {len(used)} files in use, {len(waiting)} waiting")
+        print(f"{kills} kills, {exact + 1} recoveries to an exact folder, {last} checkpoints, {len(used)} files in use")
 
 
 if __name__ == "__main__":

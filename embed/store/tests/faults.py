@@ -6,11 +6,15 @@ at what is left.
 - Each call that writes, syncs, makes or cuts a file fails once, and from then on; so do reads, short writes, full disks and quotas.
 - The same, at fewer calls, of jobs with names whose tasks put files, and of a job that gets names at its recovery. Power is lost at a
   call, too: each file in use is there, and the next process leaves no other.
-- A crowd of threads is killed at random moments; loses power, so that only what was synced is left, or something of the rest (power.py);
+- The same while a backup is made. Each backup that has its name is whole, and has what was answered before; what fails for the backup
+  alone stops no call; and the next backup of that name succeeds.
+- A crowd of threads is killed at 200 random moments; loses power, so that only what was synced is left, or something of the rest (power.py);
   and goes on after syncs that fail. ROUNDS (default 1) multiplies these.
 
 The last line has the counts."""
 import concurrent.futures
+import errno
+import itertools
 import os
 import pathlib
 import random
@@ -26,7 +30,10 @@ from power import Journal, Loss, read_tree, write_tree
 
 LISTS = 14  # of the scenario
 WORKERS = 3
-LEAST_LOST = 60  # losses that take something which a killed process leaves
+NOT_PUT = 15
+STOPS = 4  # of a crowd's job
+KILLED = 50  # jobs of crowds that are killed: 200 random moments
+LEAST_LOST = 200  # losses that take something which a killed process leaves
 
 
 class Run:
@@ -35,10 +42,12 @@ class Run:
     def __init__(self, bin_folder, work, mode="plain"):
         self.bin, self.work, self.mode = bin_folder, pathlib.Path(work), mode
         self.folder, self.told, self.journal = self.work / "job", self.work / "told", self.work / "journal"
+        self.later, self.backup = self.work / "told later", self.folder / "backups/b.db"
         self.on_disk = {}
 
     def begin(self):
         (self.folder / "storage").mkdir(parents=True)
+        (self.folder / "backups").mkdir()
         return self.keep()
 
     def keep(self):
@@ -64,6 +73,23 @@ class Run:
         assert ran.returncode in (0, -signal.SIGKILL), ran.stdout
         return ran.returncode, ran.stdout
 
+    def saves(self, **what):
+        """Makes calls, a backup, and calls again. Returns the exit status, the statuses of the backup and of the last calls, and its error."""
+        command = [self.bin / "saves", self.folder, self.told, self.later, self.backup]
+        ran = subprocess.run(command, env=self.environment(**what), stdout=subprocess.PIPE, stderr=subprocess.STDOUT, text=True, timeout=120)
+        assert ran.returncode in (0, -signal.SIGKILL), ran.stdout
+        return (ran.returncode, *(map(int, ran.stdout.split()[:3]) if ran.returncode == 0 else (None, None, None)))
+
+    def verify_backup(self, work):
+        """Looks at the backup as at a job: it has the calls that were told before it was made, and no others."""
+        shutil.copytree(self.work, work)
+        back = Run(self.bin, work, self.mode)
+        for name in ("x.db-wal", "x.db-shm", "x.db.lock"):
+            (back.folder / name).unlink(missing_ok=True)
+        os.replace(back.backup, back.folder / "x.db")
+        back.verify(0, "backup")
+        shutil.rmtree(work)
+
     def crowd(self, program, seconds, images, **what):
         process = subprocess.Popen([self.bin / program, self.folder, self.told, str(images), self.mode], env=self.environment(**what), stdout=subprocess.PIPE, stderr=subprocess.STDOUT, text=True)
         time.sleep(seconds)
@@ -71,8 +97,8 @@ class Run:
         told, _ = process.communicate()
         assert process.returncode == -signal.SIGKILL, told
 
-    def verify(self, most, has_files=False):
-        ran = subprocess.run([self.bin / "verify", self.folder, self.told, str(most), *(["files"] if has_files else [])], stdout=subprocess.PIPE, stderr=subprocess.STDOUT, text=True, timeout=120)
+    def verify(self, most, what=None):
+        ran = subprocess.run([self.bin / "verify", self.folder, self.told, str(most), *([what] if what else [])], stdout=subprocess.PIPE, stderr=subprocess.STDOUT, text=True, timeout=120)
         assert ran.returncode == 0, ran.stdout
         words = ran.stdout.split()
         return int(words[0]), words[-1] == "whole"
@@ -88,15 +114,19 @@ class Run:
         return lost.has_effect
 
 
+def files_of(mode):
+    return "files" if mode == "names" else None
+
+
 class Tests:
     def __init__(self, bin_folder, rounds, work):
         self.bin, self.rounds, self.work = pathlib.Path(bin_folder), rounds, pathlib.Path(work)
         self.passed = self.failed = 0
-        self.number = self.losses = self.lost = 0
+        self.numbers = itertools.count(1)  # also for several threads
+        self.losses = self.lost = 0
 
     def folder(self):
-        self.number += 1
-        return self.work / str(self.number)
+        return self.work / str(next(self.numbers))
 
     def note(self, name, run, *words):
         try:
@@ -118,7 +148,7 @@ class Tests:
         run = self.new(mode)
         run.scenario(lists=30, images=15, die=150 if mode == "plain" else 600)
         copy = run.copy(self.folder())
-        copy.verify(5, mode == "names")
+        copy.verify(5, files_of(mode))
         shutil.copy(copy.told, run.told)
         return run.keep()
 
@@ -136,22 +166,62 @@ class Tests:
         status, told = run.scenario(**given, **({"journal": run.journal} if loss else {}))
         if loss:
             self.lose_power(run, loss, random.Random(number))
-        run.verify(5, run.mode == "names")
+        run.verify(5, files_of(run.mode))
         if self.rounds > 1 or run.mode != "plain" or number % 5 == 1:  # the job goes on
             again, words = run.scenario(lists=3)
             assert again == 0 and words.startswith("calls 0"), words
-            run.verify(5, run.mode == "names")
+            run.verify(5, files_of(run.mode))
         shutil.rmtree(folder)
         return status != 0 or not told.startswith("calls 0")
 
-    def each(self, base, most, step=1, **what):
+    def backup_at(self, base, number, what):
+        """One fault while a job makes a backup. Returns whether it was reached."""
+        words = "-".join(getattr(it, "name", str(it)) for it in what.values()).replace("/", "")
+        folder = self.work / f"{base.work.name}-backup-{words}-{number}"
+        run = base.copy(folder)
+        given = {name: value if value != "N" else number for name, value in what.items()}
+        loss = given.pop("loss", None)
+        ended, status, calls, error = run.saves(**given, **({"journal": run.journal} if loss else {}))
+        if loss:
+            self.lose_power(run, loss, random.Random(number))
+        check(ended != 0 or calls == 0 or "on" not in given, f"the calls after the backup: status {calls}")
+        # one whose folder could not be synced, and that could not be removed either, is there, whole
+        may_stay = given.get("fault") == "any" and given.get("for") == 0
+        check(status is None or (status == 0) == run.backup.exists() or may_stay, f"the backup: status {status}")
+        check(given.get("fault") not in ("full", "quota") or status != NOT_PUT or error in (errno.ENOSPC, errno.EDQUOT), f"the backup: error {error}")
+        if run.backup.exists():
+            run.verify_backup(self.work / f"{folder.name}-back")
+            run.backup.unlink()
+        with open(run.told, "a") as told, open(run.later, "a+") as later:
+            later.seek(0)
+            told.write(later.read())
+        run.verify(5, files_of(run.mode))
+        run.later.unlink()
+        again = run.saves()
+        check(again[:3] == (0, 0, 0), f"the next backup: {again}")
+        check(sorted(it.name for it in run.backup.parent.iterdir()) == ["b.db"], f"{list(run.backup.parent.iterdir())}")
+        run.verify_backup(self.work / f"{folder.name}-back")
+        shutil.rmtree(folder)
+        return ended != 0 or status != 0 or calls != 0
+
+    def backups(self, base):
+        self.each(base, 3000, self.backup_at, die="N")
+        self.each(base, 3000, self.backup_at, step=self.step(3), die="N", die_after=1)
+        for loss in Loss:
+            self.each(base, 3000, self.backup_at, step=self.step(9), die="N", loss=loss)
+        for often in (1, 0):
+            for fault in ("any", "short", "full", "quota", "sync", "read"):
+                self.each(base, 3000, self.backup_at, step=self.step(1 if fault == "any" else 2), fault=fault, at="N", on="/backups", **{"for": often})
+        self.each(base, 3000, self.backup_at, step=self.step(5), fault="any", at="N", **{"for": 1})
+
+    def each(self, base, most, run_at=None, step=1, **what):
         """The n-th call for each n, until the scenario ends without the fault."""
         name = f"{base.work.name} {what}"
         reached = 0
         with concurrent.futures.ThreadPoolExecutor(WORKERS) as pool:
             for begin in range(1, most, 30 * step):
                 numbers = range(begin, begin + 30 * step, step)
-                found = list(pool.map(lambda it: self.note(f"{name} at {it}", self.at, base, it, what), numbers))
+                found = list(pool.map(lambda it: self.note(f"{name} at {it}", run_at or self.at, base, it, what), numbers))
                 reached += sum(it is True for it in found)
                 if not any(found):
                     break
@@ -201,20 +271,29 @@ class Tests:
         told, is_whole = run.verify(most)
         return told if is_whole else -told
 
+    def crowd_job(self, kind, job):
+        """A job that is stopped four times. Returns how many calls were answered, and after how many stops all of them could be made again."""
+        chance = random.Random(f"{kind} {job} {os.environ.get('SEED', time.time())}")
+        run = self.new("names" if job % 4 in (1, 2) else "plain")
+        images = 10 ** 9 if job % 2 == 0 or kind == "faults" else 300
+        calls = whole = 0
+        for _ in range(STOPS):
+            told = self.note(f"a crowd with {kind} in {run.work}", self.crowd_run, run, chance, kind, images, 24 * 6 * (40 if kind == "faults" else 1))
+            if told is None:
+                break
+            calls += abs(told)
+            whole += told > 0
+        shutil.rmtree(run.work)
+        return calls, whole
+
     def crowds(self, kind):
-        chance = random.Random(f"{kind} {os.environ.get('SEED', time.time())}")
-        calls = whole = runs = 0
-        for job in range(2 * self.rounds):
-            run = self.new("names" if job % 4 in (1, 2) else "plain")
-            images = 10 ** 9 if job % 2 == 0 or kind == "faults" else 300
-            for _ in range(4):
-                told = self.note(f"a crowd with {kind} in {run.work}", self.crowd_run, run, chance, kind, images, 24 * 6 * (40 if kind == "faults" else 1))
-                runs += 1
-                if told is None:
-                    break
-                calls += abs(told)
-                whole += told > 0
-        self.note(f"crowds with {kind}", lambda: check(calls > 1000 and 2 * whole > runs, f"{calls} calls, {whole} of {runs} whole"))
+        """Returns how many calls were answered."""
+        jobs = (KILLED if kind == "kill" else 2) * self.rounds
+        with concurrent.futures.ThreadPoolExecutor(WORKERS) as pool:
+            found = list(pool.map(lambda job: self.crowd_job(kind, job), range(jobs)))
+        calls, whole = sum(it[0] for it in found), sum(it[1] for it in found)
+        self.note(f"crowds with {kind}", lambda: check(calls > 1000 and 2 * whole > STOPS * jobs, f"{calls} calls, {whole} of {STOPS * jobs} whole"))
+        return calls, STOPS * jobs
 
 
 def check(is_so, words):
@@ -234,9 +313,12 @@ def main(bin_folder, rounds="1"):
         before = tests.passed
         tests.names(tests.new("names"), tests.killed("names"), killed)
         print(f"store: faults of jobs with names: {tests.passed - before} passed, {time.monotonic() - began:.0f} s", flush=True)
+        before = tests.passed
+        tests.backups(killed)
+        print(f"store: faults of backups: {tests.passed - before} passed, {time.monotonic() - began:.0f} s", flush=True)
         for kind in ("kill", "power", "loss", "faults"):
-            tests.crowds(kind)
-            print(f"store: crowds with {kind}: {tests.failed} failed so far, {time.monotonic() - began:.0f} s", flush=True)
+            calls, stops = tests.crowds(kind)
+            print(f"store: crowds with {kind}: {stops} times, {calls} answered calls, {tests.failed} failed so far, {time.monotonic() - began:.0f} s", flush=True)
         print(f"store: {tests.losses} losses of power, {tests.lost} with an effect", flush=True)
         tests.note("losses of power", lambda: check(tests.lost >= LEAST_LOST, f"{tests.lost} of {tests.losses} losses had an effect"))
     print(f"{tests.passed} passed, {tests.failed} failed")

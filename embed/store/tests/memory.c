@@ -165,6 +165,17 @@ static int work(relkvanu_store *store, uint64_t file) {
     return status;
 }
 
+/* A backup, which is there if its status says so. Without memory the store goes on. */
+static int back_up(relkvanu_store *store) {
+    char name[PATHS + 20], part[PATHS + 30], message[RELKVANU_STORE_MESSAGE];
+    snprintf(name, sizeof name, "%s.backup", path);
+    snprintf(part, sizeof part, "%s.part", name);
+    unlink(name);
+    int status = relkvanu_store_backup(store, name, message, sizeof message);
+    CHECK((status == RELKVANU_STORE_OK) == (access(name, F_OK) == 0) && access(part, F_OK) != 0, "status %d: %s", status, message);
+    return status;
+}
+
 static int open_and_work(uint64_t file, uint64_t images) {
     relkvanu_store *store;
     relkvanu_store_report report;
@@ -177,6 +188,9 @@ static int open_and_work(uint64_t file, uint64_t images) {
     snprintf(words, sizeof words, "%s", report.message);
     for (uint64_t i = 0; i < 3 && status == RELKVANU_STORE_OK; i++) {
         status = work(store, file + i * 100);
+    }
+    if (status == RELKVANU_STORE_OK && (status = back_up(store)) == RELKVANU_STORE_NO_MEMORY && refused_to != ~0ul) {
+        CHECK(work(store, file + 300) == RELKVANU_STORE_OK, "no call after a backup without memory");
     }
     relkvanu_store_close(store);
     return status;

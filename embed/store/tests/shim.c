@@ -387,14 +387,14 @@ int unlink(const char *name) {
     return unlinkat(AT_FDCWD, name, 0);
 }
 
-int renameat(int from, const char *name, int to, const char *other) {
+static int rename_of(int from, const char *name, int to, const char *other, unsigned flags) {
     char path[PATH], target[PATH];
     full_path(from, name, path);
     full_path(to, other, target);
     if (is_in(path) && !changes(path)) {
         return -1;
     }
-    int result = (int)syscall(SYS_renameat, from, name, to, other);
+    int result = (int)syscall(SYS_renameat2, from, name, to, other, flags);
     if (result == 0 && is_in(path)) {
         tell(RENAMES, path, 0, target, strlen(target));
     }
@@ -402,6 +402,14 @@ int renameat(int from, const char *name, int to, const char *other) {
         may_die(true);
     }
     return result;
+}
+
+int renameat(int from, const char *name, int to, const char *other) {
+    return rename_of(from, name, to, other, 0);
+}
+
+int renameat2(int from, const char *name, int to, const char *other, unsigned flags) {
+    return rename_of(from, name, to, other, flags);
 }
 
 int rename(const char *name, const char *other) {

@@ -2,6 +2,7 @@
 the program of layout.c."""
 import asyncio
 import ctypes
+import dataclasses
 import errno
 import os
 import pathlib
@@ -239,6 +240,49 @@ class Files(Folder):
         self.assertTrue((self.storage / "3").exists() and (self.storage / "4").exists())
         job.close()
         discarder.join()
+
+
+class Limits(Folder):
+    def test_each_setting_and_the_shape(self):
+        """The message names what is wrong and what is allowed."""
+        for field, bad, limits in (
+            ("interval", 9, "10 to 2^40 ms"), ("pause", (1 << 40) + 1, "0 to 2^40 ms"), ("at_once", 65, "1 to 64"), ("timeout", 0, "1 to 2^40 ms"),
+            ("tolerable", 1001, "0 to 1000"), ("retained", 0, "1 to 1000"),
+        ):
+            settings = dataclasses.replace(SETTINGS, **{field: bad})
+            told = self.raises("BadArgument", lambda: Store(self.path, settings, [2], create=True))
+            self.assertEqual(told, f"BadArgument: {self.path}: settings.{field} is {bad}, and has to be {limits}")
+        for shape, words in (
+            ([], "0 vertices, and has to have 1 to 256"), ([1] * 257, "257 vertices, and has to have 1 to 256"),
+            ([1, 0], "0 subtasks in vertex 1, and has to have at least 1 in each"), ([4096, 1], "4097 subtasks, and has to have at most 4096"),
+        ):
+            told = self.raises("BadArgument", lambda: Store(self.path, SETTINGS, shape, create=True))
+            self.assertEqual(told, f"BadArgument: {self.path}: the shape has {words}")
+
+
+class Backups(Folder):
+    def test_a_backup(self):
+        copy = self.folder / "copy.db"
+        with self.open(plain=False, storage=self.storage) as job:
+            savepoint = job.savepoint().reply.id
+            for index, name in enumerate(job.reserve(1, 2)):
+                job.put(name, b"state")
+                job.ack_in(1, savepoint, 0, index, [name])
+            job.backup(copy)
+            self.assertEqual((copy.stat().st_mode & 0o777, self.raises("Present", job.backup, copy)), (0o600, f"Present: {copy}: " + os.strerror(errno.EEXIST)))
+            self.assertIn("nowhere", self.raises("NotPut", job.backup, self.folder / "nowhere/copy.db"))
+            job.put(job.reserve(1, 1)[0], b"of a later record")
+        self.raises("Closed", job.backup, self.folder / "closed.db")
+        for name in ("job.db", "job.db-wal", "job.db-shm"):
+            (self.folder / name).unlink()
+        copy.rename(self.path)
+        self.assertIn("it is a backup", self.raises("Storage", lambda: self.open(storage=self.storage)))
+        with self.open(storage=self.storage, backup=True) as job:
+            self.assertEqual((job.report.is_recovered, job.report.epoch, job.report.next_name), (True, 2, 4))
+            self.assertEqual(job.restore(savepoint).term, 2)
+            self.assertEqual((job.sweep(), sorted(os.listdir(self.storage))), (0, [".relkvanu-job", "1", "2"]))
+        self.assertIn("no backup", self.raises("BadArgument", lambda: self.open(storage=self.storage, backup=True)))
+        self.open(storage=self.storage).close()
 
 
 class Threads(Folder):

@@ -1,4 +1,4 @@
-/* verify FOLDER TOLD MOST [files]: opens the job FOLDER/x.db again, and checks that each call of TOLD is there as it was told, unless the log was cut
+/* verify FOLDER TOLD MOST [files|backup]: opens the job FOLDER/x.db again, and checks that each call of TOLD is there as it was told, unless the log was cut
  * there; that at most MOST calls are there beside those; and that a second coordinator answers all calls as they were answered, and then
  * has the same image. In a job with names no name was given twice, no term came back, and both go on from what was told; with "files" each file in
  * use is in the folder, whole. The calls beside are appended to TOLD, for a next run. The last word of the line that it prints is "part" if the log was
@@ -118,8 +118,9 @@ int main(int argc, char **argv) {
     relkvanu_store *store;
     relkvanu_store_report report;
     struct check c = {.is_whole = true};
-    CHECK(argc == 4 || argc == 5, "verify FOLDER TOLD MOST [files]");
-    relkvanu_store_options options = options_in(argv[1], RELKVANU_STORE_RECOVER, RELKVANU_STORE_NO_IMAGES);
+    CHECK(argc == 4 || argc == 5, "verify FOLDER TOLD MOST [files|backup]");
+    bool is_backup = argc == 5 && strcmp(argv[4], "backup") == 0;
+    relkvanu_store_options options = options_in(argv[1], is_backup ? RELKVANU_STORE_BACKUP : RELKVANU_STORE_RECOVER, RELKVANU_STORE_NO_IMAGES);
     c.told = read_told(argv[2], &c.told_len);
     snprintf(path, sizeof path, "%s/x.db", argv[1]);
     int status = relkvanu_store_open(&store, path, &options, &report);
@@ -136,6 +137,7 @@ int main(int argc, char **argv) {
     c.term = begins.a;
     c.next_name = begins.b;
     compare(&c);
+    options.flags &= ~RELKVANU_STORE_BACKUP;
     CHECK(c.beside <= strtoull(argv[3], NULL, 10), "%zu calls beside those that were told", c.beside);
     status = relkvanu_store_open(&store, path, &options, &report);
     CHECK(status == RELKVANU_STORE_OK, "status %d: %s", status, report.message);
@@ -144,7 +146,7 @@ int main(int argc, char **argv) {
     CHECK(!c.is_whole || shadow_equals(&c.shadow, store), "another image");
     CHECK(report.term >= c.term && report.next_name >= c.next_name && (!c.is_whole || report.term == c.term), "term %" PRIu64 " after %" PRIu64
           ", next name %" PRIu64 " after %" PRIu64, report.term, c.term, report.next_name, c.next_name);
-    if (argc == 5) {
+    if (argc == 5 && !is_backup) {
         check_files(argv[1], store);
     }
     relkvanu_store_close(store);

@@ -521,6 +521,26 @@ public final class Store implements AutoCloseable {
     }
 
     /**
+     * Makes a backup of the job in a new file, while other threads call. It is whole and durable when this returns. Throws {@code NotStored} with
+     * {@code PRESENT} if there is such a file; with {@code NOT_NOW} if another backup writes it; with {@code NOT_PUT} if it can't be written: then
+     * there is none, and the store goes on.
+     *
+     * <p><b>A backup lacks the calls since it was made.</b> {@link StoreOptions#withBackup} opens it, once, after all processes and tasks of the job
+     * have ended, and then the engine restores a record whose files are all there: docs/EMBEDDING.md, section 14. Without that option the
+     * opening is refused with {@code STORAGE}.
+     *
+     * @param path the new file
+     */
+    public void backup(Path path) {
+        byte[] name = bytes(path);
+        byte[] message = new byte[StoreNative.MESSAGE];
+        int status = within(() -> StoreNative.backup(address, name, message));
+        if (status != StoreFault.OK) {
+            throw fault(status, text(message));
+        }
+    }
+
+    /**
      * A sweep: deletes the files of the storage folder that {@link #unknown} returns, also what is there in part, and syncs the folder. A job with
      * names is swept at each restore and whenever the engine likes, also while tasks run: {@link #counts} then tells how many files it left because
      * their names were not given out. One without is swept at each recovery, each restore and after a cancel, when all tasks have ended.

@@ -38,6 +38,8 @@ final class StoreNative {
 
     static native int put(long store, long file, byte[] contents, byte[] why);
 
+    static native int backup(long store, byte[] path, byte[] message);
+
     static native int sweep(long store, long[] left);
 
     static native int discardFiles(long store);

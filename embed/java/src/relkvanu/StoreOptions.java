@@ -17,8 +17,27 @@ import java.util.function.Consumer;
  * @param mostAhead how many milliseconds a moment may be ahead; 0 is a day
  * @param isPlain whether a job that is made has no names: then the engine gives out the numbers of files, and sweeps only when no task runs. A
  *     recovered job keeps what it has
+ * @param isBackup whether it is a backup, which is opened so once, after all processes and tasks of the job have ended: see {@link Store#backup}. Then
+ *     no job is made
  */
-public record StoreOptions(Opening opening, Optional<Path> storage, boolean adopts, boolean fromEarlierImage, Duration patience, long imageCalls, long mostAhead, boolean isPlain) {
+public record StoreOptions(Opening opening, Optional<Path> storage, boolean adopts, boolean fromEarlierImage, Duration patience, long imageCalls, long mostAhead, boolean isPlain,
+    boolean isBackup) {
+    /**
+     * Options of a job that is no backup.
+     *
+     * @param opening whether it may make a job
+     * @param storage the folder of the state files
+     * @param adopts whether a new job may have a storage with files
+     * @param fromEarlierImage whether to begin with the image before the last one
+     * @param patience for how long a commit is tried again
+     * @param imageCalls after how many calls an image is written
+     * @param mostAhead how many milliseconds a moment may be ahead
+     * @param isPlain whether a job that is made has no names
+     */
+    public StoreOptions(Opening opening, Optional<Path> storage, boolean adopts, boolean fromEarlierImage, Duration patience, long imageCalls, long mostAhead, boolean isPlain) {
+        this(opening, storage, adopts, fromEarlierImage, patience, imageCalls, mostAhead, isPlain, false);
+    }
+
     /**
      * Options of a job with names.
      *
@@ -47,6 +66,7 @@ public record StoreOptions(Opening opening, Optional<Path> storage, boolean adop
     private static final int ADOPT = 4;
     private static final int EARLIER_IMAGE = 8;
     private static final int PLAIN = 16;
+    private static final int BACKUP = 32;
 
     /**
      * {@return options without a storage}
@@ -120,6 +140,15 @@ public record StoreOptions(Opening opening, Optional<Path> storage, boolean adop
         return with(it -> it.isPlain = hasNone);
     }
 
+    /**
+     * {@return these options, which open a backup, or do not}
+     *
+     * @param isOne whether it is one
+     */
+    public StoreOptions withBackup(boolean isOne) {
+        return with(it -> it.isBackup = isOne);
+    }
+
     /** Options while one of them changes. */
     private static final class Draft {
         Opening opening;
@@ -130,6 +159,7 @@ public record StoreOptions(Opening opening, Optional<Path> storage, boolean adop
         long imageCalls;
         long mostAhead;
         boolean isPlain;
+        boolean isBackup;
     }
 
     private StoreOptions with(Consumer<Draft> change) {
@@ -142,13 +172,14 @@ public record StoreOptions(Opening opening, Optional<Path> storage, boolean adop
         it.imageCalls = imageCalls;
         it.mostAhead = mostAhead;
         it.isPlain = isPlain;
+        it.isBackup = isBackup;
         change.accept(it);
-        return new StoreOptions(it.opening, it.storage, it.adopts, it.fromEarlierImage, it.patience, it.imageCalls, it.mostAhead, it.isPlain);
+        return new StoreOptions(it.opening, it.storage, it.adopts, it.fromEarlierImage, it.patience, it.imageCalls, it.mostAhead, it.isPlain, it.isBackup);
     }
 
     /** In the order of store_jni.c. */
     long[] numbers() {
-        long flags = opening.ordinal() | (adopts ? ADOPT : 0) | (fromEarlierImage ? EARLIER_IMAGE : 0) | (isPlain ? PLAIN : 0);
+        long flags = opening.ordinal() | (adopts ? ADOPT : 0) | (fromEarlierImage ? EARLIER_IMAGE : 0) | (isPlain ? PLAIN : 0) | (isBackup ? BACKUP : 0);
         return new long[] {flags, Math.min(Math.max(patience.toMillis(), 0), 0xffff_ffffL), imageCalls, Checks.natural(mostAhead, "a time")};
     }
 }

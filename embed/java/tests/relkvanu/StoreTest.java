@@ -337,6 +337,51 @@ class StoreTest {
         deep(file + 1);
     }
 
+    private void refuses(Settings settings, long[] shape, String words) {
+        CoordinatorException.NotStored refused = assertThrows(CoordinatorException.NotStored.class, () -> Store.open(path, settings, shape, creates()));
+        assertEquals("BAD_ARGUMENT: " + path + ": " + words, refused.getMessage());
+    }
+
+    /** The message names what is wrong and what is allowed. */
+    @Test
+    void limits() {
+        refuses(Settings.every(9), SHAPE, "settings.interval is 9, and has to be 10 to 2^40 ms");
+        refuses(SETTINGS.withPause((1L << 40) + 1), SHAPE, "settings.pause is 1099511627777, and has to be 0 to 2^40 ms");
+        refuses(SETTINGS.withAtOnce(65), SHAPE, "settings.at_once is 65, and has to be 1 to 64");
+        refuses(SETTINGS.withTimeout(0), SHAPE, "settings.timeout is 0, and has to be 1 to 2^40 ms");
+        refuses(SETTINGS.withTolerable(1001), SHAPE, "settings.tolerable is 1001, and has to be 0 to 1000");
+        refuses(SETTINGS.withRetained(0), SHAPE, "settings.retained is 0, and has to be 1 to 1000");
+        refuses(SETTINGS, new long[0], "the shape has 0 vertices, and has to have 1 to 256");
+        refuses(SETTINGS, new long[257], "the shape has 257 vertices, and has to have 1 to 256");
+        refuses(SETTINGS, new long[] {1, 0}, "the shape has 0 subtasks in vertex 1, and has to have at least 1 in each");
+        refuses(SETTINGS, new long[] {4096, 1}, "the shape has 4097 subtasks, and has to have at most 4096");
+    }
+
+    @Test
+    void backups() throws IOException {
+        Path copy = folder.resolve("copy.db");
+        StoreOptions recovers = StoreOptions.of(StoreOptions.Opening.RECOVER);
+        Store closed;
+        try (Store job = open(creates())) {
+            closed = job;
+            complete(job, 1);
+            job.backup(copy);
+            assertEquals("rw-------", java.nio.file.attribute.PosixFilePermissions.toString(Files.getPosixFilePermissions(copy)));
+            assertSame(StoreFault.PRESENT, fault(() -> job.backup(copy)));
+            CoordinatorException.NotStored nowhere = assertThrows(CoordinatorException.NotStored.class, () -> job.backup(folder.resolve("nowhere/copy.db")));
+            assertSame(StoreFault.NOT_PUT, nowhere.fault());
+            assertTrue(nowhere.getMessage().contains("No such file"), nowhere.getMessage());
+            complete(job, 11);
+            assertSame(StoreFault.STORAGE, fault(() -> Store.open(copy, SETTINGS, SHAPE, recovers)));
+            try (Store back = Store.open(copy, SETTINGS, SHAPE, recovers.withBackup(true))) {
+                assertEquals(2, back.report().epoch());
+                assertEquals(3, back.report().imagePlace() + back.report().replayed());
+            }
+            assertSame(StoreFault.BAD_ARGUMENT, fault(() -> Store.open(copy, SETTINGS, SHAPE, recovers.withBackup(true))));
+        }
+        assertThrows(CoordinatorException.Closed.class, () -> closed.backup(copy));
+    }
+
     /** The numbers of the header, as layout.c prints them. */
     @Test
     void theNumbersOfTheHeader() throws Exception {
@@ -350,13 +395,13 @@ class StoreTest {
         }
         for (String line : new String(layout.getInputStream().readAllBytes()).split("\n")) {
             String[] words = line.split(" ");
-            if (words[0].equals("number") && !List.of("CREATE", "CREATE_ONLY", "ADOPT", "EARLIER_IMAGE", "PLAIN", "NOW", "NO_IMAGES", "MOST_CALLS").contains(words[1])) {
+            if (words[0].equals("number") && !List.of("CREATE", "CREATE_ONLY", "ADOPT", "EARLIER_IMAGE", "PLAIN", "BACKUP", "NOW", "NO_IMAGES", "MOST_CALLS").contains(words[1])) {
                 assertEquals(Integer.parseInt(words[2]), own.remove(words[1]), line);
             }
         }
         assertEquals(Map.of(), own);
-        assertArrayEquals(new long[] {1 | 4 | 8 | 16, 5000, -1, 7},
-            creates().withAdopts(true).withFromEarlierImage(true).withPatience(Duration.ofSeconds(5)).withImageCalls(-1).withMostAhead(7).numbers());
+        assertArrayEquals(new long[] {1 | 4 | 8 | 16 | 32, 5000, -1, 7},
+            creates().withBackup(true).withAdopts(true).withFromEarlierImage(true).withPatience(Duration.ofSeconds(5)).withImageCalls(-1).withMostAhead(7).numbers());
         assertEquals(2, StoreOptions.of(StoreOptions.Opening.CREATE_ONLY).numbers()[0]);
         assertEquals(creates().withPlain(false), new StoreOptions(StoreOptions.Opening.CREATE, Optional.empty(), false, false, Duration.ZERO, 0, 0));
         assertEquals(Optional.of(storage), creates().withStorage(storage).storage());

@@ -29,6 +29,7 @@ pub const RELKVANU_STORE_CREATE_ONLY: u32 = 2;
 pub const RELKVANU_STORE_ADOPT: u32 = 4;
 pub const RELKVANU_STORE_EARLIER_IMAGE: u32 = 8;
 pub const RELKVANU_STORE_PLAIN: u32 = 16;
+pub const RELKVANU_STORE_BACKUP: u32 = 32;
 pub const RELKVANU_STORE_NOW: u64 = u64::MAX;
 pub const RELKVANU_STORE_NO_IMAGES: u64 = u64::MAX;
 pub const RELKVANU_STORE_MOST_CALLS: usize = 4096;
@@ -186,6 +187,12 @@ extern "C" {
         is_gone: *mut u8,
     );
     pub fn relkvanu_store_sweep(store: *mut relkvanu_store, left: *mut usize) -> c_int;
+    pub fn relkvanu_store_backup(
+        store: *mut relkvanu_store,
+        path: *const c_char,
+        message: *mut c_char,
+        message_len: usize,
+    ) -> c_int;
     pub fn relkvanu_store_stop(store: *mut relkvanu_store);
     pub fn relkvanu_store_count(store: *mut relkvanu_store, counts: *mut relkvanu_store_counts);
     pub fn relkvanu_store_message(

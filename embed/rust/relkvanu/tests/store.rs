@@ -343,6 +343,99 @@ fn a_discarder() {
     assert!(store.await_tick(1000).is_err());
 }
 
+fn refused(path: &Path, options: &Options, kind: StoreErrorKind) -> String {
+    let why = Store::open(path, options).unwrap_err();
+    assert_eq!(why.kind, kind, "{why}");
+    why.message
+}
+
+/// The message names what is wrong and what is allowed.
+#[test]
+fn limits() {
+    let folder = Folder::new("limits");
+    let path = folder.0.join("job.db");
+    let bad = |change: fn(&mut Settings)| {
+        let mut settings = SETTINGS;
+        change(&mut settings);
+        settings
+    };
+    let settings = [
+        (
+            bad(|it| it.interval = 9),
+            "interval is 9, and has to be 10 to 2^40 ms",
+        ),
+        (
+            bad(|it| it.pause = (1 << 40) + 1),
+            "pause is 1099511627777, and has to be 0 to 2^40 ms",
+        ),
+        (
+            bad(|it| it.at_once = 65),
+            "at_once is 65, and has to be 1 to 64",
+        ),
+        (
+            bad(|it| it.timeout = 0),
+            "timeout is 0, and has to be 1 to 2^40 ms",
+        ),
+        (
+            bad(|it| it.tolerable = 1001),
+            "tolerable is 1001, and has to be 0 to 1000",
+        ),
+        (
+            bad(|it| it.retained = 0),
+            "retained is 0, and has to be 1 to 1000",
+        ),
+    ];
+    for (settings, words) in settings {
+        let mut options = Options::new(settings, &[2]);
+        options.create = true;
+        let told = refused(&path, &options, StoreErrorKind::BadArgument);
+        assert_eq!(told, format!("{}: settings.{words}", path.display()));
+    }
+    let shapes: [(&[u64], &str); 4] = [
+        (&[], "0 vertices, and has to have 1 to 256"),
+        (&[1; 257], "257 vertices, and has to have 1 to 256"),
+        (
+            &[1, 0],
+            "0 subtasks in vertex 1, and has to have at least 1 in each",
+        ),
+        (&[4096, 1], "4097 subtasks, and has to have at most 4096"),
+    ];
+    for (shape, words) in shapes {
+        let mut options = Options::new(SETTINGS, shape);
+        options.create = true;
+        let told = refused(&path, &options, StoreErrorKind::BadArgument);
+        assert_eq!(told, format!("{}: the shape has {words}", path.display()));
+    }
+}
+
+#[test]
+fn backups() {
+    let folder = Folder::new("backups");
+    let copy = folder.0.join("copy.db");
+    let store = folder.open();
+    complete(&store, 1);
+    store.backup(&copy).unwrap();
+    let again = store.backup(&copy).unwrap_err();
+    assert_eq!(again.kind, StoreErrorKind::Present);
+    assert!(again.message.contains("copy.db"), "{again}");
+    let nowhere = store.backup(&folder.0.join("nowhere/copy.db")).unwrap_err();
+    assert_eq!(nowhere.kind, StoreErrorKind::NotPut);
+    assert!(nowhere.message.contains("No such file"), "{nowhere}");
+    complete(&store, 11);
+    let mut options = Options::new(SETTINGS, &[2]);
+    let told = refused(&copy, &options, StoreErrorKind::Storage);
+    assert!(told.contains("it is a backup"), "{told}");
+    options.backup = true;
+    let back = Store::open(&copy, &options).unwrap();
+    let report = back.report();
+    assert!(report.is_recovered && report.epoch == 2);
+    assert_eq!(report.image_place + report.replayed, 3);
+    drop(back);
+    refused(&copy, &options, StoreErrorKind::BadArgument);
+    options.backup = false;
+    Store::open(&copy, &options).unwrap();
+}
+
 /// The sizes and numbers of the header, as embed/store/tests/layout.c prints them.
 #[test]
 fn the_header_agrees() {
@@ -381,5 +474,6 @@ fn the_header_agrees() {
         sys::RELKVANU_STORE_EARLIER_IMAGE
     ));
     has(format!("number PLAIN {}", sys::RELKVANU_STORE_PLAIN));
+    has(format!("number BACKUP {}", sys::RELKVANU_STORE_BACKUP));
     has(format!("number DISCARD {}", sys::RELKVANU_STORE_DISCARD));
 }

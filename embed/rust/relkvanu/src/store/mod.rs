@@ -345,6 +345,34 @@ impl Store {
         Ok(left)
     }
 
+    /// Makes a backup of the job in a new file, while other threads call. It is whole and durable when this returns. `Present`, `NotNow` (another
+    /// backup writes it) or `NotPut` (a full disk, say): then there is none, and the store goes on.
+    ///
+    /// **A backup lacks the calls since it was made.** [`Options::backup`] opens it, once, after all processes and tasks of the job have ended, and
+    /// then the engine restores a record whose files are all there: docs/EMBEDDING.md, section 14. Without that option the opening is refused.
+    pub fn backup(&self, path: &Path) -> Result<(), StoreError> {
+        let path = c_path(path)?;
+        let mut message = [0; sys::store::RELKVANU_STORE_MESSAGE];
+        // SAFETY: the path and the message outlive the call.
+        let status = unsafe {
+            sys::store::relkvanu_store_backup(
+                self.at(),
+                path.as_ptr(),
+                message.as_mut_ptr(),
+                message.len(),
+            )
+        };
+        if status == sys::store::RELKVANU_STORE_OK {
+            return Ok(());
+        }
+        // SAFETY: the message ends with a zero.
+        let message = unsafe { CStr::from_ptr(message.as_ptr()) };
+        Err(StoreError {
+            kind: StoreErrorKind::of(status),
+            message: message.to_string_lossy().into_owned(),
+        })
+    }
+
     /// The descriptor of the storage folder, which stays open until the drop: delete within it.
     pub fn folder(&self) -> Option<RawFd> {
         // SAFETY: the store is open.

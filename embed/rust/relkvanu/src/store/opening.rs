@@ -34,6 +34,8 @@ pub struct Options {
     pub earlier_image: bool,
     /// A job that is made has no names: the engine gives out the numbers of files. A recovered job keeps what it has.
     pub plain: bool,
+    /// It is a backup, which is opened so once: see [`Store::backup`](super::Store::backup). Makes no job.
+    pub backup: bool,
     /// Milliseconds for which a commit is tried again.
     pub patience: u32,
     /// An image after so many calls; `None`: no images.
@@ -53,6 +55,7 @@ impl Options {
             adopt: false,
             earlier_image: false,
             plain: false,
+            backup: false,
             patience: 0,
             image_calls: Some(10_000),
             most_ahead: 0,
@@ -66,6 +69,7 @@ impl Options {
             | flag(self.adopt, sys::store::RELKVANU_STORE_ADOPT)
             | flag(self.earlier_image, sys::store::RELKVANU_STORE_EARLIER_IMAGE)
             | flag(self.plain, sys::store::RELKVANU_STORE_PLAIN)
+            | flag(self.backup, sys::store::RELKVANU_STORE_BACKUP)
     }
 }
 
