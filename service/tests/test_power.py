@@ -229,4 +229,4 @@ def test_a_new_database():
         trials = Trials(f"{at}/losses", checks.check, WORKERS)
         trials.all(journal, each(journal, chance), chance)
         trials.control("its folder", journal, journal.points(), chance, lambda path: path == "")
-        return f"{trials.told(40)}; the sync of its folder is missed"
+        return f"{trials.told(80)}; the sync of its folder is missed"
