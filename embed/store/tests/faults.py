@@ -26,7 +26,7 @@ from power import Journal, Loss, read_tree, write_tree
 
 LISTS = 14  # of the scenario
 WORKERS = 3
-LEAST_LOST = 60  # losses that take something which a killed process leaves
+LEAST_LOST = 200  # losses that take something which a killed process leaves
 
 
 class Run:
