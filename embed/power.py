@@ -118,7 +118,7 @@ def mixed(now: bytes, kept: bytes, chance: random.Random) -> bytes:
     """Of a file that was cut, what was there is there still behind the cut. One that grew may have zeros."""
     size = len(chance.choice((now, kept)))
     now, kept = bytes(now) + bytes(kept[len(now):]), bytes(kept).ljust(size, b"\0")
-    return b"".join(chance.choice((now, kept))[at:at + SECTOR] for at in range(0, size, SECTOR))
+    return b"".join(chance.choice((now, kept))[at:at + SECTOR] for at in range(0, size, SECTOR))[:size]
 
 
 class Change(NamedTuple):

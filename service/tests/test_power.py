@@ -129,7 +129,7 @@ class Checks:
 
     def log(self, server):
         if not self.has_archive:
-            return list(Service(server.url).job("orders").log())
+            return list(Service(server.url).job("orders").log(terms=True))
         archive = Archive.__new__(Archive)
         archive.path = server.database
         return archive.log("orders")
@@ -224,9 +224,9 @@ def test_a_new_database():
     chance = random.Random(int(os.environ.get("SEED", "1")))
     with folder() as at:
         recorded = Recorded(at)
-        journal = recorded.run(len(SUBTASKS) * 3)
+        journal = recorded.run(len(SUBTASKS) + 1)
         checks = Checks(at, has_archive=False)
         trials = Trials(f"{at}/losses", checks.check, WORKERS)
         trials.all(journal, each(journal, chance), chance)
         trials.control("its folder", journal, journal.points(), chance, lambda path: path == "")
-        return f"{trials.told(40)}; the sync of its folder is missed"
+        return f"{trials.told(80)}; the sync of its folder is missed"
