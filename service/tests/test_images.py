@@ -218,7 +218,7 @@ def test_postgresql_of_other_versions():
         server.start()
         until(lambda: job.state()["image"])
         server.stop()
-        assert database.sql("select number from schema_version") == "4" and database.sql("select count(*) from image") == "1"
+        assert database.sql("select number from schema_version") == "5" and database.sql("select count(*) from image") == "1"
         return "one without images, and a newer one"
 
 

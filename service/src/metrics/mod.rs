@@ -34,6 +34,7 @@ pub struct Metrics {
     images_fail: IntGaugeVec,
     clock_ahead: Gauge,
     leader: IntGauge,
+    shards: IntGauge,
     connections: IntGauge,
     commit_takes: Gauge,
     records: IntCounterVec,
@@ -72,6 +73,7 @@ impl Metrics {
                 "How far the moments that calls are given are ahead of this machine's clock.",
             )?,
             leader: IntGauge::new("relkvanu_leader", "1 where this process leads.")?,
+            shards: IntGauge::new("relkvanu_shards", "Shards of the jobs that this process serves, of 64.")?,
             connections: IntGauge::new("relkvanu_http_connections", "Open connections.")?,
             commit_takes: Gauge::new(
                 "relkvanu_commit_under_way_seconds",
@@ -108,6 +110,7 @@ impl Metrics {
         registry.register(Box::new(self.images_fail.clone()))?;
         registry.register(Box::new(self.clock_ahead.clone()))?;
         registry.register(Box::new(self.leader.clone()))?;
+        registry.register(Box::new(self.shards.clone()))?;
         registry.register(Box::new(self.connections.clone()))?;
         registry.register(Box::new(self.commit_takes.clone()))?;
         registry.register(Box::new(self.durations.clone()))?;
@@ -179,6 +182,11 @@ impl Metrics {
         self.gauges.forget(job);
         self.upkeep.forget(job);
         self.sizes.forget(job);
+    }
+
+    /// How many shards of the jobs this process serves.
+    pub fn shards(&self, count: usize) {
+        self.shards.set(i64::try_from(count).unwrap_or(i64::MAX));
     }
 
     pub fn lead(&self, leads: bool) {
