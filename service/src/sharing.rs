@@ -100,11 +100,9 @@ pub struct Sharer {
 /// What a turn leaves to the next one.
 #[derive(Default)]
 pub struct State {
-    /// Shards that this process got, and whose jobs it has not read.
-    unread: Vec<Held>,
-    /// Those whose jobs could not be read, and when.
+    /// Shards whose jobs could not be read, and when.
     bad: Vec<(Held, Instant)>,
-    /// Shards that the writer has given up, and that are not free yet.
+    /// Those that the writer has given up, and that are not free yet.
     to_free: Shards,
 }
 
@@ -127,35 +125,42 @@ impl Sharer {
             self.shares.free(self.state.to_free)?;
             self.state.to_free = Shards::default();
         }
-        let members = self.shares.look()?;
-        self.owners.set(members.clone());
+        let members = self.look()?;
         let Some(part) = part_of(&members.all, self.shares.name()) else {
             // it was deleted, which the writer finds at its next commit
             return Ok(());
         };
         let (mine, free) = (members.of(Some(self.shares.name())), members.free());
         if mine.len() > part && free.len() < STEP {
-            self.give_up(mine, mine.len() - part)?;
-        } else if mine.len() < part && !free.is_empty() {
-            let got = self.shares.take(STEP.min(part - mine.len()))?;
-            self.state.unread.extend(got);
+            return self.give_up(mine, mine.len() - part);
         }
-        self.read_shards()?;
-        let bad: Shards = self.state.bad.iter().map(|(held, _)| held.shard).collect();
+        if mine.len() < part && !free.is_empty() {
+            self.shares.take(STEP.min(part - mine.len()))?;
+            let members = self.look()?;
+            return self.read_shards(&members);
+        }
+        self.read_shards(&members)?;
+        let bad = self.state.bad.iter().map(|(held, _)| held.shard).collect();
         if free.is_empty() && self.board.shards().with(bad) == mine {
             self.board.settle();
         }
         Ok(())
     }
 
+    /// Looks at the other processes, so requests find them.
+    fn look(&mut self) -> Result<Members, DbError> {
+        let members = self.shares.look()?;
+        self.owners.set(members.clone());
+        Ok(members)
+    }
+
     /// Gives up some of these shards, after the writer has done what is under way.
     fn give_up(&mut self, mine: Shards, surplus: usize) -> Result<(), DbError> {
-        let last: Vec<u8> = mine.iter().collect();
-        let some: Shards = last.into_iter().rev().take(surplus.min(STEP)).collect();
-        self.state.unread.retain(|held| !some.has(held.shard));
-        self.state.bad.retain(|(held, _)| !some.has(held.shard));
+        let all: Vec<u8> = mine.iter().collect();
+        let some: Shards = all.into_iter().rev().take(surplus.min(STEP)).collect();
         let (reply, done) = oneshot::channel();
         if self.inbox.send(Message::GiveUp(some, reply)).is_err() || done.blocking_recv().is_err() {
+            // the writer has ended, and with it the process
             return Ok(());
         }
         self.state.to_free = some;
@@ -164,13 +169,12 @@ impl Sharer {
         Ok(())
     }
 
-    /// Reads the jobs of the shards that this process got. If one can't be read, the others of its shards are.
-    fn read_shards(&mut self) -> Result<(), DbError> {
-        let (again, bad) =
-            std::mem::take(&mut self.state.bad).into_iter().partition(|(_, since)| since.elapsed() >= AGAIN);
-        self.state.bad = bad;
-        self.state.unread.extend(Vec::into_iter(again).map(|(held, _): (Held, Instant)| held));
-        let unread = std::mem::take(&mut self.state.unread);
+    /// Reads the jobs of the shards that this process got. If those of one can't be read, those of the others are.
+    fn read_shards(&mut self, members: &Members) -> Result<(), DbError> {
+        self.state.bad.retain(|(_, since)| since.elapsed() < AGAIN);
+        let is_bad = |held: &Held| self.state.bad.iter().any(|(bad, _)| bad == held);
+        let mut unread = members.held(self.shares.name());
+        unread.retain(|held| self.board.epoch_of(held.shard.into()) != held.epoch && !is_bad(held));
         if unread.is_empty() || self.read(&unread)? {
             return Ok(());
         }
@@ -187,10 +191,7 @@ impl Sharer {
         let shards = held.iter().map(|it| it.shard).collect();
         let jobs = match read_jobs(shards, self.reader.as_mut(), self.keeping) {
             Ok(jobs) => jobs,
-            Err(StartError::Unread(why)) if !why.is_damage() => {
-                self.state.unread.extend(held);
-                return Err(why);
-            }
+            Err(StartError::Unread(why)) if !why.is_damage() => return Err(why),
             Err(why) => {
                 log::error(&format!("{} shards are not served: {why}", held.len()));
                 return Ok(false);
@@ -199,11 +200,7 @@ impl Sharer {
         match self.shares.begin(self.board.log(), held, &jobs.lengths()) {
             // this process has them no more
             Err(DbError::NotLeading) => return Ok(true),
-            Err(why) => {
-                self.state.unread.extend(held);
-                return Err(why);
-            }
-            Ok(()) => {}
+            told => told?,
         }
         let (reply, done) = oneshot::channel();
         let adoption = Adoption { held: held.to_vec(), jobs, reply };
@@ -255,7 +252,7 @@ mod tests {
     #[test]
     fn a_job_is_found_at_its_owner() {
         let owners = Owners::new("a");
-        let of = |shard| Some(if shard < 40 { "a" } else { "b" }.to_string()).filter(|_| shard != 7);
+        let of = |shard| (Some(if shard < 40 { "a" } else { "b" }.to_string()).filter(|_| shard != 7), 1);
         let all = vec![member("a", true), member("b", true), member("c", true)];
         owners.set(Members { all, owners: (0..64).map(of).collect() });
         assert_eq!(

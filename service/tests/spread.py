@@ -162,7 +162,8 @@ def run(seconds, count=3, seed=1):
         addresses, floor, answers = [server.url for server in servers], Floor(), Answers()
         service = Service(*addresses)
         for number, job in enumerate(JOBS):
-            service.open(job, SETTINGS, SHAPE, names=number % 2 == 1)
+            # a job begins at the process that opens it
+            Service(addresses[number % count]).open(job, SETTINGS, SHAPE, names=number % 2 == 1)
         clients = [(Client, NamedClient)[number % 2](addresses[number % count:] + addresses[:number % count], JOBS[number % len(JOBS)], number, floor)
                    for number in range(2 * len(JOBS))]
         for client in clients:

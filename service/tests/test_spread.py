@@ -142,7 +142,7 @@ def test_processes_come_and_go():
             answers.listen(client, client.name_of_job)
             client.start()
         for count in (2, 3):
-            all_of[count - 1].start()
+            all_of[count - 1].start(ready=False)
             times[f"{count} processes"] = even(all_of[:count])
         times["after a stop"] = left(all_of[1], all_of, lambda it: it.terminate(), 0)
         times["after a kill"] = left(all_of[2], all_of, lambda it: it.kill(), -9)
@@ -280,6 +280,7 @@ def test_two_members_over_tls():
             server.url = f"https://localhost:{server.port}"
             server.args += ["--spread", "--advertise", server.url]
             server.start(ready=False)
+        until(lambda: all("serves on" in server.log() for server in servers))
         until(lambda: database.sql("select count(distinct owner), count(owner) from shard") == "2|64")
         service = [Service(server.url, verify=f"{at}/certificate.pem") for server in servers]
         for number in range(6):
@@ -340,7 +341,7 @@ def test_the_way_from_one_leader_and_back():
 
 def earlier(database, epoch):
     """The tables are as version 4 had them, with a leader that is gone."""
-    database.sql(f"""drop table shard; drop table member; alter table log_start drop constraint log_start_pkey;
+    database.sql(f"""drop table shard; drop table member; delete from log_start where shard != 1; alter table log_start drop constraint log_start_pkey;
         alter table log_start drop column shard; alter table log_start add primary key (number); insert into leader values(true, {epoch}, 'x', '-infinity', 5);
         update schema_version set number = 4""")
 

@@ -106,7 +106,9 @@ impl Historian {
         // a job that the tables have has been on the board, unless it was deleted, or is another process's
         let lengths: HashSet<i64> = self.board.lengths().into_iter().map(|(job, _)| job).collect();
         let away: HashSet<i64> = tables.jobs()?.into_iter().filter(|job| !lengths.contains(job)).collect();
-        followers.retain(|number, _| lengths.contains(number));
+        for (_, follower) in followers.extract_if(|number, _| !lengths.contains(number)) {
+            self.metrics.forget(&follower.name);
+        }
         if away == self.away {
             return Ok(());
         }

@@ -8,7 +8,7 @@ use super::pg_commit::{Statements, CALLS};
 use super::pg_members::{self, Members, Shares, Watch};
 use super::pq::{Connection, Failed, Rows};
 use super::rows::{steps_after, Group, Keyed, Lead, Store, Written, OF_JOBS, VERSION};
-use crate::model::{Held, Shards, SHARDS};
+use crate::model::{Held, Shards};
 use std::collections::BTreeMap;
 use std::ffi::CStr;
 use std::time::Duration;
@@ -89,20 +89,6 @@ impl Pg {
         given.extend(columns.given);
         self.connection.run_prepared(&name, &given)
     }
-
-    /// Takes all shards, if no member has committed since these were seen. Else it takes none.
-    fn take_all(&mut self, members: &Members) -> Result<Option<Vec<Held>>, DbError> {
-        let Pg { connection, name, .. } = self;
-        connection.run("begin")?;
-        for member in &members.all {
-            pg_members::expel(connection, member)?;
-        }
-        pg_members::join(connection, name, &self.address, false, &seconds(self.lease))?;
-        let held = pg_members::take(connection, name, SHARDS.into())?;
-        let has_all = held.len() == usize::from(SHARDS);
-        connection.run(if has_all { "commit" } else { "rollback" })?;
-        Ok(has_all.then_some(held))
-    }
 }
 
 impl Store for Pg {
@@ -112,17 +98,19 @@ impl Store for Pg {
         if !members.all.iter().all(|member| self.watch.is_over(member, self.lease)) {
             return Ok(Lead::Elsewhere { committed });
         }
-        match self.take_all(&members)? {
-            Some(held) => {
-                self.hold(&held);
-                Ok(Lead::Here { held })
-            }
-            None => Ok(Lead::Elsewhere { committed: true }),
+        for member in &members.all {
+            pg_members::expel(&mut self.connection, member)?;
         }
+        let held = pg_members::take_all(&mut self.connection, &self.name, &self.address, &seconds(self.lease))?;
+        if held.is_empty() {
+            return Ok(Lead::Elsewhere { committed: true });
+        }
+        self.hold(&held);
+        Ok(Lead::Here { held })
     }
 
     fn join(&mut self) -> Result<(), DbError> {
-        Ok(pg_members::join(&mut self.connection, &self.name, &self.address, true, &seconds(self.lease))?)
+        Ok(pg_members::join(&mut self.connection, &self.name, &self.address, &seconds(self.lease))?)
     }
 
     fn hold(&mut self, held: &[Held]) {

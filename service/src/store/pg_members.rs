@@ -13,7 +13,12 @@ const PATIENCE: Duration = Duration::from_secs(10);
 const MEMBERS: &str = "select name, address, spreads, beat, lease from member order by name";
 const OWNERS: &str = "select number, owner, epoch from shard order by number";
 const JOIN: &str = "insert into member values(
-    $1, $2, $3::boolean, 0, $4::float8, clock_timestamp() + $4::float8 * interval '1 s')";
+    $1, $2, true, 0, $3::float8, clock_timestamp() + $3::float8 * interval '1 s')";
+/// Leads alone, if nobody else has a shard: one statement, so a process that is suspended meanwhile holds no lock.
+const TAKE_ALL: &str = "with free as (select number from shard where owner is null order by number for update),
+    me as (insert into member select $1, $2, false, 0, $3::float8, clock_timestamp() + $3::float8 * interval '1 s'
+        where (select count(*) from free) = (select count(*) from shard) returning name)
+    update shard set owner = me.name, epoch = epoch + 1 from me returning shard.number, epoch";
 /// Waits for a commit of the member that is under way; then its beat is another one.
 const EXPEL: &str = "delete from member where name = $1 and beat = $2::bigint returning 1";
 const LEAVE: &str = "delete from member where name = $1";
@@ -31,7 +36,8 @@ const BEGIN: &str = "with m as (select from member where name = $1 for key share
     o as (delete from log_start where shard = -1 and number <= (select min(epoch) from shard) - $5::bigint),
     p as (delete from image_part using s where (image_part.job & 63) = s.number
         and not exists (select from image where image.job = image_part.job and image.seq = image_part.seq))
-    insert into log_start(shard, number, name, lengths) select s.number, s.epoch, $6, s.lengths from s returning 1";
+    insert into log_start(shard, number, name, lengths) select s.number, s.epoch, $6, s.lengths from s
+    on conflict (shard, number) do update set name = excluded.name, lengths = excluded.lengths returning 1";
 
 /// A process that leads, or may lead.
 #[derive(Clone, Debug, PartialEq, Eq)]
@@ -48,14 +54,14 @@ pub struct Member {
 #[derive(Clone, Debug, Default, PartialEq, Eq)]
 pub struct Members {
     pub all: Vec<Member>,
-    /// The owner of each shard, by its number.
-    pub owners: Vec<Option<String>>,
+    /// The owner of each shard, by its number, and its epoch.
+    pub owners: Vec<(Option<String>, u64)>,
 }
 
 impl Members {
     pub fn read(connection: &mut Connection) -> Result<Members, DbError> {
         let all = connection.run(MEMBERS)?.iter().map(|row| member(row)).collect::<Result<_, _>>()?;
-        let owners = connection.run(OWNERS)?.into_iter().map(|row| row.into_iter().nth(1).flatten()).collect();
+        let owners = connection.run(OWNERS)?.into_iter().map(owner).collect::<Result<_, _>>()?;
         Ok(Members { all, owners })
     }
 
@@ -66,14 +72,27 @@ impl Members {
 
     /// The shards of an owner.
     pub fn of(&self, owner: Option<&str>) -> Shards {
-        (0..).zip(&self.owners).filter(|(_, its)| its.as_deref() == owner).map(|(shard, _)| shard).collect()
+        (0..).zip(&self.owners).filter(|(_, (its, _))| its.as_deref() == owner).map(|(shard, _)| shard).collect()
+    }
+
+    /// The shards of an owner, with their epochs.
+    pub fn held(&self, owner: &str) -> Vec<Held> {
+        let its = (0..).zip(&self.owners).filter(|(_, (its, _))| its.as_deref() == Some(owner));
+        its.map(|(shard, (_, epoch))| Held { shard, epoch: *epoch }).collect()
     }
 
     /// The member that owns the shard of a job.
     pub fn owner(&self, job: i64) -> Option<&Member> {
-        let name = self.owners.get(usize::from(shard_of(job)))?.as_ref()?;
+        let name = self.owners.get(usize::from(shard_of(job)))?.0.as_ref()?;
         self.all.iter().find(|member| member.name == *name)
     }
+}
+
+fn owner(row: Vec<Option<String>>) -> Result<(Option<String>, u64), DbError> {
+    let mut cells = row.into_iter().skip(1);
+    let (owner, epoch) = (cells.next().flatten(), cells.next().flatten());
+    let epoch = epoch.and_then(|epoch| epoch.parse().ok()).ok_or(DbError::Odd("a row of shard has no number"))?;
+    Ok((owner, epoch))
 }
 
 fn member(row: &[Option<String>]) -> Result<Member, DbError> {
@@ -158,8 +177,9 @@ impl Shares {
     }
 
     /// Takes at most so many free shards.
-    pub fn take(&mut self, most: usize) -> Result<Vec<Held>, DbError> {
-        take(&mut self.connection, &self.name, most)
+    pub fn take(&mut self, most: usize) -> Result<(), DbError> {
+        self.connection.query(TAKE, &[&self.name, &most.to_string()])?;
+        Ok(())
     }
 
     /// Gives shards up, for which the writer commits no more.
@@ -181,9 +201,9 @@ fn connect(url: &str) -> Result<Connection, DbError> {
     Ok(connection)
 }
 
-/// Adds a member. Its name is one that no other process ever had.
-pub fn join(connection: &mut Connection, name: &str, address: &str, spreads: bool, lease: &str) -> Result<(), Failed> {
-    connection.query(JOIN, &[name, address, &spreads.to_string(), lease]).map(|_| ())
+/// Adds a member that shares the jobs. Its name is one that no other process ever had.
+pub fn join(connection: &mut Connection, name: &str, address: &str, lease: &str) -> Result<(), Failed> {
+    connection.query(JOIN, &[name, address, lease]).map(|_| ())
 }
 
 /// Deletes a member that has not committed since it was seen. Returns whether it did.
@@ -196,9 +216,9 @@ pub fn leave(connection: &mut Connection, name: &str) -> Result<(), Failed> {
     connection.query(LEAVE, &[name]).map(|_| ())
 }
 
-/// Takes at most so many free shards.
-pub fn take(connection: &mut Connection, name: &str, most: usize) -> Result<Vec<Held>, DbError> {
-    let rows = connection.query(TAKE, &[name, &most.to_string()])?;
+/// Takes all shards and becomes the only member that has some, if nobody else has one. Else takes none.
+pub fn take_all(connection: &mut Connection, name: &str, address: &str, lease: &str) -> Result<Vec<Held>, DbError> {
+    let rows = connection.query(TAKE_ALL, &[name, address, lease])?;
     let held = |row: &Vec<Option<String>>| {
         let number = |place: usize| row.get(place)?.as_ref()?.parse::<u64>().ok();
         Some(Held { shard: u8::try_from(number(0)?).ok()?, epoch: number(1)? })
@@ -254,10 +274,12 @@ mod tests {
 
     #[test]
     fn each_shard_has_an_owner_or_is_free() {
-        let owners = vec![Some("a".to_string()), None, Some("b".to_string()), Some("a".to_string())];
+        let own = |name: &str, epoch| (Some(name.to_string()), epoch);
+        let owners = vec![own("a", 3), (None, 9), own("b", 2), own("a", 7)];
         let members = Members { all: vec![member("a", 0)], owners };
         assert_eq!(members.free(), [1].into_iter().collect());
         assert_eq!(members.of(Some("a")), [0, 3].into_iter().collect());
+        assert_eq!(members.held("a"), [Held { shard: 0, epoch: 3 }, Held { shard: 3, epoch: 7 }]);
         assert_eq!(members.owner(64).map(|it| it.name.as_str()), Some("a"));
         // one that was deleted since
         assert_eq!([1, 2, 5].map(|job| members.owner(job)), [None, None, None]);
