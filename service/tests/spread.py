@@ -192,7 +192,8 @@ def run(seconds, count=3, seed=1):
         assert not wrong, (wrong, [server.log()[-600:] for server in servers])
         assert made > 10 * seconds and epochs > len(JOBS), (made, epochs, faults.made)
         said = ", ".join(f"{number} {fault}" for fault, number in faults.made.items())
-        return f"{seconds} s with {count} processes and faults ({said}): {made} calls answered in {epochs} epochs of jobs, {logged} in the log, {oracle} as the proved programs answer them; {sum(client.reads for client in clients)} reads, none old"
+        calls = f"{made} calls answered in {epochs} epochs of jobs, {logged} in the log, {oracle} as the proved programs answer them"
+        return f"{seconds} s with {count} processes and faults ({said}): {calls}; {sum(client.reads for client in clients)} reads, none old"
 
 
 if __name__ == "__main__":

@@ -1,16 +1,15 @@
 """Jobs that are spread over several processes of one PostgreSQL: which process has them, what the others answer, and how they move."""
 import http.client
-import json
 import os
 import signal
 import subprocess
 import threading
 import time
 
-from harness import PROGRAM, Kept, PgArchive, Server, configured, folder, free_port, until
+from harness import PROGRAM, PgArchive, Server, configured, folder, free_port, until
 from partition import Line
 from postgres import postgres
-from relkvanu_service import Failed, Service, ack, savepoint
+from relkvanu_service import Service, ack, savepoint
 from spread import CONFIG, LEASE, SHARDS, Answers, even, member, members, owned, owners, run, shards
 from writers import Writer, check
 
@@ -252,8 +251,8 @@ def test_tokens_go_with_a_request():
             at_owner = next(server for server in servers if server.url == url)
             is_team = name.startswith("team-")
             for server, headers in ((away, {}), (at_owner, {"relkvanu-passed": "1"})):
-                post = lambda token: server.request("POST", f"/v1/jobs/{name}/calls", calls, token, headers)[0]
-                assert [post(None), post("x" * 20), post(READ), post(WRITE), post(TEAM)] == [401, 401, 401, 200, 200 if is_team else 403], name
+                posted = [server.request("POST", f"/v1/jobs/{name}/calls", calls, token, headers)[0] for token in (None, "x" * 20, READ, WRITE, TEAM)]
+                assert posted == [401, 401, 401, 200, 200 if is_team else 403], (name, posted)
                 assert [server.get(f"/v1/jobs/{name}", token)[0] for token in (None, READ, TEAM)] == [401, 200, 200 if is_team else 403]
         for server in servers:
             seen = [sorted(job["name"] for job in server.get("/v1/jobs", token)[2]["jobs"]) for token in (READ, TEAM)]

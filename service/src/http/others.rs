@@ -22,6 +22,8 @@ const WITH: [&str; 4] = ["idempotency-key", "last-event-id", "traceparent", "tra
 const CONNECT: Duration = Duration::from_secs(2);
 /// In what time it has to begin its answer: a poll may wait for a minute.
 const ANSWER: Duration = Duration::from_secs(75);
+/// In what time it has to give its part of a list.
+const LIST: Duration = Duration::from_secs(5);
 /// How often it is looked whether a job has another owner.
 const LOOK_EACH: Duration = Duration::from_millis(200);
 /// Shorter than a service keeps a connection that is idle.
@@ -144,15 +146,20 @@ impl Others {
     pub async fn all(&self, place: &str, headers: &HeaderMap) -> Result<Vec<(HeaderMap, Vec<u8>)>, Box<Reply>> {
         let mut told = Vec::new();
         for address in self.owners.others() {
-            let reply = self.send(&address, get(place, headers)).await?;
-            if reply.status() != 200 {
-                return Err(moves().into());
-            }
-            let (head, body) = reply.into_parts();
-            let body = hyper::body::to_bytes(body).await.map_err(|_| unreached(&address))?;
-            told.push((head.headers, body.to_vec()));
+            let asked = tokio::time::timeout(LIST, self.part(&address, get(place, headers)));
+            told.push(asked.await.map_err(|_| unreached(&address))??);
         }
         Ok(told)
+    }
+
+    async fn part(&self, address: &str, asked: Request<Body>) -> Result<(HeaderMap, Vec<u8>), Box<Reply>> {
+        let reply = self.send(address, asked).await?;
+        if reply.status() != 200 {
+            return Err(reply.into());
+        }
+        let (head, body) = reply.into_parts();
+        let body = hyper::body::to_bytes(body).await.map_err(|_| unreached(address))?;
+        Ok((head.headers, body.to_vec()))
     }
 }
 
