@@ -1,5 +1,5 @@
 """Jobs that are spread over the processes of one PostgreSQL, with faults: processes that are killed, stopped, suspended and cut off from the
-database, with clients at work at all of them. spread.py [SECONDS] does it for 10 minutes."""
+database, clocks that jump, and a database that is suspended, with clients at work at all of them. spread.py [SECONDS] does it for 10 minutes."""
 import random
 import signal
 import sys
@@ -7,8 +7,9 @@ import threading
 import time
 
 from harness import Kept, PgArchive, Server, configured, folder, until
-from partition import Client, Floor, Line, NamedClient, told
+from partition import HOUR, Client, Floor, Line, NamedClient, family, told
 from postgres import postgres
+from preloaded import Clocks
 from relkvanu_service import Service
 from writers import SETTINGS, check
 
@@ -118,16 +119,16 @@ class Answers:
 class Faults:
     """One fault at a time, for a while."""
 
-    def __init__(self, chance, servers, lines):
-        self.chance, self.servers, self.lines, self.deck = chance, servers, lines, []
-        self.made = {"cut": 0, "suspended": 0, "killed": 0, "stopped": 0}
+    def __init__(self, chance, database, servers, lines, clocks):
+        self.chance, self.database, self.servers, self.lines, self.clocks, self.deck = chance, database, servers, lines, clocks, []
+        self.made = {"cut": 0, "suspended": 0, "killed": 0, "stopped": 0, "clock": 0, "database suspended": 0}
 
     def next(self):
         if not self.deck:
             self.deck = self.chance.sample(list(self.made), len(self.made))
         fault = self.deck.pop()
         self.made[fault] += 1
-        getattr(self, fault)(self.chance.randrange(len(self.servers)), self.chance.uniform(0.5, 2 * LEASE))
+        getattr(self, fault.replace(" ", "_"))(self.chance.randrange(len(self.servers)), self.chance.uniform(0.5, 2 * LEASE))
 
     def cut(self, place, seconds):
         self.lines[place].is_cut = True
@@ -143,6 +144,18 @@ class Faults:
     def killed(self, place, _):
         told([self.servers[place].process.pid], signal.SIGKILL)
 
+    def clock(self, place, seconds):
+        """Jobs that move meanwhile go on from the moments that they have."""
+        self.clocks[place].set(day=self.chance.choice([-HOUR, -5, 5, HOUR, 20 * HOUR]))
+        time.sleep(seconds)
+        self.clocks[place].set()
+
+    def database_suspended(self, _, seconds):
+        processes = family(self.database)
+        told(processes, signal.SIGSTOP)
+        time.sleep(min(seconds, 3))
+        told(processes, signal.SIGCONT)
+
     def stopped(self, place, _):
         """In good order: its shards are free at once."""
         told([self.servers[place].process.pid], signal.SIGTERM)
@@ -152,7 +165,8 @@ def run(seconds, count=3, seed=1):
     chance = random.Random(seed)
     with postgres() as database, folder() as at:
         lines = [Line(database.port) for _ in range(count)]
-        servers = [member(at, database.url.replace(str(database.port), str(line.port))) for line in lines]
+        clocks = [Clocks(at, f"clocks-{place}") for place in range(count)]
+        servers = [member(at, database.url.replace(str(database.port), str(line.port)), prefix=its.prefix) for line, its in zip(lines, clocks)]
         servers[0].start()
         archive = PgArchive(database)
         for server in servers[1:]:
@@ -170,7 +184,7 @@ def run(seconds, count=3, seed=1):
             answers.listen(client, client.name_of_job)
         for it in (*kept, *clients):
             it.start()
-        faults, end = Faults(chance, servers, lines), time.monotonic() + seconds
+        faults, end = Faults(chance, database, servers, lines, clocks), time.monotonic() + seconds
         while time.monotonic() < end:
             faults.next()
             time.sleep(chance.uniform(0.3, 3))

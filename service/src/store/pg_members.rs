@@ -8,6 +8,8 @@ use crate::model::{lengths_text, shard_of, Held, Moment, Shards};
 use std::collections::HashMap;
 use std::time::Duration;
 
+/// A process that could not look for this part of its lease does not know whether others were as blind.
+const BLIND: u32 = 3;
 /// A statement of [`Shares`] may take this long.
 const PATIENCE: Duration = Duration::from_secs(10);
 const MEMBERS: &str = "select name, address, spreads, beat, lease from member order by name";
@@ -109,26 +111,37 @@ fn member(row: &[Option<String>]) -> Result<Member, DbError> {
 /// Members as they were seen last, and since when each has committed nothing: by the clock of this machine, since that of the database may be
 /// set while it serves.
 #[derive(Default)]
-pub struct Watch(HashMap<String, (i64, Moment)>);
+pub struct Watch {
+    seen: HashMap<String, (i64, Moment)>,
+    noted: Option<Moment>,
+}
 
 impl Watch {
     /// Notes the members as they are now. Returns whether one has committed since they were noted last, or came or went.
     pub fn note(&mut self, all: &[Member]) -> bool {
-        let before = self.0.len();
-        self.0.retain(|name, _| all.iter().any(|member| member.name == *name));
-        let mut has_changed = self.0.len() != before;
+        let before = self.seen.len();
+        self.seen.retain(|name, _| all.iter().any(|member| member.name == *name));
+        let mut has_changed = self.seen.len() != before;
         for Member { name, beat, .. } in all {
-            if self.0.get(name).is_none_or(|(seen, _)| seen != beat) {
+            if self.seen.get(name).is_none_or(|(seen, _)| seen != beat) {
                 has_changed = true;
-                self.0.insert(name.clone(), (*beat, Moment::now()));
+                self.seen.insert(name.clone(), (*beat, Moment::now()));
             }
         }
+        self.noted = Some(Moment::now());
         has_changed
+    }
+
+    /// Counts anew if nothing could be noted for so long: this process was suspended, or the database did not answer, also to the others.
+    pub fn begin_anew_after(&mut self, most: Duration) {
+        if self.noted.is_some_and(|noted| noted.elapsed() >= most) {
+            self.seen.clear();
+        }
     }
 
     /// Whether a member has committed nothing for the length of its lease, and of this one.
     pub fn is_over(&self, member: &Member, lease: Duration) -> bool {
-        self.0.get(&member.name).is_some_and(|(_, since)| since.elapsed() >= member.lease.max(lease))
+        self.seen.get(&member.name).is_some_and(|(_, since)| since.elapsed() >= member.lease.max(lease))
     }
 }
 
@@ -162,6 +175,7 @@ impl Shares {
     /// The members as they are now, without those that have committed nothing for the length of their lease. These are deleted.
     pub fn look(&mut self) -> Result<Members, DbError> {
         let members = Members::read(&mut self.connection)?;
+        self.watch.begin_anew_after(self.lease / BLIND);
         self.watch.note(&members.all);
         let is_over = |member: &&Member| member.name != self.name && self.watch.is_over(member, self.lease);
         let over: Vec<&Member> = members.all.iter().filter(is_over).collect();
@@ -270,6 +284,18 @@ mod tests {
         assert!(!watch.is_over(&member("a", 1), zero) && watch.is_over(&member("b", 7), zero));
         assert!(!watch.is_over(&member("b", 7), Duration::from_secs(60)) && !watch.is_over(&member("c", 0), zero));
         assert!(watch.note(&[member("a", 1)]) && !watch.note(&[member("a", 1)]));
+    }
+
+    #[test]
+    fn a_process_that_was_blind_counts_anew() {
+        let (mut watch, a, zero) = (Watch::default(), member("a", 3), Duration::ZERO);
+        watch.note(std::slice::from_ref(&a));
+        std::thread::sleep(Duration::from_millis(40));
+        watch.begin_anew_after(Duration::from_secs(60));
+        assert!(watch.is_over(&a, zero));
+        watch.begin_anew_after(Duration::from_millis(20));
+        watch.note(std::slice::from_ref(&a));
+        assert!(!watch.is_over(&a, zero));
     }
 
     #[test]
