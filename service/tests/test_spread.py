@@ -281,7 +281,7 @@ def test_two_members_over_tls():
             server.start(ready=False)
         until(lambda: all("serves on" in server.log() for server in servers))
         until(lambda: database.sql("select count(distinct owner), count(owner) from shard") == "2|64")
-        service = [Service(server.url, verify=f"{at}/certificate.pem") for server in servers]
+        service = [Service(server.url, ca=f"{at}/certificate.pem") for server in servers]
         for number in range(6):
             service[number % 2].open(f"j{number}", SETTINGS, [1])
         seen = [[one.job(f"j{number}").state()["seq"] for number in range(6)] for one in service]
