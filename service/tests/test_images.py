@@ -156,7 +156,7 @@ def test_databases_of_other_versions():
         until(lambda: base.execute("select count(*) from image").fetchone()[0] == 1 and job.state()["image"])
         server.stop()
         base.executescript("pragma user_version = 99;")
-        refused(server, "the tables of the database have version 99, and this program knows those up to 4")
+        refused(server, "the tables of the database have version 99, and this program knows those up to 5")
         return "one without images, and a newer one"
 
 
