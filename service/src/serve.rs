@@ -134,6 +134,7 @@ impl Shared {
             shares,
             reader: open_reader(config)?,
             board: Arc::clone(&self.board),
+            metrics: Arc::clone(&self.metrics),
             inbox: self.inbox.clone(),
             keeping: config.keeping,
             owners,

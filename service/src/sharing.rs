@@ -1,6 +1,7 @@
 //! How this process shares the jobs with others over one database: it takes free shards up to its part, reads their jobs beside the writer, and
 //! gives shards up that others lack.
 use crate::log;
+use crate::metrics::Metrics;
 use crate::model::{Held, Keeping, Shards, SHARDS};
 use crate::store::{DbError, Member, Members, Reader, Shares};
 use crate::writer::{Adoption, Board, Inbox, Jobs, Message, StartError};
@@ -91,6 +92,7 @@ pub struct Sharer {
     pub shares: Shares,
     pub reader: Box<dyn Reader>,
     pub board: Arc<Board>,
+    pub metrics: Arc<Metrics>,
     pub inbox: Inbox,
     pub keeping: Keeping,
     pub owners: Arc<Owners>,
@@ -159,13 +161,17 @@ impl Sharer {
         let all: Vec<u8> = mine.iter().collect();
         let some: Shards = all.into_iter().rev().take(surplus.min(STEP)).collect();
         let (reply, done) = oneshot::channel();
-        if self.inbox.send(Message::GiveUp(some, reply)).is_err() || done.blocking_recv().is_err() {
-            // the writer has ended, and with it the process
+        if self.inbox.send(Message::GiveUp(some, reply)).is_err() {
             return Ok(());
         }
+        // an error: the writer has ended, and with it the process
+        let Ok(jobs) = done.blocking_recv() else {
+            return Ok(());
+        };
         self.state.to_free = some;
         self.shares.free(some)?;
         self.state.to_free = Shards::default();
+        self.metrics.forget_all(&jobs.iter().map(String::as_str).collect());
         Ok(())
     }
 

@@ -106,8 +106,10 @@ impl Historian {
         // a job that the tables have has been on the board, unless it was deleted, or is another process's
         let lengths: HashSet<i64> = self.board.lengths().into_iter().map(|(job, _)| job).collect();
         let away: HashSet<i64> = tables.jobs()?.into_iter().filter(|job| !lengths.contains(job)).collect();
-        for (_, follower) in followers.extract_if(|number, _| !lengths.contains(number)) {
-            self.metrics.forget(&follower.name);
+        let left: Vec<Follower> =
+            followers.extract_if(|number, _| !lengths.contains(number)).map(|(_, follower)| follower).collect();
+        if !left.is_empty() {
+            self.metrics.forget_all(&left.iter().map(|follower| follower.name.as_str()).collect());
         }
         if away == self.away {
             return Ok(());
@@ -129,8 +131,9 @@ impl Historian {
         if lengths.iter().all(|(number, _)| followers.contains_key(number)) {
             return Ok(());
         }
-        let is_new = |number: i64| lengths.iter().any(|(job, _)| *job == number);
-        for opening in self.reader.jobs()?.iter().filter(|opening| is_new(opening.number)) {
+        let new: HashSet<i64> =
+            lengths.iter().map(|(job, _)| *job).filter(|job| !followers.contains_key(job)).collect();
+        for opening in self.reader.jobs()?.iter().filter(|opening| new.contains(&opening.number)) {
             if let Entry::Vacant(place) = followers.entry(opening.number) {
                 let follower = Follower::open(tables, self.reader.as_mut(), opening)?;
                 self.tell(&follower);

@@ -36,8 +36,8 @@ pub enum Message {
     Delete(Delete),
     /// Jobs of shards that this process got.
     Adopt(Box<Adoption>),
-    /// Shards that this process gives up. The answer says that it writes nothing more of them.
-    GiveUp(Shards, oneshot::Sender<()>),
+    /// Shards that this process gives up. The answer names their jobs, of which it writes nothing more.
+    GiveUp(Shards, oneshot::Sender<Vec<String>>),
     /// The coordinator of a job, of which an image was made.
     Returned(Returned),
     Imaged(Imaged),

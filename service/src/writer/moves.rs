@@ -33,7 +33,7 @@ impl Writer {
     }
 
     /// Serves the jobs of shards no more. Each call of them that was answered is committed, and no other is.
-    pub(super) fn give_up(&mut self, given_up: Vec<(Shards, Sender<()>)>) {
+    pub(super) fn give_up(&mut self, given_up: Vec<(Shards, Sender<Vec<String>>)>) {
         for (shards, reply) in given_up {
             self.board.let_go(shards);
             let jobs = self.jobs.give_up(shards);
@@ -41,13 +41,12 @@ impl Writer {
                 self.keeper.forget(*place);
                 self.timer.set(*place, None);
                 self.board.forget(name);
-                self.metrics.forget(name);
             }
             self.leftovers.forget(shards);
             self.store.let_go(shards);
             let (count, left) = (jobs.len(), self.jobs.shards().len());
             log::info(&format!("gives up shards={} jobs={count}; has {left}", shards.len()));
-            let _ = reply.send(());
+            let _ = reply.send(jobs.into_iter().map(|(_, name)| name).collect());
         }
     }
 }

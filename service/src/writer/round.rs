@@ -30,7 +30,7 @@ pub struct Round {
     pub given: Vec<(ForKeeping, Sender<bool>)>,
     pub deletions: Vec<Delete>,
     pub adoptions: Vec<Adoption>,
-    pub given_up: Vec<(Shards, Sender<()>)>,
+    pub given_up: Vec<(Shards, Sender<Vec<String>>)>,
     /// The places of jobs that were called.
     pub touched: BTreeSet<usize>,
     /// Jobs whose tick did nothing, and when it is tried again.
