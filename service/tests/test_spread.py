@@ -181,6 +181,34 @@ def left(server, all_of, end, status):
     return took
 
 
+def test_many_jobs_move():
+    """A process that gives up and gets many jobs keeps its lease meanwhile, and its metrics are of its own jobs."""
+    with postgres() as database, folder() as at:
+        first = member(at, database.url).start()
+
+        def some(part):
+            service = Service(first.url)
+            for number in range(part, 1600, 16):
+                service.open(f"j{number}", SETTINGS, [1]).call(savepoint())
+
+        threads = [threading.Thread(target=some, args=(part,)) for part in range(16)]
+        for thread in threads:
+            thread.start()
+        for thread in threads:
+            thread.join()
+        assert first.get("/metrics")[2].count("relkvanu_mode{") == 1600
+        second = member(at, database.url).start(ready=False)
+        even([first, second], 60)
+        counts = [server.get("/metrics")[2].count("relkvanu_mode{") for server in (first, second)]
+        assert counts == [800, 800] and len(listed(second)) == 1600, counts
+        assert first.process.poll() is None and "has not renewed" not in second.log(), second.log()[-300:]
+        assert second.stop() == 0
+        even([first], 60)
+        assert first.get("/metrics")[2].count("relkvanu_mode{") == 1600
+        first.stop()
+        return "800 of 1600 jobs, there and back"
+
+
 def test_a_late_commit_writes_nothing():
     """A process is cut off from the database while its commit is under way. Another one gets its jobs, and calls them. Then the commit arrives."""
     with postgres() as database, folder() as at:
