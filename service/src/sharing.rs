@@ -1,5 +1,5 @@
-//! How this process shares the jobs with others over one database: it takes free shards up to its part, reads their jobs beside the writer, and
-//! gives shards up that others lack.
+//! How this process shares the jobs with others over one database: it takes free shards up to its part, reads their jobs beside the
+//! writer, and gives shards up that others lack.
 use crate::log;
 use crate::metrics::Metrics;
 use crate::model::{Held, Keeping, Shards, SHARDS};

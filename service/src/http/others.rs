@@ -1,5 +1,5 @@
-//! The other processes that share the jobs: requests for jobs of theirs are passed on to them, and lists are put together. A request is passed
-//! on once at most, with the token of its client, which decides there what it may do.
+//! The other processes that share the jobs: requests for jobs of theirs are passed on to them, and lists are put together. A request is
+//! passed on once at most, with the token of its client, which decides there what it may do.
 use super::reply::{error, with_header, Reply};
 use super::{gate, no_job, App};
 use crate::sharing::{Owner, Owners};

@@ -1,5 +1,5 @@
-//! The log in PostgreSQL. Each shard of the jobs has an owner among the members, whose lease decides for how long. Each group is one statement,
-//! which renews the lease and is fenced by it. So a leader that was stopped holds no lock.
+//! The log in PostgreSQL. Each shard of the jobs has an owner among the members, whose lease decides for how long. Each group is one
+//! statement, which renews the lease and is fenced by it. So a leader that was stopped holds no lock.
 use super::cells::Row;
 use super::error::{DbError, Failure, Unusable};
 use super::parameter::Parameter;

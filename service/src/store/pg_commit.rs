@@ -8,8 +8,8 @@ use std::fmt::Write;
 const PARTS: &str = include_str!("../../sql/pg_commit.sql");
 /// What a part begins with.
 const PART: &str = "-- part ";
-/// The lease and the fence: $1 seconds of the lease, $2 the member, and $3 and $4 the shards that the group writes with their epochs. It locks
-/// the member's row, which has to go before another process gets a shard of it. A leader that was stopped holds no lock.
+/// The lease and the fence: $1 seconds of the lease, $2 the member, and $3 and $4 the shards that the group writes with their epochs. It
+/// locks the member's row, which has to go before another process gets a shard of it. A leader that was stopped holds no lock.
 const LEASE: &str = "update member set beat = beat + 1, until = clock_timestamp() + $1::float8 * interval '1 s' where name = $2
     and not exists (select from unnest($3::bigint[], $4::bigint[]) u(number, epoch)
     left join shard on shard.number = u.number and shard.epoch = u.epoch and shard.owner = $2 where shard.number is null) returning 1";

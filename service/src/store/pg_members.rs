@@ -1,5 +1,6 @@
-//! The processes that share a database of PostgreSQL: which there are, which one owns each shard, and how shards change hands. A member that
-//! commits nothing for the length of its lease, an empty group too, is deleted: then its shards are free, and no commit of it succeeds.
+//! The processes that share a database of PostgreSQL: which there are, which one owns each shard, and how shards change hands. A member
+//! that commits nothing for the length of its lease, an empty group too, is deleted: then its shards are free, and no commit of it
+//! succeeds.
 use super::error::DbError;
 use super::pq::{Connection, Failed};
 use super::rows::MOST_STARTS;
@@ -108,8 +109,8 @@ fn member(row: &[Option<String>]) -> Result<Member, DbError> {
     Ok(Member { name: name.clone(), address: address.clone(), spreads: spreads == "t", beat, lease })
 }
 
-/// Members as they were seen last, and since when each has committed nothing: by the clock of this machine, since that of the database may be
-/// set while it serves.
+/// Members as they were seen last, and since when each has committed nothing: by the clock of this machine, since that of the database
+/// may be set while it serves.
 #[derive(Default)]
 pub struct Watch {
     seen: HashMap<String, (i64, Moment)>,
