@@ -69,6 +69,9 @@ pub struct Serve {
     /// The address that a standby names to clients [default: http://LISTEN]
     #[arg(long, value_name = "URL")]
     pub advertise: Option<String>,
+    /// Share the jobs with the other processes of this database of PostgreSQL, which reach this one at the address of --advertise
+    #[arg(long)]
+    pub spread: bool,
     /// How the lines of the service's own log are written [default: text]
     #[arg(long, value_name = "FORM")]
     pub log: Option<LogForm>,

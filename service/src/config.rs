@@ -5,6 +5,7 @@ use crate::http::TlsFiles;
 use crate::log;
 use crate::model::Keeping;
 use clap::ValueEnum;
+use hyper::Uri;
 use serde::Deserialize;
 use std::io;
 use std::net::SocketAddr;
@@ -30,6 +31,12 @@ pub enum BadConfig {
     NoTokens(SocketAddr),
     #[error("tls_certificate and tls_key: there is only one of them")]
     HalfTls,
+    #[error("spread: one process alone uses an SQLite file; the jobs of a database of PostgreSQL can be spread")]
+    SpreadOverSqlite,
+    #[error("spread: advertise is missing, the address at which the other processes reach this one")]
+    NoAdvertised,
+    #[error("advertise: {0:?} is no address such as http://10.0.0.5:7780")]
+    Advertised(String),
     #[error("{name}: {value} is not within {least} to {most}")]
     Number { name: &'static str, value: u64, least: u64, most: u64 },
     #[error(transparent)]
@@ -45,6 +52,7 @@ struct FileConfig {
     history: Option<PathBuf>,
     token_file: Option<PathBuf>,
     advertise: Option<String>,
+    spread: bool,
     lease_seconds: Option<u64>,
     names: Option<bool>,
     image_calls: Option<u64>,
@@ -55,6 +63,15 @@ struct FileConfig {
     tls_certificate: Option<PathBuf>,
     tls_key: Option<PathBuf>,
     limits: Limits,
+}
+
+/// Which of the processes of a database serves jobs.
+#[derive(Clone, Copy, Debug, PartialEq, Eq)]
+pub enum Leading {
+    /// One of them serves all, and the others stand by.
+    One,
+    /// Each serves a part of them.
+    Each,
 }
 
 /// How lines of the service's log are written.
@@ -137,6 +154,7 @@ pub struct Config {
     pub history: PathBuf,
     pub token_file: Option<PathBuf>,
     pub advertise: String,
+    pub leading: Leading,
     pub lease: Duration,
     /// Whether a new job gives out names if its creation does not say.
     pub names: bool,
@@ -166,13 +184,18 @@ impl Config {
             (None, None) => None,
             _ => return Err(BadConfig::HalfTls),
         };
+        let (spread, advertise) = (given.spread || file.spread, given.advertise.clone().or(file.advertise));
+        match (&database, &advertise) {
+            (Database::Sqlite(_), _) if spread => return Err(BadConfig::SpreadOverSqlite),
+            (_, None) if spread => return Err(BadConfig::NoAdvertised),
+            (_, Some(address)) if spread && !is_address(address) => return Err(BadConfig::Advertised(address.clone())),
+            _ => {}
+        }
         let config = Config {
+            leading: if spread { Leading::Each } else { Leading::One },
             history: given.history.clone().or(file.history).unwrap_or_else(|| database.history(&listen)),
             token_file: given.token_file.clone().or(file.token_file),
-            advertise: given
-                .advertise
-                .clone()
-                .or(file.advertise)
+            advertise: advertise
                 .unwrap_or_else(|| format!("{}://{listen}", if tls.is_some() { "https" } else { "http" })),
             lease: Duration::from_secs(file.lease_seconds.unwrap_or(5)),
             names: given.names.or(file.names).unwrap_or(true),
@@ -220,6 +243,14 @@ impl Config {
         }
         Ok(self)
     }
+}
+
+/// Whether requests can be sent there.
+fn is_address(address: &str) -> bool {
+    let uri: Option<Uri> = address.trim_end_matches('/').parse().ok();
+    uri.is_some_and(|uri| {
+        matches!(uri.scheme_str(), Some("http" | "https")) && uri.host().is_some() && uri.path() == "/"
+    })
 }
 
 fn read(path: &Path) -> Result<FileConfig, BadConfig> {

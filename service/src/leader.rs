@@ -2,7 +2,9 @@
 use crate::exit;
 use crate::log;
 use crate::metrics::Metrics;
-use crate::model::{check_clock, lengths_text, shown, wall, Clock, Keeping, Moment};
+use crate::model::{check_clock, shown, wall, Clock, Held, Keeping, Moment, Shards};
+use crate::process;
+use crate::sharing::Sharer;
 use crate::stop::Stop;
 use crate::store::{Lead, Reader, Store};
 use crate::writer::{Board, Imager, Inbox, Jobs, Lease, Messages, StartError, Writer};
@@ -23,10 +25,11 @@ pub struct Leader {
     pub keeping: Keeping,
     /// Whether the clock may be far ahead of the log.
     pub accept_clock: bool,
+    /// The thread that shares the jobs with other processes, if this one does.
+    pub sharer: Option<Sharer>,
 }
 
 /// What a take-over has so far.
-#[derive(Default)]
 struct Followed {
     jobs: Jobs,
     calls: u64,
@@ -35,7 +38,9 @@ struct Followed {
 impl Leader {
     /// Ends the process if it can't lead.
     pub fn run(mut self) {
-        let led = self.lead().unwrap_or_else(|stop| {
+        let sharer = self.sharer.take();
+        let led = if sharer.is_some() { self.join().map(Some) } else { self.lead() };
+        let led = led.unwrap_or_else(|stop| {
             log::error(&stop.to_string());
             exit::now(stop.status())
         });
@@ -46,24 +51,28 @@ impl Leader {
         let writer = Writer::new(self.store, jobs, clock, lease, Arc::clone(&self.board), self.metrics, self.keeping);
         // the writer has published all jobs, so the first request finds them
         self.board.open();
+        match sharer {
+            None => self.board.settle(),
+            Some(sharer) => drop(process::thread("sharer", move || sharer.run())),
+        }
         log::info(&format!("serves on {}", self.listen));
         writer.run(&self.messages, &Imager::start(self.inbox));
     }
 
     /// Follows the log until this process may write. So a take-over has little to read. `None` if the process was told to stop first.
     fn lead(&mut self) -> Result<Option<(Jobs, Lease)>, Stop> {
-        let (mut followed, started) = (Followed::default(), Moment::now());
+        let (mut followed, started) = (Followed { jobs: Jobs::of(Shards::ALL), calls: 0 }, Moment::now());
         self.follow(&mut followed)?;
-        self.check_clock(&followed.jobs)?;
+        self.check_clock(followed.jobs.last_moment())?;
         let mut waits = false;
         while !self.board.is_stopping() {
             self.board.beat();
             self.metrics.queue.followed();
             let asked = Moment::now();
             match self.store.lead()? {
-                Lead::Here { epoch } => {
-                    let lease = self.take_over(&mut followed, asked, epoch)?;
-                    followed.tell(&format!("leads epoch={epoch}"), started, asked);
+                Lead::Here { held } => {
+                    let lease = self.take_over(&mut followed, asked, &held)?;
+                    followed.tell(&format!("leads epoch={}", self.board.epoch()), started, asked);
                     return Ok(Some((followed.jobs, lease)));
                 }
                 Lead::Elsewhere { committed: true } => self.follow(&mut followed)?,
@@ -78,6 +87,19 @@ impl Leader {
         Ok(None)
     }
 
+    /// Joins the processes that share the jobs. It has none at first.
+    fn join(&mut self) -> Result<(Jobs, Lease), Stop> {
+        let last = self.reader.last_moment()?;
+        self.check_clock(last)?;
+        let asked = Moment::now();
+        self.store.join()?;
+        let now = wall().max(last);
+        self.store.note(now).unwrap_or_else(|why| log::warn(&format!("the moment is not written down: {why}")));
+        self.board.lead(relkvanu_client::new_key());
+        log::info("shares the jobs with the other processes of the database");
+        Ok((Jobs::of(Shards::default()), Lease::of(self.store.as_ref(), asked)))
+    }
+
     fn follow(&mut self, followed: &mut Followed) -> Result<(), Stop> {
         let board = &self.board;
         followed.catch_up(self.reader.as_mut(), &mut || {
@@ -87,7 +109,7 @@ impl Leader {
     }
 
     /// Reads what the last leader wrote since this process read the log. It keeps its lease meanwhile.
-    fn take_over(&mut self, followed: &mut Followed, asked: Moment, epoch: u64) -> Result<Lease, Stop> {
+    fn take_over(&mut self, followed: &mut Followed, asked: Moment, held: &[Held]) -> Result<Lease, Stop> {
         let mut lease = Lease::of(self.store.as_ref(), asked);
         let (store, board) = (self.store.as_mut(), &self.board);
         let mut keep = || {
@@ -98,19 +120,19 @@ impl Leader {
         keep()?;
         followed.jobs.take_stock(self.reader.as_mut(), self.keeping, &mut keep)?;
         keep()?;
-        self.check_clock(&followed.jobs).inspect_err(|_| self.store.release())?;
+        self.check_clock(followed.jobs.last_moment()).inspect_err(|_| self.store.release())?;
         let now = wall().max(followed.jobs.last_moment());
         self.store.note(now).unwrap_or_else(|why| log::warn(&format!("the moment is not written down: {why}")));
         let log = relkvanu_client::new_key();
-        self.store.begin(&log, &lengths_text(&followed.jobs.lengths()))?;
-        self.board.lead(epoch, log);
+        self.store.begin(&log, held, &followed.jobs.lengths())?;
+        self.board.lead(log);
+        self.board.hold(held);
         lease.renew(self.store.as_mut())?;
         Ok(lease)
     }
 
     /// Refuses a clock that is far ahead of the log. If it is behind, the moments count on from the log's last one.
-    fn check_clock(&mut self, jobs: &Jobs) -> Result<(), Stop> {
-        let last = jobs.last_moment();
+    fn check_clock(&mut self, last: u64) -> Result<(), Stop> {
         if !self.accept_clock {
             check_clock(self.reader.noted()?.max(last))?;
         }

@@ -19,6 +19,7 @@ mod model;
 mod process;
 mod remote;
 mod serve;
+mod sharing;
 mod starting;
 mod stop;
 mod store;

@@ -1,20 +1,22 @@
 //! `relkvanu serve`: opens the database, replays the jobs from the log, and serves them until it is stopped.
 use crate::cli;
-use crate::config::{Config, LogForm};
+use crate::config::{Config, Leading, LogForm};
 use crate::database::Database;
 use crate::exit;
 use crate::history::{Door, Historian, Place};
-use crate::http::{self, App, Audit, Keys, Tls};
+use crate::http::{self, App, Audit, Keys, Others, Tls};
 use crate::leader::Leader;
 use crate::log;
 use crate::metrics::Metrics;
 use crate::model::wall;
 use crate::process;
+use crate::sharing::{Owners, Sharer, State};
 use crate::starting::Starting;
 use crate::stop::Stop;
-use crate::store::{count_no_memory, DbError, Lite, LiteReader, Pg, PgReader, Reader, Store, Unusable};
+use crate::store::{count_no_memory, DbError, Lite, LiteReader, Pg, PgReader, Reader, Shares, Store, Unusable};
 use crate::writer::{queue, Board, Inbox, Message, Messages};
 use sd_notify::NotifyState;
+use std::collections::HashSet;
 use std::sync::Arc;
 use std::time::{Duration, Instant};
 use tokio::net::TcpListener;
@@ -55,13 +57,15 @@ fn serve(mut config: Config) -> Result<(), Stop> {
     // before the lease is taken, so a second process at this address never leads
     let listener = listening(&config)?;
     let starting = Starting::begin();
-    let store = open_store(&config)?;
+    let (store, member) = open_store(&config)?;
     drop(starting);
+    let owners = member.as_ref().map(|member| Arc::new(Owners::new(member.name())));
     let (shared, messages) = Shared::new(&config)?;
     shared.metrics.upkeep.tokens(keys.tokens().as_deref());
-    let app = shared.app(&config, keys)?;
+    let app = shared.app(&config, keys, owners.clone())?;
     let historian = shared.historian(&config)?;
-    let leader = shared.leader(&config, store, messages)?;
+    let thread = member.zip(owners).map(|(member, owners)| shared.sharer(&config, member, owners)).transpose()?;
+    let leader = shared.leader(&config, store, messages, thread)?;
     historian.start();
     let working = process::thread("writer", move || leader.run());
     if answer_requests(app, listener)? {
@@ -91,8 +95,9 @@ impl Shared {
     }
 
     /// What answers requests.
-    fn app(&self, config: &Config, keys: Arc<Keys>) -> Result<App, Stop> {
+    fn app(&self, config: &Config, keys: Arc<Keys>, owners: Option<Arc<Owners>>) -> Result<App, Stop> {
         Ok(App {
+            others: owners.map(Others::new).transpose()?,
             board: Arc::clone(&self.board),
             metrics: Arc::clone(&self.metrics),
             inbox: self.inbox.clone(),
@@ -119,12 +124,33 @@ impl Shared {
             keeping: config.keeping,
             since: wall(),
             measured: None,
+            away: HashSet::new(),
             opened: None,
         })
     }
 
-    fn leader(&self, config: &Config, store: Box<dyn Store>, messages: Messages) -> Result<Leader, Stop> {
+    fn sharer(&self, config: &Config, shares: Shares, owners: Arc<Owners>) -> Result<Sharer, Stop> {
+        Ok(Sharer {
+            shares,
+            reader: open_reader(config)?,
+            board: Arc::clone(&self.board),
+            metrics: Arc::clone(&self.metrics),
+            inbox: self.inbox.clone(),
+            keeping: config.keeping,
+            owners,
+            state: State::default(),
+        })
+    }
+
+    fn leader(
+        &self,
+        config: &Config,
+        store: Box<dyn Store>,
+        messages: Messages,
+        sharer: Option<Sharer>,
+    ) -> Result<Leader, Stop> {
         Ok(Leader {
+            sharer,
             store,
             reader: open_reader(config)?,
             board: Arc::clone(&self.board),
@@ -138,10 +164,15 @@ impl Shared {
     }
 }
 
-fn open_store(config: &Config) -> Result<Box<dyn Store>, Unusable> {
+/// The writer's connection, and that by which the process shares the jobs with others, if it does.
+fn open_store(config: &Config) -> Result<(Box<dyn Store>, Option<Shares>), Unusable> {
     match &config.database {
-        Database::Sqlite(path) => Ok(Box::new(Lite::open(path)?)),
-        Database::Postgres(url) => Ok(Box::new(Pg::open(url, &config.advertise, config.lease)?)),
+        Database::Sqlite(path) => Ok((Box::new(Lite::open(path)?), None)),
+        Database::Postgres(url) => {
+            let store = Pg::open(url, &config.advertise, config.lease)?;
+            let shares = (config.leading == Leading::Each).then(|| store.shares(url)).transpose()?;
+            Ok((Box::new(store), shares))
+        }
     }
 }
 

@@ -215,7 +215,7 @@ def run(seconds, seed=1):
         for server in servers:
             server.stop()
         made, logged, oracle = (sum(one[part] or 0 for one in found) for part in range(3))
-        reads, epochs = sum(client.reads for client in clients), database.sql("select epoch from leader")
+        reads, epochs = sum(client.reads for client in clients), database.sql("select max(epoch) from shard")
         wrong = [status for it in kept for status in it.ended if status not in (75, -9)]
         assert not wrong, (wrong, [server.log()[-600:] for server in servers])
         assert made > 10 * seconds and int(epochs) > seconds // 30, (made, epochs, faults.made)

@@ -11,6 +11,7 @@ from concurrent.futures import ThreadPoolExecutor
 HERE = os.path.dirname(os.path.realpath(__file__))
 # the longest first
 MODULES = [
+    "test_spread",
     "test_postgres", "test_partition", "test_promotion", "test_lease", "test_dask", "test_page", "test_page_acts", "test_page_state", "test_events", "test_stream", "test_failover", "test_history",
     "test_kills", "test_clocks", "test_put_off", "test_replay", "test_tables", "test_power", "test_wal", "test_disks", "test_images",
     "test_long_images",

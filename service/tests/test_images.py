@@ -156,7 +156,7 @@ def test_databases_of_other_versions():
         until(lambda: base.execute("select count(*) from image").fetchone()[0] == 1 and job.state()["image"])
         server.stop()
         base.executescript("pragma user_version = 99;")
-        refused(server, "the tables of the database have version 99, and this program knows those up to 4")
+        refused(server, "the tables of the database have version 99, and this program knows those up to 5")
         return "one without images, and a newer one"
 
 
@@ -218,7 +218,7 @@ def test_postgresql_of_other_versions():
         server.start()
         until(lambda: job.state()["image"])
         server.stop()
-        assert database.sql("select number from schema_version") == "4" and database.sql("select count(*) from image") == "1"
+        assert database.sql("select number from schema_version") == "5" and database.sql("select count(*) from image") == "1"
         return "one without images, and a newer one"
 
 

@@ -40,7 +40,7 @@ def near(at, url):
 
 
 def epoch(database):
-    return int(database.sql("select epoch from leader"))
+    return int(database.sql("select max(epoch) from shard"))
 
 
 def is_ready(server):

@@ -69,7 +69,7 @@ def test_a_dump_of_a_service_that_runs():
 
 def cut_writer(database):
     """Ends the connection of the leader's writer. It is known by its last statement, which may be another one than a commit just then."""
-    ended = "select pg_terminate_backend(pid) from pg_stat_activity where application_name = 'relkvanu' and query like 'with l as (update leader%'"
+    ended = "select pg_terminate_backend(pid) from pg_stat_activity where application_name = 'relkvanu' and query like 'with l as (update member%'"
     until(lambda: database.sql(ended))
 
 
@@ -93,7 +93,7 @@ def test_take_over():
                 leader = next(server for server in servers if leads(server))
                 standby = next(server for server in servers if server is not leader)
                 time.sleep(0.6)
-                epochs.append(int(database.sql("select epoch from leader")))
+                epochs.append(int(database.sql("select max(epoch) from shard")))
                 started = time.monotonic()
                 if way == "cut":
                     cut_writer(database)

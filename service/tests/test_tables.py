@@ -68,6 +68,6 @@ def test_tables_of_an_earlier_version_are_upgraded():
             server.start()
             assert job.state()["seq"] == before and tick(server)
             server.stop()
-        assert database.sql("select number from schema_version") == "4"
+        assert database.sql("select number from schema_version") == "5"
         assert database.sql("select count(*) from pg_indexes where indexname in ('call_at', 'image_at')") == "2"
         return "both databases, from version 1"

@@ -12,7 +12,7 @@ use crate::process;
 use crate::store::{room_of, Reader};
 use crate::writer::{Board, ForKeeping, Inbox, Message, Read, ReadDone};
 use std::collections::hash_map::Entry;
-use std::collections::HashMap;
+use std::collections::{HashMap, HashSet};
 use std::sync::mpsc::{channel, Sender};
 use std::sync::Arc;
 use std::time::{Duration, Instant};
@@ -42,6 +42,8 @@ pub struct Historian {
     /// Records that ended before this moment are not counted: an earlier process has counted them.
     pub since: u64,
     pub measured: Option<Instant>,
+    /// Jobs that the tables have and this process does not, when it looked whether they were deleted.
+    pub away: HashSet<i64>,
     /// Is told once the file was opened, or could not be.
     pub opened: Option<Sender<()>>,
 }
@@ -96,21 +98,26 @@ impl Historian {
     }
 
     /// Forgets the jobs that were deleted, those of an earlier process too.
-    fn forget_deleted(&self, tables: &Tables, followers: &mut HashMap<i64, Follower>) -> Result<(), Error> {
+    fn forget_deleted(&mut self, tables: &Tables, followers: &mut HashMap<i64, Follower>) -> Result<(), Error> {
         // before it leads it does not know the jobs
         if !self.board.is_ready() {
             return Ok(());
         }
-        // a job that the tables have has been on the board, unless it was deleted
-        let (known, lengths) = (tables.jobs()?, self.board.lengths());
-        let is_there = |number: i64| lengths.iter().any(|(job, _)| *job == number);
-        for job in known.into_iter().filter(|number| !is_there(*number)) {
-            while tables.within(|| Ok(tables.forget_piece(job)?))? {}
-            if let Some(follower) = followers.remove(&job) {
-                self.metrics.forget(&follower.name);
-            }
+        // a job that the tables have has been on the board, unless it was deleted, or is another process's
+        let lengths: HashSet<i64> = self.board.lengths().into_iter().map(|(job, _)| job).collect();
+        let away: HashSet<i64> = tables.jobs()?.into_iter().filter(|job| !lengths.contains(job)).collect();
+        let left: Vec<Follower> =
+            followers.extract_if(|number, _| !lengths.contains(number)).map(|(_, follower)| follower).collect();
+        if !left.is_empty() {
+            self.metrics.forget_all(&left.iter().map(|follower| follower.name.as_str()).collect());
         }
-        followers.retain(|number, _| is_there(*number));
+        if away == self.away {
+            return Ok(());
+        }
+        for (job, _) in self.reader.gone()?.into_iter().filter(|(job, _)| away.contains(job)) {
+            while tables.within(|| Ok(tables.forget_piece(job)?))? {}
+        }
+        self.away = away;
         Ok(())
     }
 
@@ -124,8 +131,9 @@ impl Historian {
         if lengths.iter().all(|(number, _)| followers.contains_key(number)) {
             return Ok(());
         }
-        let is_new = |number: i64| lengths.iter().any(|(job, _)| *job == number);
-        for opening in self.reader.jobs()?.iter().filter(|opening| is_new(opening.number)) {
+        let new: HashSet<i64> =
+            lengths.iter().map(|(job, _)| *job).filter(|job| !followers.contains_key(job)).collect();
+        for opening in self.reader.jobs()?.iter().filter(|opening| new.contains(&opening.number)) {
             if let Entry::Vacant(place) = followers.entry(opening.number) {
                 let follower = Follower::open(tables, self.reader.as_mut(), opening)?;
                 self.tell(&follower);
@@ -238,7 +246,7 @@ impl Historian {
             let (reply, answer) = oneshot::channel();
             let is_sent = self.inbox.try_send(Message::Read(Read::Jobs, reply)).is_ok();
             match is_sent.then(|| answer.blocking_recv()) {
-                Some(Ok(ReadDone::Jobs(jobs))) => samples.add(tables, &jobs)?,
+                Some(Ok(ReadDone::Jobs(_, jobs))) => samples.add(tables, &jobs)?,
                 _ => return Ok(()),
             }
         }

@@ -4,7 +4,7 @@ use super::members::PATH;
 use super::reply::{as_problem, error, text, wants_problems, with_header, Reply};
 use super::route::{NoRoute, Route};
 use super::seats::{Kind, Seat};
-use super::{names, page, reads, room, stream, trace, writes, App};
+use super::{names, others, page, reads, room, stream, trace, view, writes, App};
 use crate::auth::Caller;
 use crate::log;
 use hyper::header::{HeaderMap, HeaderName, ALLOW, CONNECTION, CONTENT_TYPE, HOST, RETRY_AFTER, WWW_AUTHENTICATE};
@@ -52,6 +52,8 @@ async fn answered(app: Arc<App>, seat: &Arc<Seat>, request: Request<Body>) -> Re
     app.audit.answered(&asked, known.as_ref(), by.as_deref(), &mut reply);
     let reply = if wants_problems { as_problem(reply) } else { reply };
     match app.board.log() {
+        // that of the process that has the job
+        _ if reply.headers().contains_key(LOG) => reply,
         "" => reply,
         log => with_header(reply, HeaderName::from_static(LOG), log),
     }
@@ -86,14 +88,23 @@ fn crowded() -> Reply {
 
 async fn dispatched(app: &Arc<App>, route: Route, caller: Option<Caller>, request: Request<Body>) -> Reply {
     let caller = caller.unwrap_or_else(Caller::local);
-    dispatch(app, route, &caller, request).await.unwrap_or_else(|refused| *refused)
+    let job = route.job().map(str::to_string);
+    let reply = dispatch(app, route, &caller, request).await.unwrap_or_else(|refused| *refused);
+    others::looked_again(app, job.as_deref(), reply).await
 }
 
 async fn dispatch(app: &Arc<App>, route: Route, caller: &Caller, request: Request<Body>) -> Result<Reply, Box<Reply>> {
     if route.needs_leader() && !app.board.is_ready() {
         return Err(standby(app).await.into());
     }
+    let request = match route.job() {
+        // the page's view of a job has the names of all jobs too
+        Some(job) if !matches!(route, Route::View(_)) => others::answered(app, job, request).await?,
+        _ => request,
+    };
     match route {
+        Route::Jobs => reads::jobs(app, caller, &request).await,
+        Route::View(job) => view::answer(app, job, caller, request).await,
         Route::Asset(asset) => Ok(page::answer(asset)),
         Route::Health => Ok(health(app)),
         Route::Ready => Ok(ready(app).await),
@@ -180,6 +191,7 @@ async fn ready(app: &App) -> Reply {
         takes if takes >= SLOW_COMMIT => {
             busy(&format!("no commit is possible: the database has not taken one for {} s", takes.as_secs()))
         }
+        _ if app.board.is_ready() && !app.board.is_settled() => busy("this process does not have its jobs yet"),
         _ if app.board.is_ready() => text(200, "ready\n"),
         _ => standby(app).await,
     }

@@ -4,8 +4,10 @@ mod audit;
 mod connection;
 mod gate;
 mod keys;
+mod lists;
 mod members;
 mod names;
+mod others;
 mod page;
 mod places;
 mod query;
@@ -25,6 +27,7 @@ mod writes;
 
 pub use audit::Audit;
 pub use keys::Keys;
+pub use others::Others;
 pub use server::serve;
 pub use tls::{NoTls, Tls, TlsFiles};
 pub use wire::{is_name, NO_NAME};
@@ -58,6 +61,8 @@ pub struct App {
     pub history: Arc<Mutex<Door>>,
     pub place: Arc<Place>,
     pub keys: Arc<Keys>,
+    /// The other processes, if this one shares the jobs with them.
+    pub others: Option<Others>,
     pub audit: Audit,
     /// Room for the bodies of all requests, in units of [`BODY_UNIT`] bytes.
     pub bodies: Arc<Semaphore>,
@@ -141,5 +146,7 @@ async fn waited<R: Send + 'static, T: Send + 'static, E: Error + Send + 'static>
 }
 
 fn no_job(job: &str) -> Reply {
-    error(404, &format!("there is no job {job}"))
+    let mut reply = error(404, &format!("there is no job {job}"));
+    reply.extensions_mut().insert(others::NoSuchJob);
+    reply
 }

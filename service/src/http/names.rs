@@ -15,13 +15,13 @@ const NO_NAMES: &str = "NoNames";
 pub async fn fence(app: &App, job: String, request: Request<Body>) -> Result<Reply, Box<Reply>> {
     app.number(&job)?;
     let name = key_name(request.headers())?;
-    let (bytes, _room) = read_body(app, request).await?;
+    let (bytes, _room) = read_body(app, request.into_body()).await?;
     let first_name = wire::first_name(&bytes).map_err(|why| invalid(&why))?;
     let key = name.map(|name| Key { name, digest: sha256(&bytes) });
     let (at, calls) = (job.clone(), vec![Call::Fence { first_name }]);
     let did = Did::of(&calls);
     let mut reply = match app.ask(|reply| Message::Calls { job, calls, key, reply }).await? {
-        CallsDone::Made(outcomes) => turned(&app.board.answers(&outcomes), first_name),
+        CallsDone::Made(epoch, outcomes) => turned(&app.board.answers(epoch, &outcomes), first_name),
         CallsDone::Known(answers) => turned(&answers, first_name),
         CallsDone::KeyUsed => return Err(super::writes::key_used().into()),
         CallsDone::NoJob => no_job(&at),
@@ -78,7 +78,7 @@ pub async fn term(app: &App, job: String, query: &str) -> Result<Reply, Box<Repl
 /// Which of some files may be deleted, by what is committed. The writer answers only while it surely leads, and this looks again:
 /// a process that was suspended meanwhile sends no answer.
 pub async fn garbage(app: &App, job: String, request: Request<Body>) -> Result<Reply, Box<Reply>> {
-    let (bytes, _room) = read_body(app, request).await?;
+    let (bytes, _room) = read_body(app, request.into_body()).await?;
     let files = wire::garbage(&bytes).map_err(|why| invalid(&why))?;
     let told = app.read(Read::Garbage { job: job.clone(), files }).await?;
     if !app.board.is_ready() {

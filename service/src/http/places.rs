@@ -33,7 +33,7 @@ impl Place<'_> {
             None => app.board.length(self.job),
             Some(known) => {
                 let (known, number) = (known.to_string(), self.number);
-                let ended = app.read_log(move |reader| reader.lengths_after(&known)).await?;
+                let ended = app.read_log(move |reader| reader.lengths_after(&known, number)).await?;
                 ended.map_or(0, |lengths| length_in(&lengths, number)).min(app.board.length(self.job))
             }
         };

@@ -1,14 +1,17 @@
 //! Requests that read: jobs, records, files, the log, events and metrics.
+use super::others::was_passed;
 use super::places::{self, Place};
 use super::query::{self, numbers, Parameter};
 use super::render::{self, Metadata};
 use super::reply::{bad_field, body, error, json_reply, with_type, Reply};
 use super::route::Route;
-use super::{acks, names, no_job, view, App};
+use super::{acks, lists, names, no_job, App};
 use crate::auth::Caller;
 use crate::history::{FileRow, HistoryReader, Search};
+use crate::model::Shards;
 use crate::store::Reader;
 use crate::writer::{JobState, Read, ReadDone, RecordState};
+use hyper::{Body, Request};
 use serde_json::{json, Value};
 use std::time::Duration;
 
@@ -26,7 +29,6 @@ const fn limit(most: u64, default: u64) -> Parameter {
 pub async fn answer(app: &App, route: Route, caller: &Caller, query: &str) -> Result<Reply, Box<Reply>> {
     match route {
         Route::Metrics => metrics(app, query).await,
-        Route::Jobs => jobs(app, caller, query).await,
         Route::Job(job) => one_job(app, job, query).await,
         Route::Records(job) => records(app, &job, query).await,
         Route::Record(job, id) => record(app, job, id, query).await,
@@ -37,7 +39,6 @@ pub async fn answer(app: &App, route: Route, caller: &Caller, query: &str) -> Re
         Route::Events(job) => events(app, &job, query).await,
         Route::Samples(job) => samples(app, &job, query).await,
         Route::Term(job) => names::term(app, job, query).await,
-        Route::View(job) => view::answer(app, job, caller, query).await,
         Route::Asset(_)
         | Route::Health
         | Route::Ready
@@ -46,6 +47,8 @@ pub async fn answer(app: &App, route: Route, caller: &Caller, query: &str) -> Re
         | Route::Calls(_)
         | Route::Fence(_)
         | Route::Garbage(_)
+        | Route::Jobs
+        | Route::View(_)
         | Route::Stream(_) => Err(error(404, "is no read").into()),
     }
 }
@@ -62,12 +65,13 @@ async fn metrics(app: &App, query: &str) -> Result<Reply, Box<Reply>> {
             return Vec::new();
         }
         match app.read(Read::Jobs).await {
-            Ok(ReadDone::Jobs(jobs)) => jobs,
+            Ok(ReadDone::Jobs(_, jobs)) => jobs,
             _ => Vec::new(),
         }
     };
     let jobs = tokio::time::timeout(ASK_WRITER, asked).await.unwrap_or_default();
     app.metrics.lead(app.board.is_ready());
+    app.metrics.shards(app.board.shards().len());
     app.metrics.queue.length(app.inbox.len());
     app.metrics.process.look();
     if app.board.is_ready() {
@@ -80,19 +84,31 @@ async fn metrics(app: &App, query: &str) -> Result<Reply, Box<Reply>> {
     Ok(with_type(200, "text/plain; version=0.0.4", text))
 }
 
-/// The jobs in the order in which they were opened, in parts if that is asked for: `next` is the `after` of the next part.
-async fn jobs(app: &App, caller: &Caller, query: &str) -> Result<Reply, Box<Reply>> {
+/// The jobs in the order of their numbers, in parts if that is asked for: `next` is the `after` of the next part. One process alone numbers
+/// them as they are opened.
+pub async fn jobs(app: &App, caller: &Caller, request: &Request<Body>) -> Result<Reply, Box<Reply>> {
+    let query = request.uri().query().unwrap_or("");
     let [after, most] = numbers(query, [AFTER, limit(u64::MAX, u64::MAX)])?;
-    let ReadDone::Jobs(mut jobs) = app.read(Read::Jobs).await? else {
+    let most = usize::try_from(most).unwrap_or(usize::MAX);
+    let place = format!("/v1/jobs?{query}");
+    let (shards, mut parts) = lists::parts(app, request, &place, || own_jobs(app, caller, after, most)).await?;
+    let told = if was_passed(request.headers()) { parts.swap_remove(0) } else { lists::joined(parts, after, most) };
+    Ok(lists::reply(request, shards, &told))
+}
+
+/// The jobs of this process, with their numbers.
+async fn own_jobs(app: &App, caller: &Caller, after: u64, most: usize) -> Result<(Shards, Value), Box<Reply>> {
+    let ReadDone::Jobs(shards, mut jobs) = app.read(Read::Jobs).await? else {
         return Err(error(500, "the writer answered something else").into());
     };
     let number = |job: &JobState| u64::try_from(job.opening.number).unwrap_or(0);
     jobs.retain(|job| number(job) > after && caller.may_see(&job.opening.name));
-    let most = usize::try_from(most).unwrap_or(usize::MAX).min(jobs.len());
+    let most = most.min(jobs.len());
     let next = (most < jobs.len()).then(|| jobs[..most].last().map_or(after, number));
-    let log = app.board.log();
+    let (log, epoch) = (app.board.log(), app.board.epoch());
+    let numbers: Vec<u64> = jobs[..most].iter().map(number).collect();
     let jobs: Vec<Value> = jobs[..most].iter().map(|job| render::job(job, log)).collect();
-    Ok(json_reply(200, &json!({"epoch": app.board.epoch(), "log": log, "jobs": jobs, "next": next})))
+    Ok((shards, json!({"epoch": epoch, "log": log, "numbers": numbers, "jobs": jobs, "next": next})))
 }
 
 async fn one_job(app: &App, job: String, query: &str) -> Result<Reply, Box<Reply>> {

@@ -1,14 +1,16 @@
 //! All that a tab of the page shows, in one answer: the jobs by name and mode, and one job with its pending records, its savepoints,
 //! its history and its files.
+use super::others::{self, was_passed, Served};
 use super::query::{numbers, Parameter};
 use super::reads::{files_of, metadata, FilesRead};
 use super::render;
 use super::reply::{error, json_reply, Reply};
-use super::App;
+use super::{lists, App};
 use crate::auth::Caller;
 use crate::history::{self, HistoryReader, Search};
-use crate::model::Kind;
+use crate::model::{Kind, Shards};
 use crate::writer::{JobState, Read, ReadDone};
+use hyper::{Body, Request};
 use serde_json::{json, Value};
 
 const RECORDS: Parameter = Parameter { name: "records", most: 1000, default: 60 };
@@ -27,24 +29,81 @@ struct Wanted {
     files: u64,
 }
 
-/// The job of this name is shown, or the first one if there is none.
-pub async fn answer(app: &App, name: Option<String>, caller: &Caller, query: &str) -> Result<Reply, Box<Reply>> {
-    let [records, samples, files] = numbers(query, [RECORDS, SAMPLES, FILES])?;
-    let ReadDone::Jobs(mut jobs) = app.read(Read::Jobs).await? else {
+/// Asks for the names of jobs and little else.
+const NAMES: &str = "/v1/view?records=0&samples=0&files=0";
+
+/// The job of this name is shown, or the first one if there is none. The names are those of all processes that share the jobs.
+pub async fn answer(
+    app: &App,
+    name: Option<String>,
+    caller: &Caller,
+    request: Request<Body>,
+) -> Result<Reply, Box<Reply>> {
+    let query = request.uri().query().unwrap_or("");
+    let wanted = numbers(query, [RECORDS, SAMPLES, FILES])?;
+    let elsewhere = match (&name, &app.others) {
+        (Some(job), Some(others)) => match others.find(app, job).await? {
+            Some(Served::At(_)) if was_passed(request.headers()) => return Err(others::moves().into()),
+            Some(Served::At(address)) => Some((others, job.clone(), address)),
+            Some(Served::Here) | None => None,
+        },
+        _ => None,
+    };
+    let (shards, mut parts) = lists::parts(app, &request, NAMES, || own(app, name.as_ref(), caller, wanted)).await?;
+    if was_passed(request.headers()) || parts.len() == 1 {
+        return Ok(lists::reply(&request, shards, &parts.swap_remove(0)));
+    }
+    let mut names: Vec<Value> =
+        parts.iter_mut().filter_map(|part| part["jobs"].as_array_mut().map(std::mem::take)).flatten().collect();
+    names.sort_by(|one, other| one["name"].as_str().cmp(&other["name"].as_str()));
+    let mut told = match elsewhere {
+        Some((others, job, address)) => {
+            let reply = others.pass(&address, &job, others::get(&place(&request), request.headers())).await?;
+            if reply.status() != 200 {
+                return Err(reply.into());
+            }
+            others::json(reply).await?
+        }
+        // where this process has none, the first job of another one
+        None => match parts.iter().position(|part| !part["job"].is_null()) {
+            Some(0) | None => parts.swap_remove(0),
+            Some(_) => return Box::pin(answer(app, first(&names), caller, request)).await,
+        },
+    };
+    told["jobs"] = names.into();
+    Ok(json_reply(200, &told))
+}
+
+fn place(request: &Request<Body>) -> String {
+    request.uri().path_and_query().map_or(String::new(), ToString::to_string)
+}
+
+fn first(names: &[Value]) -> Option<String> {
+    names.first().and_then(|one| one["name"].as_str()).map(str::to_string)
+}
+
+/// What this process has of it.
+async fn own(
+    app: &App,
+    name: Option<&String>,
+    caller: &Caller,
+    [records, samples, files]: [u64; 3],
+) -> Result<(Shards, Value), Box<Reply>> {
+    let ReadDone::Jobs(shards, mut jobs) = app.read(Read::Jobs).await? else {
         return Err(error(500, "the writer answered something else").into());
     };
     jobs.retain(|job| caller.may_see(&job.opening.name));
     let names: Vec<Value> =
         jobs.iter().map(|job| json!({"name": job.opening.name, "mode": render::mode(job.mode)})).collect();
     let mut told = json!({"epoch": app.board.epoch(), "jobs": names, "job": null});
-    let shown = jobs.iter().find(|job| Some(&job.opening.name) == name.as_ref()).or(jobs.first());
+    let shown = jobs.iter().find(|job| Some(&job.opening.name) == name).or(jobs.first());
     if let (Some(job), Some(object)) = (shown, told.as_object_mut()) {
         let wanted = Wanted { records, samples, files };
         object.insert("job".to_string(), render::job(job, app.board.log()));
         object.insert("pending".to_string(), Value::Array(pending(app, job).await?));
         object.append(&mut history(app, job, wanted).await?);
     }
-    Ok(json_reply(200, &told))
+    Ok((shards, told))
 }
 
 /// The pending records of a job, each with the subtasks that are missing. One that has ended meanwhile is left out.

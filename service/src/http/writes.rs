@@ -1,5 +1,6 @@
 //! Requests that change something: a new job, and calls.
 use super::audit::Did;
+use super::others::{self, was_passed, Served};
 use super::query::{numbers, Parameter};
 use super::reply::{bad_field, body, error, invalid, json_reply, refusal, with_header, Reply};
 use super::{gate, no_job, units, wire, App};
@@ -22,7 +23,8 @@ const ABANDON: Parameter = Parameter { name: "abandon", most: 1, default: 0 };
 const STOP_BODIES: Duration = Duration::from_secs(5);
 
 pub async fn new_job(app: &App, caller: &Caller, request: Request<Body>) -> Result<Reply, Box<Reply>> {
-    let (bytes, _room) = read_body(app, request).await?;
+    let (head, body) = request.into_parts();
+    let (bytes, _room) = read_body(app, body).await?;
     let wire::NewJob { name, settings, shape, names } = wire::new_job(&bytes).map_err(|why| invalid(&why))?;
     if !caller.may_see(&name) {
         return Err(gate::not_for(&name).into());
@@ -30,8 +32,17 @@ pub async fn new_job(app: &App, caller: &Caller, request: Request<Body>) -> Resu
     let mut told = json!({"name": name, "settings": settings_json(&settings), "shape": shape});
     let (place, by_default) = (format!("/v1/jobs/{name}"), app.names);
     let names = Names { wanted: names, by_default };
+    if let Some(address) = elsewhere(app, &name).await? {
+        return pass_new(app, &address, &name, head, bytes).await;
+    }
+    let at = name.clone();
     let created = app.ask(|reply| Message::Create { name, settings, shape, names, reply }).await?;
     Ok(match created {
+        // another process has opened it in this moment, or has to
+        Created::Elsewhere => match elsewhere(app, &at).await? {
+            Some(address) => return pass_new(app, &address, &at, head, bytes).await,
+            None => others::moves(),
+        },
         Created::New { names } => {
             told["names"] = json!(names);
             with_header(json_reply(201, &told), LOCATION, &place)
@@ -44,6 +55,34 @@ pub async fn new_job(app: &App, caller: &Caller, request: Request<Body>) -> Resu
         Created::OtherNames { names } => other_names(names),
         Created::NotOpened(why) => error(507, &format!("the job was not opened: {why}")),
     })
+}
+
+/// The address of the process that has the job of this name, or has to open it; `None`: this one.
+async fn elsewhere(app: &App, job: &str) -> Result<Option<String>, Box<Reply>> {
+    let Some(others) = &app.others else {
+        return Ok(None);
+    };
+    Ok(match others.find(app, job).await? {
+        Some(Served::At(address)) => Some(address),
+        None if app.board.shards().is_empty() => others.owners.others().into_iter().next(),
+        Some(Served::Here) | None => None,
+    })
+}
+
+/// Passes on a request to open a job.
+async fn pass_new(
+    app: &App,
+    address: &str,
+    job: &str,
+    head: hyper::http::request::Parts,
+    bytes: Vec<u8>,
+) -> Result<Reply, Box<Reply>> {
+    match &app.others {
+        Some(others) if !was_passed(&head.headers) => {
+            others.pass(address, job, Request::from_parts(head, Body::from(bytes))).await
+        }
+        _ => Err(others::moves().into()),
+    }
 }
 
 fn bad_name_taken() -> Reply {
@@ -76,7 +115,7 @@ pub async fn delete_job(app: &App, job: String, query: &str) -> Result<Reply, Bo
 pub async fn calls(app: &App, job: String, request: Request<Body>) -> Result<Reply, Box<Reply>> {
     app.number(&job)?;
     let name = key_name(request.headers())?;
-    let (bytes, _room) = read_body(app, request).await?;
+    let (bytes, _room) = read_body(app, request.into_body()).await?;
     let calls = wire::calls(&bytes, app.limits.calls).map_err(|why| invalid(&why))?;
     if let Some(call) = calls.iter().find(|call| call.wants_key()).filter(|_| name.is_none()) {
         return Err(key_is_missing(call).into());
@@ -85,7 +124,7 @@ pub async fn calls(app: &App, job: String, request: Request<Body>) -> Result<Rep
     let (at, did) = (job.clone(), Did::of(&calls));
     let done = app.ask(|reply| Message::Calls { job, calls, key, reply }).await?;
     let mut reply = match done {
-        CallsDone::Made(outcomes) => body(200, app.board.answers(&outcomes)),
+        CallsDone::Made(epoch, outcomes) => body(200, app.board.answers(epoch, &outcomes)),
         CallsDone::Known(answers) => body(200, answers),
         CallsDone::KeyUsed => key_used(),
         CallsDone::NoJob => no_job(&at),
@@ -119,17 +158,14 @@ pub(super) fn key_name(headers: &HeaderMap) -> Result<Option<String>, Box<Reply>
 }
 
 /// The whole body, within its limits of bytes and time, and its room, which is reserved until the request is answered.
-pub(super) async fn read_body(
-    app: &App,
-    request: Request<Body>,
-) -> Result<(Vec<u8>, OwnedSemaphorePermit), Box<Reply>> {
+pub(super) async fn read_body(app: &App, body: Body) -> Result<(Vec<u8>, OwnedSemaphorePermit), Box<Reply>> {
     let most = app.limits.body_bytes;
     // a body that does not tell its length gets room as it comes
-    let length = request.body().size_hint().upper().and_then(|length| usize::try_from(length).ok());
+    let length = body.size_hint().upper().and_then(|length| usize::try_from(length).ok());
     let time = Duration::from_secs(app.limits.body_seconds);
     if length.is_some_and(|length| length > most) {
         // a client that still sends would not read the answer, so its body is read to the end; after too long it gets no answer
-        let _ = tokio::time::timeout(time, pass_over(request.into_body(), 4 * most)).await;
+        let _ = tokio::time::timeout(time, pass_over(body, 4 * most)).await;
         return Err(too_long(most).into());
     }
     let bytes = Vec::with_capacity(length.unwrap_or(0));
@@ -138,7 +174,7 @@ pub(super) async fn read_body(
     tokio::select! {
         // most bodies are there at once, and need no timer
         biased;
-        read = tokio::time::timeout(time, reading.read(request.into_body())) => match read {
+        read = tokio::time::timeout(time, reading.read(body)) => match read {
             Ok(read) => read?,
             Err(_) => return Err(error(408, &format!("the body did not come within {} s", time.as_secs())).into()),
         },

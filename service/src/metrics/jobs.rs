@@ -3,6 +3,7 @@ use super::{forget, gauge, seconds, set, set_seconds};
 use crate::model::Mode;
 use crate::writer::JobState;
 use prometheus::{GaugeVec, IntGaugeVec, Registry};
+use std::collections::HashSet;
 
 pub struct Gauges {
     mode: IntGaugeVec,
@@ -136,14 +137,14 @@ impl Gauges {
         set(&self.history, &[job], upto);
     }
 
-    /// A job was deleted.
-    pub fn forget(&self, job: &str) {
+    /// Jobs were deleted, or given up.
+    pub fn forget(&self, jobs: &HashSet<&str>) {
         for gauge in self.whole() {
-            forget(gauge, job);
+            forget(gauge, jobs);
         }
         let Gauges { interval, timeout, completed, opened, image_at, .. } = self;
         for gauge in [interval, timeout, completed, opened, image_at] {
-            forget(gauge, job);
+            forget(gauge, jobs);
         }
     }
 

@@ -16,7 +16,7 @@ use prometheus::{
 };
 use queue::Queue;
 use sizes::SizeMetrics;
-use std::collections::HashMap;
+use std::collections::{HashMap, HashSet};
 use std::time::Duration;
 use upkeep::Upkeep;
 
@@ -34,6 +34,7 @@ pub struct Metrics {
     images_fail: IntGaugeVec,
     clock_ahead: Gauge,
     leader: IntGauge,
+    shards: IntGauge,
     connections: IntGauge,
     commit_takes: Gauge,
     records: IntCounterVec,
@@ -72,6 +73,7 @@ impl Metrics {
                 "How far the moments that calls are given are ahead of this machine's clock.",
             )?,
             leader: IntGauge::new("relkvanu_leader", "1 where this process leads.")?,
+            shards: IntGauge::new("relkvanu_shards", "Shards of the jobs that this process serves, of 64.")?,
             connections: IntGauge::new("relkvanu_http_connections", "Open connections.")?,
             commit_takes: Gauge::new(
                 "relkvanu_commit_under_way_seconds",
@@ -108,6 +110,7 @@ impl Metrics {
         registry.register(Box::new(self.images_fail.clone()))?;
         registry.register(Box::new(self.clock_ahead.clone()))?;
         registry.register(Box::new(self.leader.clone()))?;
+        registry.register(Box::new(self.shards.clone()))?;
         registry.register(Box::new(self.connections.clone()))?;
         registry.register(Box::new(self.commit_takes.clone()))?;
         registry.register(Box::new(self.durations.clone()))?;
@@ -171,14 +174,24 @@ impl Metrics {
 
     /// A job was deleted: its values go.
     pub fn forget(&self, job: &str) {
+        self.forget_all(&HashSet::from([job]));
+    }
+
+    /// Jobs were deleted, or are another process's. It visits the values of all jobs, so many are forgotten at once.
+    pub fn forget_all(&self, jobs: &HashSet<&str>) {
         for counter in [&self.calls, &self.records] {
-            forget(counter, job);
+            forget(counter, jobs);
         }
-        forget(&self.images_fail, job);
-        forget(&self.durations, job);
-        self.gauges.forget(job);
-        self.upkeep.forget(job);
-        self.sizes.forget(job);
+        forget(&self.images_fail, jobs);
+        forget(&self.durations, jobs);
+        self.gauges.forget(jobs);
+        self.upkeep.forget(jobs);
+        self.sizes.forget(jobs);
+    }
+
+    /// How many shards of the jobs this process serves.
+    pub fn shards(&self, count: usize) {
+        self.shards.set(i64::try_from(count).unwrap_or(i64::MAX));
     }
 
     pub fn lead(&self, leads: bool) {
@@ -199,8 +212,8 @@ impl Metrics {
     }
 }
 
-/// Removes the values of a job.
-fn forget<T: MetricVecBuilder>(values: &MetricVec<T>, job: &str)
+/// Removes the values of jobs.
+fn forget<T: MetricVecBuilder>(values: &MetricVec<T>, jobs: &HashSet<&str>)
 where
     MetricVec<T>: Collector,
 {
@@ -208,7 +221,7 @@ where
         for metric in family.get_metric() {
             let labels: HashMap<&str, &str> =
                 metric.get_label().iter().map(|label| (label.get_name(), label.get_value())).collect();
-            if labels.get("job_name") == Some(&job) {
+            if labels.get("job_name").is_some_and(|job| jobs.contains(job)) {
                 // it may be removed by now
                 let _ = values.remove(&labels);
             }

@@ -2,6 +2,7 @@
 use super::forget;
 use crate::model::Bytes;
 use prometheus::{IntGaugeVec, Opts, Registry};
+use std::collections::HashSet;
 
 pub struct SizeMetrics {
     files: IntGaugeVec,
@@ -38,10 +39,10 @@ impl SizeMetrics {
         set(&self.sized, &[job], bytes.files);
     }
 
-    /// A job was deleted.
-    pub fn forget(&self, job: &str) {
+    /// Jobs were deleted, or given up.
+    pub fn forget(&self, jobs: &HashSet<&str>) {
         for gauge in [&self.files, &self.sized, &self.records] {
-            forget(gauge, job);
+            forget(gauge, jobs);
         }
     }
 

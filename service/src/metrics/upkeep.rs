@@ -2,6 +2,7 @@
 use super::forget;
 use crate::auth::{Access, Tokens};
 use prometheus::{Gauge, GaugeVec, IntGauge, IntGaugeVec, Opts, Registry};
+use std::collections::HashSet;
 use std::time::{Duration, SystemTime, UNIX_EPOCH};
 
 pub struct Upkeep {
@@ -60,9 +61,9 @@ impl Upkeep {
         self.history_lag.with_label_values(&[job]).set(lag.as_secs_f64());
     }
 
-    /// A job was deleted.
-    pub fn forget(&self, job: &str) {
-        forget(&self.history_lag, job);
+    /// Jobs were deleted, or given up.
+    pub fn forget(&self, jobs: &HashSet<&str>) {
+        forget(&self.history_lag, jobs);
     }
 
     /// When the last token for each access ends, if it does.

@@ -60,6 +60,12 @@ impl Clock {
         Clock { base: wall().max(floor), since: Moment::now(), pace: Pace::Even }
     }
 
+    /// Goes on from this moment, if it has not come yet: a log ends there.
+    pub fn go_on_from(&mut self, floor: u64) {
+        let base = self.now().max(floor);
+        *self = Clock { base, since: Moment::now(), pace: self.pace };
+    }
+
     pub fn now(&self) -> u64 {
         self.base.saturating_add(self.pace.of(millis(self.since.elapsed())))
     }
@@ -156,6 +162,10 @@ mod tests {
             last = now;
         }
         assert_eq!(clock.pace, Pace::Slow);
+        clock.go_on_from(last + 60_000);
+        assert!(clock.now() >= last + 60_000);
+        clock.go_on_from(last);
+        assert!(clock.now() >= last + 60_000);
     }
 
     #[test]

@@ -32,8 +32,8 @@ pub enum DbError {
     /// The database answered something else than the statement asks for.
     #[error("{0}")]
     Odd(&'static str),
-    #[error("another process leads, epoch {epoch} has ended")]
-    NotLeading { epoch: u64 },
+    #[error("another process leads, the lease of this one has ended")]
+    NotLeading,
     /// A row is not as any version of this program writes it.
     #[error("a row of {table} has {cell} in column {column}")]
     BadRow { table: &'static str, column: usize, cell: String },
@@ -48,7 +48,7 @@ impl DbError {
             // data_corrupted and index_corrupted
             DbError::Pg(failed) => matches!(failed.state.as_deref(), Some("XX001" | "XX002")),
             DbError::File { .. } | DbError::Unfit { .. } | DbError::NoSync => false,
-            DbError::Odd(_) | DbError::NotLeading { .. } => false,
+            DbError::Odd(_) | DbError::NotLeading => false,
         }
     }
 
@@ -115,6 +115,9 @@ pub enum Failure {
     /// Certainly rolled back, and it is too large ever to be written.
     #[error("{0}")]
     TooLarge(DbError),
+    /// Certainly rolled back: another process has opened a job of the name of one that it opens.
+    #[error("{0}")]
+    NameTaken(DbError),
     /// It may or may not have been committed, or this process no longer leads. The process ends, and its next start reads
     /// what was committed.
     #[error("{0}")]

@@ -4,6 +4,7 @@ use super::error::{DbError, Failure, Unusable};
 use super::files::{self, Opened};
 use super::lite_write::write;
 use super::rows::{steps_after, Group, Keyed, Lead, Store, Written, MOST_STARTS, OF_JOBS, VERSION};
+use crate::model::{lengths_text, Held, Shards};
 use rusqlite::config::DbConfig;
 use rusqlite::{ffi, params, Connection, ErrorCode, OptionalExtension};
 use std::fs::File;
@@ -21,6 +22,7 @@ const STEPS: [&str; VERSION] = [
     ),
     include_str!("../../sql/lite_3.sql"),
     include_str!("../../sql/lite_parts.sql"),
+    include_str!("../../sql/lite_shards.sql"),
 ];
 pub(super) const BUSY: Duration = Duration::from_secs(2);
 /// How long a start waits for readers of another program.
@@ -116,12 +118,12 @@ fn locked(path: &Path) -> Result<File, DbError> {
 
 impl Store for Lite {
     fn lead(&mut self) -> Result<Lead, DbError> {
-        Ok(Lead::Here { epoch: 1 })
+        Ok(Lead::Here { held: Shards::ALL.iter().map(|shard| Held { shard, epoch: 1 }).collect() })
     }
 
-    fn begin(&mut self, name: &str, lengths: &str) -> Result<(), DbError> {
+    fn begin(&mut self, name: &str, _held: &[Held], lengths: &[(i64, u64)]) -> Result<(), DbError> {
         let transaction = self.connection.transaction()?;
-        transaction.execute("insert into log_start(name, lengths) values(?, ?)", [name, lengths])?;
+        transaction.execute("insert into log_start(name, lengths) values(?, ?)", [name, &lengths_text(lengths)])?;
         let old = "delete from log_start where number <= (select max(number) from log_start) - ?";
         transaction.execute(old, [MOST_STARTS])?;
         transaction.execute(FORGET_PARTS, [])?;

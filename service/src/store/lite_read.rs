@@ -5,7 +5,7 @@ use super::lite::{signed, BUSY};
 use super::reader::Reader;
 use super::room::room_of;
 use super::rows::{image_columns, whole, LogPage, Room, SavedImage, COLUMNS, IS_EVENT, PAGE_BYTES};
-use crate::model::{AckBytes, Entry, FileBytes, KeptImage, KeptSummary, Opening, PastRecord};
+use crate::model::{AckBytes, Entry, FileBytes, KeptImage, KeptSummary, Opening, PastRecord, Shards};
 use rusqlite::{params, Connection, OpenFlags, OptionalExtension, Params};
 use std::path::Path;
 
@@ -120,7 +120,12 @@ impl Reader for LiteReader {
         self.all(sql, params![job, signed(after), signed(upto)])
     }
 
-    fn sizes(&mut self, after: Option<(i64, u64)>, most: u32) -> Result<Vec<(i64, FileBytes)>, DbError> {
+    fn sizes(
+        &mut self,
+        _shards: Shards,
+        after: Option<(i64, u64)>,
+        most: u32,
+    ) -> Result<Vec<(i64, FileBytes)>, DbError> {
         let sql = "select job, file, bytes from size where (job, file) > (?, ?) order by job, file limit ?";
         let (job, file) = after.map_or((i64::MIN, i64::MIN), |(job, file)| (job, file as i64));
         self.all(sql, params![job, file, most])
@@ -146,7 +151,7 @@ impl Reader for LiteReader {
         Ok(self.one("select min(seq) from call where job = ?", [job])?.flatten())
     }
 
-    fn lengths_after(&mut self, name: &str) -> Result<Option<String>, DbError> {
+    fn lengths_after(&mut self, name: &str, _job: i64) -> Result<Option<String>, DbError> {
         let sql = "select lengths from log_start where number > (select number from log_start where name = ?) order by number limit 1";
         Ok(self.0.query_row(sql, [name], |row| row.get(0)).optional()?)
     }

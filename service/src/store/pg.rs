@@ -1,13 +1,15 @@
-//! The log in PostgreSQL. A lease with an epoch decides which process writes. Each group is one statement, which renews the
-//! lease and is fenced by it. So a leader that was stopped holds no lock.
+//! The log in PostgreSQL. Each shard of the jobs has an owner among the members, whose lease decides for how long. Each group is one
+//! statement, which renews the lease and is fenced by it. So a leader that was stopped holds no lock.
 use super::cells::Row;
 use super::error::{DbError, Failure, Unusable};
 use super::parameter::Parameter;
 use super::pg_columns::Columns;
 use super::pg_commit::{Statements, CALLS};
+use super::pg_members::{self, Members, Shares, Watch};
 use super::pq::{Connection, Failed, Rows};
-use super::rows::{steps_after, Group, Keyed, Lead, Store, Written, MOST_STARTS, OF_JOBS, VERSION};
-use crate::model::Moment;
+use super::rows::{steps_after, Group, Keyed, Lead, Store, Written, OF_JOBS, VERSION};
+use crate::model::{Held, Shards};
+use std::collections::BTreeMap;
 use std::ffi::CStr;
 use std::time::Duration;
 
@@ -22,49 +24,32 @@ const STEPS: [&str; VERSION] = [
     ),
     include_str!("../../sql/pg_3.sql"),
     include_str!("../../sql/pg_parts.sql"),
+    include_str!("../../sql/pg_shards.sql"),
 ];
-const LOOK: &str = "select epoch, until, lease, until = '-infinity' from leader";
-/// Leads if nobody has renewed the lease since that was seen.
-const LEAD: &str =
-    "update leader set epoch = epoch + 1, holder = $1, until = clock_timestamp() + $2::float8 * interval '1 s', lease = $2::float8
-    where epoch = $3::bigint and until = $4::timestamptz returning epoch";
-
+/// The constraint by which the names of jobs are unique.
+const NAMES: &str = "job_name_key";
 /// A statement of the writer may take this long.
 const PATIENCE: Duration = Duration::from_secs(10);
-/// A process that no longer leads writes none.
-const BEGIN: &str = "with l as (select from leader where epoch = $1::bigint for share),
-    m as (select coalesce(max(number), 0) as number from log_start),
-    d as (delete from log_start using l, m where log_start.number <= m.number - $4::bigint),
-    p as (delete from image_part using l
-        where not exists (select from image where image.job = image_part.job and image.seq = image_part.seq))
-    insert into log_start select m.number + 1, $2, $3 from l, m returning 1";
 /// The answers under each of these keys.
 const KEYED: &str = "select request.job, request.key, at, digest, answers
     from unnest($1::bigint[], $2::text[]) u(job, key) join request on request.job = u.job and request.key = u.key";
 const KEYED_NAME: &CStr = c"keyed";
 
-/// The writer's connection, and its lease.
+/// The writer's connection, its lease, and the shards that it may write.
 pub struct Pg {
     connection: Connection,
     statements: Statements,
-    holder: String,
+    /// This process among the members. Each start has a name of its own.
+    name: String,
+    address: String,
     lease: Duration,
-    epoch: u64,
-    seen: Option<Seen>,
-}
-
-/// A lease as another process renewed it last, and since when it has not been renewed: by the clock of this machine, since that
-/// of the database may be set while it serves.
-struct Seen {
-    epoch: String,
-    until: String,
-    lease: Duration,
-    since: Moment,
+    epochs: BTreeMap<u8, u64>,
+    watch: Watch,
 }
 
 impl Pg {
     /// Connects, and makes or upgrades the tables if their version says so. Refuses a database that does not sync its commits.
-    pub fn open(url: &str, holder: &str, lease: Duration) -> Result<Pg, Unusable> {
+    pub fn open(url: &str, address: &str, lease: Duration) -> Result<Pg, Unusable> {
         let mut connection = Connection::open(url)?;
         let fsync = connection.run("show fsync")?;
         if cell(&fsync, 0) != Some("on") {
@@ -82,70 +67,73 @@ impl Pg {
         let mut statements = Statements::default();
         statements.name(&mut connection, &[])?;
         statements.name(&mut connection, CALLS)?;
-        Ok(Pg { connection, statements, holder: holder.to_string(), lease, epoch: 0, seen: None })
+        let (name, address) = (relkvanu_client::new_key(), address.to_string());
+        Ok(Pg { connection, statements, name, address, lease, epochs: BTreeMap::new(), watch: Watch::default() })
     }
 
-    fn write(&mut self, columns: Columns) -> Result<Rows, Failed> {
+    /// The connection by which this process shares the jobs with others.
+    pub fn shares(&self, url: &str) -> Result<Shares, DbError> {
+        Shares::open(url, &self.name, self.lease)
+    }
+
+    fn write(&mut self, columns: Columns, shards: Shards) -> Result<Rows, Failed> {
         let name = self.statements.name(&mut self.connection, &columns.parts)?;
-        let mut given = vec![Parameter::text(&self.seconds())?, Parameter::text(&self.epoch.to_string())?];
+        // a shard that this process does not have has an epoch that never was
+        let epoch = |shard: u8| self.epochs.get(&shard).map_or(-1, |epoch| *epoch as i64);
+        let mut given = vec![
+            Parameter::text(&seconds(self.lease))?,
+            Parameter::text(&self.name)?,
+            Parameter::numbers(shards.iter().map(|shard| Some(i64::from(shard)))),
+            Parameter::numbers(shards.iter().map(|shard| Some(epoch(shard)))),
+        ];
         given.extend(columns.given);
         self.connection.run_prepared(&name, &given)
-    }
-
-    /// Notes a lease as the database has it. Returns whether it was renewed since it was seen last. A leader of an earlier version
-    /// does not tell how long its lease is.
-    fn see(&mut self, epoch: &str, until: &str, lease: Option<&str>) -> bool {
-        if self.seen.as_ref().is_some_and(|seen| seen.epoch == epoch && seen.until == until) {
-            return false;
-        }
-        let told = lease.and_then(|seconds| seconds.parse().ok()).and_then(|it| Duration::try_from_secs_f64(it).ok());
-        let lease = told.unwrap_or(self.lease).max(self.lease);
-        self.seen = Some(Seen { epoch: epoch.to_string(), until: until.to_string(), lease, since: Moment::now() });
-        true
-    }
-
-    fn seconds(&self) -> String {
-        self.lease.as_secs_f64().to_string()
     }
 }
 
 impl Store for Pg {
     fn lead(&mut self) -> Result<Lead, DbError> {
-        let rows = self.connection.run(LOOK)?;
-        let (Some(epoch), Some(until)) = (cell(&rows, 0), cell(&rows, 1)) else {
-            return Err(DbError::Odd("the table leader has no row"));
-        };
-        let committed = self.see(epoch, until, cell(&rows, 2));
-        let has_expired = self.seen.as_ref().is_some_and(|seen| seen.since.elapsed() >= seen.lease);
-        if !has_expired && cell(&rows, 3) != Some("t") {
+        let members = Members::read(&mut self.connection)?;
+        let committed = self.watch.note(&members.all);
+        if !members.all.iter().all(|member| self.watch.is_over(member, self.lease)) {
             return Ok(Lead::Elsewhere { committed });
         }
-        let given = [self.holder.as_str(), &self.seconds(), epoch, until];
-        let rows = self.connection.query(LEAD, &given)?;
-        let Some(epoch) = cell(&rows, 0).and_then(|text| text.parse().ok()) else {
+        for member in &members.all {
+            pg_members::expel(&mut self.connection, member)?;
+        }
+        let held = pg_members::take_all(&mut self.connection, &self.name, &self.address, &seconds(self.lease))?;
+        if held.is_empty() {
             return Ok(Lead::Elsewhere { committed: true });
-        };
-        self.epoch = epoch;
-        Ok(Lead::Here { epoch })
+        }
+        self.hold(&held);
+        Ok(Lead::Here { held })
     }
 
-    fn begin(&mut self, name: &str, lengths: &str) -> Result<(), DbError> {
-        let given = [&self.epoch.to_string(), name, lengths, &MOST_STARTS.to_string()];
-        match self.connection.query(BEGIN, &given)?.len() {
-            1 => Ok(()),
-            _ => Err(DbError::NotLeading { epoch: self.epoch }),
-        }
+    fn join(&mut self) -> Result<(), DbError> {
+        Ok(pg_members::join(&mut self.connection, &self.name, &self.address, &seconds(self.lease))?)
+    }
+
+    fn hold(&mut self, held: &[Held]) {
+        self.epochs.extend(held.iter().map(|it| (it.shard, it.epoch)));
+    }
+
+    fn let_go(&mut self, shards: Shards) {
+        self.epochs.retain(|shard, _| !shards.has(*shard));
+    }
+
+    fn begin(&mut self, log: &str, held: &[Held], lengths: &[(i64, u64)]) -> Result<(), DbError> {
+        pg_members::begin(&mut self.connection, &self.name, log, held, lengths)
     }
 
     fn commit(&mut self, group: &Group) -> Written {
-        let columns = Columns::of(group);
+        let (columns, shards) = (Columns::of(group), group.shards());
         let wanted: Vec<usize> = std::iter::once(1).chain(columns.counts.iter().copied()).collect();
-        let rows = self.write(columns).map_err(failure)?;
+        let rows = self.write(columns, shards).map_err(failure)?;
         let written = (0..wanted.len()).map(|column| cell(&rows, column).and_then(|text| text.parse().ok()));
         if written.eq(wanted.into_iter().map(Some)) {
             return Ok(());
         }
-        Err(Failure::Lost(DbError::NotLeading { epoch: self.epoch }))
+        Err(Failure::Lost(DbError::NotLeading))
     }
 
     fn keyed(&mut self, keys: &[(i64, String)]) -> Result<Vec<Keyed>, DbError> {
@@ -178,9 +166,9 @@ impl Store for Pg {
     }
 
     fn note(&mut self, at: u64) -> Result<(), DbError> {
-        let sql = "insert into clock select true, $1::bigint from leader where epoch = $2::bigint
+        let sql = "insert into clock select true, $1::bigint from member where name = $2
             on conflict (one) do update set at = excluded.at";
-        self.connection.query(sql, &[&at.to_string(), &self.epoch.to_string()])?;
+        self.connection.query(sql, &[&at.to_string(), &self.name])?;
         Ok(())
     }
 
@@ -193,9 +181,8 @@ impl Store for Pg {
     }
 
     fn release(&mut self) {
-        let sql = "update leader set until = '-infinity' where epoch = $1::bigint";
         // if this fails, the lease expires by itself
-        let _ = self.connection.query(sql, &[&self.epoch.to_string()]);
+        let _ = pg_members::leave(&mut self.connection, &self.name);
     }
 }
 
@@ -231,10 +218,17 @@ fn failure(failed: Failed) -> Failure {
         Some(state) if state.starts_with("53") || matches!(state, "57014" | "40001" | "40P01") => {
             Failure::Again(failed.into())
         }
+        // a job of this name is there: jobs have no other rows that two processes could write
+        Some("23505") if failed.text.contains(NAMES) => Failure::NameTaken(failed.into()),
         // a value that is longer than the database takes
         Some(state) if state.starts_with("54") => Failure::TooLarge(failed.into()),
         _ => Failure::Lost(failed.into()),
     }
+}
+
+/// The length of a lease as the database reads it.
+pub(super) fn seconds(lease: Duration) -> String {
+    lease.as_secs_f64().to_string()
 }
 
 /// A cell of the first row.

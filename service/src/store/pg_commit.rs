@@ -8,11 +8,13 @@ use std::fmt::Write;
 const PARTS: &str = include_str!("../../sql/pg_commit.sql");
 /// What a part begins with.
 const PART: &str = "-- part ";
-/// The lease and the fence: $1 seconds of the lease, and $2 the epoch. A leader that was stopped holds no lock.
-const LEASE: &str =
-    "update leader set until = clock_timestamp() + $1::float8 * interval '1 s' where epoch = $2::bigint returning 1";
+/// The lease and the fence: $1 seconds of the lease, $2 the member, and $3 and $4 the shards that the group writes with their epochs. It
+/// locks the member's row, which has to go before another process gets a shard of it. A leader that was stopped holds no lock.
+const LEASE: &str = "update member set beat = beat + 1, until = clock_timestamp() + $1::float8 * interval '1 s' where name = $2
+    and not exists (select from unnest($3::bigint[], $4::bigint[]) u(number, epoch)
+    left join shard on shard.number = u.number and shard.epoch = u.epoch and shard.owner = $2 where shard.number is null) returning 1";
 /// How many parameters that has.
-const OF_LEASE: usize = 2;
+const OF_LEASE: usize = 4;
 
 /// The parts of a group with calls alone.
 pub const CALLS: &[usize] = &[1];
@@ -42,7 +44,7 @@ fn name(parts: &[usize]) -> CString {
     CString::new(name).unwrap_or_else(|_| CStr::to_owned(c"commit"))
 }
 
-/// It answers how many leaders it renewed, and how many rows it wrote of each of its parts that is counted.
+/// It answers how many members it renewed, and how many rows it wrote of each of its parts that is counted.
 fn statement(parts: &[usize]) -> String {
     let texts: Vec<&str> = PARTS.split(PART).skip(1).map(body).collect();
     let (mut with, mut counts, mut before) =
@@ -87,10 +89,10 @@ mod tests {
         let calls = statement(&[1, 6]);
         assert!(
             calls.contains("insert into call select")
-                && calls.contains("delete from call using l, unnest($11::bigint[], $12")
+                && calls.contains("delete from call using l, unnest($13::bigint[], $14")
         );
         assert!(
-            calls.contains("$3::bigint[]")
+            calls.contains("$5::bigint[]")
                 && calls.ends_with("select (select count(*) from l), (select count(*) from c)")
         );
         assert!(!calls.contains('{') && !calls.contains("insert into job") && !calls.contains("--"), "{calls}");

@@ -4,7 +4,7 @@ use super::error::DbError;
 use super::pq::{Connection, Failed, Rows};
 use super::reader::Reader;
 use super::rows::{image_columns, whole, LogPage, Room, SavedImage, COLUMNS, IS_EVENT, PAGE_BYTES};
-use crate::model::{AckBytes, Entry, FileBytes, KeptImage, KeptSummary, Opening, PastRecord};
+use crate::model::{shard_of, AckBytes, Entry, FileBytes, KeptImage, KeptSummary, Opening, PastRecord, Shards};
 use std::time::Duration;
 
 /// A statement of a reader may take this long.
@@ -17,6 +17,8 @@ const TRY: Duration = Duration::from_secs(3);
 /// The text of a long image.
 const JOINED: &str = "select string_agg(part.text, '' order by part.part) from image_part part
     where part.job = image.job and part.seq = image.seq";
+/// The jobs of the shards whose bits $1 has.
+const OF_SHARDS: &str = "($1::bigint >> (job & 63)::int) & 1 = 1";
 const HAS_PARTS: &str = "select 1 where to_regclass('image_part') is not null";
 
 pub struct PgReader {
@@ -145,11 +147,18 @@ impl Reader for PgReader {
         self.all(sql, &[&job.to_string(), &signed(after), &signed(upto)])
     }
 
-    fn sizes(&mut self, after: Option<(i64, u64)>, most: u32) -> Result<Vec<(i64, FileBytes)>, DbError> {
-        let sql = "select job, file, bytes from size
-            where (job, file) > ($1::bigint, $2::bigint) order by job, file limit $3::bigint";
+    fn sizes(
+        &mut self,
+        shards: Shards,
+        after: Option<(i64, u64)>,
+        most: u32,
+    ) -> Result<Vec<(i64, FileBytes)>, DbError> {
+        let sql = format!(
+            "select job, file, bytes from size where (job, file) > ($2::bigint, $3::bigint) and {OF_SHARDS}
+            order by job, file limit $4::bigint"
+        );
         let (job, file) = after.map_or((i64::MIN, i64::MIN), |(job, file)| (job, file as i64));
-        self.all(sql, &[&job.to_string(), &file.to_string(), &most.to_string()])
+        self.all(&sql, &[&shards.bits().to_string(), &job.to_string(), &file.to_string(), &most.to_string()])
     }
 
     fn gone(&mut self) -> Result<Vec<(i64, u64)>, DbError> {
@@ -172,9 +181,11 @@ impl Reader for PgReader {
         Ok(self.one("select min(seq) from call where job = $1::bigint", &[&job.to_string()])?.flatten())
     }
 
-    fn lengths_after(&mut self, name: &str) -> Result<Option<String>, DbError> {
-        let sql = "select lengths from log_start where number > (select number from log_start where name = $1) order by number limit 1";
-        let rows = self.query(sql, &[name])?;
+    fn lengths_after(&mut self, name: &str, job: i64) -> Result<Option<String>, DbError> {
+        // a process that got a shard twice has its name twice, and those of earlier versions are of all shards
+        let sql = "with its as (select * from log_start where shard in ($2::bigint, -1))
+            select lengths from its where number > (select max(number) from its where name = $1) order by number limit 1";
+        let rows = self.query(sql, &[name, &shard_of(job).to_string()])?;
         Ok(rows.into_iter().next().and_then(|row| row.into_iter().next()?))
     }
 
@@ -182,9 +193,16 @@ impl Reader for PgReader {
         Ok(self.one::<Option<u64>>("select max(at) from clock", &[])?.flatten().unwrap_or(0))
     }
 
-    fn jobs_after(&mut self, number: i64) -> Result<Vec<Opening>, DbError> {
-        let sql = "select job, name, config, shape, started from job where job > $1::bigint order by job";
-        self.all(sql, &[&number.to_string()])
+    fn jobs_after(&mut self, shards: Shards, number: i64) -> Result<Vec<Opening>, DbError> {
+        let sql = format!(
+            "select job, name, config, shape, started from job where job > $2::bigint and {OF_SHARDS} order by job"
+        );
+        self.all(&sql, &[&shards.bits().to_string(), &number.to_string()])
+    }
+
+    fn number(&mut self, name: &str) -> Result<Option<i64>, DbError> {
+        let rows = self.query("select job from job where name = $1", &[name])?;
+        Ok(rows.into_iter().next().and_then(|row| row.into_iter().next()?).and_then(|job| job.parse().ok()))
     }
 
     fn last_moment(&mut self) -> Result<u64, DbError> {
@@ -241,7 +259,9 @@ impl Reader for PgReader {
     }
 
     fn leader(&mut self) -> Option<String> {
-        let rows = self.query("select holder from leader where until > clock_timestamp()", &[]).ok()?;
+        let sql =
+            "select address from member where until > clock_timestamp() and name in (select owner from shard) limit 1";
+        let rows = self.query(sql, &[]).ok()?;
         rows.into_iter().next()?.into_iter().next()?
     }
 }

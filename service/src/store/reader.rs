@@ -1,7 +1,7 @@
 //! What a reader of the database does.
 use super::error::DbError;
 use super::rows::{LogPage, Room, SavedImage, PAGE_BYTES, VERSION};
-use crate::model::{AckBytes, Entry, FileBytes, KeptImage, KeptSummary, Opening, PastRecord};
+use crate::model::{AckBytes, Entry, FileBytes, KeptImage, KeptSummary, Opening, PastRecord, Shards};
 
 /// A connection that only reads. A part of a log that it returns has one call at least, if there is one, and [`PAGE_BYTES`] or one call
 /// more at most. So it is no sign of the end that there are fewer calls than were asked for.
@@ -48,8 +48,10 @@ pub trait Reader: Send {
     /// What acknowledgements said of sizes, of the calls after `after` up to `upto`, in order.
     fn said(&mut self, job: i64, after: u64, upto: u64) -> Result<Vec<AckBytes>, DbError>;
 
-    /// The bytes of files of jobs, after the file `after` of a job, at most `most`, in order.
-    fn sizes(&mut self, after: Option<(i64, u64)>, most: u32) -> Result<Vec<(i64, FileBytes)>, DbError>;
+    /// The bytes of files of the jobs of shards, after the file `after` of a job, at most `most`, in order. A database whose only process
+    /// has all shards gives those of all jobs.
+    fn sizes(&mut self, shards: Shards, after: Option<(i64, u64)>, most: u32)
+        -> Result<Vec<(i64, FileBytes)>, DbError>;
 
     /// The numbers of jobs that were deleted, and 1 if nothing is left of it.
     fn gone(&mut self) -> Result<Vec<(i64, u64)>, DbError>;
@@ -63,20 +65,25 @@ pub trait Reader: Send {
     /// The first call that the log has.
     fn first(&mut self, job: i64) -> Result<Option<u64>, DbError>;
 
-    /// How many calls each job had when the identity `name` of the log ended; `None` if the log does not know that it
+    /// How many calls jobs had, this one among them, when the identity `name` of its log ended; `None` if the log does not know that it
     /// began, or ended.
-    fn lengths_after(&mut self, name: &str) -> Result<Option<String>, DbError>;
+    fn lengths_after(&mut self, name: &str, job: i64) -> Result<Option<String>, DbError>;
 
     /// The last moment that a leader wrote down by [`Store::note`]; 0: none.
     fn noted(&mut self) -> Result<u64, DbError> {
         Ok(0)
     }
 
-    /// The jobs with a number above `number`, in order.
-    fn jobs_after(&mut self, number: i64) -> Result<Vec<Opening>, DbError> {
+    /// The jobs of shards with a number above `number`, in order.
+    fn jobs_after(&mut self, shards: Shards, number: i64) -> Result<Vec<Opening>, DbError> {
         let mut jobs = self.jobs()?;
-        jobs.retain(|job| job.number > number);
+        jobs.retain(|job| shards.has_job(job.number) && job.number > number);
         Ok(jobs)
+    }
+
+    /// The number of the job of this name.
+    fn number(&mut self, name: &str) -> Result<Option<i64>, DbError> {
+        Ok(self.jobs()?.iter().find(|job| job.name == name).map(|job| job.number))
     }
 
     /// The last moment of all logs, from which on [`Reader::changed`] tells what is new.

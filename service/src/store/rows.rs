@@ -1,6 +1,6 @@
 //! What a database of the service does: commits groups, and reads the log.
 use super::error::{DbError, Failure};
-use crate::model::{AckBytes, Cut, Entry, Image, ImagePart, Logged, Opening, PastRecord, SummaryPart};
+use crate::model::{AckBytes, Cut, Entry, Held, Image, ImagePart, Logged, Opening, PastRecord, Shards, SummaryPart};
 use std::collections::BTreeMap;
 use std::time::Duration;
 
@@ -58,6 +58,29 @@ impl Group {
         self.entries.push(entry);
     }
 
+    /// The shards of all jobs of which it writes something.
+    pub fn shards(&self) -> Shards {
+        let calls = self.entries.iter().map(|it| it.job).chain(self.requests.iter().map(|it| it.job));
+        let jobs = self.jobs.iter().map(|it| it.number).chain(self.gone.iter().map(|it| it.job));
+        let images = self.images.iter().map(|it| it.image.job).chain(self.image_parts.iter().map(|it| it.job));
+        let dropped = self.dropped.iter().chain(&self.dropped_summaries).map(|(job, _)| *job);
+        let history = self.summaries.iter().map(|it| it.job).chain(self.past.iter().map(|it| it.job));
+        let sizes = self.sizes.keys().map(|(job, _)| *job).chain(self.said.iter().map(|it| it.job));
+        let cuts = self.cuts.iter().map(|it| it.job);
+        Shards::of_jobs(calls.chain(jobs).chain(images).chain(dropped).chain(history).chain(sizes).chain(cuts))
+    }
+
+    /// Takes the jobs that it opens out of it, with all that it writes of them, and returns their numbers.
+    pub fn take_new(&mut self) -> Vec<i64> {
+        let new: Vec<i64> = std::mem::take(&mut self.jobs).into_iter().map(|job| job.number).collect();
+        let stays = |job: i64| !new.contains(&job);
+        self.entries.retain(|it| stays(it.job));
+        self.requests.retain(|it| stays(it.job));
+        self.sizes.retain(|(job, _), _| stays(*job));
+        self.said.retain(|it| stays(it.job));
+        new
+    }
+
     pub fn is_empty(&self) -> bool {
         let has_calls =
             !(self.gone.is_empty() && self.jobs.is_empty() && self.entries.is_empty() && self.requests.is_empty());
@@ -90,7 +113,7 @@ pub struct SavedImage {
 pub const MOST_STARTS: i64 = 64;
 
 /// The version of the tables. Each database has a step of SQL for each: only a start over tables of an earlier version runs it.
-pub const VERSION: usize = 4;
+pub const VERSION: usize = 5;
 
 /// The steps after a version, each of which makes or changes tables. They can be run again.
 pub fn steps_after(found: i64, steps: [&'static str; VERSION]) -> impl Iterator<Item = &'static str> {
@@ -100,10 +123,10 @@ pub fn steps_after(found: i64, steps: [&'static str; VERSION]) -> impl Iterator<
 pub type Written = Result<(), Failure>;
 
 /// Which process leads.
-#[derive(Clone, Copy, Debug, PartialEq, Eq)]
+#[derive(Clone, Debug, PartialEq, Eq)]
 pub enum Lead {
-    /// This one, which may write in this epoch from now on.
-    Here { epoch: u64 },
+    /// This one, which may write the jobs of all shards from now on.
+    Here { held: Vec<Held> },
     /// Another one, and whether it has committed something since this was last asked.
     Elsewhere { committed: bool },
 }
@@ -113,9 +136,20 @@ pub trait Store: Send {
     /// Tries to lead. The lease counts from before this was called.
     fn lead(&mut self) -> Result<Lead, DbError>;
 
-    /// Gives the log the identity `name`, now that this process leads and each job has this many calls, and deletes parts of images that
-    /// an earlier leader did not write whole. Fails if it no longer leads.
-    fn begin(&mut self, name: &str, lengths: &str) -> Result<(), DbError>;
+    /// Joins the processes that share the jobs, as one that has no shard yet. Only a database that several processes use can do so.
+    fn join(&mut self) -> Result<(), DbError> {
+        Err(DbError::Odd("one process alone uses this database"))
+    }
+
+    /// This process may commit for these shards from now on: it got them on another connection.
+    fn hold(&mut self, _held: &[Held]) {}
+
+    /// It commits for these shards no more.
+    fn let_go(&mut self, _shards: Shards) {}
+
+    /// Gives the log of these shards the identity `name`, now that this process has them and each of their jobs has this many calls, and
+    /// deletes parts of images that an earlier owner did not write whole. Fails if it no longer has them.
+    fn begin(&mut self, name: &str, held: &[Held], lengths: &[(i64, u64)]) -> Result<(), DbError>;
 
     /// Commits a group, or renews the lease if it is empty.
     fn commit(&mut self, group: &Group) -> Written;

@@ -1,7 +1,7 @@
 //! The board: what the threads know of each other.
 use super::lag::Lag;
 use super::lease::Lease;
-use crate::model::{Answer, Bases, Choice, Job, Moment, Outcome, Reply};
+use crate::model::{shard_of, Answer, Bases, Choice, Held, Job, Moment, Outcome, Reply, Shards, SHARDS};
 use serde_json::Value;
 use std::collections::HashMap;
 use std::fmt::Write;
@@ -13,7 +13,10 @@ use tokio::sync::watch;
 /// Whether this process leads, which jobs there are, and how far each is.
 pub struct Board {
     ready: AtomicBool,
-    epoch: AtomicU64,
+    /// Whether all jobs have been served, here or elsewhere, since this process serves.
+    settled: AtomicBool,
+    /// The epoch of each shard that this process has; 0 of one that it has not.
+    epochs: [AtomicU64; SHARDS as usize],
     /// The log's identity since this process leads.
     log: OnceLock<String>,
     /// When this process no longer leads, in milliseconds since the machine's start.
@@ -44,7 +47,8 @@ impl Board {
         let jobs = RwLock::new(HashMap::new());
         Board {
             ready: AtomicBool::new(false),
-            epoch: AtomicU64::new(0),
+            settled: AtomicBool::new(false),
+            epochs: [const { AtomicU64::new(0) }; SHARDS as usize],
             log: OnceLock::new(),
             lease_until: AtomicU64::new(0),
             beat: AtomicU64::new(0),
@@ -55,15 +59,47 @@ impl Board {
         }
     }
 
-    /// This process leads, in this epoch, and the log has this identity.
-    pub fn lead(&self, epoch: u64, log: String) {
-        self.epoch.store(epoch, Ordering::SeqCst);
+    /// This process leads, and the log of its shards has this identity.
+    pub fn lead(&self, log: String) {
         self.log.get_or_init(|| log);
+    }
+
+    /// It has these shards.
+    pub fn hold(&self, held: &[Held]) {
+        for Held { shard, epoch } in held {
+            self.epochs[usize::from(*shard)].store(*epoch, Ordering::SeqCst);
+        }
+    }
+
+    /// It has these shards no more.
+    pub fn let_go(&self, shards: Shards) {
+        for shard in shards.iter() {
+            self.epochs[usize::from(shard)].store(0, Ordering::SeqCst);
+        }
+    }
+
+    /// The shards that this process has.
+    pub fn shards(&self) -> Shards {
+        (0..SHARDS).filter(|shard| self.epoch_of((*shard).into()) > 0).collect()
+    }
+
+    /// How often the shard of a job has changed its owner; 0 if this process does not have it.
+    pub fn epoch_of(&self, job: i64) -> u64 {
+        self.epochs[usize::from(shard_of(job))].load(Ordering::SeqCst)
     }
 
     /// All jobs are published. From now on requests are accepted.
     pub fn open(&self) {
         self.ready.store(true, Ordering::SeqCst);
+    }
+
+    /// All jobs are served, here or by other processes. So a load balancer may send requests here.
+    pub fn settle(&self) {
+        self.settled.store(true, Ordering::SeqCst);
+    }
+
+    pub fn is_settled(&self) -> bool {
+        self.settled.load(Ordering::SeqCst)
     }
 
     /// The lease was renewed, until then.
@@ -81,8 +117,9 @@ impl Board {
         self.ready.load(Ordering::SeqCst) && Moment::now().millis() < self.lease_until.load(Ordering::SeqCst)
     }
 
+    /// The last epoch of all shards that this process has.
     pub fn epoch(&self) -> u64 {
-        self.epoch.load(Ordering::SeqCst)
+        self.epochs.iter().map(|epoch| epoch.load(Ordering::SeqCst)).max().unwrap_or(0)
     }
 
     /// The log's identity; empty before this process leads.
@@ -136,8 +173,8 @@ impl Board {
         self.started.elapsed().saturating_sub(Duration::from_millis(self.beat.load(Ordering::SeqCst)))
     }
 
-    /// The body that answers a request.
-    pub fn answers(&self, outcomes: &[Outcome]) -> String {
+    /// The body that answers a request for a job whose shard has this epoch.
+    pub fn answers(&self, epoch: u64, outcomes: &[Outcome]) -> String {
         let mut body = String::with_capacity(128 + 64 * outcomes.len());
         body.push_str(r#"{"answers":["#);
         for (place, outcome) in outcomes.iter().enumerate() {
@@ -145,7 +182,7 @@ impl Board {
             write_answer(&mut body, outcome);
         }
         // a write to a text does not fail
-        let _ = write!(body, r#"],"epoch":{},"log":{}}}"#, self.epoch(), Value::from(self.log()));
+        let _ = write!(body, r#"],"epoch":{},"log":{}}}"#, epoch, Value::from(self.log()));
         body
     }
 
@@ -258,11 +295,14 @@ mod tests {
         let outcomes = [made, Outcome::NoMemory, Outcome::NotMade];
         let told = outcomes.each_ref().map(Outcome::json);
         let board = Board::new();
-        board.lead(4, "a\"b".to_string());
+        board.lead("a\"b".to_string());
+        board.hold(&[Held { shard: 3, epoch: 4 }, Held { shard: 7, epoch: 9 }]);
         assert_eq!(
-            serde_json::from_str(&board.answers(&outcomes)).ok(),
+            serde_json::from_str(&board.answers(board.epoch_of(67), &outcomes)).ok(),
             Some(serde_json::json!({"answers": told, "epoch": 4, "log": "a\"b"}))
         );
-        assert_eq!(board.answers(&outcomes[1..2]), r#"{"answers":[{"no_memory":true}],"epoch":4,"log":"a\"b"}"#);
+        assert_eq!(board.answers(4, &outcomes[1..2]), r#"{"answers":[{"no_memory":true}],"epoch":4,"log":"a\"b"}"#);
+        board.let_go([7].into_iter().collect());
+        assert_eq!((board.shards().len(), board.epoch(), board.epoch_of(7)), (1, 4, 0));
     }
 }

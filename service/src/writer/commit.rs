@@ -1,6 +1,6 @@
 //! Commits a round, and then answers its requests.
 use super::message::ForKeeping;
-use super::round::Round;
+use super::round::{Done, Round};
 use super::{state, Writer};
 use crate::exit;
 use crate::log;
@@ -35,6 +35,10 @@ impl Writer {
                 // calls do not wait for an image that can't be written
                 Err(Failure::Again(why) | Failure::TooLarge(why)) if round.upkeep.is_some() => {
                     self.keeper.put_off(&mut self.jobs, round, &self.metrics, &why.to_string());
+                }
+                Err(Failure::NameTaken(why)) if !round.group.jobs.is_empty() => {
+                    log::info(&format!("a job is not opened here: {why}"));
+                    round.uncreate(&mut self.jobs);
                 }
                 Err(Failure::Again(why)) if first.elapsed() < RETRY_FOR => {
                     log::warn(&format!("commit is tried again: {why}"));
@@ -72,7 +76,7 @@ impl Writer {
         for (place, moment) in round.postponed {
             self.timer.set(place, Some(moment));
         }
-        for (done, reply) in round.done {
+        for Done { done, reply, .. } in round.done {
             let _ = reply.send(done);
         }
         for (created, reply) in round.created {
@@ -106,7 +110,7 @@ impl Writer {
                     log::warn(&format!("a summary of the history was not written: {why}"));
                     false
                 }
-                Err(Failure::Lost(why)) => lose(&why),
+                Err(Failure::Lost(why) | Failure::NameTaken(why)) => lose(&why),
             };
             if let (true, Some(place), Some(seq)) = (is_written, job, whole) {
                 let job = self.jobs.at(place);

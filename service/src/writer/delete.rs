@@ -43,7 +43,7 @@ impl Writer {
                 log::warn(&format!("job {name} was not deleted: {why}"));
                 return Deletion::Busy;
             }
-            Err(Failure::Lost(why)) => lose(&why),
+            Err(Failure::Lost(why) | Failure::NameTaken(why)) => lose(&why),
         }
         self.jobs.delete(place);
         self.keeper.forget(place);

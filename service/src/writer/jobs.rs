@@ -1,20 +1,25 @@
-//! All jobs of the service, brought up to date with the log.
+//! The jobs of this process, or all of the service, brought up to date with the log.
 mod catch_up;
 
 use super::message::ForKeeping;
 use super::replay::StartError;
-use crate::model::{Job, NoJob, Opening};
+use crate::model::{Job, NoJob, Opening, Shards};
 use crate::store::Reader;
 use std::collections::HashMap;
 
 /// Reports that the work goes on. An error ends it.
 pub type Beat<'a> = &'a mut dyn FnMut() -> Result<(), StartError>;
 
-/// The jobs, each at its place, and their names.
+/// The jobs of some shards, each at its place, with their names and numbers.
 #[derive(Default)]
 pub struct Jobs {
+    shards: Shards,
     jobs: Vec<Job>,
     places: HashMap<String, usize>,
+    numbers: HashMap<i64, usize>,
+    /// Places of jobs that were given up, which others may get.
+    empty: Vec<usize>,
+    last_number: i64,
     last_moment: u64,
     /// The last moment of the logs when they were read.
     read_to: Option<u64>,
@@ -24,8 +29,61 @@ pub struct Jobs {
 }
 
 impl Jobs {
+    /// The jobs of these shards, of which none is read yet.
+    pub fn of(shards: Shards) -> Jobs {
+        Jobs { shards, ..Jobs::default() }
+    }
+
     pub fn len(&self) -> usize {
         self.jobs.len()
+    }
+
+    pub fn shards(&self) -> Shards {
+        self.shards
+    }
+
+    /// Takes in the jobs of other shards. Returns their places.
+    pub fn adopt(&mut self, others: Jobs) -> Vec<usize> {
+        self.shards = self.shards.with(others.shards);
+        self.last_number = self.last_number.max(others.last_number);
+        self.last_gone = self.last_gone.max(others.last_gone);
+        self.last_moment = self.last_moment.max(others.last_moment);
+        others.jobs.into_iter().filter(|job| !job.is_deleted).map(|job| self.add(job)).collect()
+    }
+
+    /// Gives up the jobs of shards. Returns their places and names.
+    pub fn give_up(&mut self, shards: Shards) -> Vec<(usize, String)> {
+        self.shards = self.shards.without(shards);
+        let places: Vec<usize> =
+            self.places().into_iter().filter(|place| shards.has_job(self.number_at(*place))).collect();
+        let mut given_up = Vec::with_capacity(places.len());
+        for place in places {
+            let job = &mut self.jobs[place];
+            job.close();
+            self.places.remove(&job.opening.name);
+            self.numbers.remove(&job.opening.number);
+            given_up.push((place, job.opening.name.clone()));
+            self.empty.push(place);
+        }
+        given_up
+    }
+
+    fn number_at(&self, place: usize) -> i64 {
+        self.jobs[place].opening.number
+    }
+
+    fn add(&mut self, job: Job) -> usize {
+        let (name, number) = (job.opening.name.clone(), job.opening.number);
+        self.last_moment = self.last_moment.max(job.at);
+        self.last_number = self.last_number.max(number);
+        let place = self.empty.pop().unwrap_or(self.jobs.len());
+        match self.jobs.get_mut(place) {
+            Some(empty) => *empty = job,
+            None => self.jobs.push(job),
+        }
+        self.places.insert(name, place);
+        self.numbers.insert(number, place);
+        place
     }
 
     pub fn at(&mut self, place: usize) -> &mut Job {
@@ -70,6 +128,7 @@ impl Jobs {
     /// Forgets the jobs that the database has as deleted. Returns whether there was one.
     fn delete_gone(&mut self, reader: &mut dyn Reader) -> Result<bool, StartError> {
         let gone = reader.gone()?;
+        let gone: Vec<(i64, u64)> = gone.into_iter().filter(|(job, _)| self.shards.has_job(*job)).collect();
         self.leftovers = gone.iter().filter(|(_, is_empty)| *is_empty == 0).map(|(job, _)| *job).collect();
         self.last_gone = gone.iter().map(|(job, _)| *job).max().unwrap_or(0).max(self.last_gone);
         let places = gone.iter().filter_map(|(job, _)| self.place_of(*job));
@@ -90,6 +149,11 @@ impl Jobs {
         self.jobs.iter().filter(|job| !job.is_deleted).map(|job| (job.opening.number, job.seq)).collect()
     }
 
+    /// How many jobs there are that are not deleted.
+    pub fn count(&self) -> usize {
+        self.places.len()
+    }
+
     pub fn all(&mut self) -> impl Iterator<Item = &mut Job> {
         self.jobs.iter_mut().filter(|job| !job.is_deleted)
     }
@@ -99,29 +163,22 @@ impl Jobs {
         self.last_moment
     }
 
-    /// The number that a new job gets.
-    pub fn next_number(&self) -> i64 {
-        self.last_number().max(self.last_gone) + 1
+    /// The number that a new job gets, in one of these shards; `None` if there is no shard.
+    pub fn next_number(&self) -> Option<i64> {
+        self.shards.next_number(self.last_number.max(self.last_gone))
     }
 
-    fn last_number(&self) -> i64 {
-        self.jobs.last().map_or(0, |job| job.opening.number)
-    }
-
-    /// Forgets the job that was opened last, as if it had not been.
-    pub fn unopen(&mut self) {
-        if let Some(job) = self.jobs.pop() {
-            self.places.remove(&job.opening.name);
-        }
+    /// Forgets a job that was opened, as if it had not been. Its number is passed over.
+    pub fn unopen(&mut self, place: usize) {
+        let job = &mut self.jobs[place];
+        job.close();
+        self.places.remove(&job.opening.name);
+        self.numbers.remove(&job.opening.number);
+        self.empty.push(place);
     }
 
     /// Opens a job, and returns its place.
     pub fn open(&mut self, opening: Opening) -> Result<usize, NoJob> {
-        let place = self.jobs.len();
-        self.last_moment = self.last_moment.max(opening.started);
-        let name = opening.name.clone();
-        self.jobs.push(Job::open(opening)?);
-        self.places.insert(name, place);
-        Ok(place)
+        Job::open(opening).map(|job| self.add(job))
     }
 }

@@ -143,9 +143,11 @@ impl Keeper {
         round.upkeep.is_some()
     }
 
-    /// The job at a place was deleted.
+    /// The job at a place was deleted, or given up.
     pub fn forget(&mut self, place: usize) {
         self.images.forget_job(place);
+        self.attend.remove(&place);
+        self.failing.remove(&place);
     }
 
     /// The place of the job whose image is to be made. It is told once.
@@ -155,6 +157,11 @@ impl Keeper {
 
     /// An image was made, or memory ran out.
     pub fn made(&mut self, jobs: &mut Jobs, imaged: Imaged, metrics: &Metrics) {
+        let number = jobs.at(imaged.place).opening.number;
+        if imaged.saved.as_ref().is_some_and(|saved| saved.image.job != number) {
+            // the job was given up meanwhile, and another one has its place
+            return;
+        }
         if let Some(place) = self.images.made(imaged) {
             let job = jobs.at(place);
             log::warn(&format!("image job={} calls={}: memory ran out; the log grows", job.opening.name, job.seq));

@@ -14,7 +14,8 @@ impl Lent {
 
     /// Keeps a message that may need the coordinator; gives back any other.
     pub fn hold(&mut self, message: Message) -> Option<Message> {
-        if needs(&message) != Some(&self.state.opening.name) {
+        let is_given_up = matches!(&message, Message::GiveUp(shards, _) if shards.has_job(self.state.opening.number));
+        if !is_given_up && needs(&message) != Some(&self.state.opening.name) {
             return Some(message);
         }
         self.held.push(message);
@@ -38,5 +39,6 @@ fn needs(message: &Message) -> Option<&String> {
             Read::Jobs | Read::Job(_) => None,
         },
         Message::Keep(..) | Message::Returned(_) | Message::Imaged(_) | Message::Stop => None,
+        Message::Adopt(_) | Message::GiveUp(..) => None,
     }
 }

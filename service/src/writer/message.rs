@@ -1,8 +1,11 @@
 //! The messages to the writer, and its answers.
 use super::delete::Delete;
 use super::imager::{Imaged, Returned};
+use super::moves::Adoption;
 use super::state::{JobState, RecordState};
-use crate::model::{Call, Fault, FileCounts, Garbage, NoJob, Outcome, PastRecord, RunningTerm, Settings, SummaryPart};
+use crate::model::{
+    Call, Fault, FileCounts, Garbage, NoJob, Outcome, PastRecord, RunningTerm, Settings, Shards, SummaryPart,
+};
 use thiserror::Error;
 use tokio::sync::oneshot;
 
@@ -31,6 +34,10 @@ pub enum Message {
     /// What the history gives to the database. The answer says whether it was committed.
     Keep(ForKeeping, oneshot::Sender<bool>),
     Delete(Delete),
+    /// Jobs of shards that this process got.
+    Adopt(Box<Adoption>),
+    /// Shards that this process gives up. The answer names their jobs, of which it writes nothing more.
+    GiveUp(Shards, oneshot::Sender<Vec<String>>),
     /// The coordinator of a job, of which an image was made.
     Returned(Returned),
     Imaged(Imaged),
@@ -73,7 +80,8 @@ pub enum ForKeeping {
 
 #[derive(Debug)]
 pub enum CallsDone {
-    Made(Vec<Outcome>),
+    /// In this epoch of the job's shard.
+    Made(u64, Vec<Outcome>),
     /// The body of the answer, which was given under the request's key, now or before.
     Known(String),
     /// The key was used with another body.
@@ -104,6 +112,8 @@ pub enum Created {
         names: bool,
     },
     NotOpened(NoJob),
+    /// Another process has a job of this name, or has to open it.
+    Elsewhere,
 }
 
 #[derive(Debug)]
@@ -131,7 +141,8 @@ pub enum Read {
 
 #[derive(Debug)]
 pub enum ReadDone {
-    Jobs(Vec<JobState>),
+    /// The jobs of this process, and the shards of which they are all.
+    Jobs(Shards, Vec<JobState>),
     Job(Box<JobState>),
     /// A live record, or `None` if none has the number.
     Record(Option<RecordState>),

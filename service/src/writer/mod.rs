@@ -12,6 +12,7 @@ mod lease;
 mod leftovers;
 mod lent;
 mod message;
+mod moves;
 mod old_keys;
 mod queue;
 pub mod replay;
@@ -25,6 +26,7 @@ pub use imager::Imager;
 pub use jobs::Jobs;
 pub use lease::Lease;
 pub use message::{CallsDone, Created, Deletion, ForKeeping, Key, Message, Names, Read, ReadDone};
+pub use moves::Adoption;
 pub use queue::{queue, Inbox, Messages, NotSent};
 pub use replay::StartError;
 pub use state::{JobState, RecordState};
@@ -39,7 +41,7 @@ use keeper::Keeper;
 use leftovers::Leftovers;
 use lent::Lent;
 use old_keys::OldKeys;
-use round::Round;
+use round::{Done, Round};
 use std::collections::VecDeque;
 use std::sync::mpsc::RecvTimeoutError;
 use std::sync::Arc;
@@ -131,9 +133,12 @@ impl Writer {
             let (stop, added, keys) = (round.stop, round.group.entries.len(), round.group.requests.len());
             self.keeper.called(&round.touched);
             let (given, deletions) = (std::mem::take(&mut round.given), std::mem::take(&mut round.deletions));
+            let (adoptions, given_up) = (std::mem::take(&mut round.adoptions), std::mem::take(&mut round.given_up));
             self.answer(round);
             self.keep(given);
             self.delete(deletions);
+            self.give_up(given_up);
+            self.adopt(adoptions);
             if stop {
                 self.board.end_lease();
                 self.store.release();
@@ -234,16 +239,19 @@ impl Writer {
             Message::Read(read, reply) => round.reads.push((read, reply)),
             Message::Keep(given, reply) => round.given.push((given, reply)),
             Message::Delete(delete) => round.deletions.push(delete),
+            Message::Adopt(adoption) => round.adoptions.push(*adoption),
+            Message::GiveUp(shards, reply) => round.given_up.push((shards, reply)),
             Message::Create { name, settings, shape, names, reply } => {
                 let created = round.create(&mut self.jobs, &name, settings, shape, names, self.clock.now());
                 round.created.push((created, reply));
             }
             Message::Calls { job, calls, key, reply } => {
+                let number = self.jobs.number(&job);
                 let done = match self.jobs.place(&job) {
                     None => CallsDone::NoJob,
                     Some(place) => self.keyed_calls(round, answered, place, &calls, key),
                 };
-                round.done.push((done, reply));
+                round.done.push(Done { done, job: number, reply });
             }
         }
     }
@@ -258,7 +266,8 @@ impl Writer {
         key: Option<Key>,
     ) -> CallsDone {
         let Some(key) = key else {
-            return CallsDone::Made(self.calls(round, place, calls));
+            let epoch = self.board.epoch_of(self.jobs.at(place).opening.number);
+            return CallsDone::Made(epoch, self.calls(round, place, calls));
         };
         let job = self.jobs.at(place).opening.number;
         match round.keyed(job, &key.name).or_else(|| answered.get(job, &key.name)) {
@@ -266,7 +275,7 @@ impl Writer {
             Some(_) => CallsDone::KeyUsed,
             None => {
                 let outcomes = self.calls(round, place, calls);
-                let answers = self.board.answers(&outcomes);
+                let answers = self.board.answers(self.board.epoch_of(job), &outcomes);
                 // if nothing was made, a repeat makes nothing twice
                 if outcomes.iter().any(|outcome| matches!(outcome, Outcome::Made { seq: Some(_), .. })) {
                     round.keep(job, key, self.clock.now(), answers.clone());

@@ -3,7 +3,8 @@ use super::delete::Delete;
 use super::jobs::Jobs;
 use super::keeper::Upkeep;
 use super::message::{CallsDone, Created, ForKeeping, Key, Names, Read, ReadDone};
-use crate::model::{Call, NoJob, Opening, Settings};
+use super::moves::Adoption;
+use crate::model::{Call, NoJob, Opening, Settings, Shards};
 use crate::store::{Group, Keyed};
 use std::collections::{BTreeSet, HashMap};
 use tokio::sync::oneshot::Sender;
@@ -11,16 +12,25 @@ use tokio::sync::oneshot::Sender;
 /// The first name that a new job gives out.
 const FIRST_NAME: u64 = 1;
 
+/// An answer to calls of a job.
+pub struct Done {
+    pub done: CallsDone,
+    pub job: Option<i64>,
+    pub reply: Sender<CallsDone>,
+}
+
 #[derive(Default)]
 pub struct Round {
     pub group: Group,
     /// What the group writes beside calls.
     pub upkeep: Option<Upkeep>,
-    pub done: Vec<(CallsDone, Sender<CallsDone>)>,
+    pub done: Vec<Done>,
     pub created: Vec<(Created, Sender<Created>)>,
     pub reads: Vec<(Read, Sender<ReadDone>)>,
     pub given: Vec<(ForKeeping, Sender<bool>)>,
     pub deletions: Vec<Delete>,
+    pub adoptions: Vec<Adoption>,
+    pub given_up: Vec<(Shards, Sender<Vec<String>>)>,
     /// The places of jobs that were called.
     pub touched: BTreeSet<usize>,
     /// Jobs whose tick did nothing, and when it is tried again.
@@ -42,6 +52,24 @@ impl Round {
         self.group.requests.push(Keyed { job, key: key.name, at, digest: key.digest, answers });
     }
 
+    /// Takes the new jobs out of it, since another process has one of their names.
+    pub fn uncreate(&mut self, jobs: &mut Jobs) {
+        let gone = self.group.take_new();
+        let places: Vec<usize> = gone.iter().filter_map(|number| jobs.place_of(*number)).collect();
+        for place in places {
+            jobs.unopen(place);
+            self.touched.remove(&place);
+        }
+        for (created, _) in &mut self.created {
+            if matches!(created, Created::New { .. } | Created::Same { .. }) {
+                *created = Created::Elsewhere;
+            }
+        }
+        for done in self.done.iter_mut().filter(|done| done.job.is_some_and(|job| gone.contains(&job))) {
+            done.done = CallsDone::NoJob;
+        }
+    }
+
     /// Opens a job of this name, unless there is one.
     pub fn create(
         &mut self,
@@ -52,6 +80,9 @@ impl Round {
         names: Names,
         now: u64,
     ) -> Created {
+        let Some(number) = jobs.next_number() else {
+            return Created::Elsewhere;
+        };
         if let Some(place) = jobs.place(name) {
             let job = jobs.at(place);
             let (is_alike, has) =
@@ -63,7 +94,7 @@ impl Round {
             };
         }
         let names = names.wanted.unwrap_or(names.by_default);
-        let opening = Opening { number: jobs.next_number(), name: name.to_string(), settings, shape, started: now };
+        let opening = Opening { number, name: name.to_string(), settings, shape, started: now };
         let place = match jobs.open(opening.clone()) {
             Ok(place) => place,
             Err(why) => return Created::NotOpened(why),
@@ -72,7 +103,7 @@ impl Round {
             // its first call, so the log says that it gives out names
             let (_, logged) = jobs.at(place).call(&Call::Fence { first_name: FIRST_NAME }, now);
             let Some(logged) = logged else {
-                jobs.unopen();
+                jobs.unopen(place);
                 return Created::NotOpened(NoJob::no_memory());
             };
             self.group.log(logged);

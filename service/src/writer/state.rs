@@ -43,7 +43,11 @@ pub fn read(jobs: &mut Jobs, read: Read, now: u64, lent: Option<&JobState>) -> R
         None => state(job, now),
     };
     match read {
-        Read::Jobs => ReadDone::Jobs(jobs.all().map(state).collect()),
+        Read::Jobs => {
+            let mut states: Vec<JobState> = jobs.all().map(state).collect();
+            states.sort_unstable_by_key(|state| state.opening.number);
+            ReadDone::Jobs(jobs.shards(), states)
+        }
         Read::Job(name) => of(jobs, &name, |job| ReadDone::Job(Box::new(state(job)))),
         Read::Record { job, id } => of(jobs, &job, |job| ReadDone::Record(record(job, id))),
         Read::Taken(name) => of(jobs, &name, |job| ReadDone::Taken(job.engine().taken())),

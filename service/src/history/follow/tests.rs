@@ -1,6 +1,6 @@
 //! A history that goes on from a summary, and tables of each version.
 use super::*;
-use crate::model::{parse_config, FileBytes, PastRecord};
+use crate::model::{parse_config, FileBytes, PastRecord, Shards};
 use crate::store::{Room, SavedImage};
 use std::path::PathBuf;
 
@@ -57,7 +57,7 @@ impl Reader for Memory {
     fn said(&mut self, _: i64, after: u64, upto: u64) -> Result<Vec<AckBytes>, DbError> {
         Ok(self.said.iter().filter(|one| one.seq > after && one.seq <= upto).cloned().collect())
     }
-    fn sizes(&mut self, _: Option<(i64, u64)>, _: u32) -> Result<Vec<(i64, FileBytes)>, DbError> {
+    fn sizes(&mut self, _: Shards, _: Option<(i64, u64)>, _: u32) -> Result<Vec<(i64, FileBytes)>, DbError> {
         Ok(vec![])
     }
     fn gone(&mut self) -> Result<Vec<(i64, u64)>, DbError> {
@@ -72,7 +72,7 @@ impl Reader for Memory {
     fn first(&mut self, _: i64) -> Result<Option<u64>, DbError> {
         Ok(self.log.first().map(|entry| entry.seq))
     }
-    fn lengths_after(&mut self, _: &str) -> Result<Option<String>, DbError> {
+    fn lengths_after(&mut self, _: &str, _: i64) -> Result<Option<String>, DbError> {
         Ok(None)
     }
     fn leader(&mut self) -> Option<String> {

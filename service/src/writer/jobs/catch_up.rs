@@ -20,7 +20,7 @@ impl Jobs {
         let changed = self.changed(reader)?;
         beat()?;
         let (mut behind, from) = (changed, self.jobs.len());
-        for opening in reader.jobs_after(self.last_number())? {
+        for opening in reader.jobs_after(self.shards, self.last_number)? {
             let name = opening.name.clone();
             self.open(opening).map_err(|why| StartError::NotOpened { job: name, why })?;
         }
@@ -44,9 +44,9 @@ impl Jobs {
         Ok(changed.iter().filter_map(|(job, _)| self.place_of(*job)).collect())
     }
 
-    /// The place of a job by its number, in whose order the jobs are.
-    pub(super) fn place_of(&self, number: i64) -> Option<usize> {
-        self.jobs.binary_search_by_key(&number, |job| job.opening.number).ok()
+    /// The place of a job by its number.
+    pub fn place_of(&self, number: i64) -> Option<usize> {
+        self.numbers.get(&number).copied()
     }
 
     /// Makes the calls of several jobs, and goes on from images where calls were cut. Returns how many calls there were.
@@ -190,7 +190,7 @@ impl Jobs {
         let (mut sizes, mut after) = (HashMap::<i64, Vec<FileBytes>>::new(), None);
         loop {
             beat()?;
-            let page = reader.sizes(after, PAGE)?;
+            let page = reader.sizes(self.shards, after, PAGE)?;
             after = page.last().map(|(job, (file, _))| (*job, *file));
             if after.is_none() {
                 break;

@@ -1,0 +1,385 @@
+"""Jobs that are spread over several processes of one PostgreSQL: which process has them, what the others answer, and how they move."""
+import http.client
+import os
+import signal
+import subprocess
+import threading
+import time
+
+from harness import PROGRAM, PgArchive, Server, configured, folder, free_port, until
+from partition import Line
+from postgres import postgres
+from relkvanu_service import Service, ack, savepoint
+from spread import CONFIG, LEASE, SHARDS, Answers, even, member, members, owned, owners, run, shards
+from writers import Writer, check
+
+SETTINGS = {"interval": 1 << 40}
+READ, WRITE, TEAM = "r" * 20, "w" * 20, "t" * 20
+
+
+def opened(servers, count, first=0):
+    """Opens jobs at all processes in turn. Returns their names."""
+    names = [f"j{number}" for number in range(first, first + count)]
+    for number, name in enumerate(names):
+        Service(servers[number % len(servers)].url).open(name, SETTINGS, [1])
+    return names
+
+
+def listed(server):
+    status, _, body = server.get("/v1/jobs")
+    assert status == 200, (status, body)
+    return [job["name"] for job in body["jobs"]]
+
+
+def test_each_process_answers_for_all_jobs():
+    with postgres() as database, folder() as at:
+        servers = members(at, database.url, 3)
+        assert sorted(shards(server) for server in servers) == [21, 21, 22]
+        names = opened(servers, 30)
+        at_each = [sum(url == server.url for url in owners(database).values()) for server in servers]
+        assert sorted(at_each) == [10, 10, 10], at_each
+        lists = [listed(server) for server in servers]
+        assert lists[0] == lists[1] == lists[2] and sorted(lists[0]) == sorted(names), lists
+        for server in servers:
+            pages, after = [], 0
+            while after is not None:
+                body = server.get(f"/v1/jobs?limit=7&after={after}")[2]
+                pages += [job["name"] for job in body["jobs"]]
+                after = body["next"]
+            assert pages == lists[0], pages
+        service = [Service(server.url) for server in servers]
+        for number, name in enumerate(names[:9]):
+            made = [one.job(name).call(savepoint()) for one in service]
+            assert [answer["seq"] for answer in made] == [1, 2, 3], made
+            logs = [list(one.job(name).log()) for one in service]
+            assert logs[0] == logs[1] == logs[2] and len(logs[0]) == 3
+            identities = {server.get(f"/v1/jobs/{name}")[1]["relkvanu-log"] for server in servers}
+            states = {one.job(name).state()["log"] for one in service}
+            assert len(identities) == 1 and states == identities, (identities, states)
+        check_kinds(servers, names)
+        for server in servers:
+            assert server.stop() == 0
+        return f"{len(names)} jobs at 3 processes with {'+'.join(map(str, at_each))} of them"
+
+
+def check_kinds(servers, names):
+    """Requests of each kind, to a process that does not have the job."""
+    for server in servers:
+        assert server.get("/v1/jobs/none")[0] == 404 and server.request("POST", "/v1/jobs/none/calls", {"calls": [{"call": "tick"}]})[0] == 404
+        assert server.request("DELETE", f"/v1/jobs/{names[0]}")[0] == 409
+        view = server.get(f"/v1/view/{names[3]}")[2]
+        assert view["job"]["name"] == names[3] and sorted(one["name"] for one in view["jobs"]) == sorted(names), view
+        first = server.get("/v1/view")[2]
+        assert first["job"]["name"] in names and len(first["jobs"]) == len(names)
+        assert server.request("POST", "/v1/jobs", {"name": names[1], "settings": SETTINGS, "shape": [1]})[0] == 200
+        assert server.request("POST", "/v1/jobs", {"name": names[1], "settings": SETTINGS, "shape": [2]})[0] == 409
+        polled = Service(server.url).job(names[4]).poll(0)
+        assert [event["event"] for event in polled["events"]] == ["savepoint"] * 3 or len(polled["events"]) == 3, polled
+        bad = server.request("POST", f"/v1/jobs/{names[4]}/calls", {"calls": []})
+        assert bad[0] == 400 and bad[2]["field"] == "calls", bad
+        problem = server.request("POST", f"/v1/jobs/{names[4]}/calls", {"calls": []}, headers={"Accept": "application/problem+json"})
+        assert problem[1]["content-type"] == "application/problem+json", problem
+        assert streamed(server, names[5], 3), "a stream"
+
+
+def streamed(server, job, count):
+    """Whether a stream of events gives so many of them."""
+    connection = http.client.HTTPConnection("127.0.0.1", server.port, timeout=20)
+    connection.request("GET", f"/v1/jobs/{job}/stream?after=0")
+    answer, found = connection.getresponse(), 0
+    while found < count:
+        found += answer.readline().startswith(b"id: ")
+    connection.close()
+    return True
+
+
+def test_one_name_is_one_job():
+    """Many clients open the same names at once, at all processes."""
+    with postgres() as database, folder() as at:
+        servers = members(at, database.url, 3)
+        told, lock = {}, threading.Lock()
+
+        def client(place):
+            for number in range(20):
+                body = {"name": f"same{number}", "settings": SETTINGS, "shape": [1]}
+                status = 503
+                while status == 503:
+                    status = servers[place % 3].request("POST", "/v1/jobs", body)[0]
+                with lock:
+                    told.setdefault(number, []).append(status)
+
+        threads = [threading.Thread(target=client, args=(place,)) for place in range(6)]
+        for thread in threads:
+            thread.start()
+        for thread in threads:
+            thread.join()
+        assert all(sorted(statuses) == [200] * 5 + [201] for statuses in told.values()), told
+        assert database.sql("select count(*), count(distinct name) from job") == "20|20"
+        rivals = sum(server.log().count("a job is not opened here") for server in servers)
+        assert [server.process.poll() for server in servers] == [None] * 3
+        # a name that was deleted at one process is free at all
+        Service(servers[0].url).job("same0").call({"call": "cancel"})
+        assert Service(servers[1].url).delete("same0") is True
+        assert [server.get("/v1/jobs/same0")[0] for server in servers] == [404] * 3
+        assert servers[2].request("POST", "/v1/jobs", {"name": "same0", "settings": SETTINGS, "shape": [3]})[0] == 201
+        assert [server.get("/v1/jobs/same0")[2]["shape"] for server in servers] == [[3]] * 3
+        for server in servers:
+            server.stop()
+        return f"20 names, each opened once by 6 clients at 3 processes; {rivals} were refused by the database"
+
+
+def test_processes_come_and_go():
+    """One that joins or leaves, is killed, or is suspended: the others have its jobs within seconds, and no answered call is lost."""
+    with postgres() as database, folder() as at:
+        first = member(at, database.url).start()
+        archive = PgArchive(database)
+        names, times = opened([first], 40), {}
+        all_of = [first, member(at, database.url), member(at, database.url)]
+        clients = [Writer([server.url for server in all_of], names[number], number) for number in range(8)]
+        answers = Answers()
+        for client in clients:
+            answers.listen(client, client.name_of_job)
+            client.start()
+        for count in (2, 3):
+            all_of[count - 1].start(ready=False)
+            times[f"{count} processes"] = even(all_of[:count])
+        times["after a stop"] = left(all_of[1], all_of, lambda it: it.terminate(), 0)
+        times["after a kill"] = left(all_of[2], all_of, lambda it: it.kill(), -9)
+        process = all_of[0].process
+        job = owned(database, all_of[0])
+        process.send_signal(signal.SIGSTOP)
+        started = time.monotonic()
+        even(all_of[1:])
+        times["after a suspension"] = time.monotonic() - started
+        Service(all_of[1].url).job(job).call(savepoint())
+        process.send_signal(signal.SIGCONT)
+        assert process.wait(20) == 75, all_of[0].log()[-300:]
+        for client in clients:
+            client.over.set()
+        for client in clients:
+            client.join(60)
+            assert not client.is_alive(), "a client hangs"
+        service = Service(all_of[1].url)
+        found = [check(clients, service, client.name_of_job, [1], archive) for client in clients]
+        epochs = answers.check(database)
+        for server in all_of[1:]:
+            assert server.stop() == 0
+        assert max(times.values()) < LEASE + 8, times
+        said = ", ".join(f"{what} {took:.1f} s" for what, took in times.items())
+        return f"{said}; {sum(one[0] for one in found)} calls answered in {epochs} epochs of jobs"
+
+
+def left(server, all_of, end, status):
+    """How long it takes until the others have all shards of one that goes. It is started again."""
+    started = time.monotonic()
+    end(server.process)
+    even([other for other in all_of if other is not server])
+    took = time.monotonic() - started
+    assert server.process.wait(20) == status
+    server.start()
+    even(all_of)
+    return took
+
+
+def test_many_jobs_move():
+    """A process that gives up and gets many jobs keeps its lease meanwhile, and its metrics are of its own jobs."""
+    with postgres() as database, folder() as at:
+        first = member(at, database.url).start()
+
+        def some(part):
+            service = Service(first.url)
+            for number in range(part, 1600, 16):
+                service.open(f"j{number}", SETTINGS, [1]).call(savepoint())
+
+        threads = [threading.Thread(target=some, args=(part,)) for part in range(16)]
+        for thread in threads:
+            thread.start()
+        for thread in threads:
+            thread.join()
+        assert first.get("/metrics")[2].count("relkvanu_mode{") == 1600
+        second = member(at, database.url).start(ready=False)
+        even([first, second], 60)
+        counts = [server.get("/metrics")[2].count("relkvanu_mode{") for server in (first, second)]
+        assert counts == [800, 800] and len(listed(second)) == 1600, counts
+        assert first.process.poll() is None and "has not renewed" not in second.log(), second.log()[-300:]
+        assert second.stop() == 0
+        even([first], 60)
+        assert first.get("/metrics")[2].count("relkvanu_mode{") == 1600
+        first.stop()
+        return "800 of 1600 jobs, there and back"
+
+
+def test_a_late_commit_writes_nothing():
+    """A process is cut off from the database while its commit is under way. Another one gets its jobs, and calls them. Then the commit arrives."""
+    with postgres() as database, folder() as at:
+        line = Line(database.port)
+        cut, other = member(at, database.url.replace(str(database.port), str(line.port))), member(at, database.url)
+        cut.start()
+        other.start()
+        even([cut, other])
+        opened([cut, other], 8)
+        job = owned(database, cut)
+        Service(cut.url).job(job).call(savepoint())
+        line.is_cut = True
+        told = []
+        # with a file that no other call names
+        late = threading.Thread(target=lambda: told.append(cut.request("POST", f"/v1/jobs/{job}/calls", {"calls": [ack(1, "0.0", [4711])]})[0]))
+        late.start()
+        until(lambda: owners(database)[job] == other.url and shards(other) == SHARDS)
+        after = [Service(other.url).job(job).call(savepoint())["seq"] for _ in range(3)]
+        line.is_cut = False
+        assert cut.process.wait(30) == 75, cut.log()[-300:]
+        late.join(30)
+        lines = database.sql(f"select line from call join job using (job) where name = '{job}' order by seq").splitlines()
+        assert after == [2, 3, 4] and len(lines) == 4 and not any("4711" in text for text in lines), lines
+        assert told == [0], told
+        other.stop()
+        return "neither its call nor an answer to it"
+
+
+def test_a_job_of_a_process_that_does_not_answer():
+    """The owner of a job is suspended: the others say so, and answer once they have the job. A poll and a stream end."""
+    with postgres() as database, folder() as at:
+        servers = members(at, database.url, 2)
+        opened(servers, 8)
+        job = owned(database, servers[0])
+        servers[0].process.send_signal(signal.SIGSTOP)
+        started, statuses = time.monotonic(), set()
+        while (status := servers[1].get(f"/v1/jobs/{job}")[0]) != 200:
+            statuses.add(status)
+            assert time.monotonic() - started < LEASE + 10
+            time.sleep(0.05)
+        took = time.monotonic() - started
+        assert statuses <= {502, 503}, statuses
+        assert took > LEASE / 2, took
+        servers[0].kill()
+        servers[1].stop()
+        return f"{', '.join(map(str, sorted(statuses)))}, and its state after {took:.1f} s"
+
+
+def test_tokens_go_with_a_request():
+    with postgres() as database, folder() as at:
+        with open(f"{at}/tokens", "w", encoding="utf-8") as it:
+            it.write(f"read {READ}\nwrite {WRITE} name=admin\nwrite {TEAM} jobs=team-* name=team\n")
+        servers = [member(at, database.url) for _ in range(2)]
+        for server in servers:
+            server.args += ["--token-file", f"{at}/tokens"]
+            server.start(ready=False)
+        # /readyz needs no token, and the metrics do
+        for server in servers:
+            server.wait_ready()
+        until(lambda: database.sql("select count(distinct owner), count(owner) from shard") == "2|64")
+        names = [f"team-{number}" for number in range(4)] + [f"other-{number}" for number in range(4)]
+        for number, name in enumerate(names):
+            body = {"name": name, "settings": SETTINGS, "shape": [1]}
+            until(lambda: servers[number % 2].request("POST", "/v1/jobs", body, WRITE)[0] in (200, 201))
+        found, calls = owners(database), {"calls": [{"call": "tick"}]}
+        for name, url in found.items():
+            away = next(server for server in servers if server.url != url)
+            at_owner = next(server for server in servers if server.url == url)
+            is_team = name.startswith("team-")
+            for server, headers in ((away, {}), (at_owner, {"relkvanu-passed": "1"})):
+                posted = [server.request("POST", f"/v1/jobs/{name}/calls", calls, token, headers)[0] for token in (None, "x" * 20, READ, WRITE, TEAM)]
+                assert posted == [401, 401, 401, 200, 200 if is_team else 403], (name, posted)
+                assert [server.get(f"/v1/jobs/{name}", token)[0] for token in (None, READ, TEAM)] == [401, 200, 200 if is_team else 403]
+        for server in servers:
+            seen = [sorted(job["name"] for job in server.get("/v1/jobs", token)[2]["jobs"]) for token in (READ, TEAM)]
+            assert seen == [sorted(names), sorted(names[:4])], seen
+            assert server.get("/v1/jobs")[0] == 401
+        # a request that was passed on is not passed on again
+        name, url = next(iter(found.items()))
+        away = next(server for server in servers if server.url != url)
+        told = away.request("GET", f"/v1/jobs/{name}", None, READ, {"relkvanu-passed": "1"})
+        assert told[0] == 503 and told[1]["retry-after"] == "1", told
+        for server in servers:
+            server.stop()
+        return "each token does at each process what it does at the owner"
+
+
+def test_two_members_over_tls():
+    with postgres() as database, folder() as at:
+        subprocess.run(["openssl", "req", "-x509", "-newkey", "rsa:2048", "-nodes", "-days", "2", "-subj", "/CN=localhost", "-addext",
+                        "subjectAltName=DNS:localhost,IP:127.0.0.1", "-keyout", f"{at}/key.pem", "-out", f"{at}/certificate.pem"],
+                       stderr=subprocess.DEVNULL, check=True)
+        text = CONFIG + f'tls_certificate = "{at}/certificate.pem"\ntls_key = "{at}/key.pem"\n'
+        servers = [Server(at, database.url, configured(at, text), ["env", f"SSL_CERT_FILE={at}/certificate.pem"]) for _ in range(2)]
+        for server in servers:
+            server.url = f"https://localhost:{server.port}"
+            server.args += ["--spread", "--advertise", server.url]
+            server.start(ready=False)
+        until(lambda: all("serves on" in server.log() for server in servers))
+        until(lambda: database.sql("select count(distinct owner), count(owner) from shard") == "2|64")
+        service = [Service(server.url, ca=f"{at}/certificate.pem") for server in servers]
+        for number in range(6):
+            service[number % 2].open(f"j{number}", SETTINGS, [1])
+        seen = [[one.job(f"j{number}").state()["seq"] for number in range(6)] for one in service]
+        assert seen == [[0] * 6, [0] * 6] and len({url for url in owners(database).values()}) == 2
+        for server in servers:
+            server.stop()
+        return "each passes requests on to the other"
+
+
+def test_a_damaged_job_keeps_its_shard_alone():
+    """A log that can't be read: its shard is not served, and all others are."""
+    with postgres() as database, folder() as at:
+        servers = members(at, database.url, 2)
+        names = opened(servers, 10)
+        bad = owned(database, servers[0])
+        Service(servers[0].url).job(bad).call(savepoint())
+        database.sql(f"update call set answer = 'savepoint triggered 9' from job where job.job = call.job and name = '{bad}'")
+        servers[0].kill()
+        until(lambda: shards(servers[1]) == SHARDS - 1)
+        statuses = {name: servers[1].get(f"/v1/jobs/{name}")[0] for name in names}
+        assert statuses == {name: 503 if name == bad else 200 for name in names}, statuses
+        assert "savepoint triggered 9" in servers[1].log() and servers[1].process.poll() is None
+        servers[1].stop()
+        return "1 of 64 shards"
+
+
+def test_the_way_from_one_leader_and_back():
+    """A database of an earlier version, whose processes write nothing any more; then processes that do not share."""
+    with postgres() as database, folder() as at:
+        alone = Server(at, database.url, configured(at, CONFIG)).start()
+        names = opened([alone], 6)
+        log = Service(alone.url).job("j0").state()["log"]
+        Service(alone.url).job("j0").call(savepoint())
+        assert alone.stop() == 0
+        earlier(database, 7)
+        servers = members(at, database.url, 2)
+        assert set(database.sql("select distinct epoch from shard").split()) <= {"8", "9"}, database.sql("select * from shard")
+        # what a process of the earlier version says that leads, one that looks, and one that takes over
+        says = ["update leader set until = clock_timestamp() where epoch = 7 returning 1", "select epoch from leader",
+                "update leader set epoch = epoch + 1, holder = 'x', until = clock_timestamp() where epoch = 7 returning epoch"]
+        assert [database.sql(text) for text in says] == ["", "", ""]
+        # an engine that follows the log goes on
+        polled = Service(servers[1].url).job("j0").follower(0, log).next(5)
+        assert [event["seq"] for event in polled] == [1], polled
+        third = Server(at, database.url, configured(at, CONFIG))
+        third.start(ready=False)
+        time.sleep(1)
+        assert third.get("/readyz")[0] == 503 and third.get("/v1/jobs")[0] == 503
+        for server in servers:
+            assert server.stop() == 0
+        third.wait_ready()
+        assert sorted(listed(third)) == sorted(names) and shards(third) == SHARDS
+        third.stop()
+        return "by way of two that share"
+
+
+def earlier(database, epoch):
+    """The tables are as version 4 had them, with a leader that is gone."""
+    database.sql(f"""drop table shard; drop table member; delete from log_start where shard != 1; alter table log_start drop constraint log_start_pkey;
+        alter table log_start drop column shard; alter table log_start add primary key (number); insert into leader values(true, {epoch}, 'x', '-infinity', 5);
+        update schema_version set number = 4""")
+
+
+def test_settings_of_sharing():
+    for words, why in [(["--spread"], "PostgreSQL can be spread"), (["--spread", "--database", "postgres://x@127.0.0.1/x"], "advertise is missing"),
+                       (["--spread", "--database", "postgres://x@127.0.0.1/x", "--advertise", "a:1"], "is no address")]:
+        told = subprocess.run([PROGRAM, "serve", "--listen", f"127.0.0.1:{free_port()}", *words], stderr=subprocess.PIPE, text=True, timeout=20, check=False)
+        assert told.returncode == 78 and why in told.stderr, told
+    return "3 refused"
+
+
+def test_faults():
+    return run(int(os.environ.get("RELKVANU_SPREAD", "60")))
