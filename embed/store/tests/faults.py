@@ -33,7 +33,12 @@ WORKERS = 3
 NOT_PUT = 15
 STOPS = 4  # of a crowd's job
 KILLED = 50  # jobs of crowds that are killed: 200 random moments
+MOST_BESIDE = 24 * 6 * 40  # calls of a long crowd that nobody was told
 LEAST_LOST = 200  # losses that take something which a killed process leaves
+
+
+SYNCS = (("its log", lambda path: path == "x.db-wal"), ("its file", lambda path: path == "x.db"), ("its folder", lambda path: path == ""))
+FILE_SYNCS = (("state files", lambda path: path.startswith("storage/")), ("the storage", lambda path: path == "storage"))
 
 
 class Run:
@@ -260,6 +265,30 @@ class Tests:
         self.each(turning, 3000, step=self.step(5), die="N")
         self.each(turning, 3000, step=self.step(5), fault="any", at="N", **{"for": 1})
 
+    def controls(self):
+        """If a sync is left out, a loss of power does harm: otherwise the others would show nothing."""
+        crowd, one = self.new("names"), self.new("names")
+        for _ in range(2):  # the second opening brings the log into the file
+            crowd.crowd("crowd-long", 0.5, 10 ** 9, journal=crowd.journal)
+        one.scenario(die=600, journal=one.journal)
+        for run, syncs, has_files in ((crowd, SYNCS, False), (one, FILE_SYNCS, True)):
+            self.note("a loss of power with all syncs", check, not self.does_harm(run, has_files), "it did harm")
+            for name, ignored in syncs:
+                self.note(f"a loss of power without the syncs of {name}", check, self.does_harm(run, has_files, ignored), "it did no harm")
+
+    def does_harm(self, run, has_files, ignored=lambda path: False):
+        """Whether calls or files are lost, if these syncs are not called."""
+        journal = Journal.read(run.journal, run.folder, run.on_disk)
+        (lost,) = journal.losses([(len(journal.records), Loss.SYNCED)], random.Random(1), ignored)
+        copy = Run(self.bin, self.folder(), "names")
+        write_tree(lost.tree, copy.folder)
+        shutil.copy(run.told, copy.told)
+        try:
+            copy.verify(MOST_BESIDE, "files" if has_files else None)
+        except AssertionError:
+            return True
+        return False
+
     def crowd_run(self, run, chance, kind, images, most):
         run.keep()
         what = {} if kind == "kill" else {"journal": run.journal}
@@ -319,6 +348,7 @@ def main(bin_folder, rounds="1"):
         for kind in ("kill", "power", "loss", "faults"):
             calls, stops = tests.crowds(kind)
             print(f"store: crowds with {kind}: {stops} times, {calls} answered calls, {tests.failed} failed so far, {time.monotonic() - began:.0f} s", flush=True)
+        tests.controls()
         print(f"store: {tests.losses} losses of power, {tests.lost} with an effect", flush=True)
         tests.note("losses of power", lambda: check(tests.lost >= LEAST_LOST, f"{tests.lost} of {tests.losses} losses had an effect"))
     print(f"{tests.passed} passed, {tests.failed} failed")
