@@ -1,6 +1,6 @@
 // The page's loop: it reads the state of the jobs, shows it, and waits for what the job's stream tells.
 import * as actions from "./actions.js";
-import { get, keepToken, stream } from "./api.js";
+import { get, hasToken, keepToken, stream } from "./api.js";
 import * as charts from "./charts.js";
 import * as records from "./records.js";
 import * as views from "./views.js";
@@ -165,7 +165,8 @@ function showOld(error) {
     at("leader-link").textContent = error.leader;
     at("leader-link").href = /^https?:/.test(error.leader) ? error.leader : `${location.protocol}//${error.leader}`;
   }
-  say(error.message + old, true);
+  const wants = hasToken() ? "the service does not take this token" : "a token is needed: one to read shows, one to write also acts";
+  say((error.status === 401 ? wants : error.message) + old, true);
 }
 
 async function live() {
