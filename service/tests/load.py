@@ -1,8 +1,10 @@
-"""Load by wrk. load.py [SECONDS [sqlite|postgres]] prints acknowledgements a second with 1 and 256 connections, of one and of 64 each. It also
-prints how many bare commits of as many rows the database makes, and the cost of a start over that log, with an image and without. Over
-SQLite it also prints the cost of images of a job with a million files."""
+"""Load by wrk. load.py [SECONDS [sqlite|postgres [SYNCS]]] prints acknowledgements a second with 1 and 256 connections, of one and of 64
+each, and what wrk itself takes of a processor. It also prints how often the disk syncs, how many bare commits of as many rows the database
+makes, and the cost of a start over that log, with an image and without. Over SQLite it also prints the cost of images of a job with a
+million files. With SYNCS each sync of SQLite takes as long as on a disk that makes so many a second."""
 import os
 import re
+import resource
 import sqlite3
 import subprocess
 import sys
@@ -11,9 +13,28 @@ import time
 
 from harness import HERE, Server, folder, until
 from postgres import postgres
+from preloaded import built
 from relkvanu_service import Service, ack, dispose, savepoint
 
 WAYS = [(1, 1), (256, 1), (1, 64), (256, 64)]
+
+
+def children_ran():
+    """The seconds that processes have run for which this one has waited."""
+    it = resource.getrusage(resource.RUSAGE_CHILDREN)
+    return it.ru_utime + it.ru_stime
+
+
+def syncs(at, seconds=2):
+    """How often a second a page that was just written at the end of a file is synced, as each commit of SQLite does at least once."""
+    made, started = 0, time.monotonic()
+    with open(f"{at}/synced", "wb", buffering=0) as it:
+        while time.monotonic() - started < seconds:
+            it.write(bytes(4096))
+            os.fdatasync(it.fileno())
+            made += 1
+    os.remove(f"{at}/synced")
+    return made / (time.monotonic() - started)
 
 
 def wrk(url, connections, batch, seconds):
@@ -62,18 +83,18 @@ def processor_times(server):
 
 
 def loaded(server, ways, seconds):
-    """A line for each way, and how many acknowledgements were made. The processor time is that of the service, which depends less on what
-    else the machine does."""
+    """A line for each way, and how many acknowledgements were made. The processor times are those of the service and of wrk, which depend
+    less on what else the machine does."""
     job = Service(server.url).open("load", {"interval": 10, "at_once": 64, "timeout": 3_600_000}, [4096])
     until(lambda: len(job.state()["live"]) >= 4)
     told, made = [], 0
     for connections, batch in ways:
-        before, ran = job.state()["seq"], sum(processor_times(server))
+        before, ran, wrk_ran = job.state()["seq"], sum(processor_times(server)), children_ran()
         rate, bad, slow = wrk(server.url, connections, batch, seconds)
-        acks, ran = job.state()["seq"] - before, sum(processor_times(server)) - ran
+        acks, ran, wrk_ran = job.state()["seq"] - before, sum(processor_times(server)) - ran, children_ran() - wrk_ran
         made += acks
         assert bad == 0, f"{bad} requests were not answered with 200"
-        told.append((connections, batch, rate * batch, slow, acks, 1e6 * ran / max(acks, 1)))
+        told.append((connections, batch, rate * batch, slow, acks, 1e6 * ran / max(acks, 1), 1e6 * wrk_ran / max(acks, 1)))
     return told, made
 
 
@@ -137,6 +158,7 @@ def longest(server, seconds, other=None):
 def main(seconds=10, where="sqlite"):
     print(f"load {os.getloadavg()[0]:.1f} before")
     with folder() as at:
+        print(f"bare syncs of a page: {syncs(at):.0f}/s", flush=True)
         if where == "postgres":
             with postgres() as database:
                 for rows in (1, 64, 1000):
@@ -170,8 +192,9 @@ def forget_images(server, database):
 
 def measure(at, seconds, database):
     server = Server(at, database and database.url, ["--keep-calls", "1000000000"]).start()
-    for connections, batch, rate, slow, acks, each in loaded(server, WAYS, seconds)[0]:
-        print(f"{connections} connections, {batch} a request: {rate:.0f} acknowledgements/s, 99% within {slow}, {acks} calls logged, {each:.0f} µs of a processor each", flush=True)
+    for connections, batch, rate, slow, acks, each, of_wrk in loaded(server, WAYS, seconds)[0]:
+        times = f"{each:.0f} µs of a processor each, and {of_wrk:.0f} µs of wrk"
+        print(f"{connections} connections, {batch} a request: {rate:.0f} acknowledgements/s, 99% within {slow}, {acks} calls logged, {times}", flush=True)
     print(f"memory with the job of 4096 subtasks: {memory(server) / 1024:.0f} MiB")
     made, state = values(server), server.get("/v1/jobs/load")[2]
     count, took = made["relkvanu_image_seconds_count"], made["relkvanu_image_seconds_sum"]
@@ -186,5 +209,14 @@ def measure(at, seconds, database):
     server.stop()
 
 
+def over_slow_disk(syncs):
+    """Runs this program again over a disk that syncs so often."""
+    with folder() as at:
+        environment = {"LD_PRELOAD": built(at, "slow_disk"), "SYNC_MICROSECONDS": str(1_000_000 // syncs)}
+        return subprocess.run([sys.executable, *sys.argv[:3]], env={**os.environ, **environment}, check=False).returncode
+
+
 if __name__ == "__main__":
+    if len(sys.argv) > 3:
+        sys.exit(over_slow_disk(int(sys.argv[3])))
     main(int((sys.argv[1:] or ["10"])[0]), *sys.argv[2:3])

@@ -65,7 +65,11 @@ def acted(page, server):
     job = Service(server.url, token=WRITE).open("orders", SETTINGS, [1, 2])
     page.get(f"{server.url}/#/jobs/orders")
     until(lambda: not page.execute_script("return document.getElementById('token').hidden"), 10)
+    assert "a token is needed" in test_page.texts(page, "#status")[0]
     page.execute_script("document.getElementById('token-text').focus()")
+    keys(page, "none of its tokens", Keys.ENTER)
+    until(lambda: test_page.texts(page, "#status") == ["the service does not take this token"], 10)
+    page.execute_script("document.getElementById('token-text').value = ''; document.getElementById('token-text').focus()")
     keys(page, READ, Keys.ENTER)
     until(lambda: test_page.texts(page, "#job-name") == ["orders"], 10)
     assert nameless(page) == [], nameless(page)

@@ -1,4 +1,4 @@
-"""The page's state: it agrees with itself, keeps the focus, says what a checkpoint waits for and what is old, and asks once for a look."""
+"""The page's state: it agrees with itself as time passes, keeps the focus, says what is waited for and what is old, and asks once."""
 import time
 
 import test_page
@@ -47,6 +47,7 @@ def test_the_page_agrees_with_itself():
                         row: [...document.querySelector("#count-rows tr").children].slice(1).map(c => Number(c.textContent))}""")
             assert told["facts"] == told["ends"] == told["row"] == [4, 0, 0], told
             assert abs(told["at"][0] - job.state()["now"]) < 10_000, told
+            ticks_together(page)
             shows_the_focus(page)
             asks_once(page, job)
             server.kill()
@@ -57,6 +58,30 @@ def test_the_page_agrees_with_itself():
             return f"{len(rows)} records"
     finally:
         page.quit()
+
+
+def ticks_together(page):
+    """While nothing is told, the time of a pending record goes on in its list and in its row of the table, which say the same."""
+    def times():
+        return page.execute_script("""
+            const said = (selector, pattern) => document.querySelector(selector).textContent.match(pattern)[1];
+            return [said("#pending li", /for (.*?);/), said("#records tr td:nth-child(3)", /(.*) so far/)]""")
+
+    def is_kept():
+        page.execute_script("window.before = document.querySelector('#records tr')")
+        _, was = times()
+        until(lambda: times()[1] != was, 5, 0.02)
+        return page.execute_script("return window.before === document.querySelector('#records tr')")
+
+    seen, end = set(), time.monotonic() + 4
+    while time.monotonic() < end:
+        listed, tabled = times()
+        assert listed == tabled, (listed, tabled)
+        seen.add(tabled)
+        time.sleep(0.2)
+    assert len(seen) >= 3, seen
+    # a tick leaves the row, so no click on it is lost; a look may make it anew
+    assert any(is_kept() for _ in range(3)), "each tick replaces the row"
 
 
 def shows_the_focus(page):

@@ -1,5 +1,5 @@
 """The unit under a real systemd, which is booted in a container: installed, saved and restored as docs/SERVICE.md says, killed, stopped
-and misconfigured."""
+and misconfigured, and set up with TLS from nothing."""
 import json
 import os
 import shutil
@@ -34,13 +34,16 @@ def commands():
         "sweep": "runs the sweeper likewise", "init": "For an option that is for one", "upgrade": "### To upgrade",
         "way back": "If the start ends with 78 all the same",
     }
+    steps = ("Install", "Make tokens", "Get a certificate", "Listen", "Start", "Open a job", "See it")
+    places |= {f"TLS: {step}": f"{number}. **{step}**" for number, step in enumerate(steps, 1)}
+    assert all(text.count(place) == 1 for place in places.values()), places
     return {name: text.partition(place)[2].split("```")[1] for name, place in places.items()}
 
 
 def booted(at):
     """Boots systemd over a root of its own, with /usr of this machine, and runs under_systemd.py in it."""
     binds = [f"--bind={at}:/try", f"--bind-ro={HERE}:/tests", f"--bind-ro={SERVICE}/deploy:/deploy", f"--bind-ro={PROGRAM}:/relkvanu", f"--bind-ro={TOP}/docs:/docs"]
-    binds += [f"--bind-ro={at}/try.service:/etc/systemd/system/try.service", "--bind-ro=/dev/null:/etc/systemd/system/systemd-firstboot.service"]
+    binds += [f"--bind-ro={at}/try.service:/etc/systemd/system/try.service", "--bind-ro=/dev/null:/etc/systemd/system/systemd-firstboot.service", "--bind-ro=/etc/ssl/openssl.cnf"]
     words = ["--quiet", "--console=pipe", "--directory=/", "--volatile=yes", "--private-network", "--register=no", "--keep-unit", f"--machine=relkvanu-test-{os.getpid()}"]
     # the program is installed where /usr of this machine can't be written
     words += [*binds, "--tmpfs=/usr/local/bin", "--tmpfs=/usr/local/share", "--boot", "--", "--unit=try.service"]
@@ -64,5 +67,5 @@ def test_under_systemd():
             told = json.loads(it.read())
         assert told["exposure"] < 3 and told["discard_exposure"] < 3, told
         again = f"ready again {told['after_kill']:.1f} s after SIGKILL, {told['after_stop']:.1f} s after SIGSTOP with a watchdog of 2 s"
-        rest = f"78 and 2 end it; a start took {told['long_start']:.1f} s; a backup was restored, and an upgrade taken back; the discarder has exposure {told['discard_exposure']}"
+        rest = f"78 and 2 end it; a start took {told['long_start']:.1f} s; a backup was restored, and an upgrade taken back; the discarder has exposure {told['discard_exposure']}; TLS"
         return f"exposure {told['exposure']}; {again}; {rest}"

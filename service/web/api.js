@@ -15,6 +15,10 @@ export function keepToken(text) {
   sessionStorage.setItem(TOKEN, text);
 }
 
+export function hasToken() {
+  return Boolean(sessionStorage.getItem(TOKEN));
+}
+
 // Makes a request below /v1; an error has the answer's status, or 0 if there was none.
 async function asked(path, given) {
   const token = sessionStorage.getItem(TOKEN);

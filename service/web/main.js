@@ -1,6 +1,6 @@
 // The page's loop: it reads the state of the jobs, shows it, and waits for what the job's stream tells.
 import * as actions from "./actions.js";
-import { get, keepToken, stream } from "./api.js";
+import { get, hasToken, keepToken, stream } from "./api.js";
 import * as charts from "./charts.js";
 import * as records from "./records.js";
 import * as views from "./views.js";
@@ -45,6 +45,8 @@ function showTimes() {
   const now = job.now + (Date.now() - shown.last);
   views.fill(at("facts"), views.facts({ ...job, now }, pending));
   list("pending", pending.map((record) => views.pending(record, now)), "nothing-pending");
+  // the rows stay, so that a click on one is not lost
+  for (const cell of at("records").querySelectorAll("td[data-since]")) cell.textContent = views.soFar(now - Number(cell.dataset.since));
   at("moment").textContent = `· ${new Date().toLocaleTimeString()}`;
 }
 
@@ -55,12 +57,11 @@ function act(action) {
   });
 }
 
-async function showJob(told) {
+function showJob(told, rows) {
   const job = told.job;
   at("job-name").textContent = job.name;
   at("hint").textContent = views.hint(job);
   at("hint").hidden = at("hint").textContent === "";
-  showTimes();
   at("do-savepoint").disabled = job.mode !== "running";
   at("do-restore").disabled = at("do-cancel").disabled = job.mode === "cancelled";
   at("do-delete").disabled = job.mode === "running";
@@ -68,8 +69,8 @@ async function showJob(told) {
   // an event since may have ended the term
   if (job.last_event !== shown.termAt) at("term").textContent = "";
   list("savepoints", told.savepoints.map((one) => views.savepoint(one, job.choice, (id) => act(actions.dispose(job, id)))), "no-savepoints");
-  const rows = await records.rows(job, told.records);
-  views.fill(at("records"), rows.map((record) => views.recordRow(record, told.pending, job.now, (id) => records.showRecord(job.name, id))));
+  views.fill(at("records"), rows.map((record) => views.recordRow(record, told.pending, (id) => records.showRecord(job.name, id))));
+  showTimes();
   views.fill(at("taken"), views.fileButtons(told.taken, lookUp));
   views.fill(at("deleted"), views.fileButtons(told.deleted, lookUp));
   at("upto").textContent = views.progress(told.upto, job.seq);
@@ -85,15 +86,16 @@ async function showJob(told) {
 async function show() {
   const name = chosen();
   const told = await get(`/view${name === null ? "" : `/${name}`}?records=${RECORDS}&samples=${SAMPLES}&files=${FILES}`);
-  const job = told.job;
-  Object.assign(shown, { told, last: Date.now() });
+  const [job, last] = [told.job, Date.now()];
+  const rows = job ? await records.rows(job, told.records) : [];
+  Object.assign(shown, { told, last });
   at("no-jobs").hidden = told.jobs.length > 0;
   views.fill(at("jobs"), told.jobs.map((one) => views.jobLink(one, job !== null && one.name === job.name)));
   if (job) {
     if (shown.job !== job.name) for (const id of ["file", "record", "term"]) at(id).replaceChildren();
     shown.job = job.name;
     shown.first = job.first;
-    await showJob(told);
+    showJob(told, rows);
   } else {
     at("job").hidden = true;
   }
@@ -163,7 +165,8 @@ function showOld(error) {
     at("leader-link").textContent = error.leader;
     at("leader-link").href = /^https?:/.test(error.leader) ? error.leader : `${location.protocol}//${error.leader}`;
   }
-  say(error.message + old, true);
+  const wants = hasToken() ? "the service does not take this token" : "a token is needed: one to read shows, one to write also acts";
+  say((error.status === 401 ? wants : error.message) + old, true);
 }
 
 async function live() {

@@ -169,10 +169,14 @@ export function pending(record, now) {
   return item;
 }
 
-// A pending record says what it lacks now, and for how long it has been pending.
-export function recordRow(record, waiting, now, look) {
-  const live = waiting.find((one) => one.id === record.id);
-  const took = record.finished !== null ? duration(record.finished - record.started) : live ? `${duration(Math.max(0, now - live.started))} so far` : "";
+// For how long a record has been pending, in the table.
+export function soFar(ms) {
+  return `${duration(Math.max(0, ms))} so far`;
+}
+
+// A pending record says what it lacks now, and since when it has been pending: the page fills in for how long.
+export function recordRow(record, waiting, look) {
+  const live = record.finished === null ? waiting.find((one) => one.id === record.id) : undefined;
   const how = record.how === "declined" ? record.why : record.how;
   const kept = record.how !== "completed" ? "" : record.gone === null ? "yes" : record.why;
   const cell = (text, kind) => element("td", { class: kind }, text);
@@ -181,7 +185,7 @@ export function recordRow(record, waiting, now, look) {
     { "data-record": record.id },
     element("td", {}, element("button", { type: "button", class: "small", "aria-label": `Record ${record.id}: why and when`, onclick: () => look(record.id) }, record.id)),
     cell(how, record.how === "pending" ? null : tone(record.how)),
-    cell(took),
+    element("td", { "data-since": live?.started }, record.finished === null ? "" : duration(record.finished - record.started)),
     cell(missing(live ?? record), "many"),
     cell(record.slowest ?? ""),
     cell(kept),

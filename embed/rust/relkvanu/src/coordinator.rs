@@ -455,7 +455,8 @@ impl Coordinator {
         let image = text_in(self.image_room.get(), |image| unsafe {
             sys::relkvanu_save(self.read_handle(), image.as_mut_ptr(), image.len())
         })?;
-        self.image_room.set(image.len() + image.len() / 4);
+        // a state that has grown is not saved twice; room that is not written takes no memory
+        self.image_room.set(2 * image.len());
         Ok(image)
     }
 

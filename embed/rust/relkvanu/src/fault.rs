@@ -419,10 +419,12 @@ pub(crate) fn text_in(
     loop {
         let told = write(&mut bytes);
         if told.code == sys::RELKVANU_TOO_SHORT {
-            bytes.resize(told.a as usize, 0);
+            bytes = vec![0; told.a as usize];
             continue;
         }
         bytes.truncate(done(told)?.a as usize);
-        return Ok(String::from_utf8_lossy(&bytes).into_owned());
+        // the bytes become the text: a copy of a long image takes milliseconds
+        let text = String::from_utf8(bytes);
+        return Ok(text.unwrap_or_else(|why| String::from_utf8_lossy(why.as_bytes()).into_owned()));
     }
 }
