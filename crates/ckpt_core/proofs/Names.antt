@@ -52,7 +52,7 @@ pub use Rattle.ckpt_ids.specs.declared.reply.Reply.TheVariants.{AckCompleted, Di
 pub use Rattle.ckpt_ids.specs.declared.reply.TickEnd.{TickEnd}
 pub use Rattle.ckpt_ids.specs.declared.subtask.SubtaskId.{SubtaskId}
 pub use Rattle.ckpt_model.proofs.Answering.Accepted.{IsAcceptedAck, accepted_ack, accepted_cancel, accepted_decline, accepted_restore, accepted_restore_savepoint, accepted_savepoint, accepted_tick}
-pub use Rattle.ckpt_model.proofs.Answering.RefusalRows.{first_row-none, row_fails, row_holds, row_last, rows_fail, rows_hold, rows_only}
+pub use Rattle.ckpt_model.proofs.Answering.RefusalRows.{first_row-none, row_fails, row_holds, row_last, rows_fail, rows_hold}
 pub use Rattle.ckpt_model.proofs.Answering.StepCases.{ack_step, step_accepted, step_refused}
 pub use Rattle.ckpt_model.proofs.Due.{none_before, none_early}
 pub use Rattle.ckpt_model.proofs.Histories.Choice.{chosen_is_done}

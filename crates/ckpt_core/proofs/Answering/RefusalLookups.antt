@@ -2,7 +2,7 @@
 use Rattle.ckpt_core.proofs.Names.{◌≡◌, ℕ, ◌+◌, false, not, ◌||◌, eqb, List, [], ◌∷◌, length, sym, ap, ◌∙◌, Option, Some, None, count_by, find, slice_get, IfNone, IfSome, list_any, option_map}
 use Rattle.ckpt_core.proofs.Names.{SubtaskId, Refusal, NameTaken, FileGone, IsIn, IsInOrder, LiesAt, Record, Use, uses, is_present, IsPending, find-none, IsStored, has_id, has_savepoint, id_of}
 use Rattle.ckpt_core.proofs.Names.{find-place, Parts, is_checkpoint, first_some, is_foreign, is_repeat, is_done_savepoint, savepoints, named, pending_of, where_pending, id_before, with_pins, grouped}
-use Rattle.ckpt_core.proofs.Names.{AreSound, AreTied, IsPlaceOf, records_in, state_of, is_known_in, rows_only, common_steps, arith}
+use Rattle.ckpt_core.proofs.Names.{AreSound, AreTied, IsPlaceOf, records_in, state_of, is_known_in, common_steps, arith}
 use Rattle.ckpt_outbox.specs.Queues as queues
 use Rattle.ckpt_model.specs.State.{is_known}
 use Rattle.ckpt_core.proofs.Records.Grouped.{AreApart, apart-from_in_order}
