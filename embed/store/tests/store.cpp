@@ -305,7 +305,7 @@ int main(int argc, char **argv) {
     files(path);
     storage(path);
     names(path);
-    limits(path + "8");
+    limits(path + "11");
     backups(path + "10");
     return 0;
 }
