@@ -10,6 +10,7 @@ use crate::writer::JobState;
 use jobs::Gauges;
 use process::Process;
 use prometheus::core::{Collector, MetricVec, MetricVecBuilder};
+use prometheus::proto::{LabelPair, MetricFamily};
 use prometheus::{
     Encoder, Gauge, GaugeVec, Histogram, HistogramOpts, HistogramVec, IntCounterVec, IntGauge, IntGaugeVec, Opts,
     Registry, TextEncoder,
@@ -217,15 +218,13 @@ fn forget<T: MetricVecBuilder>(values: &MetricVec<T>, jobs: &HashSet<&str>)
 where
     MetricVec<T>: Collector,
 {
-    for family in values.collect() {
-        for metric in family.get_metric() {
-            let labels: HashMap<&str, &str> =
-                metric.get_label().iter().map(|label| (label.get_name(), label.get_value())).collect();
-            if labels.get("job_name").is_some_and(|job| jobs.contains(job)) {
-                // it may be removed by now
-                let _ = values.remove(&labels);
-            }
-        }
+    let is_of = |label: &LabelPair| label.get_name() == "job_name" && jobs.contains(label.get_value());
+    let families = values.collect();
+    for metric in families.iter().flat_map(MetricFamily::get_metric).filter(|it| it.get_label().iter().any(is_of)) {
+        let labels: HashMap<&str, &str> =
+            metric.get_label().iter().map(|label| (label.get_name(), label.get_value())).collect();
+        // it may be removed by now
+        let _ = values.remove(&labels);
     }
 }
 
