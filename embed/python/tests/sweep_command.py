@@ -16,6 +16,7 @@ from unittest import mock
 import relkvanu_service
 from relkvanu import Coordinator, Settings
 from relkvanu.sweep import main
+from folders import InFolder
 from served import MARKER, job_with_files, served
 
 
@@ -28,14 +29,11 @@ def free_port():
         return it.getsockname()[1]
 
 
-class Command(unittest.TestCase):
+class Command(InFolder):
     """Files are state-N.bin, and the marker is that of relkvanu discard."""
 
     def setUp(self):
-        temporary = tempfile.TemporaryDirectory()
-        self.addCleanup(temporary.cleanup)
-        self.path = pathlib.Path(temporary.name) / "state"
-        self.path.mkdir()
+        super().setUp()
         self.job = job_with_files()
         self.addCleanup(self.job.close)
         for file in range(4, 10):
@@ -46,9 +44,6 @@ class Command(unittest.TestCase):
         self.addCleanup(stack.close)
         url = stack.enter_context(served(self.job))
         self.words = ["--service", url, "--job", "orders", "--folder", str(self.path), "--prefix", "state-", "--suffix", ".bin", "--patience", "1s"]
-
-    def names(self):
-        return sorted(path.name for path in self.path.iterdir() if not path.name.startswith("."))
 
     def run_it(self, *words, given=None):
         """Its status, what it printed, and its errors."""

@@ -1,29 +1,19 @@
 """State files in a folder: put whole or not at all, deleted for good, listed by pages, and never in a folder that is not the job's."""
 import errno
 import os
-import pathlib
-import tempfile
 import unittest
 from unittest import mock
 
+from folders import InFolder
 from relkvanu import Coordinator, Error, FileCounts, Settings
 from relkvanu.storage import Exists, Folder, Names, NotThere, OtherJob, StorageError, discard, sweep, unknown
 
 
-class InFolder(unittest.TestCase):
-    def setUp(self):
-        temporary = tempfile.TemporaryDirectory()
-        self.addCleanup(temporary.cleanup)
-        self.path = pathlib.Path(temporary.name) / "state"
-        self.path.mkdir()
-
+class WithStorage(InFolder):
     def opened(self, job="orders", is_new=False, **words):
         folder = Folder(self.path, job, is_new, **words)
         self.addCleanup(folder.close)
         return folder
-
-    def files(self):
-        return sorted(path.name for path in self.path.iterdir() if not path.name.startswith("."))
 
 
 class NamesOfTwoJobs(unittest.TestCase):
@@ -39,7 +29,7 @@ class NamesOfTwoJobs(unittest.TestCase):
             self.assertEqual((one.may_be_those_of(other), other.may_be_those_of(one)), (may_be, may_be), (one.of(7), other.of(7)))
 
 
-class Opening(InFolder):
+class Opening(WithStorage):
     def test_a_folder_without_a_marker_is_refused(self):
         with self.assertRaises(NotThere):
             self.opened()
@@ -72,7 +62,7 @@ class Opening(InFolder):
         self.opened(is_new=True).put(1, b"state")
         with self.assertRaises(StorageError) as told:
             self.opened(is_new=True)
-        self.assertEqual((told.exception.errno, self.files()), (errno.ENOTEMPTY, ["1"]))
+        self.assertEqual((told.exception.errno, self.names()), (errno.ENOTEMPTY, ["1"]))
 
     def test_a_new_job_that_was_killed_begins_again(self):
         (self.path / ".relkvanu-storage.part").write_bytes(b"rel")
@@ -83,7 +73,7 @@ class Opening(InFolder):
         one, other = self.opened("a", True, prefix="a-"), self.opened("b", True, prefix="b-", suffix=".bin")
         one.put(1, b"one")
         other.put(1, b"other")
-        self.assertEqual(self.files(), ["a-.relkvanu-storage", "a-1", "b-.relkvanu-storage", "b-1.bin"])
+        self.assertEqual(self.names(), ["a-.relkvanu-storage", "a-1", "b-.relkvanu-storage", "b-1.bin"])
         self.assertEqual((one.get(1), other.get(1)), (b"one", b"other"))
         self.assertEqual(one.delete([1]), {})
         self.assertEqual(list(other.pages()), [[1]])
@@ -97,7 +87,7 @@ class Opening(InFolder):
         self.assertEqual(told.exception.errno, errno.ELOOP)
 
 
-class Putting(InFolder):
+class Putting(WithStorage):
     def setUp(self):
         super().setUp()
         self.folder = self.opened(is_new=True)
@@ -106,7 +96,7 @@ class Putting(InFolder):
         for file, contents in ((0, b""), (7, b"state"), (18446744073709551615, bytes(1 << 20))):
             self.folder.put(file, contents)
             self.assertEqual(self.folder.get(file), contents)
-        self.assertEqual(self.files(), ["0", "18446744073709551615", "7"])
+        self.assertEqual(self.names(), ["0", "18446744073709551615", "7"])
 
     def test_file_and_folder_are_synced_before_it_returns(self):
         done = []
@@ -119,20 +109,20 @@ class Putting(InFolder):
         self.folder.put(7, b"first")
         with self.assertRaises(Exists):
             self.folder.put(7, b"second")
-        self.assertEqual((self.folder.get(7), self.files()), (b"first", ["7"]))
+        self.assertEqual((self.folder.get(7), self.names()), (b"first", ["7"]))
 
     def test_a_part_of_another_keeps_the_number(self):
         (self.path / "7.part").write_bytes(b"fir")
         with self.assertRaises(Exists):
             self.folder.put(7, b"second")
-        self.assertEqual(self.files(), ["7.part"], "it is that of a task that may still write")
+        self.assertEqual(self.names(), ["7.part"], "it is that of a task that may still write")
 
     def test_each_failure_leaves_no_file(self):
         for call in ("write", "fsync", "stat", "rename"):
             with mock.patch(f"os.{call}", side_effect=OSError(errno.EIO, "planted")):
                 with self.assertRaises(StorageError) as told:
                     self.folder.put(7, b"state")
-            self.assertEqual((told.exception.errno, self.files()), (errno.EIO, []), call)
+            self.assertEqual((told.exception.errno, self.names()), (errno.EIO, []), call)
         self.folder.put(7, b"state")
 
     def test_a_folder_that_is_not_synced_leaves_no_file(self):
@@ -146,7 +136,7 @@ class Putting(InFolder):
 
         with mock.patch("os.fsync", second_fails), self.assertRaises(StorageError):
             self.folder.put(7, b"state")
-        self.assertEqual(self.files(), [])
+        self.assertEqual(self.names(), [])
 
     def test_a_short_write_goes_on(self):
         real = os.write
@@ -170,10 +160,10 @@ class Putting(InFolder):
         (self.path / ".relkvanu-storage").unlink()
         with self.assertRaises(NotThere):
             self.folder.put(7, b"state")
-        self.assertEqual(self.files(), [])
+        self.assertEqual(self.names(), [])
 
 
-class Deleting(InFolder):
+class Deleting(WithStorage):
     def setUp(self):
         super().setUp()
         self.folder = self.opened(is_new=True)
@@ -184,7 +174,7 @@ class Deleting(InFolder):
         (self.path / "4.part").write_bytes(b"")
         (self.path / "9.part").write_bytes(b"")
         self.assertEqual(self.folder.delete([1, 4, 9, 77]), {})
-        self.assertEqual(self.files(), ["2", "3", "5"])
+        self.assertEqual(self.names(), ["2", "3", "5"])
 
     def test_without_the_marker_a_missing_file_is_not_deleted(self):
         (self.path / ".relkvanu-storage").unlink()
@@ -202,7 +192,7 @@ class Deleting(InFolder):
         (self.path / "3").mkdir()
         failed = self.folder.delete([2, 3, 4])
         self.assertEqual(list(failed), [3])
-        self.assertEqual(self.files(), ["1", "3", "5"])
+        self.assertEqual(self.names(), ["1", "3", "5"])
 
     def test_a_folder_that_is_not_synced_has_deleted_nothing(self):
         with mock.patch("os.fsync", side_effect=OSError(errno.EIO, "planted")):
@@ -218,10 +208,10 @@ class Deleting(InFolder):
         (self.path / "8").symlink_to(target)
         self.assertEqual(self.folder.delete([8]), {})
         self.assertTrue(target.exists())
-        self.assertNotIn("8", self.files())
+        self.assertNotIn("8", self.names())
 
 
-class Listing(InFolder):
+class Listing(WithStorage):
     def setUp(self):
         super().setUp()
         self.folder = self.opened(is_new=True, suffix=".sst")
@@ -254,7 +244,7 @@ class Listing(InFolder):
             list(self.folder.pages())
 
 
-class WithACoordinator(InFolder):
+class WithACoordinator(WithStorage):
     """A job that has checkpoint 2 with file 2, whose file 1 waits, and whose folder has file 9 of a task that was killed."""
 
     def setUp(self):
@@ -270,7 +260,7 @@ class WithACoordinator(InFolder):
 
     def test_a_discarder_deletes_what_waits(self):
         self.assertEqual(discard(self.core, self.folder), (1, {}))
-        self.assertEqual((self.files(), self.core.file_counts()), (["2", "9"], FileCounts(1, 0, 0)))
+        self.assertEqual((self.names(), self.core.file_counts()), (["2", "9"], FileCounts(1, 0, 0)))
         self.assertEqual(discard(self.core, self.folder), (0, {}))
 
     def test_what_can_not_be_deleted_waits_again(self):
@@ -281,13 +271,13 @@ class WithACoordinator(InFolder):
     def test_a_sweep_deletes_what_nobody_knows(self):
         self.core.restore(20)
         self.assertEqual(sweep(self.folder, lambda files: unknown(self.core, files)), {})
-        self.assertEqual(self.files(), ["1", "2"])
+        self.assertEqual(self.names(), ["1", "2"])
 
     def test_no_sweep_without_the_marker(self):
         (self.path / ".relkvanu-storage").unlink()
         with self.assertRaises(Error):
             sweep(self.folder, lambda files: files)
-        self.assertEqual(self.files(), ["1", "2", "9"])
+        self.assertEqual(self.names(), ["1", "2", "9"])
 
 
 if __name__ == "__main__":

@@ -1,6 +1,4 @@
 """The sweeper over a folder: only garbage goes, at any time, and beside a job that runs."""
-import pathlib
-import tempfile
 import threading
 import unittest
 from unittest import mock
@@ -8,23 +6,18 @@ from unittest import mock
 from relkvanu import Coordinator, Error, Fenced, Settings
 from relkvanu.storage import Folder, NotThere
 from relkvanu.sweep import Swept, pages, sweep
+from folders import InFolder
 from served import job_with_files
 
 
-class InFolder(unittest.TestCase):
+class WithAJob(InFolder):
     def setUp(self):
-        temporary = tempfile.TemporaryDirectory()
-        self.addCleanup(temporary.cleanup)
-        self.path = pathlib.Path(temporary.name) / "state"
-        self.path.mkdir()
+        super().setUp()
         self.job = job_with_files()
         self.addCleanup(self.job.close)
 
-    def names(self):
-        return sorted(path.name for path in self.path.iterdir() if not path.name.startswith("."))
 
-
-class Sweeping(InFolder):
+class Sweeping(WithAJob):
     def setUp(self):
         super().setUp()
         self.folder = Folder(self.path, "orders", is_new=True)
@@ -130,7 +123,7 @@ class Sweeping(InFolder):
         self.assertEqual(self.names(), ["5", "6", "7", "9"])
 
 
-class BesideAJob(InFolder):
+class BesideAJob(WithAJob):
     def test_no_file_of_a_record_is_ever_missing(self):
         """A job of 300 checkpoints with a task that gives up now and then, is restored, or dies with files that it has written. Two sweepers run
         all the time. After each call each file of a live record is there. At the end the folder has those and no other."""
