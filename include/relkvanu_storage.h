@@ -23,7 +23,7 @@ extern "C" {
 /* Status. */
 #define RELKVANU_STORAGE_OK 0            /* it was done */
 #define RELKVANU_STORAGE_BAD_ARGUMENT 1  /* an option or a reserved field: nothing was done */
-#define RELKVANU_STORAGE_NO_MEMORY 2     /* make the same call again later: a file of a put may be there in part */
+#define RELKVANU_STORAGE_NO_MEMORY 2     /* make the same call again later; after a put forfeit the name, since a part may be there */
 #define RELKVANU_STORAGE_NOT_THERE 3     /* no storage or no marker: a wrong path, or not mounted. No file of it counts as deleted */
 #define RELKVANU_STORAGE_OTHER_JOB 4     /* its marker is that of another job */
 #define RELKVANU_STORAGE_PRESENT 5       /* put: there is a file of this number, or a part of one */
@@ -52,7 +52,8 @@ typedef bool (*relkvanu_storage_page)(void *with, const relkvanu_storage_file *f
  * check: is it there, and the job's? An object or a file, the marker, names the job. RELKVANU_STORAGE_NOT_THERE,
  * RELKVANU_STORAGE_OTHER_JOB.
  *
- * put: makes a file. When it returns RELKVANU_STORAGE_OK, a loss of power does not take the file, and a task may acknowledge it. After
+ * put: makes a file. When it returns RELKVANU_STORAGE_OK, a loss of power does not take the file, and a task may acknowledge it (but see
+ * relkvanu_storage_open_folder on file systems that can't sync a folder: keep no state there). After
  * any other status the file may be there, whole or in part: the task forfeits the name and declines, and a sweep deletes what is left.
  * RELKVANU_STORAGE_PRESENT: the number is taken, and the file that has it stays as it is.
  *
@@ -99,7 +100,8 @@ typedef struct {
 /* Opens a folder as a storage. File 7 has the name 7 between the prefix and the suffix, and .part behind it while it is not whole. The
  * folder stays open, so no call reaches a folder that is mounted or renamed to its path later. No symbolic link in it is followed, and
  * what is no regular file is no file of a listing. A put writes beside the name, syncs, gives the file its name and syncs the folder. A
- * file system that can't sync a folder (EINVAL) is taken: there a loss of power may take names. Several jobs may share a folder if their
+ * file system that can't sync a folder (EINVAL) is taken: there a loss of power may take files that were put. The name of the job has to be
+ * one that no other job has, in any environment: a second job of the same name would sweep the files of the first. Several jobs may share a folder if their
  * prefixes or suffixes differ.
  *
  * RELKVANU_STORAGE_BAD_ARGUMENT, RELKVANU_STORAGE_NO_MEMORY, RELKVANU_STORAGE_NOT_THERE (also: there is no folder; errno says more),
