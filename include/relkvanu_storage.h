@@ -80,12 +80,12 @@ typedef struct {
 /* Flags of a folder. */
 #define RELKVANU_STORAGE_RECOVER 0u /* the folder has to have the marker */
 #define RELKVANU_STORAGE_NEW 1u     /* makes the marker,
-    in a folder that has no state file. One that was killed before finds its own marker */
+    in a folder that has no state file. An opening that was killed midway may be made again */
 
 /* No prefix and suffix are longer, together. */
 #define RELKVANU_STORAGE_MOST_AFFIX 200
 
-/* A folder. A text that is NULL is the one that is said. All of them are bytes that end with a zero, in any encoding. */
+/* A folder. NULL means the default that is named beside the text. All texts are bytes that end with a zero, in any encoding. */
 typedef struct {
     uint32_t flags;
     const char *path;        /* of the folder, which has to exist */

@@ -5,7 +5,7 @@
  * A call is made, its line and its answer are committed and synced, and only then does the function return. Any number of threads may
  * call. While one of them commits, the calls of the others gather, and the first of them commits all of these together.
  *
- * Files: PATH (the log and the images), PATH-wal, PATH-shm and PATH.lock. Never delete one of them, also not when the store is closed.
+ * Files: PATH (the log and the images), PATH-wal, PATH-shm and PATH.lock. Never delete any of them, even when the store is closed.
  * While a store is open no other program or connection can read PATH, and nobody may copy it but relkvanu_store_backup. PATH has to be
  * on a local file system, not on NFS. The folder options.storage may be on another one, where a rename is atomic and fsync of a file and of a folder makes both durable. A
  * network file system that promises this will do; none has been tested.
@@ -49,7 +49,7 @@ typedef struct relkvanu_store relkvanu_store;
 #define RELKVANU_STORE_BAD_ARGUMENT 1 /* of a call: its kind, shape, number of files or a reserved field; of an opening: its settings or shape, which have limits in relkvanu.h */
 #define RELKVANU_STORE_NO_MEMORY 2    /* make the same call again later */
 #define RELKVANU_STORE_IN_USE 3       /* open: another process, or this one, has the job open. The message names it */
-#define RELKVANU_STORE_ABSENT 4       /* open: there is no job, and the flags don't allow to make one */
+#define RELKVANU_STORE_ABSENT 4       /* open: there is no job, and the flags do not allow one to be made */
 #define RELKVANU_STORE_PRESENT 5      /* open: there is a job, and RELKVANU_STORE_CREATE_ONLY forbids it; put: there is a file of this number, or a part of one; backup: there is a file of this name */
 #define RELKVANU_STORE_NOT_A_STORE 6  /* open: another kind of file, or one of a later version */
 #define RELKVANU_STORE_DIFFERS 7      /* open: a call of the log gets another answer, or is refused. The message says which */
@@ -136,7 +136,8 @@ typedef struct {
  *
  * With options.storage a new job puts its marker, the file .relkvanu-job (.relkvanu-job.new while it is written), into the folder, and a recovery
  * looks for it. So it refuses a folder of another job and one that is not mounted. The marker names the last opening, so a copy of
- * PATH from before that opening is refused too: it does not know the files of later calls. NEVER PUT BACK A COPY OR SNAPSHOT THAT WAS TAKEN SINCE THE
+ * PATH from before that opening is refused too: it does not know the files of later calls. (If the disk was full at that opening, the marker
+ * names an earlier one.) NEVER PUT BACK A COPY OR SNAPSHOT THAT WAS TAKEN SINCE THE
  * LAST OPENING (of the file, its disk or its machine): it can't be told from the file itself, and its sweep deletes the files of all calls
  * that it lacks.
  *
@@ -164,7 +165,7 @@ typedef struct {
     relkvanu_answer answer;
     relkvanu_answer choice; /* after a trigger: the record that its barrier names beside it */
     uint64_t place;         /* of the call in the log, from 1; 0 if it changed nothing, and has no line */
-    uint64_t term;          /* after a restore, cancel or fence of a job with names: the term that begins, for who starts the tasks; otherwise 0 */
+    uint64_t term;          /* after a restore, cancel or fence of a job with names: the term that begins, for whoever starts the tasks; otherwise 0 */
 } relkvanu_store_call;
 
 /* Makes 1 to 4096 calls, in this order and with no other in between, and returns once they are committed. A refused call changes
@@ -250,7 +251,8 @@ int relkvanu_store_unknown(relkvanu_store *store, uint64_t *files, size_t *files
  * if there is none. */
 int relkvanu_store_folder(const relkvanu_store *store);
 
-/* Deletes files, and sets is_gone[i] to 1 for each that does not exist any more, also if it did not exist before. All are 0 at first. */
+/* Deletes files, and sets is_gone[i] to 1 for each that does not exist any more, also if it did not exist before. All are 0 at first. With
+ * options.storage NULL the function itself first looks whether the storage is there, and syncs the deletions, before it sets any of them. */
 typedef void (*relkvanu_store_delete)(void *with, const uint64_t *files, size_t files_len, uint8_t *is_gone);
 
 /* The discarder, as a loop in a thread of the engine: takes up to batch files (1 to 4095; 0: 256), has them deleted, syncs the folder
@@ -269,7 +271,8 @@ int relkvanu_store_discard(relkvanu_store *store, size_t batch, relkvanu_store_d
  * take it, and a task may acknowledge it. After any other status the task forfeits the name and declines. The number is not given again: a sweep
  * deletes what is left. In a job with names the number is one that the task has reserved.
  *
- * RELKVANU_STORE_PRESENT: there is a file of this number, or a part of one; RELKVANU_STORE_STORAGE: the folder lacks its marker, or another opening has it;
+ * RELKVANU_STORE_PRESENT: there is a file of this number, or a part of one; RELKVANU_STORE_STORAGE: the folder lacks its marker, or another opening has it
+ * (then end this process);
  * RELKVANU_STORE_NOT_PUT. */
 int relkvanu_store_put(relkvanu_store *store, uint64_t file, const void *contents, size_t len);
 

@@ -1,9 +1,9 @@
 /* hostile MEETING OTHERS: each file has the same count of file numbers, one on each line. Those of MEETING were chosen
  * against maps that hash under two words that are 0 (tests/meeting.c). Runs a job whose tasks name them, with each file. The
  * coordinator is opened, and opened again from its image while the files are in use, and while they wait to be fetched.
- * Under random words the chosen numbers must cost at most five times what the others cost. They must cost at least ten times
+ * Under random words the chosen numbers must cost at most four times what the others cost. They must cost at least five times
  * as much under words that are 0, be it at the opening or at the openings from images, so the first comparison can fail. The
- * cost is the processor time, the best of three runs. */
+ * cost is the processor time, the best of twelve runs, since other programs may run beside it. */
 #define _GNU_SOURCE
 #include "../../include/relkvanu.h"
 
@@ -14,7 +14,7 @@
 #include <time.h>
 #include <unistd.h>
 
-enum { MOST_FILES = 1 << 17, OF_ONE_ACKNOWLEDGEMENT = 4000, AT_ONCE = 4096 };
+enum { MOST_FILES = 1 << 17, OF_ONE_ACKNOWLEDGEMENT = 4000, AT_ONCE = 4096, RUNS = 12 };
 
 struct numbers {
     uint64_t items[MOST_FILES];
@@ -155,10 +155,10 @@ int main(int count, char **paths) {
     struct secrets known_at_opening = secret, known_at_images = secret;
     memset(known_at_opening.opening, 0, sizeof known_at_opening.opening);
     memset(known_at_images.saved, 0, sizeof known_at_images.saved);
-    double plain = cost(&others, &secret, 3), hidden = cost(&chosen, &secret, 3);
+    double plain = cost(&others, &secret, RUNS), hidden = cost(&chosen, &secret, RUNS);
     double at_opening = cost(&chosen, &known_at_opening, 1), at_images = cost(&chosen, &known_at_images, 1);
     printf("hostile: %zu files, seconds: %.3f of others, %.3f of numbers that meet; under words that are 0 %.3f at the opening, %.3f at images\n",
            chosen.len, plain, hidden, at_opening, at_images);
-    bool is_fast = hidden <= 5 * plain, is_slow = at_opening >= 10 * plain && at_images >= 10 * plain;
+    bool is_fast = hidden <= 4 * plain, is_slow = at_opening >= 5 * plain && at_images >= 5 * plain;
     return is_fast && is_slow ? 0 : 1;
 }
