@@ -225,7 +225,7 @@ def test_a_late_commit_writes_nothing():
         # with a file that no other call names
         late = threading.Thread(target=lambda: told.append(cut.request("POST", f"/v1/jobs/{job}/calls", {"calls": [ack(1, "0.0", [4711])]})[0]))
         late.start()
-        until(lambda: owners(database)[job] == other.url and shards(other) == SHARDS)
+        until(lambda: owners(database).get(job) == other.url and shards(other) == SHARDS)
         after = [Service(other.url).job(job).call(savepoint())["seq"] for _ in range(3)]
         line.is_cut = False
         assert cut.process.wait(30) == 75, cut.log()[-300:]
