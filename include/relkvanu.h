@@ -42,6 +42,8 @@
 extern "C" {
 #endif
 
+/* clang-format off */
+
 /* The version of this header. It rises with each change that a caller sees. */
 #define RELKVANU_VERSION_MAJOR 0
 #define RELKVANU_VERSION_MINOR 1
@@ -857,6 +859,8 @@ static inline RELKVANU_NODISCARD relkvanu_answer relkvanu_taken_files_nullable(r
 #define relkvanu_ack_in relkvanu_ack_in_nullable
 #define relkvanu_garbage relkvanu_garbage_nullable
 #define relkvanu_fenced_text relkvanu_fenced_text_nullable
+
+/* clang-format on */
 
 #ifdef __cplusplus
 }

@@ -58,6 +58,7 @@ using files = span<const std::uint64_t>;
 using shape = span<const std::uint64_t>;
 
 /* Why a call changed nothing: the header's code and what, as one number. */
+/* clang-format off */
 /* embed/bindings makes the errors */
 enum class error : int {
     moment_too_large = RELKVANU_REFUSED << 8 | RELKVANU_MOMENT_TOO_LARGE, /* The moment is above its limit. */
@@ -110,7 +111,9 @@ constexpr bool has_what(std::uint32_t code) noexcept {
     return code == RELKVANU_REFUSED || code == RELKVANU_BAD_ARGUMENT || code == RELKVANU_BAD_LINE || code == RELKVANU_FENCED;
 }
 /* embed/bindings: end */
+/* clang-format on */
 
+/* clang-format off */
 /* embed/bindings makes the messages */
 inline const char *message_of(error it) noexcept {
     switch (it) {
@@ -145,6 +148,7 @@ inline const char *message_of(error it) noexcept {
     }
 }
 /* embed/bindings: end */
+/* clang-format on */
 
 class error_category_type final : public std::error_category {
 public:
@@ -184,7 +188,9 @@ struct refused {
 };
 
 /* Whether the call was made, and this is its reply. */
-constexpr bool is_reply(relkvanu_answer told, std::uint32_t what) noexcept { return told.code == RELKVANU_DONE && told.what == what; }
+constexpr bool is_reply(relkvanu_answer told, std::uint32_t what) noexcept {
+    return told.code == RELKVANU_DONE && told.what == what;
+}
 
 /* Why a call was not made. An answer that is no reply of the call is unknown. */
 inline refused refusal(relkvanu_answer told) noexcept {
@@ -194,6 +200,7 @@ inline refused refusal(relkvanu_answer told) noexcept {
     return refused{make_error_code(why), may_name_file ? told.a : 0, told.code == RELKVANU_TOO_SHORT ? told.a : 0};
 }
 
+/* clang-format off */
 /* embed/bindings makes the replies */
 struct triggered { std::uint64_t expired, id; }; /* A checkpoint was triggered. */
 struct held_interval { std::uint64_t expired; }; /* No checkpoint is due yet. */
@@ -210,11 +217,18 @@ struct decline_late {}; /* The record was done or had ended. */
 struct disposed { std::uint64_t released; }; /* The savepoint is gone. */
 struct cancelled { std::uint64_t dropped, released; }; /* The job has ended for good. */
 /* embed/bindings: end */
-struct reported { std::uint64_t file; };
+/* clang-format on */
+struct reported {
+    std::uint64_t file;
+};
 
 /* What a job begins again from. */
-struct checkpoint { std::uint64_t id; };
-struct savepoint { std::uint64_t id; };
+struct checkpoint {
+    std::uint64_t id;
+};
+struct savepoint {
+    std::uint64_t id;
+};
 struct fresh {};
 using choice = std::variant<fresh, checkpoint, savepoint>;
 struct restored {
@@ -224,11 +238,13 @@ struct restored {
 };
 
 /* The answer to each call. The last alternative says that nothing has changed. */
+/* clang-format off */
 /* embed/bindings makes the answers */
 using tick_answer = std::variant<triggered, held_interval, held_at_once, held_pause, failed, refused>;
 using ack_answer = std::variant<ack_pending, ack_completed, ack_late, refused>;
 using decline_answer = std::variant<decline_aborted, decline_failed, decline_late, refused>;
 /* embed/bindings: end */
+/* clang-format on */
 using savepoint_answer = std::variant<savepoint_triggered, refused>;
 using dispose_answer = std::variant<disposed, refused>;
 using restore_answer = std::variant<restored, refused>;
@@ -239,10 +255,18 @@ using show_answer = std::variant<std::string, refused>;
 
 /* The replies of calls on terms and names. */
 struct fenced {}; /* The coordinator has names now. */
-struct running_term { std::uint64_t term, next_name; };
-struct reserved { std::uint64_t first, count; }; /* The names are first and those that follow it. */
+struct running_term {
+    std::uint64_t term, next_name;
+};
+/* The names are first and those that follow it. */
+struct reserved {
+    std::uint64_t first, count;
+};
 struct forfeited {};
-struct sorted_files { std::vector<std::uint64_t> garbage, unissued; }; /* Garbage may be deleted. Nobody deletes the unissued ones. */
+/* Garbage may be deleted. Nobody deletes the unissued ones. */
+struct sorted_files {
+    std::vector<std::uint64_t> garbage, unissued;
+};
 using fence_answer = std::variant<fenced, refused>;
 using term_answer = std::variant<running_term, refused>;
 using reserve_answer = std::variant<reserved, refused>;
@@ -251,7 +275,9 @@ using garbage_answer = std::variant<sorted_files, refused>;
 
 /* What a line of a script did: nothing; a call, with the answer of its function in relkvanu.h; a take; a show. */
 struct skipped {};
-struct answered { relkvanu_answer answer; };
+struct answered {
+    relkvanu_answer answer;
+};
 using line_answer = std::variant<skipped, answered, files, std::string, refused>;
 using text_answer = std::variant<std::string, refused>;
 
@@ -262,6 +288,7 @@ struct said_call {
 };
 using line_call_answer = std::variant<skipped, said_call, refused>;
 
+/* clang-format off */
 /* embed/bindings makes the modes */
 enum class mode { running, failed, cancelled, unknown };
 
@@ -274,9 +301,11 @@ inline mode mode_of(std::uint32_t what) noexcept {
     }
 }
 /* embed/bindings: end */
+/* clang-format on */
 
 /* What a number is. A live record has it (pending or done), or one that is no longer live had it. Or no record has had it yet. Or none
  * ever has it, because it is below the first number of the opening. */
+/* clang-format off */
 /* embed/bindings makes the standings */
 enum class standing { pending, done, ended, not_yet, never, unknown };
 
@@ -291,6 +320,7 @@ inline standing standing_of(std::uint32_t what) noexcept {
     }
 }
 /* embed/bindings: end */
+/* clang-format on */
 
 /* The files that a read returns, in ascending order, for reads that take memory. */
 using files_answer = std::variant<std::vector<std::uint64_t>, refused>;
@@ -306,10 +336,13 @@ struct live_record {
     std::abort();
 }
 
-[[noreturn]] inline void abort_unknown() noexcept { abort_because("an answer that relkvanu.hpp does not have: the library is of another version"); }
+[[noreturn]] inline void abort_unknown() noexcept {
+    abort_because("an answer that relkvanu.hpp does not have: the library is of another version");
+}
 
 /* The answers of relkvanu.h as those of this header. */
 
+/* clang-format off */
 /* embed/bindings makes what tells the answers */
 inline tick_answer tick_of(relkvanu_answer told) noexcept {
     if (told.code != RELKVANU_DONE) {
@@ -350,6 +383,7 @@ inline decline_answer decline_of(relkvanu_answer told) noexcept {
 }
 
 /* embed/bindings: end */
+/* clang-format on */
 
 inline restore_answer restore_of(relkvanu_answer told) noexcept {
     if (told.code != RELKVANU_DONE) {
@@ -392,7 +426,8 @@ template <class Write> text_answer written(Write write) {
 class Coordinator {
 public:
     /* Opens a coordinator. Its first record has the number first: 1 for a new job, otherwise the greatest earlier number plus 1. */
-    [[nodiscard]] static std::variant<Coordinator, refused> open(const relkvanu_settings &settings, shape of, std::uint64_t now, std::uint64_t first = 1) {
+    [[nodiscard]] static std::variant<Coordinator, refused> open(
+        const relkvanu_settings &settings, shape of, std::uint64_t now, std::uint64_t first = 1) {
         return opened([&](relkvanu *handle, std::uint64_t word, std::uint64_t other) {
             return relkvanu_open(handle, &settings, of.data(), of.size(), now, first, word, other);
         });
@@ -453,7 +488,8 @@ public:
 
     /* After a refusal the task may delete a file only if no accepted acknowledgement ever named it: after already_acknowledged it
      * deletes none, and after name_taken none that it named before. */
-    [[nodiscard]] ack_answer ack(std::uint64_t now, std::uint64_t id, std::uint16_t vertex, std::uint16_t index, files fresh, files reused = {}) noexcept {
+    [[nodiscard]] ack_answer ack(
+        std::uint64_t now, std::uint64_t id, std::uint16_t vertex, std::uint16_t index, files fresh, files reused = {}) noexcept {
         if (is_ahead(now)) {
             return too_large();
         }
@@ -534,8 +570,8 @@ public:
 
     /* ack of a task of this term. If it is accepted, it spends the names of the fresh files. The same acknowledgement once more is
      * refused as error::fenced_spent, if it has fresh files: a task deletes no file for that answer. */
-    [[nodiscard]] ack_answer ack_in(
-        std::uint64_t term, std::uint64_t now, std::uint64_t id, std::uint16_t vertex, std::uint16_t index, files fresh, files reused = {}) noexcept {
+    [[nodiscard]] ack_answer ack_in(std::uint64_t term, std::uint64_t now, std::uint64_t id, std::uint16_t vertex, std::uint16_t index,
+        files fresh, files reused = {}) noexcept {
         if (is_ahead(now)) {
             return too_large();
         }
@@ -555,7 +591,8 @@ public:
     [[nodiscard]] garbage_answer garbage(files of) {
         std::vector<std::uint64_t> places(of.size());
         sorted_files it = {places, std::move(places)};
-        relkvanu_answer told = relkvanu_garbage(&handle_, of.data(), of.size(), it.garbage.data(), of.size(), it.unissued.data(), of.size());
+        relkvanu_answer told =
+            relkvanu_garbage(&handle_, of.data(), of.size(), it.garbage.data(), of.size(), it.unissued.data(), of.size());
         if (!is_reply(told, RELKVANU_GARBAGE)) {
             return refusal(told);
         }
@@ -577,7 +614,8 @@ public:
     /* Makes the call of a script's line (docs/SCRIPT.md). The text is the bytes before the newline. A take line fetches into the
      * buffer. If it would fetch more files than the buffer has places, it is refused as error::too_short. */
     line_answer line(std::string_view text, span<std::uint64_t> buffer = {}) {
-        relkvanu_answer told = relkvanu_line(&handle_, reinterpret_cast<const std::uint8_t *>(text.data()), text.size(), buffer.data(), buffer.size());
+        relkvanu_answer told =
+            relkvanu_line(&handle_, reinterpret_cast<const std::uint8_t *>(text.data()), text.size(), buffer.data(), buffer.size());
         if (told.code == RELKVANU_TOO_SHORT) {
             return longer(text, told);
         } else if (told.code != RELKVANU_DONE) {
@@ -594,9 +632,7 @@ public:
 
     [[nodiscard]] std::uint64_t count(std::uint64_t file) noexcept { return read(relkvanu_count(&handle_, file)).b; }
 
-    [[nodiscard]] ckpt::mode mode() noexcept {
-        return mode_of(read(relkvanu_mode(&handle_)).what);
-    }
+    [[nodiscard]] ckpt::mode mode() noexcept { return mode_of(read(relkvanu_mode(&handle_)).what); }
 
     /* The greatest moment that the coordinator has seen. It takes an earlier one for this one. */
     [[nodiscard]] std::uint64_t moment() noexcept { return read(relkvanu_moment(&handle_)).a; }
@@ -622,13 +658,9 @@ public:
         return expiry && *expiry < due() ? expiry : due();
     }
 
-    [[nodiscard]] ckpt::choice choice() noexcept {
-        return choice_of(read(relkvanu_choice(&handle_)));
-    }
+    [[nodiscard]] ckpt::choice choice() noexcept { return choice_of(read(relkvanu_choice(&handle_))); }
 
-    [[nodiscard]] std::optional<live_record> live(std::size_t place) noexcept {
-        return record_of(relkvanu_live(&handle_, place));
-    }
+    [[nodiscard]] std::optional<live_record> live(std::size_t place) noexcept { return record_of(relkvanu_live(&handle_, place)); }
 
     [[nodiscard]] std::optional<std::uint64_t> missing(std::uint64_t id) noexcept {
         relkvanu_answer told = read(relkvanu_missing(&handle_, id));
@@ -638,14 +670,13 @@ public:
     /* The live record with the least number that is at least this one. */
     [[nodiscard]] std::optional<live_record> live_from(std::uint64_t id) noexcept { return record_of(relkvanu_live_from(&handle_, id)); }
 
-    [[nodiscard]] ckpt::standing standing(std::uint64_t id) noexcept {
-        return standing_of(read(relkvanu_standing(&handle_, id)).what);
-    }
+    [[nodiscard]] ckpt::standing standing(std::uint64_t id) noexcept { return standing_of(read(relkvanu_standing(&handle_, id)).what); }
 
     /* The files that a subtask acknowledged in this record. nullopt if the record is not live or the subtask has not acknowledged. */
     [[nodiscard]] std::optional<std::vector<std::uint64_t>> files_of(std::uint64_t id, std::uint16_t vertex, std::uint16_t index) {
         std::vector<std::uint64_t> found;
-        relkvanu_answer told = fill(found, [&](std::uint64_t *places, std::size_t len) { return relkvanu_files_of(&handle_, id, vertex, index, places, len); });
+        relkvanu_answer told = fill(
+            found, [&](std::uint64_t *places, std::size_t len) { return relkvanu_files_of(&handle_, id, vertex, index, places, len); });
         return read(told).what == RELKVANU_FILES ? std::optional(std::move(found)) : std::nullopt;
     }
 
@@ -703,7 +734,8 @@ private:
     /* The answer of a line whose answer needs more room than there is: the JSON of a show line, or how many places a take line needs. */
     line_answer longer(std::string_view text, relkvanu_answer told) {
         relkvanu_call call = {};
-        relkvanu_answer says = relkvanu_line_call(reinterpret_cast<const std::uint8_t *>(text.data()), text.size(), &call, nullptr, 0, nullptr, 0);
+        relkvanu_answer says =
+            relkvanu_line_call(reinterpret_cast<const std::uint8_t *>(text.data()), text.size(), &call, nullptr, 0, nullptr, 0);
         if (says.code != RELKVANU_DONE || call.kind != RELKVANU_CALL_SHOW) {
             return refusal(told);
         }
@@ -776,8 +808,8 @@ private:
 [[nodiscard]] inline line_call_answer line_call(std::string_view text) {
     said_call it = {};
     auto say = [&] {
-        return relkvanu_line_call(
-            reinterpret_cast<const std::uint8_t *>(text.data()), text.size(), &it.call, it.first.data(), it.first.size(), it.second.data(), it.second.size());
+        return relkvanu_line_call(reinterpret_cast<const std::uint8_t *>(text.data()), text.size(), &it.call, it.first.data(),
+            it.first.size(), it.second.data(), it.second.size());
     };
     relkvanu_answer told = say();
     if (told.code == RELKVANU_TOO_SHORT) {
@@ -793,7 +825,8 @@ private:
 
 /* The lines config, job and start of a coordinator whose first record has the number 1, each with its newline. */
 [[nodiscard]] inline text_answer opening_lines(const relkvanu_settings &settings, shape of, std::uint64_t now) {
-    return written([&](std::uint8_t *text, std::size_t len) { return relkvanu_opening_lines(&settings, of.data(), of.size(), now, text, len); });
+    return written(
+        [&](std::uint8_t *text, std::size_t len) { return relkvanu_opening_lines(&settings, of.data(), of.size(), now, text, len); });
 }
 
 } // namespace ckpt

@@ -20,6 +20,8 @@
 extern "C" {
 #endif
 
+/* clang-format off */
+
 /* Status. */
 #define RELKVANU_STORAGE_OK 0            /* it was done */
 #define RELKVANU_STORAGE_BAD_ARGUMENT 1  /* an option or a reserved field: nothing was done */
@@ -111,6 +113,8 @@ int relkvanu_storage_open_folder(relkvanu_storage *storage, const relkvanu_stora
 /* Closes a folder that relkvanu_storage_open_folder opened, after the last call of each thread. One that was not opened, or is closed,
  * is passed over. */
 void relkvanu_storage_close_folder(relkvanu_storage *storage);
+
+/* clang-format on */
 
 #ifdef __cplusplus
 }

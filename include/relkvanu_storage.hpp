@@ -58,7 +58,9 @@ inline const std::error_category &storage_category() noexcept {
     return it;
 }
 
-inline std::error_code make_error_code(storage_error it) noexcept { return std::error_code(static_cast<int>(it), storage_category()); }
+inline std::error_code make_error_code(storage_error it) noexcept {
+    return std::error_code(static_cast<int>(it), storage_category());
+}
 
 /* The error of a status; none for RELKVANU_STORAGE_OK. Of RELKVANU_STORAGE_FAILED it is errno's. */
 inline std::error_code storage_code(int status) noexcept {
@@ -181,8 +183,8 @@ struct folder_options {
 /* A folder, which stays open. After a move the old one is empty: only its destructor and an assignment to it may be called. */
 class Folder final : public Storage {
 public:
-    [[nodiscard]] static std::variant<Folder, std::error_code> open(const std::string &path, const std::string &job,
-        const folder_options &how = {}) {
+    [[nodiscard]] static std::variant<Folder, std::error_code> open(
+        const std::string &path, const std::string &job, const folder_options &how = {}) {
         relkvanu_storage_options options = {};
         options.flags = how.is_new ? RELKVANU_STORAGE_NEW : RELKVANU_STORAGE_RECOVER;
         options.path = path.c_str();

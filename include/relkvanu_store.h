@@ -42,6 +42,8 @@
 extern "C" {
 #endif
 
+/* clang-format off */
+
 typedef struct relkvanu_store relkvanu_store;
 
 /* Status. After the first group nothing was made, and the store is as it was. */
@@ -341,6 +343,8 @@ void relkvanu_store_count(relkvanu_store *store, relkvanu_store_counts *counts);
 
 /* What closed the store, as a text with a zero at its end; otherwise empty. Returns its length, also if text_len is too short. */
 size_t relkvanu_store_message(relkvanu_store *store, char *text, size_t text_len);
+
+/* clang-format on */
 
 #ifdef __cplusplus
 }

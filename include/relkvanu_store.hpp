@@ -74,7 +74,9 @@ inline const std::error_category &store_category() noexcept {
     return it;
 }
 
-inline std::error_code make_error_code(store_error it) noexcept { return std::error_code(static_cast<int>(it), store_category()); }
+inline std::error_code make_error_code(store_error it) noexcept {
+    return std::error_code(static_cast<int>(it), store_category());
+}
 
 /* The error of a status; none for RELKVANU_STORE_OK. */
 inline std::error_code store_code(int status) noexcept {
@@ -126,7 +128,9 @@ public:
 
     /* The calls. Without a moment each has that of the store's clock. */
 
-    [[nodiscard]] tick_answer tick(std::uint64_t now = RELKVANU_STORE_NOW) noexcept { return one<tick_answer>(call(RELKVANU_CALL_TICK, now), tick_of); }
+    [[nodiscard]] tick_answer tick(std::uint64_t now = RELKVANU_STORE_NOW) noexcept {
+        return one<tick_answer>(call(RELKVANU_CALL_TICK, now), tick_of);
+    }
 
     [[nodiscard]] savepoint_answer savepoint(std::uint64_t now = RELKVANU_STORE_NOW) noexcept {
         return one<savepoint_answer>(call(RELKVANU_CALL_SAVEPOINT, now), [](relkvanu_answer told) noexcept {
@@ -134,7 +138,8 @@ public:
         });
     }
 
-    [[nodiscard]] ack_answer ack(std::uint64_t id, std::uint16_t vertex, std::uint16_t index, files fresh, files reused = {}, std::uint64_t now = RELKVANU_STORE_NOW) noexcept {
+    [[nodiscard]] ack_answer ack(std::uint64_t id, std::uint16_t vertex, std::uint16_t index, files fresh, files reused = {},
+        std::uint64_t now = RELKVANU_STORE_NOW) noexcept {
         relkvanu_store_call it = call(RELKVANU_CALL_ACK, now, id, vertex, index);
         it.first = fresh.data();
         it.first_len = fresh.size();
@@ -149,8 +154,8 @@ public:
 
     /* In a job with names, of a task of this term. An acknowledgement that is accepted spends the names of its fresh files. Once more it is refused as
      * error::fenced_spent, if it has fresh files: a task deletes no file. */
-    [[nodiscard]] ack_answer ack_in(
-        std::uint64_t term, std::uint64_t id, std::uint16_t vertex, std::uint16_t index, files fresh, files reused = {}, std::uint64_t now = RELKVANU_STORE_NOW) noexcept {
+    [[nodiscard]] ack_answer ack_in(std::uint64_t term, std::uint64_t id, std::uint16_t vertex, std::uint16_t index, files fresh,
+        files reused = {}, std::uint64_t now = RELKVANU_STORE_NOW) noexcept {
         relkvanu_store_call it = call(RELKVANU_CALL_ACK, now, id, vertex, index, term);
         it.first = fresh.data();
         it.first_len = fresh.size();
@@ -159,7 +164,8 @@ public:
         return one<ack_answer>(it, ack_of);
     }
 
-    decline_answer decline_in(std::uint64_t term, std::uint64_t id, std::uint16_t vertex, std::uint16_t index, std::uint64_t now = RELKVANU_STORE_NOW) noexcept {
+    decline_answer decline_in(
+        std::uint64_t term, std::uint64_t id, std::uint16_t vertex, std::uint16_t index, std::uint64_t now = RELKVANU_STORE_NOW) noexcept {
         return one<decline_answer>(call(RELKVANU_CALL_DECLINE, now, id, vertex, index, term), decline_of);
     }
 
@@ -182,9 +188,8 @@ public:
 
     /* Gives names to a job without, from first_name on, in term 1: after a restore and before tasks start. */
     [[nodiscard]] fence_answer fence(std::uint64_t first_name) noexcept {
-        return one<fence_answer>(call(RELKVANU_CALL_FENCE, 0, first_name), [](relkvanu_answer told) noexcept {
-            return is_reply(told, RELKVANU_NAMED) ? fence_answer(fenced{}) : refusal(told);
-        });
+        return one<fence_answer>(call(RELKVANU_CALL_FENCE, 0, first_name),
+            [](relkvanu_answer told) noexcept { return is_reply(told, RELKVANU_NAMED) ? fence_answer(fenced{}) : refusal(told); });
     }
 
     /* The term that runs, and the next name. Whoever starts tasks takes the term from the answer to its restore; a task never asks. */
@@ -234,14 +239,18 @@ public:
     }
 
     /* A list of calls, with no other in between. Without an error each has its answer. */
-    [[nodiscard]] std::error_code calls(span<relkvanu_store_call> list) noexcept { return store_code(relkvanu_store_calls(store_, list.data(), list.size())); }
+    [[nodiscard]] std::error_code calls(span<relkvanu_store_call> list) noexcept {
+        return store_code(relkvanu_store_calls(store_, list.data(), list.size()));
+    }
 
     /* For event loops: see relkvanu_store_submit. */
     [[nodiscard]] std::error_code submit(span<relkvanu_store_call> list, std::uint64_t token) noexcept {
         return store_code(relkvanu_store_submit(store_, list.data(), list.size(), token));
     }
 
-    std::size_t completed(span<relkvanu_store_completion> list) noexcept { return relkvanu_store_completed(store_, list.data(), list.size()); }
+    std::size_t completed(span<relkvanu_store_completion> list) noexcept {
+        return relkvanu_store_completed(store_, list.data(), list.size());
+    }
 
     [[nodiscard]] int descriptor() const noexcept { return relkvanu_store_descriptor(store_); }
 
@@ -348,8 +357,8 @@ private:
 
     Store(relkvanu_store *made, const relkvanu_store_report &found) noexcept : store_(made), report_(found) {}
 
-    static relkvanu_store_call call(std::uint32_t kind, std::uint64_t now, std::uint64_t number = 0, std::uint16_t vertex = 0, std::uint16_t index = 0,
-        std::uint64_t term = 0) noexcept {
+    static relkvanu_store_call call(std::uint32_t kind, std::uint64_t now, std::uint64_t number = 0, std::uint16_t vertex = 0,
+        std::uint16_t index = 0, std::uint64_t term = 0) noexcept {
         relkvanu_store_call it = {};
         it.call = relkvanu_call{kind, vertex, index, now, number, term};
         return it;

@@ -24,8 +24,8 @@
 #include <unistd.h>
 
 struct stream {
-    int number;               /* its descriptor */
-    long most, fails, error;  /* as the environment says */
+    int number;              /* its descriptor */
+    long most, fails, error; /* as the environment says */
     long calls, late;
     int is_over;
 };
@@ -67,7 +67,8 @@ __attribute__((destructor)) static void end(void) {
     is_ready = 0;
     if (file) {
         int at = open(file, O_WRONLY | O_CREAT | O_TRUNC, 0600);
-        int size = snprintf(text, sizeof text, "%ld %ld %ld %ld %ld %ld %ld\n", (long)allocations, input.calls, output.calls, input.late, output.late, (long)threads, (long)refusals);
+        int size = snprintf(text, sizeof text, "%ld %ld %ld %ld %ld %ld %ld\n", (long)allocations, input.calls, output.calls, input.late,
+            output.late, (long)threads, (long)refusals);
         ssize_t (*to)(int, const void *, size_t) = dlsym(RTLD_NEXT, "write");
         if (at >= 0 && to(at, text, (size_t)size) != size) {
             abort();
@@ -103,11 +104,21 @@ static int is_refused(void) {
     return 0;
 }
 
-void *malloc(size_t size) { return is_refused() ? NULL : __libc_malloc(size); }
-void *calloc(size_t count, size_t size) { return is_refused() ? NULL : __libc_calloc(count, size); }
-void *realloc(void *old, size_t size) { return is_refused() ? NULL : __libc_realloc(old, size); }
-void *memalign(size_t by, size_t size) { return is_refused() ? NULL : __libc_memalign(by, size); }
-void *aligned_alloc(size_t by, size_t size) { return is_refused() ? NULL : __libc_memalign(by, size); }
+void *malloc(size_t size) {
+    return is_refused() ? NULL : __libc_malloc(size);
+}
+void *calloc(size_t count, size_t size) {
+    return is_refused() ? NULL : __libc_calloc(count, size);
+}
+void *realloc(void *old, size_t size) {
+    return is_refused() ? NULL : __libc_realloc(old, size);
+}
+void *memalign(size_t by, size_t size) {
+    return is_refused() ? NULL : __libc_memalign(by, size);
+}
+void *aligned_alloc(size_t by, size_t size) {
+    return is_refused() ? NULL : __libc_memalign(by, size);
+}
 
 int posix_memalign(void **made, size_t by, size_t size) {
     if (is_refused()) {

@@ -37,7 +37,7 @@ int main(int argc, char **argv) {
     }
     double end = seconds();
     relkvanu_close(&handle);
-    printf("MomentTooLarge %.2f ns, NotTaken %.2f ns, due %.2f ns\n", (middle - start) * 1e9 / (double)calls, (last - middle) * 1e9 / (double)calls,
-           (end - last) * 1e9 / (double)calls);
+    printf("MomentTooLarge %.2f ns, NotTaken %.2f ns, due %.2f ns\n", (middle - start) * 1e9 / (double)calls,
+        (last - middle) * 1e9 / (double)calls, (end - last) * 1e9 / (double)calls);
     return refused == 2 * calls && due == calls ? 0 : 1;
 }

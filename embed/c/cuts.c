@@ -66,8 +66,8 @@ static void begin(void) {
 /* What is known of the job, as text. */
 static void state(char text[STATE]) {
     relkvanu_counts counts = relkvanu_file_counts(&script.handle);
-    size_t len = (size_t)snprintf(text, STATE, "%u %" PRIu64 " %" PRIu64 " %" PRIu64 " %" PRIu64 " ", relkvanu_mode(&script.handle).what, counts.in_use,
-                                  counts.waiting, counts.taken, relkvanu_due(&script.handle).a);
+    size_t len = (size_t)snprintf(text, STATE, "%u %" PRIu64 " %" PRIu64 " %" PRIu64 " %" PRIu64 " ", relkvanu_mode(&script.handle).what,
+        counts.in_use, counts.waiting, counts.taken, relkvanu_due(&script.handle).a);
     for (uint64_t id = 1; id <= 3; id++) {
         relkvanu_answer answer = relkvanu_show(&script.handle, id, (uint8_t *)text + len, STATE - 1 - len);
         CHECK(answer.code != RELKVANU_TOO_SHORT);
@@ -91,9 +91,31 @@ static relkvanu_answer tried(const char *line, size_t len) {
 }
 
 static const char *const LINES[] = {
-    "config 1000 0 1 600000 0 1 keep", "job 1 2 3", "start 70", "tick 3000", "savepoint 3000", "ack 3000 2 0.0 +12 +11 =1", "decline 3000 2 1.1",
-    "dispose 2", "restore 3000 latest 1 3", "restore 3000 7", "cancel 3000", "take 64", "deleted 1", "undeleted 1", "show 1", "count 1",
-    "all 3000 2 4 100", "# a comment", "", "fence 70", "reserve 1 30", "forfeit 1 7 80", "in 1 ack 3000 2 0.0 +12 =1", "in 12 take 64", "in 0 tick 3000",
+    "config 1000 0 1 600000 0 1 keep",
+    "job 1 2 3",
+    "start 70",
+    "tick 3000",
+    "savepoint 3000",
+    "ack 3000 2 0.0 +12 +11 =1",
+    "decline 3000 2 1.1",
+    "dispose 2",
+    "restore 3000 latest 1 3",
+    "restore 3000 7",
+    "cancel 3000",
+    "take 64",
+    "deleted 1",
+    "undeleted 1",
+    "show 1",
+    "count 1",
+    "all 3000 2 4 100",
+    "# a comment",
+    "",
+    "fence 70",
+    "reserve 1 30",
+    "forfeit 1 7 80",
+    "in 1 ack 3000 2 0.0 +12 =1",
+    "in 12 take 64",
+    "in 0 tick 3000",
 };
 
 static void cut_and_changed(void) {
@@ -120,15 +142,24 @@ static void faults(void) {
         const char *line;
         uint32_t fault;
     } table[] = {
-        {"tick", RELKVANU_FAULT_MISSING},          {"tick x", RELKVANU_FAULT_NUMBER},
-        {"tick x 7", RELKVANU_FAULT_NUMBER},       {"tick 5 # soon", RELKVANU_FAULT_EXTRA},
-        {"Tick 5", RELKVANU_FAULT_WORD},           {"tick 18446744073709551616", RELKVANU_FAULT_NUMBER},
-        {"job", RELKVANU_FAULT_MISSING},           {"config 1000 0 1 600000 0 1 maybe", RELKVANU_FAULT_WORD},
-        {"ack 5 1 0", RELKVANU_FAULT_NUMBER},      {"ack 5 1 0.70000", RELKVANU_FAULT_NUMBER},
-        {"ack 5 1 65536.0", RELKVANU_FAULT_NUMBER}, {"ack 5 1 0.0 4", RELKVANU_FAULT_WORD},
-        {"ack 5 1 0.0 +", RELKVANU_FAULT_NUMBER},  {"restore 5 late", RELKVANU_FAULT_NUMBER},
-        {"restore 5 latest 2 x", RELKVANU_FAULT_NUMBER}, {"all 3000 2 4 100", RELKVANU_FAULT_NO_CALL},
-        {"tick\t5", RELKVANU_FAULT_WORD},          {"decline 5 1", RELKVANU_FAULT_MISSING},
+        {"tick", RELKVANU_FAULT_MISSING},
+        {"tick x", RELKVANU_FAULT_NUMBER},
+        {"tick x 7", RELKVANU_FAULT_NUMBER},
+        {"tick 5 # soon", RELKVANU_FAULT_EXTRA},
+        {"Tick 5", RELKVANU_FAULT_WORD},
+        {"tick 18446744073709551616", RELKVANU_FAULT_NUMBER},
+        {"job", RELKVANU_FAULT_MISSING},
+        {"config 1000 0 1 600000 0 1 maybe", RELKVANU_FAULT_WORD},
+        {"ack 5 1 0", RELKVANU_FAULT_NUMBER},
+        {"ack 5 1 0.70000", RELKVANU_FAULT_NUMBER},
+        {"ack 5 1 65536.0", RELKVANU_FAULT_NUMBER},
+        {"ack 5 1 0.0 4", RELKVANU_FAULT_WORD},
+        {"ack 5 1 0.0 +", RELKVANU_FAULT_NUMBER},
+        {"restore 5 late", RELKVANU_FAULT_NUMBER},
+        {"restore 5 latest 2 x", RELKVANU_FAULT_NUMBER},
+        {"all 3000 2 4 100", RELKVANU_FAULT_NO_CALL},
+        {"tick\t5", RELKVANU_FAULT_WORD},
+        {"decline 5 1", RELKVANU_FAULT_MISSING},
     };
     for (size_t at = 0; at < sizeof table / sizeof table[0]; at++) {
         relkvanu_answer answer = tried(table[at].line, strlen(table[at].line));

@@ -28,7 +28,7 @@ static void tell(const char *what, const char *name) {
     static int to;
     char line[2 * NAME];
     int (*real)(const char *, int, ...) = (int (*)(const char *, int, ...))dlsym(RTLD_NEXT, "open");
-    ssize_t (*writes)(int, const void *, size_t) = (ssize_t (*)(int, const void *, size_t))dlsym(RTLD_NEXT, "write");
+    ssize_t (*writes)(int, const void *, size_t) = (ssize_t(*)(int, const void *, size_t))dlsym(RTLD_NEXT, "write");
     if (to == 0 && getenv("TOLD") != NULL) {
         to = real(getenv("TOLD"), O_WRONLY | O_APPEND | O_CREAT | O_CLOEXEC, 0666);
     }
@@ -63,13 +63,13 @@ static int opened(int fd, const char *path, int flags) {
     return fd;
 }
 
-#define MODE(flags)                                      \
-    mode_t mode = 0;                                     \
-    if (((flags) & (O_CREAT | O_TMPFILE)) != 0) {        \
-        va_list rest;                                    \
-        va_start(rest, flags);                           \
-        mode = va_arg(rest, mode_t);                     \
-        va_end(rest);                                    \
+#define MODE(flags)                               \
+    mode_t mode = 0;                              \
+    if (((flags) & (O_CREAT | O_TMPFILE)) != 0) { \
+        va_list rest;                             \
+        va_start(rest, flags);                    \
+        mode = va_arg(rest, mode_t);              \
+        va_end(rest);                             \
     }
 
 #define OPENS(name)                                                                                     \
@@ -107,7 +107,7 @@ static bool is_state(int fd) {
 }
 
 ssize_t write(int fd, const void *bytes, size_t len) {
-    ssize_t (*real)(int, const void *, size_t) = (ssize_t (*)(int, const void *, size_t))dlsym(RTLD_NEXT, "write");
+    ssize_t (*real)(int, const void *, size_t) = (ssize_t(*)(int, const void *, size_t))dlsym(RTLD_NEXT, "write");
     if (!is_state(fd)) {
         return real(fd, bytes, len);
     }

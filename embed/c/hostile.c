@@ -157,8 +157,9 @@ int main(int count, char **paths) {
     memset(known_at_images.saved, 0, sizeof known_at_images.saved);
     double plain = cost(&others, &secret, RUNS), hidden = cost(&chosen, &secret, RUNS);
     double at_opening = cost(&chosen, &known_at_opening, 1), at_images = cost(&chosen, &known_at_images, 1);
-    printf("hostile: %zu files, seconds: %.3f of others, %.3f of numbers that meet; under words that are 0 %.3f at the opening, %.3f at images\n",
-           chosen.len, plain, hidden, at_opening, at_images);
+    printf("hostile: %zu files, seconds: %.3f of others, %.3f of numbers that meet; under words that are 0 %.3f at the opening, %.3f at "
+           "images\n",
+        chosen.len, plain, hidden, at_opening, at_images);
     bool is_fast = hidden <= 4 * plain, is_slow = at_opening >= 5 * plain && at_images >= 5 * plain;
     return is_fast && is_slow ? 0 : 1;
 }

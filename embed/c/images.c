@@ -71,9 +71,25 @@ static size_t list_of(struct world *world, uint64_t list[LIST], bool is_new) {
 static struct call next_call(struct world *world) {
     /* acknowledgements, then ticks, are most of what a job does */
     static const uint32_t kinds[] = {
-        RELKVANU_CALL_ACK, RELKVANU_CALL_ACK, RELKVANU_CALL_ACK, RELKVANU_CALL_ACK, RELKVANU_CALL_ACK, RELKVANU_CALL_ACK, RELKVANU_CALL_ACK,
-        RELKVANU_CALL_ACK, RELKVANU_CALL_TICK, RELKVANU_CALL_TICK, RELKVANU_CALL_TICK, RELKVANU_CALL_SAVEPOINT, RELKVANU_CALL_DECLINE,
-        RELKVANU_CALL_DISPOSE, RELKVANU_CALL_RESTORE, RELKVANU_CALL_TAKE, RELKVANU_CALL_DELETED, RELKVANU_CALL_UNDELETED, RELKVANU_CALL_COUNT,
+        RELKVANU_CALL_ACK,
+        RELKVANU_CALL_ACK,
+        RELKVANU_CALL_ACK,
+        RELKVANU_CALL_ACK,
+        RELKVANU_CALL_ACK,
+        RELKVANU_CALL_ACK,
+        RELKVANU_CALL_ACK,
+        RELKVANU_CALL_ACK,
+        RELKVANU_CALL_TICK,
+        RELKVANU_CALL_TICK,
+        RELKVANU_CALL_TICK,
+        RELKVANU_CALL_SAVEPOINT,
+        RELKVANU_CALL_DECLINE,
+        RELKVANU_CALL_DISPOSE,
+        RELKVANU_CALL_RESTORE,
+        RELKVANU_CALL_TAKE,
+        RELKVANU_CALL_DELETED,
+        RELKVANU_CALL_UNDELETED,
+        RELKVANU_CALL_COUNT,
     };
     static uint64_t lately;
     struct call call = {0};
@@ -102,7 +118,8 @@ static struct call next_call(struct world *world) {
 static struct told made(relkvanu *job, const struct call *call) {
     struct told told = {0};
     uint8_t line[512];
-    relkvanu_answer written = relkvanu_call_line(&call->of, call->first, call->first_len, call->second, call->second_len, line, sizeof line);
+    relkvanu_answer written =
+        relkvanu_call_line(&call->of, call->first, call->first_len, call->second, call->second_len, line, sizeof line);
     CHECK(written.what == RELKVANU_WRITTEN);
     told.answer = relkvanu_line(job, line, written.a, told.files, TAKEN);
     return told;
@@ -145,7 +162,8 @@ static void script(void) {
         struct call call = next_call(&world);
         struct told one = made(&whole, &call), other = made(&cut, &call);
         CHECK(memcmp(&one, &other, sizeof one) == 0);
-        bool is_triggered = one.answer.code == RELKVANU_DONE && (one.answer.what == RELKVANU_TICK_TRIGGERED || one.answer.what == RELKVANU_SAVEPOINT_TRIGGERED);
+        bool is_triggered = one.answer.code == RELKVANU_DONE &&
+                            (one.answer.what == RELKVANU_TICK_TRIGGERED || one.answer.what == RELKVANU_SAVEPOINT_TRIGGERED);
         world.records += is_triggered ? 1 : 0;
         refused += one.answer.code == RELKVANU_REFUSED ? 1 : 0;
         tried++;

@@ -12,8 +12,9 @@ static int faults;
 
 static void wanted(const char *about, relkvanu_answer answer, uint32_t code, uint32_t what, uint64_t a, uint64_t b) {
     if (answer.code != code || answer.what != what || answer.a != a || answer.b != b) {
-        fprintf(stderr, "lines: %s: %" PRIu32 " %" PRIu32 " %" PRIu64 " %" PRIu64 ", wanted %" PRIu32 " %" PRIu32 " %" PRIu64 " %" PRIu64 "\n", about,
-                answer.code, answer.what, answer.a, answer.b, code, what, a, b);
+        fprintf(stderr,
+            "lines: %s: %" PRIu32 " %" PRIu32 " %" PRIu64 " %" PRIu64 ", wanted %" PRIu32 " %" PRIu32 " %" PRIu64 " %" PRIu64 "\n", about,
+            answer.code, answer.what, answer.a, answer.b, code, what, a, b);
         faults++;
     }
 }
@@ -183,12 +184,18 @@ static void try_writing(void) {
         relkvanu_call call;
         const char *text;
     } calls[] = {
-        {{RELKVANU_CALL_TICK, 1, 2, 3, 4, 0}, "tick 3"},           {{RELKVANU_CALL_SAVEPOINT, 1, 2, 3, 4, 0}, "savepoint 3"},
-        {{RELKVANU_CALL_ACK, 1, 2, 3, 4, 0}, "ack 3 4 1.2 +11 +12 =7"}, {{RELKVANU_CALL_DECLINE, 1, 2, 3, 4, 0}, "decline 3 4 1.2"},
-        {{RELKVANU_CALL_DISPOSE, 1, 2, 3, 4, 0}, "dispose 4"},     {{RELKVANU_CALL_RESTORE, 1, 2, 3, 4, 0}, "restore 3 4 12 11"},
-        {{RELKVANU_CALL_RESTORE, 1, 2, 3, 0, 0}, "restore 3 latest 12 11"}, {{RELKVANU_CALL_CANCEL, 1, 2, 3, 4, 0}, "cancel 3"},
-        {{RELKVANU_CALL_TAKE, 1, 2, 3, 4, 0}, "take 4"},           {{RELKVANU_CALL_DELETED, 1, 2, 3, 4, 0}, "deleted 4"},
-        {{RELKVANU_CALL_UNDELETED, 1, 2, 3, 4, 0}, "undeleted 4"}, {{RELKVANU_CALL_SHOW, 1, 2, 3, 4, 0}, "show 4"},
+        {{RELKVANU_CALL_TICK, 1, 2, 3, 4, 0}, "tick 3"},
+        {{RELKVANU_CALL_SAVEPOINT, 1, 2, 3, 4, 0}, "savepoint 3"},
+        {{RELKVANU_CALL_ACK, 1, 2, 3, 4, 0}, "ack 3 4 1.2 +11 +12 =7"},
+        {{RELKVANU_CALL_DECLINE, 1, 2, 3, 4, 0}, "decline 3 4 1.2"},
+        {{RELKVANU_CALL_DISPOSE, 1, 2, 3, 4, 0}, "dispose 4"},
+        {{RELKVANU_CALL_RESTORE, 1, 2, 3, 4, 0}, "restore 3 4 12 11"},
+        {{RELKVANU_CALL_RESTORE, 1, 2, 3, 0, 0}, "restore 3 latest 12 11"},
+        {{RELKVANU_CALL_CANCEL, 1, 2, 3, 4, 0}, "cancel 3"},
+        {{RELKVANU_CALL_TAKE, 1, 2, 3, 4, 0}, "take 4"},
+        {{RELKVANU_CALL_DELETED, 1, 2, 3, 4, 0}, "deleted 4"},
+        {{RELKVANU_CALL_UNDELETED, 1, 2, 3, 4, 0}, "undeleted 4"},
+        {{RELKVANU_CALL_SHOW, 1, 2, 3, 4, 0}, "show 4"},
         {{RELKVANU_CALL_COUNT, 1, 2, 3, 4, 0}, "count 4"},
     };
     for (size_t at = 0; at < sizeof calls / sizeof *calls; at++) {
@@ -200,7 +207,8 @@ static void try_writing(void) {
             fprintf(stderr, "lines: too short a buffer for %s has changed\n", calls[at].text);
             faults++;
         }
-        wanted(calls[at].text, relkvanu_call_line(&calls[at].call, fresh, 2, reused, 1, text, len), RELKVANU_DONE, RELKVANU_WRITTEN, len, 0);
+        wanted(
+            calls[at].text, relkvanu_call_line(&calls[at].call, fresh, 2, reused, 1, text, len), RELKVANU_DONE, RELKVANU_WRITTEN, len, 0);
         if (memcmp(text, calls[at].text, len) != 0) {
             fprintf(stderr, "lines: %.*s in place of %s\n", (int)len, (const char *)text, calls[at].text);
             faults++;
@@ -236,11 +244,14 @@ static void try_lengths(void) {
         files[at] = (uint64_t)100000000000000000 + at;
     }
     uint8_t *text = block(LONGEST);
-    wanted("a long ack", relkvanu_call_line(&call, files, FILES, NULL, 0, text, LONGEST), RELKVANU_DONE, RELKVANU_WRITTEN, 11 + 20 * FILES, 0);
+    wanted(
+        "a long ack", relkvanu_call_line(&call, files, FILES, NULL, 0, text, LONGEST), RELKVANU_DONE, RELKVANU_WRITTEN, 11 + 20 * FILES, 0);
     wanted("a long ack, made", relkvanu_line(&job, text, 11 + 20 * FILES, NULL, 0), RELKVANU_REFUSED, RELKVANU_TOO_MANY_FILES, 0, 0);
     call.index = 10;
-    wanted("too long an ack", relkvanu_call_line(&call, files, FILES + 1, NULL, 0, text, LONGEST), RELKVANU_BAD_LINE, RELKVANU_FAULT_TOO_LONG, 0, 0);
-    wanted("too long an ack", relkvanu_call_line(&call, files, FILES + 1, NULL, 0, NULL, 0), RELKVANU_BAD_LINE, RELKVANU_FAULT_TOO_LONG, 0, 0);
+    wanted("too long an ack", relkvanu_call_line(&call, files, FILES + 1, NULL, 0, text, LONGEST), RELKVANU_BAD_LINE,
+        RELKVANU_FAULT_TOO_LONG, 0, 0);
+    wanted(
+        "too long an ack", relkvanu_call_line(&call, files, FILES + 1, NULL, 0, NULL, 0), RELKVANU_BAD_LINE, RELKVANU_FAULT_TOO_LONG, 0, 0);
     free(text);
     relkvanu_close(&job);
 }
@@ -248,8 +259,22 @@ static void try_lengths(void) {
 /* Both readers read each prefix of each line in the same way, and a prefix with a fault changes nothing. */
 static void try_cut_lines(void) {
     static const char *const texts[] = {
-        "config 1000 0 1 10000 0 1 keep", "job 2 1", "start 0", "tick 1", "savepoint 2", "ack 5 1 0.0 +1 +22 =3", "decline 5 1 0.1",
-        "dispose 7", "restore 9 latest 3 1", "restore 9 4 1", "take 3", "deleted 44", "undeleted 45", "show 1", "count 1", "all 5 1 2 100",
+        "config 1000 0 1 10000 0 1 keep",
+        "job 2 1",
+        "start 0",
+        "tick 1",
+        "savepoint 2",
+        "ack 5 1 0.0 +1 +22 =3",
+        "decline 5 1 0.1",
+        "dispose 7",
+        "restore 9 latest 3 1",
+        "restore 9 4 1",
+        "take 3",
+        "deleted 44",
+        "undeleted 45",
+        "show 1",
+        "count 1",
+        "all 5 1 2 100",
     };
     relkvanu job = {NULL};
     relkvanu_settings settings = {1000, 0, 1, 10000, 0, 1, false};

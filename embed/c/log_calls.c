@@ -39,7 +39,8 @@ static void round_trips(void) {
             struct told it = tell(text, m + more, n + more);
             DONE(it.answer, RELKVANU_LINE_CALL, m, n);
             CHECK(same_call(&it.call, &lines[at].call));
-            CHECK(memcmp(it.first, lines[at].first, m * sizeof *it.first) == 0 && memcmp(it.second, lines[at].second, n * sizeof *it.second) == 0);
+            CHECK(memcmp(it.first, lines[at].first, m * sizeof *it.first) == 0 &&
+                  memcmp(it.second, lines[at].second, n * sizeof *it.second) == 0);
             CHECK(more == 0 || (it.first[m] == OLD.number && it.second[n] == OLD.number));
         }
         if (m != 0) {
@@ -49,7 +50,8 @@ static void round_trips(void) {
         }
         uint8_t *written = block(len);
         memset(written, '?', len);
-        expect(relkvanu_call_line(&lines[at].call, lines[at].first, m, lines[at].second, n, written, len - 1), RELKVANU_TOO_SHORT, 0, len, 0, __LINE__);
+        expect(relkvanu_call_line(&lines[at].call, lines[at].first, m, lines[at].second, n, written, len - 1), RELKVANU_TOO_SHORT, 0, len,
+            0, __LINE__);
         CHECK(written[0] == '?');
         DONE(relkvanu_call_line(&lines[at].call, lines[at].first, m, lines[at].second, n, written, len), RELKVANU_WRITTEN, len, 0);
         CHECK(memcmp(written, text, len) == 0);
@@ -58,9 +60,11 @@ static void round_trips(void) {
     /* names in any order; a fence has no term; words, numbers and a carriage return as in a script */
     uint64_t names[] = {9, 7, 8};
     uint8_t text[32];
-    DONE(relkvanu_call_line(&(relkvanu_call){.kind = RELKVANU_CALL_FORFEIT, .term = 3}, names, 3, NULL, 0, text, 32), RELKVANU_WRITTEN, 15, 0);
+    DONE(relkvanu_call_line(&(relkvanu_call){.kind = RELKVANU_CALL_FORFEIT, .term = 3}, names, 3, NULL, 0, text, 32), RELKVANU_WRITTEN, 15,
+        0);
     CHECK(memcmp(text, "forfeit 3 7 8 9", 15) == 0);
-    DONE(relkvanu_call_line(&(relkvanu_call){.kind = RELKVANU_CALL_FENCE, .number = 7, .term = 3}, NULL, 0, NULL, 0, text, 32), RELKVANU_WRITTEN, 7, 0);
+    DONE(relkvanu_call_line(&(relkvanu_call){.kind = RELKVANU_CALL_FENCE, .number = 7, .term = 3}, NULL, 0, NULL, 0, text, 32),
+        RELKVANU_WRITTEN, 7, 0);
     CHECK(memcmp(text, "fence 7", 7) == 0);
     struct told it = tell("  in  003  ack 04 5 1.2 =8 +7 +6 \r", 2, 1);
     DONE(it.answer, RELKVANU_LINE_CALL, 2, 1);
@@ -94,7 +98,8 @@ static void lengths(void) {
 
 /* Two readers read each prefix of each line in the same way, and a prefix with a fault changes nothing. */
 static void cut_lines(void) {
-    static const char *const texts[] = {"fence 70", "reserve 1 30", "forfeit 1 7 80", "in 1 ack 1000 1 0.0 +5 =6", "in 12 restore 9 4 1 1", "in 0 take 3"};
+    static const char *const texts[] = {
+        "fence 70", "reserve 1 30", "forfeit 1 7 80", "in 1 ack 1000 1 0.0 +5 =6", "in 12 restore 9 4 1 1", "in 0 take 3"};
     for (size_t at = 0; at < sizeof texts / sizeof *texts; at++) {
         relkvanu job = named(5);
         for (size_t len = 0; len <= strlen(texts[at]); len++) {
@@ -113,9 +118,11 @@ static void cut_lines(void) {
 
 /* Each request for memory refused, in turn: nothing has changed, and the same line is made or told the next time. */
 static void without_memory(void) {
-    static const char *const lines[] = {"fence 9", "reserve 1 2", "in 1 tick 1000", "in 1 ack 1000 1 0.0 +9 +10", "reserve 1 3", "forfeit 1 11 13",
-        "in 1 savepoint 1000", "in 1 ack 1000 2 0.0 =9", "in 1 show 2", "in 1 restore 1100 2 2 1", "in 2 cancel 1200", "in 2 take 2"};
-    static const char *const written[] = {"fence 9", "reserve 1 2", "forfeit 1 11 13", "in 1 ack 1000 1 0.0 +9 +10 =7", "in 1 restore 1100 2 2 1"};
+    static const char *const lines[] = {"fence 9", "reserve 1 2", "in 1 tick 1000", "in 1 ack 1000 1 0.0 +9 +10", "reserve 1 3",
+        "forfeit 1 11 13", "in 1 savepoint 1000", "in 1 ack 1000 2 0.0 =9", "in 1 show 2", "in 1 restore 1100 2 2 1", "in 2 cancel 1200",
+        "in 2 take 2"};
+    static const char *const written[] = {
+        "fence 9", "reserve 1 2", "forfeit 1 11 13", "in 1 ack 1000 1 0.0 +9 +10 =7", "in 1 restore 1100 2 2 1"};
     relkvanu job = plain();
     uint64_t refused = 0;
     for (size_t at = 0; at < sizeof lines / sizeof *lines; at++) {
@@ -164,7 +171,8 @@ static void without_memory(void) {
         for (uint64_t nth = 1;; nth++) {
             uint8_t text[64] = "?";
             heap_refuse_from(nth);
-            relkvanu_answer told = relkvanu_call_line(&wanted.call, wanted.first, wanted.answer.a, wanted.second, wanted.answer.b, text, sizeof text);
+            relkvanu_answer told =
+                relkvanu_call_line(&wanted.call, wanted.first, wanted.answer.a, wanted.second, wanted.answer.b, text, sizeof text);
             heap_refuse(0);
             if (told.code != RELKVANU_NO_MEMORY) {
                 DONE(told, RELKVANU_WRITTEN, strlen(written[at]), 0);

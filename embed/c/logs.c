@@ -54,8 +54,8 @@ static void faults(void) {
 
 /* What is read, and makes no call. */
 static void no_calls(void) {
-    static const char *const lines[] = {"start 3", "job 1", "config 1000 0 1 600000 0 1 delete", "all 3 1 1 1", "# tick 5", "in 3 start 3", "in 3 job 1",
-        "in 3 config 1000 0 1 600000 0 1 delete", "in 3 all 3 1 1 1", "in 3 # tick 5", "in 0 start 3", "in 0 #"};
+    static const char *const lines[] = {"start 3", "job 1", "config 1000 0 1 600000 0 1 delete", "all 3 1 1 1", "# tick 5", "in 3 start 3",
+        "in 3 job 1", "in 3 config 1000 0 1 600000 0 1 delete", "in 3 all 3 1 1 1", "in 3 # tick 5", "in 0 start 3", "in 0 #"};
     relkvanu jobs[] = {plain(), named(5)};
     for (size_t nth = 0; nth < 2; nth++) {
         struct seen before = look(&jobs[nth]);
@@ -187,12 +187,12 @@ static void fenced_answers(void) {
 static void twins(void) {
     relkvanu job = named(5), twin = named(5);
     uint64_t fresh[] = {6, 5}, reused = 5, given_up[] = {8, 7}, shape_of_two[] = {2}, files[PLACES], others[PLACES];
-#define TWINS(text, call)                                                    \
-    do {                                                                     \
+#define TWINS(text, call)                                                          \
+    do {                                                                           \
         relkvanu_answer left = line_into(&job, text, files, PLACES), right = call; \
-        CHECK(same_answer(left, right));                                     \
-        struct seen one = look(&job), other = look(&twin);                   \
-        CHECK(same(&one, &other));                                           \
+        CHECK(same_answer(left, right));                                           \
+        struct seen one = look(&job), other = look(&twin);                         \
+        CHECK(same(&one, &other));                                                 \
     } while (0)
     TWINS("fence 9", relkvanu_fence(&twin, 9));
     TWINS("reserve 1 4", relkvanu_reserve(&twin, 1, 4));

@@ -87,7 +87,19 @@ static void buffers(void) {
 
 static void texts(void) {
     static const char *const names[] = {
-        "", "OldTerm", "Ended", "BadCount", "NamesUsedUp", "TermsUsedUp", "Spent", "NeverReserved", "NoNames", "HasNames", "NameInUse", "", "",
+        "",
+        "OldTerm",
+        "Ended",
+        "BadCount",
+        "NamesUsedUp",
+        "TermsUsedUp",
+        "Spent",
+        "NeverReserved",
+        "NoNames",
+        "HasNames",
+        "NameInUse",
+        "",
+        "",
     };
     for (uint32_t what = 0; what < sizeof names / sizeof names[0]; what++) {
         uint8_t text[16] = "...............";

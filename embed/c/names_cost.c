@@ -57,7 +57,8 @@ int main(int argc, char **argv) {
     has_names = strcmp(kind, "plain") != 0;
     relkvanu_settings settings = {1000, 0, 1, 600000, 0, 1, false};
     uint64_t shape = SUBTASKS, next = 1;
-    relkvanu_answer answer = has_names ? relkvanu_open_fenced(&handle, &settings, &shape, 1, 0, 1, 1, 1, 2) : relkvanu_open(&handle, &settings, &shape, 1, 0, 1, 1, 2);
+    relkvanu_answer answer = has_names ? relkvanu_open_fenced(&handle, &settings, &shape, 1, 0, 1, 1, 1, 2)
+                                       : relkvanu_open(&handle, &settings, &shape, 1, 0, 1, 1, 2);
     if (answer.code != RELKVANU_DONE) {
         return 1;
     }

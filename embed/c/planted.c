@@ -18,7 +18,8 @@ static relkvanu job;
 static void open_job(void) {
     relkvanu_settings settings = {.interval = 10, .at_once = 1, .timeout = 600000, .retained = 1};
     uint64_t shape[] = {1};
-    if (relkvanu_open(&job, &settings, shape, 1, 0, 1, 1, 2).code != RELKVANU_DONE || relkvanu_tick(&job, 10).what != RELKVANU_TICK_TRIGGERED) {
+    if (relkvanu_open(&job, &settings, shape, 1, 0, 1, 1, 2).code != RELKVANU_DONE ||
+        relkvanu_tick(&job, 10).what != RELKVANU_TICK_TRIGGERED) {
         fprintf(stderr, "planted: the job can't be opened\n");
         exit(2);
     }

@@ -55,7 +55,8 @@ static bool records_fit(const struct reads *reads, struct script *script) {
     for (uint64_t id = 1; id <= reads->last + 1 && fit; id++) {
         struct record record = shown(script, id);
         bool is_pending = record.is_live && !record.is_done;
-        fit = tells("missing", relkvanu_missing(handle, id), is_pending ? RELKVANU_MISSING : RELKVANU_NOT_PENDING, record.missing * is_pending, 0);
+        fit = tells(
+            "missing", relkvanu_missing(handle, id), is_pending ? RELKVANU_MISSING : RELKVANU_NOT_PENDING, record.missing * is_pending, 0);
         if (record.is_live) {
             uint32_t kind = record.is_savepoint ? RELKVANU_LIVE_SAVEPOINT : RELKVANU_LIVE_CHECKPOINT;
             fit = fit && tells("live", relkvanu_live(handle, place++), kind, id, record.is_done);
@@ -69,9 +70,10 @@ static bool records_fit(const struct reads *reads, struct script *script) {
     }
     uint32_t choice = chosen != 0 ? RELKVANU_CHOICE_CHECKPOINT : reads->base != 0 ? RELKVANU_CHOICE_SAVEPOINT : RELKVANU_CHOICE_FRESH;
     bool expire = expires != UINT64_MAX;
-    return fit && tells("live", relkvanu_live(handle, place), RELKVANU_LIVE_NONE, 0, 0)
-        && tells("choice", relkvanu_choice(handle), choice, chosen != 0 ? chosen : reads->base, 0)
-        && tells("oldest_expiry", relkvanu_oldest_expiry(handle), expire ? RELKVANU_EXPIRES : RELKVANU_NONE_PENDING, expire ? expires : 0, 0);
+    return fit && tells("live", relkvanu_live(handle, place), RELKVANU_LIVE_NONE, 0, 0) &&
+           tells("choice", relkvanu_choice(handle), choice, chosen != 0 ? chosen : reads->base, 0) &&
+           tells(
+               "oldest_expiry", relkvanu_oldest_expiry(handle), expire ? RELKVANU_EXPIRES : RELKVANU_NONE_PENDING, expire ? expires : 0, 0);
 }
 
 /* Each file that the coordinator has is used, waits, or was fetched. */
@@ -81,8 +83,8 @@ static bool files_fit(const struct reads *reads, relkvanu *handle) {
         in_use += relkvanu_count(handle, reads->files[place]).b > 0;
     }
     relkvanu_counts counts = relkvanu_file_counts(handle);
-    return same("file_counts", counts.code, RELKVANU_DONE) && same("files in use", counts.in_use, in_use)
-        && same("files taken", counts.taken, reads->taken) && same("files waiting", counts.waiting, reads->owned - in_use - reads->taken);
+    return same("file_counts", counts.code, RELKVANU_DONE) && same("files in use", counts.in_use, in_use) &&
+           same("files taken", counts.taken, reads->taken) && same("files waiting", counts.waiting, reads->owned - in_use - reads->taken);
 }
 
 /* A tick at the moment that `due` returned, or later, triggers. One before it is held by time. Records expire from the
@@ -123,11 +125,20 @@ static void note(struct reads *reads, struct script *script, const char *line, r
     case RELKVANU_SAVEPOINT_TRIGGERED: reads->last = answer.a; break;
     case RELKVANU_TICK_FAILED:
     case RELKVANU_DECLINE_FAILED: reads->mode = RELKVANU_MODE_FAILED; break;
-    case RELKVANU_CANCELLED: reads->mode = RELKVANU_MODE_CANCELLED; reads->base = 0; break;
-    case RELKVANU_RESTORED_SAVEPOINT: reads->base = answer.b; reads->mode = RELKVANU_MODE_RUNNING; break;
+    case RELKVANU_CANCELLED:
+        reads->mode = RELKVANU_MODE_CANCELLED;
+        reads->base = 0;
+        break;
+    case RELKVANU_RESTORED_SAVEPOINT:
+        reads->base = answer.b;
+        reads->mode = RELKVANU_MODE_RUNNING;
+        break;
     case RELKVANU_RESTORED_CHECKPOINT:
     case RELKVANU_RESTORED_FRESH: reads->mode = RELKVANU_MODE_RUNNING; break;
-    case RELKVANU_ACK_LATE: reads->owned += answer.a; remember(reads, line); break;
+    case RELKVANU_ACK_LATE:
+        reads->owned += answer.a;
+        remember(reads, line);
+        break;
     case RELKVANU_ACK_COMPLETED:
         sscanf(line, "ack %*s %" SCNu64, &id);
         reads->base = shown(script, id).is_savepoint ? reads->base : 0;
@@ -174,9 +185,9 @@ bool reads_fit(struct reads *reads, struct script *script, const char *line, rel
         note(reads, script, line, answer);
     }
     uint64_t requests = heap_requests();
-    bool fit = tells("mode", relkvanu_mode(&script->handle), reads->mode, 0, 0)
-        && tells("moment", relkvanu_moment(&script->handle), RELKVANU_MOMENT, reads->latest, 0) && files_fit(reads, &script->handle)
-        && same("memory asked for", heap_requests(), requests);
+    bool fit = tells("mode", relkvanu_mode(&script->handle), reads->mode, 0, 0) &&
+               tells("moment", relkvanu_moment(&script->handle), RELKVANU_MOMENT, reads->latest, 0) && files_fit(reads, &script->handle) &&
+               same("memory asked for", heap_requests(), requests);
     /* if there are many records, all are compared after only a few lines, to save time */
     bool are_asked = reads->last <= 64 || reads->lines % 256 == 0;
     reads->lines++;
@@ -186,7 +197,7 @@ bool reads_fit(struct reads *reads, struct script *script, const char *line, rel
 bool reads_are_closed(relkvanu *handle) {
     relkvanu_counts counts = relkvanu_file_counts(handle);
     relkvanu_answer told[] = {relkvanu_mode(handle), relkvanu_moment(handle), relkvanu_due(handle), relkvanu_oldest_expiry(handle),
-                              relkvanu_choice(handle), relkvanu_live(handle, 0), relkvanu_missing(handle, 1)};
+        relkvanu_choice(handle), relkvanu_live(handle, 0), relkvanu_missing(handle, 1)};
     bool fit = same("closed counts", counts.code, RELKVANU_CLOSED) && counts.in_use + counts.waiting + counts.taken == 0;
     for (size_t place = 0; place < sizeof told / sizeof told[0]; place++) {
         fit = fit && same("closed", told[place].code, RELKVANU_CLOSED) && told[place].what == 0 && told[place].a == 0 && told[place].b == 0;

@@ -13,12 +13,12 @@
 
 static int faults;
 
-#define CHECK(about, holds)                                                                         \
-    do {                                                                                            \
-        if (!(holds)) {                                                                             \
-            fprintf(stderr, "said: line %d: %s: %s does not hold\n", __LINE__, (about), #holds);    \
-            faults++;                                                                               \
-        }                                                                                           \
+#define CHECK(about, holds)                                                                      \
+    do {                                                                                         \
+        if (!(holds)) {                                                                          \
+            fprintf(stderr, "said: line %d: %s: %s does not hold\n", __LINE__, (about), #holds); \
+            faults++;                                                                            \
+        }                                                                                        \
     } while (0)
 
 /* What was said of a line, and the buffers for it. */
@@ -137,16 +137,27 @@ static void try_others(void) {
         const char *text;
         uint32_t code, what;
     } lines[] = {
-        {"", RELKVANU_DONE, RELKVANU_SKIPPED}, {" \r", RELKVANU_DONE, RELKVANU_SKIPPED}, {"# tick 3", RELKVANU_DONE, RELKVANU_SKIPPED},
-        {"start 3", RELKVANU_BAD_LINE, RELKVANU_FAULT_NO_CALL}, {"job 1 2", RELKVANU_BAD_LINE, RELKVANU_FAULT_NO_CALL},
-        {"config 1000 0 1 10000 0 1 keep", RELKVANU_BAD_LINE, RELKVANU_FAULT_NO_CALL}, {"all 3 1 2 100", RELKVANU_BAD_LINE, RELKVANU_FAULT_NO_CALL},
-        {"Tick 3", RELKVANU_BAD_LINE, RELKVANU_FAULT_WORD}, {"tick", RELKVANU_BAD_LINE, RELKVANU_FAULT_MISSING},
-        {"tick x", RELKVANU_BAD_LINE, RELKVANU_FAULT_NUMBER}, {"tick 18446744073709551616", RELKVANU_BAD_LINE, RELKVANU_FAULT_NUMBER},
-        {"tick 3 4", RELKVANU_BAD_LINE, RELKVANU_FAULT_EXTRA}, {"ack 3 4 1", RELKVANU_BAD_LINE, RELKVANU_FAULT_NUMBER},
-        {"ack 3 4 1.65536", RELKVANU_BAD_LINE, RELKVANU_FAULT_NUMBER}, {"ack 3 4 1.2 7", RELKVANU_BAD_LINE, RELKVANU_FAULT_WORD},
-        {"restore 3 late", RELKVANU_BAD_LINE, RELKVANU_FAULT_NUMBER}, {"restore 3 latest 0", RELKVANU_BAD_ARGUMENT, RELKVANU_BAD_SHAPE},
-        {"restore 3 4 4097", RELKVANU_BAD_ARGUMENT, RELKVANU_BAD_SHAPE}, {"restore 3 0", RELKVANU_REFUSED, RELKVANU_NO_SUCH_SAVEPOINT},
-        {"restore 3 00 2 1", RELKVANU_REFUSED, RELKVANU_NO_SUCH_SAVEPOINT}, {"restore 3 0 0", RELKVANU_BAD_ARGUMENT, RELKVANU_BAD_SHAPE},
+        {"", RELKVANU_DONE, RELKVANU_SKIPPED},
+        {" \r", RELKVANU_DONE, RELKVANU_SKIPPED},
+        {"# tick 3", RELKVANU_DONE, RELKVANU_SKIPPED},
+        {"start 3", RELKVANU_BAD_LINE, RELKVANU_FAULT_NO_CALL},
+        {"job 1 2", RELKVANU_BAD_LINE, RELKVANU_FAULT_NO_CALL},
+        {"config 1000 0 1 10000 0 1 keep", RELKVANU_BAD_LINE, RELKVANU_FAULT_NO_CALL},
+        {"all 3 1 2 100", RELKVANU_BAD_LINE, RELKVANU_FAULT_NO_CALL},
+        {"Tick 3", RELKVANU_BAD_LINE, RELKVANU_FAULT_WORD},
+        {"tick", RELKVANU_BAD_LINE, RELKVANU_FAULT_MISSING},
+        {"tick x", RELKVANU_BAD_LINE, RELKVANU_FAULT_NUMBER},
+        {"tick 18446744073709551616", RELKVANU_BAD_LINE, RELKVANU_FAULT_NUMBER},
+        {"tick 3 4", RELKVANU_BAD_LINE, RELKVANU_FAULT_EXTRA},
+        {"ack 3 4 1", RELKVANU_BAD_LINE, RELKVANU_FAULT_NUMBER},
+        {"ack 3 4 1.65536", RELKVANU_BAD_LINE, RELKVANU_FAULT_NUMBER},
+        {"ack 3 4 1.2 7", RELKVANU_BAD_LINE, RELKVANU_FAULT_WORD},
+        {"restore 3 late", RELKVANU_BAD_LINE, RELKVANU_FAULT_NUMBER},
+        {"restore 3 latest 0", RELKVANU_BAD_ARGUMENT, RELKVANU_BAD_SHAPE},
+        {"restore 3 4 4097", RELKVANU_BAD_ARGUMENT, RELKVANU_BAD_SHAPE},
+        {"restore 3 0", RELKVANU_REFUSED, RELKVANU_NO_SUCH_SAVEPOINT},
+        {"restore 3 00 2 1", RELKVANU_REFUSED, RELKVANU_NO_SUCH_SAVEPOINT},
+        {"restore 3 0 0", RELKVANU_BAD_ARGUMENT, RELKVANU_BAD_SHAPE},
     };
     for (size_t at = 0; at < sizeof lines / sizeof *lines; at++) {
         struct said it = say(lines[at].text, strlen(lines[at].text), 4, 4);
@@ -163,7 +174,8 @@ static void try_others(void) {
     forget(&it);
     relkvanu_call call = OLD;
     CHECK("nothing", is_answer(relkvanu_line_call(NULL, 0, &call, NULL, 0, NULL, 0), RELKVANU_DONE, RELKVANU_SKIPPED, 0, 0));
-    CHECK("a show into nothing", relkvanu_line_call((const uint8_t *)"show 1", 6, &call, NULL, 0, NULL, 0).what == RELKVANU_LINE_CALL && call.number == 1);
+    CHECK("a show into nothing",
+        relkvanu_line_call((const uint8_t *)"show 1", 6, &call, NULL, 0, NULL, 0).what == RELKVANU_LINE_CALL && call.number == 1);
 }
 
 /* The place after the spaces and these characters from here on. */
@@ -211,11 +223,13 @@ static void try_without_memory(const char *text, size_t len, const struct said *
 /* The line that is written for the call that this line says, and what that says. */
 static bool is_written_again(const char *text, const struct said *it) {
     char line[131072];
-    relkvanu_answer written = relkvanu_call_line(&it->call, it->first, it->first_len, it->second, it->second_len, (uint8_t *)line, sizeof line);
+    relkvanu_answer written =
+        relkvanu_call_line(&it->call, it->first, it->first_len, it->second, it->second_len, (uint8_t *)line, sizeof line);
     CHECK(text, written.code == RELKVANU_DONE && written.what == RELKVANU_WRITTEN);
     struct said again = say(line, written.code == RELKVANU_DONE ? written.a : 0, it->first_len, it->second_len);
     CHECK(text, is_answer(again.answer, RELKVANU_DONE, RELKVANU_LINE_CALL, it->first_len, it->second_len));
-    bool same = same_call(&again.call, &it->call) && are(again.first, it->first, it->first_len) && are(again.second, it->second, it->second_len);
+    bool same =
+        same_call(&again.call, &it->call) && are(again.first, it->first, it->first_len) && are(again.second, it->second, it->second_len);
     forget(&again);
     return same;
 }
@@ -234,7 +248,8 @@ static bool try_line(const char *text, size_t len) {
     if (told.code == RELKVANU_BAD_LINE) {
         CHECK(text, is_answer(it.answer, RELKVANU_BAD_LINE, told.what, 0, 0));
     } else if (told.what == RELKVANU_LINE_CALL) {
-        bool is_no_call = begins(text, len, past(text, len, 0, ""), "in ") && is_answer(it.answer, RELKVANU_BAD_LINE, RELKVANU_FAULT_NO_CALL, 0, 0);
+        bool is_no_call =
+            begins(text, len, past(text, len, 0, ""), "in ") && is_answer(it.answer, RELKVANU_BAD_LINE, RELKVANU_FAULT_NO_CALL, 0, 0);
         CHECK(text, is_call || is_no_call || is_answer(it.answer, RELKVANU_BAD_ARGUMENT, RELKVANU_BAD_SHAPE, 0, 0) ||
                         is_answer(it.answer, RELKVANU_REFUSED, RELKVANU_NO_SUCH_SAVEPOINT, 0, 0));
     } else if (told.what == RELKVANU_LINE_SKIP) {

@@ -167,8 +167,8 @@ static void files(uint64_t all) {
     double discarded = seconds() - start;
     printf("%7" PRIu64 " files: %.0f bytes each in one checkpoint, %.0f with pins, %.0f in two, %.0f waiting;"
            " trigger %.3f ms, last of %" PRIu64 " acknowledgements %.3f ms, take and deleted %.0f ns each\n",
-           all, per(live - before, all), per(pinned - before, all), per(again - before, all), per(waiting - before, all),
-           triggered * 1e3, subtasks, completed * 1e3, discarded * 1e9 / (double)all);
+        all, per(live - before, all), per(pinned - before, all), per(again - before, all), per(waiting - before, all), triggered * 1e3,
+        subtasks, completed * 1e3, discarded * 1e9 / (double)all);
     relkvanu_close(&handle);
 }
 
@@ -212,7 +212,7 @@ static void counts(uint64_t records, uint64_t subtasks) {
     double known = counted(&handle, subtasks), unknown = counted(&handle, subtasks + 1);
     printf("%" PRIu64 " records of %" PRIu64 " subtasks, each pinned by a savepoint: a count takes %.3f ms, one of an unknown file"
            " %.3f ms; the last savepoint %.3f ms; %.0f MB\n",
-           records, subtasks, known * 1e3, unknown * 1e3, pinned * 1e3, (double)bytes_now() / 1e6);
+        records, subtasks, known * 1e3, unknown * 1e3, pinned * 1e3, (double)bytes_now() / 1e6);
     relkvanu_close(&handle);
 }
 

@@ -15,9 +15,9 @@ struct script {
     relkvanu_settings settings;   /* of the last config line */
     uint64_t shape[SCRIPT_SHAPE]; /* of the last job line */
     size_t shape_len;
-    uint64_t *taken;              /* what the last take line fetched: the first ones, as many as its answer says */
+    uint64_t *taken; /* what the last take line fetched: the first ones, as many as its answer says */
     size_t taken_room;
-    uint8_t *json;                /* what the last show line answered */
+    uint8_t *json; /* what the last show line answered */
     size_t json_len;
 };
 

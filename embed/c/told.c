@@ -16,7 +16,8 @@
 #undef relkvanu_ack
 #undef relkvanu_show
 
-relkvanu_answer proved_ack(relkvanu *handle, uint64_t now, uint64_t id, uint16_t vertex, uint16_t index, const uint64_t *fresh, size_t fresh_len, const uint64_t *reused, size_t reused_len);
+relkvanu_answer proved_ack(relkvanu *handle, uint64_t now, uint64_t id, uint16_t vertex, uint16_t index, const uint64_t *fresh,
+    size_t fresh_len, const uint64_t *reused, size_t reused_len);
 relkvanu_answer proved_deleted(relkvanu *handle, uint64_t file);
 relkvanu_answer proved_tick(relkvanu *handle, uint64_t now);
 relkvanu_answer proved_show(relkvanu *handle, uint64_t id, uint8_t *json, size_t json_len);
@@ -38,7 +39,8 @@ static bool is_without_memory(const char *call) {
     return named != NULL && strcmp(named, call) == 0;
 }
 
-relkvanu_answer relkvanu_ack(relkvanu *handle, uint64_t now, uint64_t id, uint16_t vertex, uint16_t index, const uint64_t *fresh, size_t fresh_len, const uint64_t *reused, size_t reused_len) {
+relkvanu_answer relkvanu_ack(relkvanu *handle, uint64_t now, uint64_t id, uint16_t vertex, uint16_t index, const uint64_t *fresh,
+    size_t fresh_len, const uint64_t *reused, size_t reused_len) {
     for (size_t place = 0; place < fresh_len; place++) {
         tell("ack", fresh[place]);
     }

@@ -18,7 +18,8 @@ relkvanu_answer relkvanu_tick(relkvanu *handle, uint64_t now) {
     return done();
 }
 
-relkvanu_answer relkvanu_ack(relkvanu *handle, uint64_t now, uint64_t id, uint16_t vertex, uint16_t index, const uint64_t *fresh, size_t fresh_len, const uint64_t *reused, size_t reused_len) {
+relkvanu_answer relkvanu_ack(relkvanu *handle, uint64_t now, uint64_t id, uint16_t vertex, uint16_t index, const uint64_t *fresh,
+    size_t fresh_len, const uint64_t *reused, size_t reused_len) {
     (void)handle, (void)now, (void)id, (void)vertex, (void)index, (void)fresh, (void)fresh_len, (void)reused, (void)reused_len;
     return (relkvanu_answer){RELKVANU_REFUSED, NUMBER, 1, 2};
 }

@@ -15,13 +15,14 @@ using ckpt::Coordinator;
 static_assert(!std::is_copy_constructible_v<Coordinator> && !std::is_copy_assignable_v<Coordinator>);
 static_assert(std::is_nothrow_move_constructible_v<Coordinator> && std::is_nothrow_move_assignable_v<Coordinator>);
 
-static_assert(noexcept(std::declval<Coordinator &>().ack(0, 0, 0, 0, {})) && noexcept(std::declval<Coordinator &>().count(0)));
+static_assert(noexcept(std::declval<Coordinator &>().ack(0, 0, 0, 0, {})) &&noexcept(std::declval<Coordinator &>().count(0)));
 static_assert(!noexcept(std::declval<Coordinator &>().show(0)));
-static_assert(noexcept(std::declval<Coordinator &>().ack_in(1, 0, 0, 0, 0, {})) && noexcept(std::declval<Coordinator &>().reserve(1, 1)));
+static_assert(noexcept(std::declval<Coordinator &>().ack_in(1, 0, 0, 0, 0, {})) &&noexcept(std::declval<Coordinator &>().reserve(1, 1)));
 
 /* Whether braces of a pointer and a length, or of the files 0 and 2, are taken for a list of files. */
 template <class C, class = void> struct takes_pointer : std::false_type {};
-template <class C> struct takes_pointer<C, std::void_t<decltype(std::declval<C &>().ack(0, 0, 0, 0, {(const std::uint64_t *)nullptr, 2}))>> : std::true_type {};
+template <class C> struct takes_pointer<C, std::void_t<decltype(std::declval<C &>().ack(0, 0, 0, 0, {(const std::uint64_t *)nullptr, 2}))>>
+    : std::true_type {};
 template <class C, class = void> struct takes_zero : std::false_type {};
 template <class C> struct takes_zero<C, std::void_t<decltype(std::declval<C &>().ack(0, 0, 0, 0, {0, 2}))>> : std::true_type {};
 static_assert(takes_pointer<Coordinator>::value && !takes_zero<Coordinator>::value);
@@ -64,7 +65,8 @@ static Coordinator with_checkpoint_3() {
     CHECK(std::get<ckpt::triggered>(job.tick(2000)).id == 3);
     CHECK(std::get<ckpt::ack_pending>(job.ack(2100, 3, 0, 0, third, reused)).missing == 1);
     ckpt::ack_completed completed = std::get<ckpt::ack_completed>(job.ack(2100, 3, 0, 1, fourth));
-    CHECK(completed.dropped == 1 && completed.released == 2); /* the savepoint was triggered before checkpoint 1 was complete, and pins nothing */
+    CHECK(completed.dropped == 1 &&
+          completed.released == 2); /* the savepoint was triggered before checkpoint 1 was complete, and pins nothing */
     return job;
 }
 
@@ -85,7 +87,8 @@ using list = std::vector<std::uint64_t>;
 static void recovers() {
     Coordinator job = with_checkpoint_3();
     CHECK(job.live_from(0)->id == 2 && job.live_from(3)->id == 3 && job.live_from(3)->is_done && !job.live_from(4));
-    CHECK(job.standing(0) == ckpt::standing::never && job.standing(1) == ckpt::standing::ended && job.standing(2) == ckpt::standing::pending);
+    CHECK(
+        job.standing(0) == ckpt::standing::never && job.standing(1) == ckpt::standing::ended && job.standing(2) == ckpt::standing::pending);
     CHECK(job.standing(3) == ckpt::standing::done && job.standing(4) == ckpt::standing::not_yet);
     CHECK(job.files_of(3, 0, 0) == (list{1, 4}) && job.files_of(3, 0, 1) == list{5} && !job.files_of(2, 0, 0));
     CHECK(std::get<list>(job.pins_of(2)).empty());
@@ -156,11 +159,13 @@ static void refusals() {
 /* Each read of a coordinator that was moved from aborts the process, as no answer would be right. */
 static void moved_from() {
     Coordinator old = with_checkpoint_3(), job = std::move(old);
-    CHECK(!old && is(old.tick(3000), ckpt::error::closed) && is(old.take({}), ckpt::error::closed) && is(old.pins_of(3), ckpt::error::closed));
+    CHECK(!old && is(old.tick(3000), ckpt::error::closed) && is(old.take({}), ckpt::error::closed) &&
+          is(old.pins_of(3), ckpt::error::closed));
     CHECK(aborts([&] { return old.mode(); }) && aborts([&] { return old.due(); }) && aborts([&] { return old.oldest_expiry(); }));
     CHECK(aborts([&] { return old.count(1); }) && aborts([&] { return old.choice(); }) && aborts([&] { return old.standing(1); }));
     CHECK(aborts([&] { return old.live(0); }) && aborts([&] { return old.live_from(0); }) && aborts([&] { return old.missing(1); }));
-    CHECK(aborts([&] { return old.files_of(3, 0, 0); }) && aborts([&] { return old.waiting_file(0); }) && aborts([&] { return old.file_counts(); }));
+    CHECK(aborts([&] { return old.files_of(3, 0, 0); }) && aborts([&] { return old.waiting_file(0); }) &&
+          aborts([&] { return old.file_counts(); }));
     CHECK(aborts([&] { return old.next_tick(ckpt::held_interval{0}); }) && !aborts([&] { return job.mode(); }));
 }
 
@@ -211,11 +216,14 @@ static void said() {
     CHECK((it.first == std::vector<std::uint64_t>{11, 12} && it.second == std::vector<std::uint64_t>{7}));
     CHECK(std::get<std::string>(ckpt::call_line(it.call, it.first, it.second)) == "ack 5 1 1.2 +11 +12 =7");
     ckpt::line_call_answer restore = ckpt::line_call("restore 5 latest 1 2");
-    CHECK((std::get<ckpt::said_call>(restore).first == std::vector<std::uint64_t>{1, 2} && std::get<ckpt::said_call>(restore).call.number == 0));
+    CHECK((std::get<ckpt::said_call>(restore).first == std::vector<std::uint64_t>{1, 2} &&
+           std::get<ckpt::said_call>(restore).call.number == 0));
     CHECK(std::get<ckpt::said_call>(ckpt::line_call("show 7")).call.number == 7);
-    CHECK(std::holds_alternative<ckpt::skipped>(ckpt::line_call("# a comment")) && std::holds_alternative<ckpt::skipped>(ckpt::line_call({})));
+    CHECK(std::holds_alternative<ckpt::skipped>(ckpt::line_call("# a comment")) &&
+          std::holds_alternative<ckpt::skipped>(ckpt::line_call({})));
     CHECK(is(ckpt::line_call("start 7"), ckpt::error::line_no_call) && is(ckpt::line_call("tick"), ckpt::error::line_missing));
-    CHECK(is(ckpt::line_call("restore 5 0"), ckpt::error::no_such_savepoint) && is(ckpt::line_call("restore 5 latest 0"), ckpt::error::bad_shape));
+    CHECK(is(ckpt::line_call("restore 5 0"), ckpt::error::no_such_savepoint) &&
+          is(ckpt::line_call("restore 5 latest 0"), ckpt::error::bad_shape));
 }
 
 /* The lines of scripts that say a call: each is written again, and that line says the same call. */
@@ -231,7 +239,8 @@ static std::size_t said_in(const char *path) {
         ckpt::line_call_answer written = ckpt::line_call(std::get<std::string>(ckpt::call_line(it->call, it->first, it->second)));
         const ckpt::said_call &again = std::get<ckpt::said_call>(written);
         CHECK(again.call.kind == it->call.kind && again.call.vertex == it->call.vertex && again.call.index == it->call.index);
-        CHECK(again.call.now == it->call.now && again.call.number == it->call.number && again.first == it->first && again.second == it->second);
+        CHECK(again.call.now == it->call.now && again.call.number == it->call.number && again.first == it->first &&
+              again.second == it->second);
         calls++;
     }
     return calls;
@@ -246,7 +255,8 @@ static void ahead() {
     std::string image = std::get<std::string>(job.save());
     for (std::uint64_t now : {late, (std::uint64_t{1} << 62) - 1, std::uint64_t{1} << 62}) {
         CHECK(is(job.tick(now), ckpt::error::moment_too_large) && is(job.savepoint(now), ckpt::error::moment_too_large));
-        CHECK(is(job.ack(now, 1, 0, 0, file), ckpt::error::moment_too_large) && is(job.decline(now, 1, 0, 0), ckpt::error::moment_too_large));
+        CHECK(
+            is(job.ack(now, 1, 0, 0, file), ckpt::error::moment_too_large) && is(job.decline(now, 1, 0, 0), ckpt::error::moment_too_large));
         CHECK(is(job.restore(now), ckpt::error::moment_too_large) && is(job.cancel(now), ckpt::error::moment_too_large));
     }
     CHECK(std::get<std::string>(job.save()) == image);
@@ -282,7 +292,8 @@ static void names() {
     CHECK(is(job.ack_in(1, 1000, 1, 0, 0, two), ckpt::error::fenced_spent, 5));
     CHECK(std::get<ckpt::triggered>(job.tick(2000)).id == 2 && sorts(job, files, {4}, {9, 8}));
     CHECK(std::get<ckpt::checkpoint>(std::get<ckpt::restored>(job.restore(2100)).from).id == 1 && runs(job, 2, 8));
-    CHECK(is(job.ack_in(1, 2200, 2, 0, 0, seven), ckpt::error::fenced_old_term) && is(job.decline_in(1, 2200, 2, 0, 0), ckpt::error::fenced_old_term));
+    CHECK(is(job.ack_in(1, 2200, 2, 0, 0, seven), ckpt::error::fenced_old_term) &&
+          is(job.decline_in(1, 2200, 2, 0, 0), ckpt::error::fenced_old_term));
     CHECK(is(job.reserve(1, 1), ckpt::error::fenced_old_term) && is(job.forfeit(1, seven), ckpt::error::fenced_old_term));
     CHECK(is(job.ack_in(2, 2200, 2, 0, 0, seven), ckpt::error::fenced_spent, 7) && runs(job, 2, 8));
     CHECK(std::get<ckpt::reserved>(job.reserve(2, 2)).first == 8 && sorts(job, files, {7, 4}, {}));
@@ -291,7 +302,8 @@ static void names() {
     CHECK(std::get<ckpt::triggered>(job.tick(3100)).id == 3);
     CHECK(is(job.ack_in(2, 3100, 3, 0, 0, eight), ckpt::error::fenced_spent, 8));
     CHECK(std::holds_alternative<ckpt::ack_completed>(job.ack_in(2, 3100, 3, 0, 0, nine, two)));
-    CHECK(std::get<ckpt::triggered>(job.tick(4100)).id == 4 && std::get<ckpt::decline_failed>(job.decline_in(2, 4100, 4, 0, 0)).released == 0);
+    CHECK(std::get<ckpt::triggered>(job.tick(4100)).id == 4 &&
+          std::get<ckpt::decline_failed>(job.decline_in(2, 4100, 4, 0, 0)).released == 0);
     Coordinator moved = std::move(job);
     CHECK(is(job.term(), ckpt::error::closed) && is(job.garbage(files), ckpt::error::closed) && runs(moved, 2, 10));
 }
@@ -305,15 +317,18 @@ static void fences() {
     Coordinator job = opened({1});
     CHECK(is(job.term(), ckpt::error::fenced_no_names) && is(job.reserve(0, 0), ckpt::error::fenced_no_names));
     CHECK(is(job.forfeit(0, file), ckpt::error::fenced_no_names) && is(job.garbage(file), ckpt::error::fenced_no_names));
-    CHECK(is(job.ack_in(0, 0, 1, 0, 0, file), ckpt::error::fenced_no_names) && is(job.decline_in(0, 0, 1, 0, 0), ckpt::error::fenced_no_names));
+    CHECK(is(job.ack_in(0, 0, 1, 0, 0, file), ckpt::error::fenced_no_names) &&
+          is(job.decline_in(0, 0, 1, 0, 0), ckpt::error::fenced_no_names));
     CHECK(std::get<ckpt::triggered>(job.tick(1000)).id == 1 && std::holds_alternative<ckpt::ack_completed>(job.ack(1000, 1, 0, 0, file)));
-    CHECK(is(job.fence(0), ckpt::error::bad_name) && is(job.fence(5), ckpt::error::fenced_name_in_use) && is(job.fence(4), ckpt::error::fenced_name_in_use));
+    CHECK(is(job.fence(0), ckpt::error::bad_name) && is(job.fence(5), ckpt::error::fenced_name_in_use) &&
+          is(job.fence(4), ckpt::error::fenced_name_in_use));
     CHECK(is(job.term(), ckpt::error::fenced_no_names));
     CHECK(std::holds_alternative<ckpt::fenced>(job.fence(6)) && runs(job, 1, 6) && is(job.fence(7), ckpt::error::fenced_has_names));
     CHECK(is(job.reserve(1, 0), ckpt::error::fenced_bad_count) && is(job.reserve(1, 65537), ckpt::error::fenced_bad_count));
     CHECK(std::get<ckpt::refused>(job.fence(7)).why.message() == "HasNames" && sorts(job, {4, 5, 6}, {4}, {6}));
     const std::uint64_t late = 1000 + 5000 + std::uint64_t{48} * 60 * 60 * 1000;
-    CHECK(is(job.ack_in(1, late, 2, 0, 0, {}), ckpt::error::moment_too_large) && is(job.decline_in(1, late, 2, 0, 0), ckpt::error::moment_too_large));
+    CHECK(is(job.ack_in(1, late, 2, 0, 0, {}), ckpt::error::moment_too_large) &&
+          is(job.decline_in(1, late, 2, 0, 0), ckpt::error::moment_too_large));
     CHECK(std::holds_alternative<ckpt::cancelled>(job.cancel(1000)) && runs(job, 2, 6) && is(job.reserve(2, 1), ckpt::error::fenced_ended));
 }
 

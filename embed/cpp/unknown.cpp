@@ -10,7 +10,9 @@ static std::uint32_t what = RELKVANU_OPENED;
 
 static std::uint32_t code = RELKVANU_DONE;
 
-static relkvanu_answer answer() { return {code, what, 0, 0}; }
+static relkvanu_answer answer() {
+    return {code, what, 0, 0};
+}
 
 /* The functions of the library that are called here; the header has macros for some of them. */
 #undef relkvanu_open
@@ -23,6 +25,7 @@ static relkvanu_answer answer() { return {code, what, 0, 0}; }
 #undef relkvanu_ack_in
 #undef relkvanu_garbage
 extern "C" {
+/* clang-format off */
 relkvanu_answer relkvanu_open(relkvanu *handle, const relkvanu_settings *, const uint64_t *, size_t, uint64_t, uint64_t, uint64_t, uint64_t) {
     static char state;
     handle->state = &state;
@@ -55,6 +58,7 @@ relkvanu_answer relkvanu_ack_in(relkvanu *, uint64_t, uint64_t, uint64_t, uint16
 relkvanu_answer relkvanu_decline_in(relkvanu *, uint64_t, uint64_t, uint64_t, uint16_t, uint16_t) { return answer(); }
 relkvanu_answer relkvanu_garbage(relkvanu *, const uint64_t *, size_t, uint64_t *, size_t, uint64_t *, size_t) { return answer(); }
 size_t relkvanu_refusal_text(uint32_t, uint8_t *, size_t) { return 0; }
+/* clang-format on */
 }
 
 /* Whether a call is refused because of an unknown answer. */
@@ -67,11 +71,11 @@ template <class Answer> static bool is_unknown(const Answer &told) {
 static int unknown(ckpt::Coordinator &job) {
     what = 999;
     std::uint64_t places[1];
-    int refused = is_unknown(job.tick(0)) + is_unknown(job.savepoint(0)) + is_unknown(job.ack(0, 1, 0, 0, {})) + is_unknown(job.decline(0, 1, 0, 0)) +
-                  is_unknown(job.dispose(1)) + is_unknown(job.restore(0)) + is_unknown(job.cancel(0)) + is_unknown(job.take(places)) +
-                  is_unknown(job.deleted(1)) + is_unknown(job.undeleted(1)) + is_unknown(job.fence(1)) + is_unknown(job.term()) +
-                  is_unknown(job.reserve(1, 1)) + is_unknown(job.forfeit(1, {})) + is_unknown(job.ack_in(1, 0, 1, 0, 0, {})) +
-                  is_unknown(job.decline_in(1, 0, 1, 0, 0)) + is_unknown(job.garbage({}));
+    int refused = is_unknown(job.tick(0)) + is_unknown(job.savepoint(0)) + is_unknown(job.ack(0, 1, 0, 0, {})) +
+                  is_unknown(job.decline(0, 1, 0, 0)) + is_unknown(job.dispose(1)) + is_unknown(job.restore(0)) +
+                  is_unknown(job.cancel(0)) + is_unknown(job.take(places)) + is_unknown(job.deleted(1)) + is_unknown(job.undeleted(1)) +
+                  is_unknown(job.fence(1)) + is_unknown(job.term()) + is_unknown(job.reserve(1, 1)) + is_unknown(job.forfeit(1, {})) +
+                  is_unknown(job.ack_in(1, 0, 1, 0, 0, {})) + is_unknown(job.decline_in(1, 0, 1, 0, 0)) + is_unknown(job.garbage({}));
     int said = (job.mode() == ckpt::mode::unknown) + (job.standing(1) == ckpt::standing::unknown);
     int aborted = aborts([&] { return job.choice(); }) + aborts([&] { return job.live(0); }) + aborts([&] { return job.live_from(0); });
     std::printf("%d of 17 calls are refused, %d of 2 reads say it, %d of 3 abort\n", refused, said, aborted);

@@ -4,6 +4,9 @@ from typing import Any, Dict, List, Tuple
 from made import header
 from made.header import MADE, Enum, Number, macros, parameters, pointed
 
+# The head of a file in C, which stays as it is made.
+IN_C = f"/* {MADE} */\n/* clang-format off */\n"
+
 # A number of the header in Java and in JNI, and an array of them.
 IN_JAVA = {
     "uint8_t": ("byte", "jbyte"),
@@ -134,7 +137,7 @@ static inline void {short(name)}_out(JNIEnv *env, jlongArray array, {name} it) {
 
 def java_structs(structs: Dict[str, Any], functions: List[JavaFunction]) -> str:
     """The structs of the header as numbers of Java, from arrays or to them as the functions need it."""
-    text, used = f"/* {MADE} */\n#ifndef RELKVANU_STRUCTS_H\n#define RELKVANU_STRUCTS_H\n\n", "".join(it.c() for it in functions)
+    text, used = f"{IN_C}#ifndef RELKVANU_STRUCTS_H\n#define RELKVANU_STRUCTS_H\n\n", "".join(it.c() for it in functions)
     text += '#include "../../../include/relkvanu.h"\n\n#include <jni.h>\n'
     for name, fields in numbered(structs):
         text += f"\n/* {name} */\nenum {{ {short(name).upper()}_NUMBERS = {len(fields)} }};\n"
@@ -151,7 +154,7 @@ def numbered(structs: Dict[str, Any]) -> List[Tuple[str, Any]]:
 def java_c(functions: List[JavaFunction]) -> str:
     """The functions over JNI. An answer that writes to a buffer says so in the comment of its number."""
     writers = [it.name for it in macros() if "at the start of the buffer" in it.comment]
-    text = f"/* {MADE} */\n" + '#include "room.h"\n#include "structs.h"\n\n'
+    text = IN_C + '#include "room.h"\n#include "structs.h"\n\n'
     text += "/* How many elements an answer has written to the start of the buffer. */\n"
     text += "static uint64_t written(relkvanu_answer told) {\n    if (told.code != RELKVANU_DONE) {\n        return 0;\n    }\n    switch (told.what) {\n"
     text += "".join(f"    case {it}:\n" for it in writers) + "        return told.a;\n    default:\n        return 0;\n    }\n}\n\n"

@@ -10,7 +10,7 @@ static void check_counts(struct job *job) {
     for (unsigned partition = 0; partition < PARTITIONS; partition++) {
         const struct store *store = &job->tasks[partition % job->parallelism].store;
         CHECK(store_offset(store, partition) == job->offsets[partition], "partition %u is counted up to %" PRIu64 ", not %" PRIu64,
-              partition, store_offset(store, partition), job->offsets[partition]);
+            partition, store_offset(store, partition), job->offsets[partition]);
         store_check(store, job->seed, partition);
     }
     for (unsigned index = 0; index < job->parallelism; index++) {
@@ -58,7 +58,8 @@ static size_t check_folder(struct job *job) {
     uint64_t *taken = coordinator_taken(c, &folder.taken_len);
     folder.taken = taken;
     storage_each(&job->storage, check_known, &folder);
-    CHECK(folder.used == coordinator_counts(c).in_use, "%" PRIu64 " files are in use, and %zu of them are there", coordinator_counts(c).in_use, folder.used);
+    CHECK(folder.used == coordinator_counts(c).in_use, "%" PRIu64 " files are in use, and %zu of them are there",
+        coordinator_counts(c).in_use, folder.used);
     for (size_t place = 0; place < folder.taken_len; place++) {
         CHECK(storage_has(&job->storage, taken[place]), "file %" PRIu64 " is taken and gone", taken[place]);
     }
@@ -70,8 +71,7 @@ static size_t check_folder(struct job *job) {
 static void take_all(struct coordinator *c) {
     enum { AT_ONCE = 4096 };
     uint64_t files[AT_ONCE];
-    while (coordinator_take(c, files, AT_ONCE) != 0) {
-    }
+    while (coordinator_take(c, files, AT_ONCE) != 0) {}
 }
 
 /* Opens the job once more, with the image before the last one and the calls after it, which the store compares. */

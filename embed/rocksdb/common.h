@@ -11,23 +11,23 @@
 #include <unistd.h>
 
 enum {
-    PARTITIONS = 12, /* of the stream */
-    KEYS = 512,      /* of each partition */
-    BATCH = 32,      /* records that go through a queue together */
-    TASKS = 4,       /* the job's first parallelism */
-    OTHER_TASKS = 3, /* that which it is restored in once */
+    PARTITIONS = 12,  /* of the stream */
+    KEYS = 512,       /* of each partition */
+    BATCH = 32,       /* records that go through a queue together */
+    TASKS = 4,        /* the job's first parallelism */
+    OTHER_TASKS = 3,  /* that which it is restored in once */
     MOST_FILES = 512, /* of one acknowledgement here */
     PATH = 512
 };
 
 /* Ends the process at once if the condition does not hold: no other thread goes on. */
-#define CHECK(condition, ...)                                                                                          \
-    do {                                                                                                               \
-        if (!(condition)) {                                                                                            \
-            fprintf(stderr, "engine: " __VA_ARGS__);                                                                   \
-            fprintf(stderr, " (%s, line %d)\n", __FILE__, __LINE__);                                                   \
-            _exit(1);                                                                                                  \
-        }                                                                                                              \
+#define CHECK(condition, ...)                                        \
+    do {                                                             \
+        if (!(condition)) {                                          \
+            fprintf(stderr, "engine: " __VA_ARGS__);                 \
+            fprintf(stderr, " (%s, line %d)\n", __FILE__, __LINE__); \
+            _exit(1);                                                \
+        }                                                            \
     } while (0)
 
 /* A number that looks random, and is the same for the same x. */

@@ -50,7 +50,8 @@ static void look_for(int folder, uint64_t id, const uint64_t *files, size_t len)
 void coordinator_look(struct coordinator *c) {
     static _Thread_local uint64_t files[MOST_FILES];
     relkvanu *handle = read_begin(c);
-    for (relkvanu_answer live = relkvanu_live_from(handle, 0); live.what != RELKVANU_LIVE_NONE; live = relkvanu_live_from(handle, live.a + 1)) {
+    for (relkvanu_answer live = relkvanu_live_from(handle, 0); live.what != RELKVANU_LIVE_NONE;
+         live = relkvanu_live_from(handle, live.a + 1)) {
         for (unsigned index = 0; index < TASKS && live.b == 1; index++) {
             relkvanu_answer found = relkvanu_files_of(handle, live.a, 0, (uint16_t)index, files, MOST_FILES);
             look_for(relkvanu_store_folder(c->store), live.a, files, found.what == RELKVANU_FILES ? found.a : 0);
@@ -69,8 +70,12 @@ void coordinator_open(struct coordinator *c, const char *folder, uint32_t flags,
     pthread_mutex_init(&c->lock, NULL);
     c->death = death;
     uint64_t image_calls = trace_is_whole() ? RELKVANU_STORE_NO_IMAGES : IMAGE_CALLS;
-    relkvanu_store_options options = {.flags = RELKVANU_STORE_CREATE | flags, .image_calls = image_calls, .storage = storage,
-        .settings = {.interval = 100, .at_once = 2, .timeout = 20000, .tolerable = 2, .retained = 2}, .shape = &shape, .shape_len = 1};
+    relkvanu_store_options options = {.flags = RELKVANU_STORE_CREATE | flags,
+        .image_calls = image_calls,
+        .storage = storage,
+        .settings = {.interval = 100, .at_once = 2, .timeout = 20000, .tolerable = 2, .retained = 2},
+        .shape = &shape,
+        .shape_len = 1};
     int status = relkvanu_store_open(&c->store, path, &options, &c->report);
     CHECK(status == RELKVANU_STORE_OK, "the job is not opened: status %d, %s", status, c->report.message);
     CHECK(c->report.term != 0, "the job has no names");
@@ -98,8 +103,8 @@ static void note_done(struct coordinator *c, relkvanu_answer answer) {
 
 /* What the engine has to know of a call that is committed. */
 static relkvanu_answer noted(struct coordinator *c, relkvanu_answer answer) {
-    CHECK(answer.code == RELKVANU_DONE || answer.code == RELKVANU_REFUSED || answer.code == RELKVANU_FENCED, "a call answers code %" PRIu32 ", what %" PRIu32, answer.code,
-          answer.what);
+    CHECK(answer.code == RELKVANU_DONE || answer.code == RELKVANU_REFUSED || answer.code == RELKVANU_FENCED,
+        "a call answers code %" PRIu32 ", what %" PRIu32, answer.code, answer.what);
     may_die_at(c, answer.what == RELKVANU_RESERVED ? AFTER_A_RESERVATION : AFTER_A_CALL);
     pthread_mutex_lock(&c->lock);
     c->calls++;
@@ -155,7 +160,8 @@ static relkvanu_answer made_by(struct coordinator *c, struct caller task, relkva
 bool coordinator_tick(struct coordinator *c, uint64_t ms, relkvanu_answer *answer) {
     relkvanu_store_call tick;
     int status = relkvanu_store_await_tick(c->store, ms, &tick);
-    if (status == RELKVANU_STORE_TIMED_OUT || status == RELKVANU_STORE_NO_MEMORY || (status == RELKVANU_STORE_OK && tick.answer.code == RELKVANU_NO_MEMORY)) {
+    if (status == RELKVANU_STORE_TIMED_OUT || status == RELKVANU_STORE_NO_MEMORY ||
+        (status == RELKVANU_STORE_OK && tick.answer.code == RELKVANU_NO_MEMORY)) {
         return false;
     }
     coordinator_check(c, "a tick is not committed", status);
@@ -168,11 +174,19 @@ relkvanu_answer coordinator_savepoint(struct coordinator *c) {
     return made(c, (relkvanu_store_call){.call = {.kind = RELKVANU_CALL_SAVEPOINT}});
 }
 
-relkvanu_answer coordinator_ack(struct coordinator *c, struct caller task, uint64_t id, const uint64_t *fresh, size_t fresh_len, const uint64_t *reused, size_t reused_len) {
-    relkvanu_store_call call = {.call = {.kind = RELKVANU_CALL_ACK, .number = id}, .first = fresh, .first_len = fresh_len, .second = reused, .second_len = reused_len};
+relkvanu_answer coordinator_ack(struct coordinator *c, struct caller task, uint64_t id, const uint64_t *fresh, size_t fresh_len,
+    const uint64_t *reused, size_t reused_len) {
+    relkvanu_store_call call = {.call = {.kind = RELKVANU_CALL_ACK, .number = id},
+        .first = fresh,
+        .first_len = fresh_len,
+        .second = reused,
+        .second_len = reused_len};
     trace_ack(task.index, task.term, id, fresh, fresh_len, reused, reused_len);
     relkvanu_answer answer = made_by(c, task, call);
-    trace("answer to 0.%u %" PRIu64 " %s", task.index, task.term, answer.code != RELKVANU_DONE ? "refused" : answer.what == RELKVANU_ACK_LATE ? "late" : "accepted");
+    trace("answer to 0.%u %" PRIu64 " %s", task.index, task.term,
+        answer.code != RELKVANU_DONE       ? "refused"
+        : answer.what == RELKVANU_ACK_LATE ? "late"
+                                           : "accepted");
     return answer;
 }
 
@@ -259,7 +273,8 @@ struct progress coordinator_progress(struct coordinator *c) {
     relkvanu_store_counts counts;
     relkvanu_store_count(c->store, &counts);
     pthread_mutex_lock(&c->lock);
-    struct progress progress = {.completed = c->completed, .images = counts.images, .is_rolled_back = c->answers[RELKVANU_RESTORED_SAVEPOINT] != 0};
+    struct progress progress = {
+        .completed = c->completed, .images = counts.images, .is_rolled_back = c->answers[RELKVANU_RESTORED_SAVEPOINT] != 0};
     pthread_mutex_unlock(&c->lock);
     relkvanu *handle = read_begin(c);
     relkvanu_answer live = relkvanu_live(handle, 0);

@@ -29,12 +29,12 @@ struct coordinator {
     relkvanu_store_report report;
     pthread_mutex_t lock; /* of what follows */
     struct death death;
-    uint64_t term;                         /* of the tasks that are started next */
-    uint64_t completed;                    /* checkpoints since the last restore */
-    uint64_t answers[REPLIES];             /* how often each was given to this process, but those to the store's discarder, */
-    uint64_t calls, refused, gone;         /* and how many calls, refusals, and refusals for a file that is gone */
-    uint64_t old_terms, spent;             /* and how many of tasks of ended terms, and of names that were named before */
-    uint64_t looks;                        /* how often all files of done records were there */
+    uint64_t term;                 /* of the tasks that are started next */
+    uint64_t completed;            /* checkpoints since the last restore */
+    uint64_t answers[REPLIES];     /* how often each was given to this process, but those to the store's discarder, */
+    uint64_t calls, refused, gone; /* and how many calls, refusals, and refusals for a file that is gone */
+    uint64_t old_terms, spent;     /* and how many of tasks of ended terms, and of names that were named before */
+    uint64_t looks;                /* how often all files of done records were there */
 };
 
 /* What the timer needs to know. */
@@ -62,7 +62,8 @@ struct caller {
     uint64_t term;
 };
 
-relkvanu_answer coordinator_ack(struct coordinator *c, struct caller task, uint64_t id, const uint64_t *fresh, size_t fresh_len, const uint64_t *reused, size_t reused_len);
+relkvanu_answer coordinator_ack(struct coordinator *c, struct caller task, uint64_t id, const uint64_t *fresh, size_t fresh_len,
+    const uint64_t *reused, size_t reused_len);
 
 relkvanu_answer coordinator_decline(struct coordinator *c, struct caller task, uint64_t id);
 

@@ -114,7 +114,8 @@ static void load(struct job *job, uint64_t id) {
     for (unsigned partition = 0; partition < PARTITIONS; partition++) {
         job->offsets[partition] = store_offset(&job->tasks[partition % job->parallelism].store, partition);
         bool is_known = id != 0 && job->cut_of[id % CUTS] == id;
-        CHECK(!is_known || job->offsets[partition] == job->cuts[id % CUTS][partition], "partition %u is not as it was at the barrier", partition);
+        CHECK(!is_known || job->offsets[partition] == job->cuts[id % CUTS][partition], "partition %u is not as it was at the barrier",
+            partition);
     }
 }
 
@@ -267,7 +268,8 @@ static enum end drive_on(struct job *job) {
             return ROLLS_BACK;
         } else if (has_passed(job, 75) && progress.is_rolled_back && !is_rescaled) {
             return RESCALES;
-        } else if (is_over(job) && is_rescaled && progress.completed != 0 && (progress.images >= LEAST_IMAGES || trace_is_on()) && job->victim == TASKS) {
+        } else if (is_over(job) && is_rescaled && progress.completed != 0 && (progress.images >= LEAST_IMAGES || trace_is_on()) &&
+                   job->victim == TASKS) {
             return OVER;
         }
         CHECK(now() - job->started < job->seconds * 1000 + GUARD_MS, "the job comes to no end");

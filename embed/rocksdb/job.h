@@ -16,8 +16,8 @@ struct job {
     struct storage storage;
     char local[PATH];
     uint64_t seed;
-    uint64_t started, seconds;  /* of this process */
-    bool is_endless;            /* the process is to be killed */
+    uint64_t started, seconds; /* of this process */
+    bool is_endless;           /* the process is to be killed */
     struct chance chance;
     unsigned parallelism;
     struct task tasks[TASKS];
@@ -28,9 +28,9 @@ struct job {
     atomic_bool source_stops;
     uint64_t offsets[PARTITIONS]; /* the source's */
     uint64_t cuts[CUTS][PARTITIONS];
-    uint64_t cut_of[CUTS];        /* the record that a cut is of; 0: none of this process */
+    uint64_t cut_of[CUTS]; /* the record that a cut is of; 0: none of this process */
     uint64_t next_failure;
-    unsigned victim;              /* the task that is to be stopped; TASKS: none */
+    unsigned victim; /* the task that is to be stopped; TASKS: none */
     uint64_t failures;
 };
 

@@ -19,20 +19,24 @@ static void print_end(const struct job *job) {
         records += job->offsets[partition];
     }
     relkvanu_store_count(c->store, &counts);
-    printf("rocksdb: %" PRIu64 " records of %d partitions counted exactly, %" PRIu64 " tasks stopped in the last process\n", records, PARTITIONS, job->failures);
-    printf("rocksdb: in it %" PRIu64 " calls, %" PRIu64 " refused, %" PRIu64 " of them for a file that is gone; %" PRIu64 " records completed; %" PRIu64 " restores, of them %" PRIu64 " from nothing\n",
-           c->calls, c->refused, c->gone, c->answers[RELKVANU_ACK_COMPLETED],
-           c->answers[RELKVANU_RESTORED_CHECKPOINT] + c->answers[RELKVANU_RESTORED_SAVEPOINT] + c->answers[RELKVANU_RESTORED_FRESH],
-           c->answers[RELKVANU_RESTORED_FRESH]);
-    printf("rocksdb: %" PRIu64 " commits, the largest of %" PRIu64 " calls; %" PRIu64 " images; %" PRIu64 " calls made again as it began\n", counts.commits,
-           counts.largest, counts.images, c->report.replayed);
-    printf("rocksdb: %" PRIu64 " sweeps beside them deleted %" PRIu64 " files; %" PRIu64 " tasks went on after a restore; %" PRIu64 " calls of ended terms and %" PRIu64
-           " messages that came twice were refused; after %" PRIu64 " of these steps each file of a done record was there\n",
-           job->sweeper.sweeps, counts.swept, job->zombies_begun, c->old_terms, c->spent, c->looks);
+    printf("rocksdb: %" PRIu64 " records of %d partitions counted exactly, %" PRIu64 " tasks stopped in the last process\n", records,
+        PARTITIONS, job->failures);
+    printf("rocksdb: in it %" PRIu64 " calls, %" PRIu64 " refused, %" PRIu64 " of them for a file that is gone; %" PRIu64
+           " records completed; %" PRIu64 " restores, of them %" PRIu64 " from nothing\n",
+        c->calls, c->refused, c->gone, c->answers[RELKVANU_ACK_COMPLETED],
+        c->answers[RELKVANU_RESTORED_CHECKPOINT] + c->answers[RELKVANU_RESTORED_SAVEPOINT] + c->answers[RELKVANU_RESTORED_FRESH],
+        c->answers[RELKVANU_RESTORED_FRESH]);
+    printf("rocksdb: %" PRIu64 " commits, the largest of %" PRIu64 " calls; %" PRIu64 " images; %" PRIu64 " calls made again as it began\n",
+        counts.commits, counts.largest, counts.images, c->report.replayed);
+    printf("rocksdb: %" PRIu64 " sweeps beside them deleted %" PRIu64 " files; %" PRIu64 " tasks went on after a restore; %" PRIu64
+           " calls of ended terms and %" PRIu64 " messages that came twice were refused; after %" PRIu64
+           " of these steps each file of a done record was there\n",
+        job->sweeper.sweeps, counts.swept, job->zombies_begun, c->old_terms, c->spent, c->looks);
     CHECK(counts.unissued == 0, "%" PRIu64 " files have names that were not given out", counts.unissued);
     printf("rocksdb: %" PRIu64 " late acknowledgements, %" PRIu64 " declines, %" PRIu64 " files deleted, %" PRIu64 " deletions failed\n",
-           c->answers[RELKVANU_ACK_LATE], c->answers[RELKVANU_DECLINE_ABORTED] + c->answers[RELKVANU_DECLINE_FAILED] + c->answers[RELKVANU_DECLINE_LATE],
-           job->discarder.deleted, job->discarder.failed);
+        c->answers[RELKVANU_ACK_LATE],
+        c->answers[RELKVANU_DECLINE_ABORTED] + c->answers[RELKVANU_DECLINE_FAILED] + c->answers[RELKVANU_DECLINE_LATE],
+        job->discarder.deleted, job->discarder.failed);
 }
 
 static void run(const char *folder, uint64_t seed, uint64_t choices, uint64_t seconds, struct death death, bool is_endless) {

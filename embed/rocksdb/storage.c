@@ -50,7 +50,8 @@ void storage_put(const struct storage *storage, uint64_t number, const char *fol
     char path[PATH];
     path_of(path, "%s/%s", folder, name);
     FILE *from = opened(path, "r");
-    FILE *to = stream_of(openat(storage->folder, name_of(number).text, O_CREAT | O_EXCL | O_WRONLY | O_CLOEXEC, 0600), "w", "a new state file");
+    FILE *to =
+        stream_of(openat(storage->folder, name_of(number).text, O_CREAT | O_EXCL | O_WRONLY | O_CLOEXEC, 0600), "w", "a new state file");
     fprintf(to, "%s\n", name);
     copy_rest(from, to);
     CHECK(fflush(to) == 0 && fdatasync(fileno(to)) == 0, "file %" PRIu64 " can't be written: %s", number, strerror(errno));

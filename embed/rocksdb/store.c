@@ -85,7 +85,7 @@ void store_check(const struct store *store, uint64_t seed, unsigned partition) {
     for (unsigned key = 0; key < KEYS; key++) {
         uint64_t counted = store_get(store, partition, key);
         CHECK(counted == wanted[key], "partition %u: key %u stands %" PRIu64 " times before offset %" PRIu64 ", counted %" PRIu64,
-              partition, key, wanted[key], offset, counted);
+            partition, key, wanted[key], offset, counted);
     }
 }
 

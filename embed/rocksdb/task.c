@@ -111,10 +111,12 @@ static void decline(struct task *task, uint64_t id) {
 static void repeat(struct task *task, const struct upload *upload) {
     relkvanu_answer answer = task_ack(task, upload);
     if (upload->fresh.len != 0) {
-        CHECK(answer.code == RELKVANU_FENCED && answer.what == RELKVANU_SPENT, "a repeat is answered %" PRIu32 " %" PRIu32, answer.code, answer.what);
+        CHECK(answer.code == RELKVANU_FENCED && answer.what == RELKVANU_SPENT, "a repeat is answered %" PRIu32 " %" PRIu32, answer.code,
+            answer.what);
     } else {
-        CHECK(answer.code == RELKVANU_REFUSED ? answer.what == RELKVANU_ALREADY_ACKNOWLEDGED : answer.what == RELKVANU_ACK_LATE && answer.a == 0,
-              "a repeat without files is answered %" PRIu32, answer.what);
+        CHECK(answer.code == RELKVANU_REFUSED ? answer.what == RELKVANU_ALREADY_ACKNOWLEDGED
+                                              : answer.what == RELKVANU_ACK_LATE && answer.a == 0,
+            "a repeat without files is answered %" PRIu32, answer.what);
     }
 }
 

@@ -39,18 +39,18 @@ struct task {
     struct coordinator *coordinator;
     const struct storage *storage;
     char folder[PATH];
-    struct caller caller;       /* with the term that it was started with */
+    struct caller caller; /* with the term that it was started with */
     struct names names;
     struct store store;
     struct queue queue;
-    struct files held;          /* of the database's files, those of its last accepted acknowledgement */
-    struct upload left;         /* what it was uploading when it was stopped; id 0: nothing */
+    struct files held;  /* of the database's files, those of its last accepted acknowledgement */
+    struct upload left; /* what it was uploading when it was stopped; id 0: nothing */
     struct chance chance;
     uint64_t (*cuts)[PARTITIONS]; /* the job's: how far each partition was counted at a record's barrier */
     unsigned parallelism;
     atomic_bool is_stopped;
-    atomic_uint stops_after;    /* in the next checkpoint, after this many files; 0: not there */
-    atomic_bool *is_failed;     /* the job's: it has to be restored */
+    atomic_uint stops_after; /* in the next checkpoint, after this many files; 0: not there */
+    atomic_bool *is_failed;  /* the job's: it has to be restored */
 };
 
 /* The numbers of files, and how many. */

@@ -55,7 +55,8 @@ static size_t append(char *text, size_t len, size_t most, char sign, const uint6
     return len;
 }
 
-void trace_ack(unsigned index, uint64_t term, uint64_t id, const uint64_t *fresh, size_t fresh_len, const uint64_t *reused, size_t reused_len) {
+void trace_ack(
+    unsigned index, uint64_t term, uint64_t id, const uint64_t *fresh, size_t fresh_len, const uint64_t *reused, size_t reused_len) {
     static _Thread_local char files[15 * 1024];
     files[0] = '\0';
     if (trace_is_on()) {

@@ -17,7 +17,8 @@ void trace_answered(uint64_t place);
 __attribute__((format(printf, 1, 2))) void trace(const char *format, ...);
 
 /* A task, by its subtask and the term that it was started with, sends an acknowledgement. */
-void trace_ack(unsigned index, uint64_t term, uint64_t id, const uint64_t *fresh, size_t fresh_len, const uint64_t *reused, size_t reused_len);
+void trace_ack(
+    unsigned index, uint64_t term, uint64_t id, const uint64_t *fresh, size_t fresh_len, const uint64_t *reused, size_t reused_len);
 
 /* What this thread is to the trace when it deletes files: "discarder", "sweeper", or nothing. */
 void trace_deletes_as(const char *who);

@@ -6,7 +6,8 @@
 enum { STANDS_STILL_MS = 400 };
 
 static void check_old(const char *what, relkvanu_answer answer) {
-    CHECK(answer.code == RELKVANU_FENCED && answer.what == RELKVANU_OLD_TERM, "%s of an ended term is answered %" PRIu32 " %" PRIu32, what, answer.code, answer.what);
+    CHECK(answer.code == RELKVANU_FENCED && answer.what == RELKVANU_OLD_TERM, "%s of an ended term is answered %" PRIu32 " %" PRIu32, what,
+        answer.code, answer.what);
 }
 
 static void write_file(struct zombie *zombie, uint64_t number) {
@@ -57,8 +58,13 @@ static void *goes_on(void *with) {
 
 void zombie_start(struct zombie *zombie, struct task *task) {
     zombie_join(zombie);
-    *zombie = (struct zombie){.coordinator = task->coordinator, .storage = task->storage, .caller = task->caller, .names = task->names, .left = task->left,
-                              .chance = task->chance, .is_running = true};
+    *zombie = (struct zombie){.coordinator = task->coordinator,
+        .storage = task->storage,
+        .caller = task->caller,
+        .names = task->names,
+        .left = task->left,
+        .chance = task->chance,
+        .is_running = true};
     CHECK(pthread_create(&zombie->thread, NULL, goes_on, zombie) == 0, "no thread");
 }
 

@@ -19,7 +19,7 @@ enum { SUBTASKS = 4096, FILES = 3, VERTICES = 4, AHEAD = 4, MOST_THREADS = 256, 
 static relkvanu_store *store;
 static atomic_uint_fast64_t next_ack, times_len;
 static atomic_bool is_over;
-static uint64_t term; /* 0: the job has no names */
+static uint64_t term;              /* 0: the job has no names */
 static uint32_t times[MOST_TIMES]; /* in units of 0.1 us */
 
 static void check(const char *what, bool is_so, const char *why) {
@@ -49,13 +49,15 @@ static void trigger(uint64_t record) {
 
 static void *acknowledges(void *unused) {
     while (!atomic_load(&is_over)) {
-        uint64_t nth = atomic_fetch_add(&next_ack, 1), record = nth / SUBTASKS + 1, subtask = nth % SUBTASKS, fresh[FILES] = {nth * 3 + 1, nth * 3 + 2, nth * 3 + 3};
+        uint64_t nth = atomic_fetch_add(&next_ack, 1), record = nth / SUBTASKS + 1, subtask = nth % SUBTASKS,
+                 fresh[FILES] = {nth * 3 + 1, nth * 3 + 2, nth * 3 + 3};
         relkvanu_answer answer;
         if (subtask == 0) {
             trigger(record + AHEAD);
         }
         uint64_t began = now_ns();
-        int status = relkvanu_store_ack_in(store, term, record * 1000, record, (uint16_t)(subtask / 1024), (uint16_t)(subtask % 1024), fresh, FILES, NULL, 0, &answer);
+        int status = relkvanu_store_ack_in(
+            store, term, record * 1000, record, (uint16_t)(subtask / 1024), (uint16_t)(subtask % 1024), fresh, FILES, NULL, 0, &answer);
         check("ack", status == RELKVANU_STORE_OK && answer.code == RELKVANU_DONE, "not accepted");
         note(began);
     }
@@ -71,7 +73,8 @@ static void tell(const char *what, uint64_t began) {
     double seconds = (double)(now_ns() - began) / 1e9;
     size_t len = times_len < MOST_TIMES ? times_len : MOST_TIMES;
     qsort(times, len, sizeof *times, by_length);
-    printf("%-40s %8.0f a second, half of them within %.2f ms, 99 %% within %.2f ms\n", what, (double)times_len / seconds, times[len / 2] / 1e4, times[len * 99 / 100] / 1e4);
+    printf("%-40s %8.0f a second, half of them within %.2f ms, 99 %% within %.2f ms\n", what, (double)times_len / seconds,
+        times[len / 2] / 1e4, times[len * 99 / 100] / 1e4);
     fflush(stdout);
 }
 
@@ -103,7 +106,9 @@ static void measure(const char *path, unsigned len, unsigned seconds, enum kind 
     relkvanu_store_report report;
     uint64_t shape[VERTICES] = {1024, 1024, 1024, 1024};
     relkvanu_store_options options = {.flags = RELKVANU_STORE_CREATE_ONLY | (kind == PLAIN ? RELKVANU_STORE_PLAIN : 0),
-        .settings = {.interval = 10, .at_once = 64, .timeout = 1u << 30, .retained = 1}, .shape = shape, .shape_len = VERTICES};
+        .settings = {.interval = 10, .at_once = 64, .timeout = 1u << 30, .retained = 1},
+        .shape = shape,
+        .shape_len = VERTICES};
     check("open", relkvanu_store_open(&store, path, &options, &report) == RELKVANU_STORE_OK, report.message);
     term = report.term;
     next_ack = times_len = 0;
@@ -132,11 +137,14 @@ static void measure(const char *path, unsigned len, unsigned seconds, enum kind 
 }
 
 static void measure_sqlite(const char *path, unsigned seconds) {
-    static const char setup[] = "PRAGMA locking_mode=EXCLUSIVE; PRAGMA journal_mode=WAL; PRAGMA synchronous=FULL; CREATE TABLE log(place INTEGER PRIMARY KEY, line TEXT)";
+    static const char setup[] = "PRAGMA locking_mode=EXCLUSIVE; PRAGMA journal_mode=WAL; PRAGMA synchronous=FULL; CREATE TABLE log(place "
+                                "INTEGER PRIMARY KEY, line TEXT)";
     sqlite3 *db = NULL;
     sqlite3_stmt *insert;
-    check("SQLite", sqlite3_open(path, &db) == SQLITE_OK && sqlite3_exec(db, setup, NULL, NULL, NULL) == SQLITE_OK &&
-                        sqlite3_prepare_v2(db, "INSERT INTO log(line) VALUES('ack 1000000 1000000 0.1000 +100000001 +100000002 +100000003')", -1, &insert, NULL) == SQLITE_OK,
+    check("SQLite",
+        sqlite3_open(path, &db) == SQLITE_OK && sqlite3_exec(db, setup, NULL, NULL, NULL) == SQLITE_OK &&
+            sqlite3_prepare_v2(db, "INSERT INTO log(line) VALUES('ack 1000000 1000000 0.1000 +100000001 +100000002 +100000003')", -1,
+                &insert, NULL) == SQLITE_OK,
         sqlite3_errmsg(db));
     times_len = 0;
     uint64_t began = now_ns();

@@ -12,7 +12,9 @@ static const relkvanu_settings &settings() {
     return all;
 }
 
-static std::vector<u64> shape() { return {scope.subtasks}; }
+static std::vector<u64> shape() {
+    return {scope.subtasks};
+}
 
 static std::vector<u64> list_of(Files files) {
     std::vector<u64> list;
@@ -25,7 +27,9 @@ static std::vector<u64> list_of(Files files) {
 }
 
 // Calls other than ticks take place at the greatest moment so far, which an earlier one counts as.
-static u64 moment_of(const Facts &facts, u8 kind) { return kind == TICK ? facts.due : kind == EXPIRE ? facts.expiry : 0; }
+static u64 moment_of(const Facts &facts, u8 kind) {
+    return kind == TICK ? facts.due : kind == EXPIRE ? facts.expiry : 0;
+}
 
 static relkvanu_answer make_plain(relkvanu *handle, const Facts &facts, const Call &call, u64 *taken) {
     const u64 now = moment_of(facts, call.kind), fresh[] = {call.file};
@@ -51,15 +55,16 @@ static relkvanu_answer make(relkvanu *handle, const Facts &facts, const Call &ca
 }
 
 std::string Library::line(u32 image, const Call &call) {
-    static const u32 kinds[] = {0, RELKVANU_CALL_TICK, RELKVANU_CALL_TICK, RELKVANU_CALL_SAVEPOINT, RELKVANU_CALL_ACK, RELKVANU_CALL_DECLINE,
-                                RELKVANU_CALL_DISPOSE, RELKVANU_CALL_RESTORE, RELKVANU_CALL_CANCEL, RELKVANU_CALL_TAKE, RELKVANU_CALL_DELETED,
-                                RELKVANU_CALL_UNDELETED, RELKVANU_CALL_RESERVE, RELKVANU_CALL_FORFEIT};
+    static const u32 kinds[] = {0, RELKVANU_CALL_TICK, RELKVANU_CALL_TICK, RELKVANU_CALL_SAVEPOINT, RELKVANU_CALL_ACK,
+        RELKVANU_CALL_DECLINE, RELKVANU_CALL_DISPOSE, RELKVANU_CALL_RESTORE, RELKVANU_CALL_CANCEL, RELKVANU_CALL_TAKE,
+        RELKVANU_CALL_DELETED, RELKVANU_CALL_UNDELETED, RELKVANU_CALL_RESERVE, RELKVANU_CALL_FORFEIT};
     const bool is_report = call.kind == DELETE || call.kind == UNDELETE, is_of_one = call.kind == TAKE || call.kind == RESERVE;
     const u64 fresh[] = {call.file}, number = is_of_one ? 1 : is_report ? call.file : call.record;
     const std::vector<u64> reused = list_of(call.reused);
     const u64 term = scope.names && has_term(call) ? call.term : 0;
     const relkvanu_call said = {kinds[call.kind], 0, call.subtask, moment_of(facts(image), call.kind), number, term};
-    const size_t fresh_len = call.file && (call.kind == ACK || call.kind == FORFEIT || call.kind == RESTORE) ? 1 : 0, reused_len = call.kind == ACK ? reused.size() : 0;
+    const size_t fresh_len = call.file && (call.kind == ACK || call.kind == FORFEIT || call.kind == RESTORE) ? 1 : 0,
+                 reused_len = call.kind == ACK ? reused.size() : 0;
     u8 text[512];
     const relkvanu_answer written = relkvanu_call_line(&said, fresh, fresh_len, reused.data(), reused_len, text, sizeof text);
     if (written.code != RELKVANU_DONE) {

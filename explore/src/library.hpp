@@ -13,7 +13,8 @@
 enum Kind : u8 { TICK = 1, EXPIRE, SAVE, ACK, DECLINE, DISPOSE, RESTORE, CANCEL, TAKE, DELETE, UNDELETE, RESERVE, FORFEIT };
 
 struct Call {
-    u8 kind, subtask, record, file; // file: a fresh one, or 0; for a report the file that it is about; for a restore its shape, if it is a new one
+    u8 kind, subtask, record,
+        file; // file: a fresh one, or 0; for a report the file that it is about; for a restore its shape, if it is a new one
     Files reused;
     u8 term = 0; // of the task, if the coordinator has names
 };
@@ -30,11 +31,11 @@ constexpr unsigned MOST_RECORDS = 4;
 // What the reads of the library say of an image.
 struct Facts {
     Files in_use, waiting, taken;
-    Files done;          // of live records that are done
-    u32 done_records;    // their numbers, as bits
+    Files done;       // of live records that are done
+    u32 done_records; // their numbers, as bits
     bool is_running, is_cancelled;
-    u8 choice;           // the number of the record that a restore would begin from, or 0
-    Files base[2];       // its files, by subtask
+    u8 choice;                                          // the number of the record that a restore would begin from, or 0
+    Files base[2];                                      // its files, by subtask
     u8 pending[MOST_RECORDS], savepoints[MOST_RECORDS]; // numbers, of done savepoints
     u64 due, expiry;
     // If the coordinator has names: the term, the next name, the names that tasks of the term hold, and what a sweeper may delete.

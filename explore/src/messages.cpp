@@ -50,8 +50,8 @@ void Steps::deliver(unsigned place, bool is_copy, bool to_old) {
     }
     tell("from 0.%u %u", message.subtask(), message.incarnation());
     const Answer answer = accept(who, message);
-    seen[!answer.is_done()                          ? answer.what == 0 || is_old_term(answer) ? DROPPED_MESSAGES : REFUSED_MESSAGES
-         : answer.what == RELKVANU_ACK_PENDING     ? PENDING_ACKS
+    seen[!answer.is_done()                       ? answer.what == 0 || is_old_term(answer) ? DROPPED_MESSAGES : REFUSED_MESSAGES
+         : answer.what == RELKVANU_ACK_PENDING   ? PENDING_ACKS
          : answer.what == RELKVANU_ACK_COMPLETED ? COMPLETED_ACKS
                                                  : LATE_ACKS]++;
     if (!message.is_decline()) {

@@ -14,9 +14,13 @@ relkvanu_answer make_named(relkvanu *handle, const Call &call, const std::vector
     }
 }
 
-bool is_fenced(const relkvanu_answer &answer) { return answer.code == RELKVANU_FENCED; }
+bool is_fenced(const relkvanu_answer &answer) {
+    return answer.code == RELKVANU_FENCED;
+}
 
-bool is_old_term(const Answer &answer) { return answer.code == RELKVANU_FENCED && answer.what == RELKVANU_OLD_TERM; }
+bool is_old_term(const Answer &answer) {
+    return answer.code == RELKVANU_FENCED && answer.what == RELKVANU_OLD_TERM;
+}
 
 void read_names(relkvanu *handle, Facts *facts) {
     const relkvanu_answer term = relkvanu_term(handle);

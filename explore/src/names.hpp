@@ -5,7 +5,9 @@
 #include "library.hpp"
 
 // Whether the call says in which term its task runs.
-inline bool has_term(const Call &call) { return call.kind == ACK || call.kind == DECLINE || call.kind == RESERVE || call.kind == FORFEIT; }
+inline bool has_term(const Call &call) {
+    return call.kind == ACK || call.kind == DECLINE || call.kind == RESERVE || call.kind == FORFEIT;
+}
 relkvanu_answer make_named(relkvanu *handle, const Call &call, const std::vector<u64> &reused);
 // Whether a call was refused for its term or its names.
 bool is_fenced(const relkvanu_answer &answer);

@@ -116,7 +116,8 @@ int run_randomly() {
         }
     }
     const auto number = [](u64 it) { return static_cast<unsigned long long>(it); };
-    printf("# holds runs %llu steps %llu replays %llu calls %llu\n", number(scope.runs), number(made), number(replays), number(library.made()));
+    printf("# holds runs %llu steps %llu replays %llu calls %llu\n", number(scope.runs), number(made), number(replays),
+        number(library.made()));
     print_seen();
     return 0;
 }

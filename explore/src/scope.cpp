@@ -29,7 +29,8 @@ static const Named RULE[RULES] = {
     {"mounted-delete", "9: a file that is not found counts as deleted only if the storage is there"},
     {"mounted-write", "10: a task writes only if the storage is there"},
     {"give-back", "8, with names: a task gives back the names that it won't acknowledge"},
-    {"newest-log", "1: a process begins with the newest log, not with a copy that was taken before"}};
+    {"newest-log", "1: a process begins with the newest log, not with a copy that was taken before"},
+};
 
 static const Named BUDGET[BUDGETS] = {
     {"trig", "checkpoints that are triggered"},
@@ -46,7 +47,8 @@ static const Named BUDGET[BUDGETS] = {
     {"undel", "files that are reported as not deleted"},
     {"name", "names of files, at most 30"},
     {"msg", "messages that are under way at once, at most 6"},
-    {"scale", "restores with another parallelism, of one and of two subtasks"}};
+    {"scale", "restores with another parallelism, of one and of two subtasks"},
+};
 
 Scope scope;
 
@@ -102,6 +104,11 @@ static void print_words() {
     }
 }
 
+static void print_help() {
+    print_words();
+    exit(0);
+}
+
 static void check_scope() {
     const unsigned *limit = scope.limit;
     if (scope.subtasks < 1 || scope.subtasks > 2 || scope.at_once < 1 || scope.at_once > 3 || limit[MESSAGES] > 6 || limit[NAMES] > 30 ||
@@ -118,23 +125,27 @@ using Option = std::function<void(const std::string &)>;
 // The options that have a value.
 static std::map<std::string, Option> valued() {
     auto into = [](auto &field) { return [&field](const std::string &text) { field = std::decay_t<decltype(field)>(number_of(text)); }; };
-    return {{"--off", [](const std::string &text) { scope.is_on[place_of(RULE, RULES, text)] = false; }},
-            {"--subtasks", into(scope.subtasks)},
-            {"--at-once", into(scope.at_once)},
-            {"--retained", into(scope.retained)},
-            {"--tolerable", into(scope.tolerable)},
-            {"--states", into(scope.most_states)},
-            {"--runs", into(scope.runs)},
-            {"--seed", into(scope.seed)},
-            {"--length", into(scope.length)}};
+    return {
+        {"--off", [](const std::string &text) { scope.is_on[place_of(RULE, RULES, text)] = false; }},
+        {"--subtasks", into(scope.subtasks)},
+        {"--at-once", into(scope.at_once)},
+        {"--retained", into(scope.retained)},
+        {"--tolerable", into(scope.tolerable)},
+        {"--states", into(scope.most_states)},
+        {"--runs", into(scope.runs)},
+        {"--seed", into(scope.seed)},
+        {"--length", into(scope.length)},
+    };
 }
 
 static std::map<std::string, std::function<void()>> switches() {
-    return {{"--names", [] { scope.names = true; }},
-            {"--no-leaks", [] { scope.checks_leaks = false; }},
-            {"--no-keep", [] { scope.may_keep = false; }},
-            {"--trace", [] { scope.prints_trace = true; }},
-            {"--help", [] { print_words(); exit(0); }}};
+    return {
+        {"--names", [] { scope.names = true; }},
+        {"--no-leaks", [] { scope.checks_leaks = false; }},
+        {"--no-keep", [] { scope.may_keep = false; }},
+        {"--trace", [] { scope.prints_trace = true; }},
+        {"--help", print_help},
+    };
 }
 
 void read_scope(int argc, char **argv) {

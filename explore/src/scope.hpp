@@ -6,21 +6,50 @@
 
 // The rules of an engine, each of which can be switched off. scope.cpp says what they demand.
 enum Rule {
-    SYNC, FSYNC, FENCE, TERM_AT_START, RESTART_RESTORES, ONE_LOG, NO_TASK_DELETES, NEW_NAME, OWN_NAME, SWEEP_STOPPED, SWEEP_RESTORED,
-    SYNCED_FOLDER, MOUNTED_DELETE, MOUNTED_WRITE, GIVE_BACK, NEWEST_LOG, RULES
+    SYNC,
+    FSYNC,
+    FENCE,
+    TERM_AT_START,
+    RESTART_RESTORES,
+    ONE_LOG,
+    NO_TASK_DELETES,
+    NEW_NAME,
+    OWN_NAME,
+    SWEEP_STOPPED,
+    SWEEP_RESTORED,
+    SYNCED_FOLDER,
+    MOUNTED_DELETE,
+    MOUNTED_WRITE,
+    GIVE_BACK,
+    NEWEST_LOG,
+    RULES
 };
 
 // How often a search lets something happen.
 enum Budget {
-    TRIGGERS, SAVEPOINTS, DISPOSALS, RESTORES, CRASHES, DUPLICATES, POWER_LOSSES, DECLINES, ZOMBIE_BARRIERS, UNMOUNTS, CANCELS, UNDELETED,
-    NAMES, MESSAGES, SCALES, BUDGETS
+    TRIGGERS,
+    SAVEPOINTS,
+    DISPOSALS,
+    RESTORES,
+    CRASHES,
+    DUPLICATES,
+    POWER_LOSSES,
+    DECLINES,
+    ZOMBIE_BARRIERS,
+    UNMOUNTS,
+    CANCELS,
+    UNDELETED,
+    NAMES,
+    MESSAGES,
+    SCALES,
+    BUDGETS
 };
 
 struct Scope {
     bool is_on[RULES];
     unsigned limit[BUDGETS] = {3, 0, 0, 1, 0, 1, 0, 0, 1, 0, 0, 0, 4, 3, 0};
-    bool names = false;        // the coordinator has terms and gives the names
-    bool checks_leaks = true;  // else only lost files and mixed records are looked for
+    bool names = false;       // the coordinator has terms and gives the names
+    bool checks_leaks = true; // else only lost files and mixed records are looked for
     bool may_write_nothing = true, may_keep = true;
     unsigned subtasks = 1, at_once = 1, retained = 1, tolerable = 1000;
     u64 most_states = 40000000;

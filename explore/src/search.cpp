@@ -126,8 +126,11 @@ std::string Search::result(double seconds) const {
     const unsigned whole = depth - (is_over() && fault.empty() ? 1 : 0);
     char text[256];
     snprintf(text, sizeof text, "# %s %s depth %u states %.0f steps %llu seconds %.1f states/s %.0f images %zu calls %llu",
-             !fault.empty() ? "fault" : is_over() ? "cut" : "holds", fault.c_str(), whole, states, static_cast<unsigned long long>(made), seconds,
-             states / seconds, library.size(), static_cast<unsigned long long>(library.made()));
+        !fault.empty() ? "fault"
+        : is_over()    ? "cut"
+                       : "holds",
+        fault.c_str(), whole, states, static_cast<unsigned long long>(made), seconds, states / seconds, library.size(),
+        static_cast<unsigned long long>(library.made()));
     return text;
 }
 
@@ -154,4 +157,6 @@ int Search::run() {
 
 } // namespace
 
-int search() { return Search().run(); }
+int search() {
+    return Search().run();
+}

@@ -15,9 +15,13 @@ using Files = u32;
 constexpr unsigned LAST_FILE = 31;
 
 // The set of one file. There is no file 0.
-inline Files only(unsigned file) { return file == 0 ? 0 : Files(1) << file; }
+inline Files only(unsigned file) {
+    return file == 0 ? 0 : Files(1) << file;
+}
 
-inline unsigned least(Files files) { return unsigned(__builtin_ctz(files)); }
+inline unsigned least(Files files) {
+    return unsigned(__builtin_ctz(files));
+}
 
 // The numbers of a set, each behind a space and a sign.
 inline std::string words(Files files, const char *sign) {

@@ -25,11 +25,11 @@ enum Told : u8 { NOTHING, ACCEPTED, LATE, REFUSED };
 struct Task {
     u8 incarnation; // 0: there is no task
     u8 term, subtask;
-    u8 barrier;     // of a record that it has not begun
-    u8 record;      // that it takes part in, or 0
-    u8 file;        // its new file, or 0
-    u8 written;     // 1: not durable, 2: durable, or there is nothing to write
-    u8 sent;        // how often it sent its acknowledgement
+    u8 barrier; // of a record that it has not begun
+    u8 record;  // that it takes part in, or 0
+    u8 file;    // its new file, or 0
+    u8 written; // 1: not durable, 2: durable, or there is nothing to write
+    u8 sent;    // how often it sent its acknowledgement
     Told told;
     u8 unused[3];
     Files barrier_base, base; // the files of the choice, which it may name again
@@ -64,10 +64,10 @@ struct State {
     u32 mixed;                     // records with a part of a task that was replaced
     Files wrong;                   // accepted files that another task has written over
     u32 unused_word;
-    u8 writer[LAST_FILE + 1];      // who wrote each file last
-    Task tasks[MOST_TASKS];        // the running ones first, by subtask
-    u64 messages[MOST_MESSAGES];   // descending
-    u8 used[16];                   // by Budget
+    u8 writer[LAST_FILE + 1];    // who wrote each file last
+    Task tasks[MOST_TASKS];      // the running ones first, by subtask
+    u64 messages[MOST_MESSAGES]; // descending
+    u8 used[16];                 // by Budget
     u8 is_down, incarnation, name, is_away, messages_len, has_old, processes, unused;
 };
 static_assert(BUDGETS <= 16 && sizeof(Process) == 8 && sizeof(Task) == 24, "there is no padding");
@@ -78,11 +78,15 @@ u64 hash_of(const State &state);
 void add_message(State *state, Message message);
 void drop_message(State *state, unsigned place);
 // Who a task is, for the storage.
-inline u8 mark_of(u8 incarnation, u8 subtask) { return u8(2 * incarnation + subtask); }
+inline u8 mark_of(u8 incarnation, u8 subtask) {
+    return u8(2 * incarnation + subtask);
+}
 // Ends the running tasks' time: they go on as replaced ones, and new ones start.
 void start_tasks(State *state);
 // A running task is one of the newest incarnation.
-inline bool is_running(unsigned place) { return place < scope.subtasks; }
+inline bool is_running(unsigned place) {
+    return place < scope.subtasks;
+}
 // The work on a record ends.
 void clear_work(Task *task, bool keeps_file);
 // Replaced tasks that can do nothing more are no part of a state.

@@ -6,8 +6,8 @@
 u64 seen[SEEN];
 
 void print_seen() {
-    static const char *const what[SEEN] = {"acks pending", "completed", "late", "messages dropped", "refused", "sweeps", "discards", "late writes",
-                                           "recoveries"};
+    static const char *const what[SEEN] = {
+        "acks pending", "completed", "late", "messages dropped", "refused", "sweeps", "discards", "late writes", "recoveries"};
     printf("# seen");
     for (int place = 0; place < SEEN; place++) {
         printf("%s %s %llu", place == 0 ? "" : ",", what[place], static_cast<unsigned long long>(seen[place]));

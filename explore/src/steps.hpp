@@ -18,13 +18,13 @@ class Steps {
 public:
     static constexpr unsigned ALL = ~0u;
 
-    unsigned chosen = ALL;     // ALL, or the number of the step to make
-    bool has_faults = true;    // whether faults are among the steps
-    bool loses = false;        // whether messages are lost by a step. A search need not lose them: they may stay for ever
-    bool is_telling = false;   // whether each step writes the lines of the trace
+    unsigned chosen = ALL;   // ALL, or the number of the step to make
+    bool has_faults = true;  // whether faults are among the steps
+    bool loses = false;      // whether messages are lost by a step. A search need not lose them: they may stay for ever
+    bool is_telling = false; // whether each step writes the lines of the trace
     std::vector<std::string> lines;
     Log *log = nullptr;
-    State next;                // the state after the step
+    State next; // the state after the step
 
     // The lines of the trace before the first step.
     void tell_opening(const State &state);
@@ -99,10 +99,14 @@ private:
 };
 
 // The term of a process: that of its coordinator, or the engine's own.
-inline u8 term_of(const Process &process) { return scope.names ? library.facts(process.image).term : process.term; }
+inline u8 term_of(const Process &process) {
+    return scope.names ? library.facts(process.image).term : process.term;
+}
 
 // The files that the coordinator knows: in use, waiting or taken.
-inline Files known(const Facts &facts) { return facts.in_use | facts.waiting | facts.taken; }
+inline Files known(const Facts &facts) {
+    return facts.in_use | facts.waiting | facts.taken;
+}
 
 // What happened how often. It shows that a search that finds nothing saw something.
 enum Seen { PENDING_ACKS, COMPLETED_ACKS, LATE_ACKS, DROPPED_MESSAGES, REFUSED_MESSAGES, SWEEPS, DISCARDS, LATE_WRITES, RECOVERIES, SEEN };

@@ -53,7 +53,9 @@ void Steps::of_deletions() {
 
 // A sweeper that has asked may delete at any later time, again and again, also one that should be dead. It is answered from what is durable.
 void Steps::of_sweepers() {
-    const Files may = scope.names ? library.facts(from->durable.image).garbage : scope.is_on[SWEEP_STOPPED] ? 0 : from->visible & ~known(*facts);
+    const Files may = scope.names                  ? library.facts(from->durable.image).garbage
+                      : scope.is_on[SWEEP_STOPPED] ? 0
+                                                   : from->visible & ~known(*facts);
     if (offer(!from->is_away && !from->is_down && may & ~from->may_sweep)) {
         next.may_sweep |= may;
         tell("sweeper lists%s", words(from->visible, "").c_str());

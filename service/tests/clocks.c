@@ -14,7 +14,9 @@ static const volatile int64_t *added(void) {
     static const int64_t none[2];
     static const volatile int64_t *told;
     const char *path = getenv("CLOCKS");
-    if (told || !path) return told ? told : none;
+    if (told || !path) {
+        return told ? told : none;
+    }
     int fd = open(path, O_RDONLY);
     void *map = mmap(NULL, 2 * sizeof(int64_t), PROT_READ, MAP_SHARED, fd, 0);
     close(fd);
@@ -23,16 +25,24 @@ static const volatile int64_t *added(void) {
 
 int clock_gettime(clockid_t clock, struct timespec *time) {
     static int (*real)(clockid_t, struct timespec *);
-    if (!real) real = dlsym(RTLD_NEXT, "clock_gettime");
+    if (!real) {
+        real = dlsym(RTLD_NEXT, "clock_gettime");
+    }
     int result = real(clock, time);
-    if (clock == CLOCK_REALTIME || clock == CLOCK_REALTIME_COARSE) time->tv_sec += added()[0];
-    if (clock == CLOCK_MONOTONIC || clock == CLOCK_MONOTONIC_COARSE || clock == CLOCK_MONOTONIC_RAW) time->tv_sec += added()[1];
+    if (clock == CLOCK_REALTIME || clock == CLOCK_REALTIME_COARSE) {
+        time->tv_sec += added()[0];
+    }
+    if (clock == CLOCK_MONOTONIC || clock == CLOCK_MONOTONIC_COARSE || clock == CLOCK_MONOTONIC_RAW) {
+        time->tv_sec += added()[1];
+    }
     return result;
 }
 
 int gettimeofday(struct timeval *restrict time, void *restrict zone) {
     static int (*real)(struct timeval *, void *);
-    if (!real) real = dlsym(RTLD_NEXT, "gettimeofday");
+    if (!real) {
+        real = dlsym(RTLD_NEXT, "gettimeofday");
+    }
     int result = real(time, zone);
     time->tv_sec += added()[0];
     return result;
@@ -41,6 +51,8 @@ int gettimeofday(struct timeval *restrict time, void *restrict zone) {
 time_t time(time_t *at) {
     struct timeval now;
     gettimeofday(&now, NULL);
-    if (at) *at = now.tv_sec;
+    if (at) {
+        *at = now.tv_sec;
+    }
     return now.tv_sec;
 }

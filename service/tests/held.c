@@ -14,11 +14,15 @@ enum { MUCH = 1 << 20, EACH = 10000 };
 
 static void hold(size_t size) {
     const char *held = size < MUCH ? NULL : getenv("HELD");
-    if (held == NULL || access(held, F_OK)) return;
+    if (held == NULL || access(held, F_OK)) {
+        return;
+    }
     char waits[512];
     snprintf(waits, sizeof waits, "%s.waits", held);
     close(open(waits, O_CREAT | O_WRONLY, 0600));
-    while (!access(held, F_OK)) usleep(EACH);
+    while (!access(held, F_OK)) {
+        usleep(EACH);
+    }
 }
 
 void *malloc(size_t size) {

@@ -21,6 +21,10 @@ static int synced(const char *name, int fd) {
     return told;
 }
 
-int fsync(int fd) { return synced("fsync", fd); }
+int fsync(int fd) {
+    return synced("fsync", fd);
+}
 
-int fdatasync(int fd) { return synced("fdatasync", fd); }
+int fdatasync(int fd) {
+    return synced("fdatasync", fd);
+}

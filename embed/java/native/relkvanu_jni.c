@@ -1,4 +1,5 @@
 /* What include/relkvanu.h says, made from it by embed/bindings: change the header, and run that. */
+/* clang-format off */
 #include "room.h"
 #include "structs.h"
 

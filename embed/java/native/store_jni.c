@@ -43,20 +43,27 @@ static void tell(JNIEnv *env, jlongArray to, const jlong *numbers, size_t len) {
 }
 
 static void tell_report(JNIEnv *env, jlongArray to, const relkvanu_store_report *it) {
-    jlong numbers[REPORT + RELKVANU_STORE_MOST_STEPS] = {it->is_recovered, it->settings_differ, (jlong)it->epoch, (jlong)it->job[0], (jlong)it->job[1],
-        (jlong)it->image_place, (jlong)it->replayed, (jlong)it->taken, (jlong)it->moment, it->mode.what, it->choice.what, (jlong)it->choice.a, (jlong)it->term, (jlong)it->next_name};
+    jlong numbers[REPORT + RELKVANU_STORE_MOST_STEPS] = {it->is_recovered, it->settings_differ, (jlong)it->epoch, (jlong)it->job[0],
+        (jlong)it->job[1], (jlong)it->image_place, (jlong)it->replayed, (jlong)it->taken, (jlong)it->moment, it->mode.what, it->choice.what,
+        (jlong)it->choice.a, (jlong)it->term, (jlong)it->next_name};
     for (size_t place = 0; place < it->steps_len; place++) {
         numbers[REPORT + place] = it->steps[place];
     }
     tell(env, to, numbers, REPORT + it->steps_len);
 }
 
-static int opened(JNIEnv *env, const char *path, const char *storage, const jlong *numbers, relkvanu_settings settings, const uint64_t *shape, size_t shape_len,
-    jlongArray handle, jlongArray report, jbyteArray message) {
+static int opened(JNIEnv *env, const char *path, const char *storage, const jlong *numbers, relkvanu_settings settings,
+    const uint64_t *shape, size_t shape_len, jlongArray handle, jlongArray report, jbyteArray message) {
     relkvanu_store *store;
     relkvanu_store_report found;
-    relkvanu_store_options options = {.flags = (uint32_t)numbers[0], .patience = (uint32_t)numbers[1], .image_calls = (uint64_t)numbers[2], .most_ahead = (uint64_t)numbers[3],
-        .storage = storage, .settings = settings, .shape = shape, .shape_len = shape_len};
+    relkvanu_store_options options = {.flags = (uint32_t)numbers[0],
+        .patience = (uint32_t)numbers[1],
+        .image_calls = (uint64_t)numbers[2],
+        .most_ahead = (uint64_t)numbers[3],
+        .storage = storage,
+        .settings = settings,
+        .shape = shape,
+        .shape_len = shape_len};
     int status = relkvanu_store_open(&store, path, &options, &found);
     tell(env, handle, &(jlong){(jlong)(uintptr_t)store}, 1);
     (*env)->SetByteArrayRegion(env, message, 0, sizeof found.message, (const jbyte *)found.message);
@@ -66,8 +73,8 @@ static int opened(JNIEnv *env, const char *path, const char *storage, const jlon
     return status;
 }
 
-JNIEXPORT jint JNICALL Java_relkvanu_StoreNative_open(JNIEnv *env, jclass of, jbyteArray path, jbyteArray storage, jlongArray options, jlongArray settings, jlongArray shape,
-    jlongArray handle, jlongArray report, jbyteArray message) {
+JNIEXPORT jint JNICALL Java_relkvanu_StoreNative_open(JNIEnv *env, jclass of, jbyteArray path, jbyteArray storage, jlongArray options,
+    jlongArray settings, jlongArray shape, jlongArray handle, jlongArray report, jbyteArray message) {
     (void)of;
     jlong numbers[OPTIONS];
     size_t shape_len;
@@ -94,8 +101,13 @@ JNIEXPORT void JNICALL Java_relkvanu_StoreNative_close(JNIEnv *env, jclass of, j
 static void fill(relkvanu_store_call *calls, size_t len, const jlong *given, uint64_t *words) {
     for (size_t place = 0; place < len; place++, given += GIVEN) {
         size_t first = (size_t)given[CALL_NUMBERS], second = (size_t)given[CALL_NUMBERS + 1], files = (size_t)given[CALL_NUMBERS + 2];
-        calls[place] = (relkvanu_store_call){.call = call_of(given), .first = words, .first_len = first, .second = words + first, .second_len = second,
-            .files = words + first + second, .files_len = files};
+        calls[place] = (relkvanu_store_call){.call = call_of(given),
+            .first = words,
+            .first_len = first,
+            .second = words + first,
+            .second_len = second,
+            .files = words + first + second,
+            .files_len = files};
         words += first + second + files;
     }
 }
@@ -140,7 +152,8 @@ JNIEXPORT jint JNICALL Java_relkvanu_StoreNative_calls(JNIEnv *env, jclass of, j
     return status;
 }
 
-JNIEXPORT jint JNICALL Java_relkvanu_StoreNative_forfeit(JNIEnv *env, jclass of, jlong store, jlong term, jlongArray names, jlongArray told) {
+JNIEXPORT jint JNICALL Java_relkvanu_StoreNative_forfeit(
+    JNIEnv *env, jclass of, jlong store, jlong term, jlongArray names, jlongArray told) {
     (void)of;
     size_t len;
     relkvanu_answer answer = {0};
@@ -159,7 +172,8 @@ JNIEXPORT jint JNICALL Java_relkvanu_StoreNative_term(JNIEnv *env, jclass of, jl
     return status;
 }
 
-JNIEXPORT jint JNICALL Java_relkvanu_StoreNative_garbage(JNIEnv *env, jclass of, jlong store, jlongArray files, jlongArray garbage, jlongArray unissued, jlongArray told) {
+JNIEXPORT jint JNICALL Java_relkvanu_StoreNative_garbage(
+    JNIEnv *env, jclass of, jlong store, jlongArray files, jlongArray garbage, jlongArray unissued, jlongArray told) {
     (void)of;
     size_t len;
     relkvanu_answer answer = {0};
@@ -233,7 +247,8 @@ JNIEXPORT jint JNICALL Java_relkvanu_StoreNative_unknown(JNIEnv *env, jclass of,
 JNIEXPORT jint JNICALL Java_relkvanu_StoreNative_put(JNIEnv *env, jclass of, jlong store, jlong file, jbyteArray contents, jbyteArray why) {
     (void)of;
     char *copy = text_of(env, contents), text[RELKVANU_STORE_MESSAGE] = "";
-    int status = copy == NULL ? RELKVANU_STORE_NO_MEMORY : relkvanu_store_put(store_at(store), (uint64_t)file, copy, (size_t)(*env)->GetArrayLength(env, contents));
+    int status = copy == NULL ? RELKVANU_STORE_NO_MEMORY
+                              : relkvanu_store_put(store_at(store), (uint64_t)file, copy, (size_t)(*env)->GetArrayLength(env, contents));
     if (status == RELKVANU_STORE_NOT_PUT) {
         strerror_r(errno, text, sizeof text);
     }
@@ -281,8 +296,8 @@ JNIEXPORT void JNICALL Java_relkvanu_StoreNative_count(JNIEnv *env, jclass of, j
     (void)of;
     relkvanu_store_counts it;
     relkvanu_store_count(store_at(store), &it);
-    const jlong numbers[] = {(jlong)it.commits, (jlong)it.calls, (jlong)it.largest, (jlong)it.images, (jlong)it.failed_images, (jlong)it.checkpoints,
-        (jlong)it.failed_checkpoints, (jlong)it.retries, (jlong)it.swept, (jlong)it.unissued};
+    const jlong numbers[] = {(jlong)it.commits, (jlong)it.calls, (jlong)it.largest, (jlong)it.images, (jlong)it.failed_images,
+        (jlong)it.checkpoints, (jlong)it.failed_checkpoints, (jlong)it.retries, (jlong)it.swept, (jlong)it.unissued};
     tell(env, told, numbers, sizeof numbers / sizeof *numbers);
 }
 

@@ -1,4 +1,5 @@
 /* What include/relkvanu.h says, made from it by embed/bindings: change the header, and run that. */
+/* clang-format off */
 #ifndef RELKVANU_STRUCTS_H
 #define RELKVANU_STRUCTS_H
 

@@ -8,7 +8,8 @@ enum { NAMES = 4096, MOST_NAMES = 65536 }; /* of a line; of a list */
 static bool is_well_formed(const relkvanu_store_call *call) {
     uint32_t kind = call->call.kind;
     bool is_made = kind >= RELKVANU_CALL_TICK && kind <= RELKVANU_CALL_FORFEIT && kind != RELKVANU_CALL_SHOW && kind != RELKVANU_CALL_COUNT;
-    return is_made && call->reserved[0] == 0 && call->reserved[1] == 0 && (kind != RELKVANU_CALL_TAKE || call->call.number <= call->files_len);
+    return is_made && call->reserved[0] == 0 && call->reserved[1] == 0 &&
+           (kind != RELKVANU_CALL_TAKE || call->call.number <= call->files_len);
 }
 
 /* Appends the line of a call. */
@@ -79,12 +80,15 @@ static int make_one(relkvanu_store *s, relkvanu_store_call call, relkvanu_answer
     return status;
 }
 
-int relkvanu_store_ack_in(relkvanu_store *s, uint64_t term, uint64_t now, uint64_t id, uint16_t vertex, uint16_t index, const uint64_t *fresh, size_t fresh_len, const uint64_t *reused, size_t reused_len, relkvanu_answer *answer) {
+int relkvanu_store_ack_in(relkvanu_store *s, uint64_t term, uint64_t now, uint64_t id, uint16_t vertex, uint16_t index,
+    const uint64_t *fresh, size_t fresh_len, const uint64_t *reused, size_t reused_len, relkvanu_answer *answer) {
     relkvanu_call call = {.kind = RELKVANU_CALL_ACK, .vertex = vertex, .index = index, .now = now, .number = id, .term = term};
-    return make_one(s, (relkvanu_store_call){.call = call, .first = fresh, .first_len = fresh_len, .second = reused, .second_len = reused_len}, answer);
+    return make_one(
+        s, (relkvanu_store_call){.call = call, .first = fresh, .first_len = fresh_len, .second = reused, .second_len = reused_len}, answer);
 }
 
-int relkvanu_store_ack(relkvanu_store *s, uint64_t now, uint64_t id, uint16_t vertex, uint16_t index, const uint64_t *fresh, size_t fresh_len, const uint64_t *reused, size_t reused_len, relkvanu_answer *answer) {
+int relkvanu_store_ack(relkvanu_store *s, uint64_t now, uint64_t id, uint16_t vertex, uint16_t index, const uint64_t *fresh,
+    size_t fresh_len, const uint64_t *reused, size_t reused_len, relkvanu_answer *answer) {
     return relkvanu_store_ack_in(s, 0, now, id, vertex, index, fresh, fresh_len, reused, reused_len, answer);
 }
 
@@ -103,7 +107,8 @@ int relkvanu_store_forfeit(relkvanu_store *s, uint64_t term, const uint64_t *nam
     }
     do {
         size_t rest = names_len - len * NAMES;
-        calls[len] = (relkvanu_store_call){.call = {.kind = RELKVANU_CALL_FORFEIT, .term = term}, .first = names + len * NAMES, .first_len = rest < NAMES ? rest : NAMES};
+        calls[len] = (relkvanu_store_call){
+            .call = {.kind = RELKVANU_CALL_FORFEIT, .term = term}, .first = names + len * NAMES, .first_len = rest < NAMES ? rest : NAMES};
     } while (++len * NAMES < names_len);
     int status = relkvanu_store_calls(s, calls, len);
     while (place + 1 < len && calls[place].answer.code == RELKVANU_DONE) {

@@ -119,8 +119,8 @@ static int transact(relkvanu_store *s, bool has_image, bool *may_retry) {
         return status;
     }
     int primary = s->code & 255;
-    *may_retry = primary == SQLITE_FULL || primary == SQLITE_NOMEM || primary == SQLITE_BUSY || primary == SQLITE_LOCKED || primary == SQLITE_TOOBIG ||
-                 s->code == SQLITE_IOERR_WRITE || s->code == SQLITE_IOERR_NOMEM;
+    *may_retry = primary == SQLITE_FULL || primary == SQLITE_NOMEM || primary == SQLITE_BUSY || primary == SQLITE_LOCKED ||
+                 primary == SQLITE_TOOBIG || s->code == SQLITE_IOERR_WRITE || s->code == SQLITE_IOERR_NOMEM;
     memcpy(words, s->fault, sizeof words);
     if (!sqlite3_get_autocommit(s->db) && rks_step(s, RKS_ROLLBACK, "rollback") != RELKVANU_STORE_OK) {
         *may_retry = false;

@@ -14,7 +14,7 @@ struct discarder {
     void *with;
     const relkvanu_storage *storage; /* instead of the function; NULL: the function */
     size_t batch, files_len;
-    uint64_t *files, *next;     /* that are deleted now; that a take fetches */
+    uint64_t *files, *next; /* that are deleted now; that a take fetches */
     uint8_t *is_gone;
     relkvanu_store_call *calls; /* a report for each file, and a take */
     uint64_t wait;              /* ms after a batch of which none is gone */
@@ -101,7 +101,8 @@ static int report(struct discarder *d, bool takes) {
         uint32_t kind = d->is_gone[i] ? RELKVANU_CALL_DELETED : RELKVANU_CALL_UNDELETED;
         d->calls[i] = (relkvanu_store_call){.call = {.kind = kind, .number = d->files[i]}};
     }
-    d->calls[len] = (relkvanu_store_call){.call = {.kind = RELKVANU_CALL_TAKE, .number = d->batch}, .files = d->next, .files_len = d->batch};
+    d->calls[len] =
+        (relkvanu_store_call){.call = {.kind = RELKVANU_CALL_TAKE, .number = d->batch}, .files = d->next, .files_len = d->batch};
     while (len + takes != 0 && (status = relkvanu_store_calls(d->s, d->calls, len + takes)) != RELKVANU_STORE_OK) {
         if (status != RELKVANU_STORE_NO_MEMORY) {
             return status;

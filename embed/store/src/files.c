@@ -29,16 +29,12 @@ bool rks_room(struct rks_text *text, size_t more) {
 int rks_status_of_errno(int error) {
     switch (error) {
     case ENOSPC:
-    case EDQUOT:
-        return RELKVANU_STORE_FULL;
+    case EDQUOT: return RELKVANU_STORE_FULL;
     case EROFS:
     case EACCES:
-    case EPERM:
-        return RELKVANU_STORE_READ_ONLY;
-    case ENOMEM:
-        return RELKVANU_STORE_NO_MEMORY;
-    default:
-        return RELKVANU_STORE_FAILED;
+    case EPERM: return RELKVANU_STORE_READ_ONLY;
+    case ENOMEM: return RELKVANU_STORE_NO_MEMORY;
+    default: return RELKVANU_STORE_FAILED;
     }
 }
 

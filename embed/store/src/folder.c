@@ -218,8 +218,8 @@ static int add(struct listing *listing, const struct dirent *entry) {
 }
 
 int rks_folder_list(const struct rks_folder *f, size_t most, relkvanu_storage_page page, void *with_page) {
-    struct listing listing = {.f = f, .most = most == 0 || most > RELKVANU_STORAGE_PAGE ? RELKVANU_STORAGE_PAGE : most, .page = page,
-        .with_page = with_page};
+    struct listing listing = {
+        .f = f, .most = most == 0 || most > RELKVANU_STORAGE_PAGE ? RELKVANU_STORAGE_PAGE : most, .page = page, .with_page = with_page};
     /* opened once more: descriptors of one opening share their place, and two threads would each see a part */
     int copy = openat(f->fd, ".", O_RDONLY | O_DIRECTORY | O_CLOEXEC);
     DIR *entries = copy < 0 ? NULL : fdopendir(copy);

@@ -7,9 +7,9 @@
 
 struct rks_folder {
     int fd;
-    const char *prefix, *suffix; /* of the names */
-    mode_t mode;                 /* of a file that is made */
-    bool needs_sync;             /* a file system that can't sync a folder is refused */
+    const char *prefix, *suffix;    /* of the names */
+    mode_t mode;                    /* of a file that is made */
+    bool needs_sync;                /* a file system that can't sync a folder is refused */
     int (*check)(const void *with); /* a status of relkvanu_storage.h: whether the folder is there, and the job's */
     bool (*is_listed)(const void *with, const struct dirent *entry); /* whether an entry with a number is a state file */
     const void *with;

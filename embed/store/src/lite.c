@@ -7,26 +7,18 @@
 
 static int status_of(int code, int error) {
     switch (code & 255) {
-    case SQLITE_NOMEM:
-        return RELKVANU_STORE_OUT_OF_MEMORY;
+    case SQLITE_NOMEM: return RELKVANU_STORE_OUT_OF_MEMORY;
     case SQLITE_BUSY:
     case SQLITE_LOCKED:
-    case SQLITE_PROTOCOL:
-        return RELKVANU_STORE_BUSY;
-    case SQLITE_FULL:
-        return RELKVANU_STORE_FULL;
-    case SQLITE_READONLY:
-        return RELKVANU_STORE_READ_ONLY;
-    case SQLITE_NOTADB:
-        return RELKVANU_STORE_NOT_A_STORE;
-    case SQLITE_CORRUPT:
-        return RELKVANU_STORE_DAMAGED;
+    case SQLITE_PROTOCOL: return RELKVANU_STORE_BUSY;
+    case SQLITE_FULL: return RELKVANU_STORE_FULL;
+    case SQLITE_READONLY: return RELKVANU_STORE_READ_ONLY;
+    case SQLITE_NOTADB: return RELKVANU_STORE_NOT_A_STORE;
+    case SQLITE_CORRUPT: return RELKVANU_STORE_DAMAGED;
     case SQLITE_IOERR:
         return code == SQLITE_IOERR_NOMEM ? RELKVANU_STORE_OUT_OF_MEMORY : error == EDQUOT ? RELKVANU_STORE_FULL : RELKVANU_STORE_FAILED;
-    case SQLITE_CANTOPEN:
-        return error == EROFS || error == EACCES ? RELKVANU_STORE_READ_ONLY : RELKVANU_STORE_FAILED;
-    default:
-        return RELKVANU_STORE_FAILED;
+    case SQLITE_CANTOPEN: return error == EROFS || error == EACCES ? RELKVANU_STORE_READ_ONLY : RELKVANU_STORE_FAILED;
+    default: return RELKVANU_STORE_FAILED;
     }
 }
 

@@ -27,10 +27,8 @@ static bool ends_a_record(relkvanu_answer answer) {
     case RELKVANU_RESTORED_CHECKPOINT:
     case RELKVANU_RESTORED_SAVEPOINT:
     case RELKVANU_RESTORED_FRESH:
-    case RELKVANU_CANCELLED:
-        return true;
-    default:
-        return answer.what >= RELKVANU_TICK_TRIGGERED && answer.what <= RELKVANU_TICK_FAILED && answer.a != 0;
+    case RELKVANU_CANCELLED: return true;
+    default: return answer.what >= RELKVANU_TICK_TRIGGERED && answer.what <= RELKVANU_TICK_FAILED && answer.a != 0;
     }
 }
 
@@ -46,7 +44,8 @@ static void note(relkvanu_store *s, relkvanu_answer answer) {
     s->last_mode = mode;
     if (mode == RELKVANU_MODE_CANCELLED || (answer.what >= RELKVANU_RESTORED_CHECKPOINT && answer.what <= RELKVANU_RESTORED_FRESH)) {
         s->may_sweep = true; /* after a cancel late acknowledgements may still come, until the engine has ended its tasks */
-    } else if (answer.what == RELKVANU_TICK_TRIGGERED || (answer.what >= RELKVANU_SAVEPOINT_TRIGGERED && answer.what <= RELKVANU_ACK_LATE)) {
+    } else if (answer.what == RELKVANU_TICK_TRIGGERED ||
+               (answer.what >= RELKVANU_SAVEPOINT_TRIGGERED && answer.what <= RELKVANU_ACK_LATE)) {
         s->may_sweep = false; /* a task may have written a file whose acknowledgement is on its way */
     }
 }
@@ -60,7 +59,8 @@ static void add_row(relkvanu_store *s, relkvanu_store_call *call, const uint8_t 
 
 /* Whether the folder has a file that a fence would give the name of to another one. The coordinator knows acknowledged files only. */
 static bool is_named(relkvanu_store *s, const relkvanu_call *call, uint64_t greatest) {
-    return call->kind == RELKVANU_CALL_FENCE && call->number != 0 && call->number <= greatest && call->number <= RKS_MOST_NAME && !rks_has_names(s);
+    return call->kind == RELKVANU_CALL_FENCE && call->number != 0 && call->number <= greatest && call->number <= RKS_MOST_NAME &&
+           !rks_has_names(s);
 }
 
 /* A term begins with an accepted restore, cancel or fence. Who starts tasks gets it from the answer: another one may begin meanwhile. */

@@ -154,8 +154,9 @@ static int begin_job(relkvanu_store *s, const relkvanu_store_options *o, char li
         return told(s, RELKVANU_STORE_FAILED, "no random numbers");
     }
     snprintf(s->identity, sizeof s->identity, "%016" PRIx64 "%016" PRIx64, words[2], words[3]);
-    relkvanu_answer answer = name == 0 ? relkvanu_open(&s->handle, &o->settings, o->shape, o->shape_len, 0, 1, words[0], words[1])
-                                       : relkvanu_open_fenced(&s->handle, &o->settings, o->shape, o->shape_len, 0, 1, name, words[0], words[1]);
+    relkvanu_answer answer = name == 0
+                                 ? relkvanu_open(&s->handle, &o->settings, o->shape, o->shape_len, 0, 1, words[0], words[1])
+                                 : relkvanu_open_fenced(&s->handle, &o->settings, o->shape, o->shape_len, 0, 1, name, words[0], words[1]);
     if (name != 0) {
         size_t len = strlen(lines);
         snprintf(lines + len, LINES - len, "fence %" PRIu64 "\n", name);
@@ -257,7 +258,8 @@ static int pass_names(relkvanu_store *s) {
 static int begin_epoch(relkvanu_store *s, const struct job *job) {
     char sql[200];
     snprintf(sql, sizeof sql,
-        "BEGIN IMMEDIATE; UPDATE job SET epoch = %" PRId64 "; DELETE FROM image WHERE place > %" PRIu64 "; PRAGMA user_version=%" PRId64 "; COMMIT",
+        "BEGIN IMMEDIATE; UPDATE job SET epoch = %" PRId64 "; DELETE FROM image WHERE place > %" PRIu64 "; PRAGMA user_version=%" PRId64
+        "; COMMIT",
         job->epoch + 1, s->image_place, job->format);
     return rks_run(s, sql);
 }
@@ -377,8 +379,8 @@ static void release(relkvanu_store *s) {
 
 /* Whether the flags are known and the reserved fields are 0. Otherwise says which is not. */
 static bool are_known(const relkvanu_store_options *o, char *message) {
-    const uint32_t flags = RELKVANU_STORE_CREATE | RELKVANU_STORE_CREATE_ONLY | RELKVANU_STORE_ADOPT | RELKVANU_STORE_EARLIER_IMAGE | RELKVANU_STORE_PLAIN |
-                           RELKVANU_STORE_BACKUP;
+    const uint32_t flags = RELKVANU_STORE_CREATE | RELKVANU_STORE_CREATE_ONLY | RELKVANU_STORE_ADOPT | RELKVANU_STORE_EARLIER_IMAGE |
+                           RELKVANU_STORE_PLAIN | RELKVANU_STORE_BACKUP;
     if ((o->flags & ~flags) != 0) {
         snprintf(message, RKS_MESSAGE, "flags has 0x%" PRIx32 ", which is not known", o->flags & ~flags);
         return false;
@@ -404,7 +406,9 @@ int relkvanu_store_open(relkvanu_store **store, const char *path, const relkvanu
         return RELKVANU_STORE_NO_MEMORY;
     }
     s->options = *options;
-    s->options.image_calls = options->image_calls == 0 ? IMAGE_CALLS : options->image_calls > UINT64_MAX / 4 ? RELKVANU_STORE_NO_IMAGES : options->image_calls;
+    s->options.image_calls = options->image_calls == 0               ? IMAGE_CALLS
+                             : options->image_calls > UINT64_MAX / 4 ? RELKVANU_STORE_NO_IMAGES
+                                                                     : options->image_calls;
     s->options.most_ahead = options->most_ahead == 0 ? DAY : options->most_ahead;
     rks_list(s);
     int status = open_job(s, path, options, report);
@@ -412,7 +416,9 @@ int relkvanu_store_open(relkvanu_store **store, const char *path, const relkvanu
     s->options.shape = NULL;
     if (status != RELKVANU_STORE_OK) {
         memcpy(report->message, s->fault, sizeof report->message);
-        status = status == RELKVANU_STORE_OUT_OF_MEMORY ? RELKVANU_STORE_NO_MEMORY : status == RELKVANU_STORE_BUSY ? RELKVANU_STORE_IN_USE : status;
+        status = status == RELKVANU_STORE_OUT_OF_MEMORY ? RELKVANU_STORE_NO_MEMORY
+                 : status == RELKVANU_STORE_BUSY        ? RELKVANU_STORE_IN_USE
+                                                        : status;
         release(s);
         return status;
     }

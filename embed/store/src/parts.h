@@ -45,11 +45,11 @@ struct rks_waiter {
     size_t *ends;          /* where each line ends */
     sem_t turn;
     int status;
-    bool is_answered;      /* otherwise its turn is to lead */
+    bool is_answered; /* otherwise its turn is to lead */
     bool is_submitted;
     uint64_t token;
-    uint64_t greatest;     /* number of a file in the folder, if a call is a fence */
-    size_t few[4];         /* what ends points to, if that is enough */
+    uint64_t greatest; /* number of a file in the folder, if a call is a fence */
+    size_t few[4];     /* what ends points to, if that is enough */
 };
 
 /* A call that was made, for the log. */
@@ -85,14 +85,14 @@ struct relkvanu_store {
     struct rks_row *rows;
     size_t rows_len, rows_room;
     struct rks_text image;
-    int pages;                /* of the -wal */
-    int code;                 /* SQLite's, of the last failure */
-    char fault[RKS_MESSAGE];  /* its words */
-    bool is_held;             /* the last tick was held because of the checkpoints that are pending */
+    int pages;               /* of the -wal */
+    int code;                /* SQLite's, of the last failure */
+    char fault[RKS_MESSAGE]; /* its words */
+    bool is_held;            /* the last tick was held because of the checkpoints that are pending */
     bool may_sweep;
-    bool tells_mode;          /* the job has stopped running, and no timer was told yet */
+    bool tells_mode; /* the job has stopped running, and no timer was told yet */
     uint32_t last_mode;
-    uint64_t tick_after;      /* the moment before which no tick is made again after one without memory */
+    uint64_t tick_after;       /* the moment before which no tick is made again after one without memory */
     relkvanu_store_counts led; /* counts of the leaders */
 
     uint64_t clock_offset; /* the moment minus the system's clock, modulo 2^64 */
@@ -102,7 +102,7 @@ struct relkvanu_store {
     pthread_cond_t changed;
     struct rks_waiter *head, **tail;
     bool is_led;
-    int dead; /* the status that closed the store */
+    int dead;         /* the status that closed the store */
     uint64_t version; /* of what is committed */
     unsigned awaiting;
     bool is_stopped, is_discarding;

@@ -37,8 +37,7 @@ int rks_enter(relkvanu_store *s, struct rks_waiter *w) {
     if (is_submitted) {
         return RELKVANU_STORE_OK; /* it may be answered and freed by now */
     }
-    while (!leads && sem_wait(&w->turn) != 0) {
-    }
+    while (!leads && sem_wait(&w->turn) != 0) {}
     sem_destroy(&w->turn);
     return RELKVANU_STORE_OK;
 }

@@ -90,7 +90,8 @@ int relkvanu_store_term(relkvanu_store *s, relkvanu_answer *answer) {
     return status;
 }
 
-int relkvanu_store_garbage(relkvanu_store *s, const uint64_t *files, size_t files_len, uint64_t *garbage, uint64_t *unissued, relkvanu_answer *answer) {
+int relkvanu_store_garbage(
+    relkvanu_store *s, const uint64_t *files, size_t files_len, uint64_t *garbage, uint64_t *unissued, relkvanu_answer *answer) {
     relkvanu *handle;
     int status = relkvanu_store_read(s, &handle);
     *answer = (relkvanu_answer){.code = RELKVANU_STORE_NOT_MADE};
@@ -119,7 +120,8 @@ static size_t garbage_of(relkvanu_store *s, uint64_t *files, size_t len, size_t 
 static size_t unknown_of(relkvanu_store *s, const uint64_t *released, size_t released_len, uint64_t *files, size_t len) {
     size_t found = 0;
     for (size_t i = 0; i < len; i++) {
-        bool is_known = relkvanu_count(&s->handle, files[i]).b != 0 || bsearch(&files[i], released, released_len, sizeof *released, by_number) != NULL;
+        bool is_known =
+            relkvanu_count(&s->handle, files[i]).b != 0 || bsearch(&files[i], released, released_len, sizeof *released, by_number) != NULL;
         if (!is_known) {
             files[found++] = files[i];
         }

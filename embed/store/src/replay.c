@@ -30,7 +30,8 @@ static int open_image(relkvanu_store *s, sqlite3_stmt *row) {
     }
     relkvanu_answer answer = relkvanu_open_saved(&s->handle, image, len, words[0], words[1]);
     if (answer.code != RELKVANU_DONE) {
-        return answer.code == RELKVANU_NO_MEMORY ? RELKVANU_STORE_NO_MEMORY : damaged(s, "the image after call", place, "is damaged: it is no image");
+        return answer.code == RELKVANU_NO_MEMORY ? RELKVANU_STORE_NO_MEMORY
+                                                 : damaged(s, "the image after call", place, "is damaged: it is no image");
     }
     s->place = s->image_place = s->image_before = place;
     s->chain = chain;
@@ -76,7 +77,8 @@ static struct rks_row row_of(relkvanu_store *s, sqlite3_stmt *it, uint32_t *chai
 
 static int differs(relkvanu_store *s, const struct rks_row *row, relkvanu_answer got) {
     snprintf(s->fault, sizeof s->fault,
-        "%.200s: call %" PRIu64 ", \"%.60s\": the coordinator answers %" PRIu32 "/%" PRIu32 " %" PRIu64 " %" PRIu64 ", the log has 0/%" PRIu32 " %" PRIu64 " %" PRIu64,
+        "%.200s: call %" PRIu64 ", \"%.60s\": the coordinator answers %" PRIu32 "/%" PRIu32 " %" PRIu64 " %" PRIu64
+        ", the log has 0/%" PRIu32 " %" PRIu64 " %" PRIu64,
         s->path, row->place, (const char *)row->line, got.code, got.what, got.a, got.b, row->answer.what, row->answer.a, row->answer.b);
     return RELKVANU_STORE_DIFFERS;
 }
@@ -133,7 +135,8 @@ int rks_replay(relkvanu_store *s, relkvanu_store_report *report) {
         return status;
     }
     s->first = (uint64_t)first;
-    if (sqlite3_prepare_v2(s->db, "SELECT place, line, what, a, b, files, chain FROM log WHERE place > ?1 ORDER BY place", -1, &it, NULL) != SQLITE_OK ||
+    if (sqlite3_prepare_v2(s->db, "SELECT place, line, what, a, b, files, chain FROM log WHERE place > ?1 ORDER BY place", -1, &it, NULL) !=
+            SQLITE_OK ||
         sqlite3_bind_int64(it, 1, (sqlite3_int64)s->place) != SQLITE_OK) {
         status = rks_fault(s, "log");
     }

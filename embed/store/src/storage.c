@@ -9,12 +9,9 @@
 /* Whether the folder has its marker, as a storage says it. */
 static int check_owner(const void *store) {
     switch (rks_owner(store)) {
-    case RELKVANU_STORE_OK:
-        return RELKVANU_STORAGE_OK;
-    case RELKVANU_STORE_STORAGE:
-        return RELKVANU_STORAGE_OTHER_JOB;
-    default:
-        return RELKVANU_STORAGE_NOT_THERE;
+    case RELKVANU_STORE_OK: return RELKVANU_STORAGE_OK;
+    case RELKVANU_STORE_STORAGE: return RELKVANU_STORAGE_OTHER_JOB;
+    default: return RELKVANU_STORAGE_NOT_THERE;
     }
 }
 
@@ -24,8 +21,13 @@ static bool is_state(const void *store, const struct dirent *entry) {
 }
 
 static struct rks_folder folder_of(const relkvanu_store *s) {
-    return (struct rks_folder){
-        .fd = s->folder, .prefix = "", .suffix = "", .mode = 0600, .needs_sync = true, .check = check_owner, .is_listed = is_state,
+    return (struct rks_folder){.fd = s->folder,
+        .prefix = "",
+        .suffix = "",
+        .mode = 0600,
+        .needs_sync = true,
+        .check = check_owner,
+        .is_listed = is_state,
         .with = s};
 }
 
@@ -78,15 +80,11 @@ int relkvanu_store_put(relkvanu_store *s, uint64_t file, const void *contents, s
         return status;
     }
     switch (own.put(own.with, file, contents, len)) {
-    case RELKVANU_STORAGE_OK:
-        return RELKVANU_STORE_OK;
-    case RELKVANU_STORAGE_PRESENT:
-        return RELKVANU_STORE_PRESENT;
+    case RELKVANU_STORAGE_OK: return RELKVANU_STORE_OK;
+    case RELKVANU_STORAGE_PRESENT: return RELKVANU_STORE_PRESENT;
     case RELKVANU_STORAGE_NOT_THERE:
-    case RELKVANU_STORAGE_OTHER_JOB:
-        return RELKVANU_STORE_STORAGE;
-    default:
-        return RELKVANU_STORE_NOT_PUT;
+    case RELKVANU_STORAGE_OTHER_JOB: return RELKVANU_STORE_STORAGE;
+    default: return RELKVANU_STORE_NOT_PUT;
     }
 }
 
@@ -150,14 +148,10 @@ static bool sweep_page(void *with, const relkvanu_storage_file *found, size_t fo
 /* What a storage that was not listed to its end is to a caller of the store. */
 static int status_of_listing(int status, int of_page) {
     switch (status) {
-    case RELKVANU_STORAGE_OK:
-        return RELKVANU_STORE_OK;
-    case RELKVANU_STORAGE_ENDED:
-        return of_page;
-    case RELKVANU_STORAGE_NO_MEMORY:
-        return RELKVANU_STORE_NO_MEMORY;
-    default:
-        return RELKVANU_STORE_STORAGE;
+    case RELKVANU_STORAGE_OK: return RELKVANU_STORE_OK;
+    case RELKVANU_STORAGE_ENDED: return of_page;
+    case RELKVANU_STORAGE_NO_MEMORY: return RELKVANU_STORE_NO_MEMORY;
+    default: return RELKVANU_STORE_STORAGE;
     }
 }
 

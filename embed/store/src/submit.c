@@ -22,16 +22,14 @@ void rks_complete(relkvanu_store *s, struct rks_waiter *w) {
     bool is_first = s->completed == NULL;
     *s->completed_tail = w;
     s->completed_tail = &w->next;
-    while (is_first && write(s->event, &one, sizeof one) < 0 && errno == EINTR) {
-    }
+    while (is_first && write(s->event, &one, sizeof one) < 0 && errno == EINTR) {}
     pthread_mutex_unlock(&s->mutex);
 }
 
 static void *helps(void *with) {
     relkvanu_store *s = with;
     for (;;) {
-        while (sem_wait(&s->work) != 0) {
-        }
+        while (sem_wait(&s->work) != 0) {}
         pthread_mutex_lock(&s->mutex);
         bool is_ending = s->is_ending;
         pthread_mutex_unlock(&s->mutex);
@@ -93,8 +91,7 @@ static struct rks_waiter *pop(relkvanu_store *s) {
         s->completed = w->next;
         if (s->completed == NULL) {
             s->completed_tail = &s->completed;
-            while (read(s->event, &count, sizeof count) < 0 && errno == EINTR) {
-            }
+            while (read(s->event, &count, sizeof count) < 0 && errno == EINTR) {}
         }
     }
     pthread_mutex_unlock(&s->mutex);

@@ -39,8 +39,8 @@ relkvanu_store_options storage_options(uint32_t flags, uint64_t image_calls) {
 relkvanu_answer done(relkvanu_store *store, uint32_t kind, uint64_t now, uint64_t number) {
     relkvanu_store_call call = {.call = {.kind = kind, .now = now, .number = number}};
     int status = relkvanu_store_calls(store, &call, 1);
-    CHECK(status == RELKVANU_STORE_OK && call.answer.code == RELKVANU_DONE, "kind %" PRIu32 ": status %d, code %" PRIu32 ", what %" PRIu32, kind, status,
-        call.answer.code, call.answer.what);
+    CHECK(status == RELKVANU_STORE_OK && call.answer.code == RELKVANU_DONE, "kind %" PRIu32 ": status %d, code %" PRIu32 ", what %" PRIu32,
+        kind, status, call.answer.code, call.answer.what);
     return call.answer;
 }
 
@@ -55,7 +55,8 @@ uint64_t checkpoint(relkvanu_store *store, uint64_t file) {
         uint64_t fresh[] = {file + 2 * i, file + 2 * i + 1};
         relkvanu_answer answer;
         int status = relkvanu_store_ack(store, due, ticked.b, 0, i, fresh, 2, NULL, 0, &answer);
-        CHECK(status == RELKVANU_STORE_OK && answer.code == RELKVANU_DONE, "status %d, code %" PRIu32 ", what %" PRIu32, status, answer.code, answer.what);
+        CHECK(status == RELKVANU_STORE_OK && answer.code == RELKVANU_DONE, "status %d, code %" PRIu32 ", what %" PRIu32, status,
+            answer.code, answer.what);
     }
     return ticked.b;
 }
@@ -94,7 +95,8 @@ static bool passes(const char *within, const struct test *test) {
 }
 
 int main(int argc, char **argv) {
-    const struct test *all[] = {open_cases, damage_cases, storage_cases, call_cases, queue_cases, discard_cases, file_cases, folder_cases, name_cases, object_cases, backup_cases};
+    const struct test *all[] = {open_cases, damage_cases, storage_cases, call_cases, queue_cases, discard_cases, file_cases, folder_cases,
+        name_cases, object_cases, backup_cases};
     unsigned passed = 0, failed = 0;
     CHECK(argc >= 2, "cases FOLDER [NAME]");
     for (size_t i = 0; i < sizeof all / sizeof *all; i++) {

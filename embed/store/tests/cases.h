@@ -27,6 +27,7 @@ struct test {
     const char *name;
     void (*run)(void);
 };
-extern const struct test open_cases[], damage_cases[], storage_cases[], call_cases[], queue_cases[], discard_cases[], file_cases[], folder_cases[], name_cases[], object_cases[], backup_cases[];
+extern const struct test open_cases[], damage_cases[], storage_cases[], call_cases[], queue_cases[], discard_cases[], file_cases[],
+    folder_cases[], name_cases[], object_cases[], backup_cases[];
 
 #endif

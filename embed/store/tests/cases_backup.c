@@ -39,7 +39,8 @@ static void backs_up(relkvanu_store *store, const char *name, int status) {
 }
 
 static void check_no_part(void) {
-    CHECK(!has("b.db.part") && !has("b.db.part-wal") && !has("b.db.part-journal") && !has("b.db-wal") && !has("b.db-journal"), "a part is left");
+    CHECK(!has("b.db.part") && !has("b.db.part-wal") && !has("b.db.part-journal") && !has("b.db-wal") && !has("b.db-journal"),
+        "a part is left");
 }
 
 /* Opens a file of the case's folder. */
@@ -235,8 +236,7 @@ static void *reserves(void *with) {
         relkvanu_answer answer;
         CHECK(relkvanu_store_reserve(load->store, 1, 1, &answer) == RELKVANU_STORE_OK && answer.what == RELKVANU_RESERVED, "a name");
         uint64_t before = atomic_load(&load->answered);
-        while (before < answer.a && !atomic_compare_exchange_weak(&load->answered, &before, answer.a)) {
-        }
+        while (before < answer.a && !atomic_compare_exchange_weak(&load->answered, &before, answer.a)) {}
     }
     return NULL;
 }
@@ -281,7 +281,8 @@ static void under_load(void) {
         char name[20];
         snprintf(name, sizeof name, "b%zu.db", i);
         uint64_t calls = recovers(name, RELKVANU_STORE_BACKUP);
-        CHECK(calls + 1 == report.next_name && calls >= least[i] && calls <= most[i], "%" PRIu64 " calls, and not %" PRIu64 " to %" PRIu64, calls, least[i], most[i]);
+        CHECK(calls + 1 == report.next_name && calls >= least[i] && calls <= most[i], "%" PRIu64 " calls, and not %" PRIu64 " to %" PRIu64,
+            calls, least[i], most[i]);
     }
 }
 
@@ -289,7 +290,8 @@ static void *backs_up_too(void *with) {
     struct load *load = with;
     char words[RELKVANU_STORE_MESSAGE];
     int status = relkvanu_store_backup(load->store, load->path, words, sizeof words);
-    CHECK(status == RELKVANU_STORE_OK || status == RELKVANU_STORE_NOT_NOW || status == RELKVANU_STORE_PRESENT, "status %d: %s", status, words);
+    CHECK(status == RELKVANU_STORE_OK || status == RELKVANU_STORE_NOT_NOW || status == RELKVANU_STORE_PRESENT, "status %d: %s", status,
+        words);
     return status == RELKVANU_STORE_OK ? load : NULL;
 }
 
@@ -318,7 +320,8 @@ static void at_once(void) {
 static relkvanu_answer acked(relkvanu_store *store, uint64_t term, uint64_t id, uint16_t index, uint64_t file) {
     relkvanu_answer answer;
     CHECK(relkvanu_store_put(store, file, "state", 5) == RELKVANU_STORE_OK, "file %" PRIu64, file);
-    CHECK(relkvanu_store_ack_in(store, term, RELKVANU_STORE_NOW, id, 0, index, &file, 1, NULL, 0, &answer) == RELKVANU_STORE_OK && answer.code == RELKVANU_DONE,
+    CHECK(relkvanu_store_ack_in(store, term, RELKVANU_STORE_NOW, id, 0, index, &file, 1, NULL, 0, &answer) == RELKVANU_STORE_OK &&
+              answer.code == RELKVANU_DONE,
         "an acknowledgement: %" PRIu32 " %" PRIu32, answer.code, answer.what);
     return answer;
 }
@@ -380,8 +383,11 @@ static void put_back(void) {
     opens_at("b.db", &options, RELKVANU_STORE_STORAGE);
     options.flags = RELKVANU_STORE_BACKUP;
     relkvanu_store *back = opens_at("b.db", &options, RELKVANU_STORE_OK);
-    CHECK(report.epoch == 2 && report.term == 1 && report.next_name == 25, "opening %" PRIu64 ", next name %" PRIu64, report.epoch, report.next_name);
-    CHECK(relkvanu_store_put(store, 25, "state", 5) == RELKVANU_STORE_STORAGE && relkvanu_store_sweep(store, &left) == RELKVANU_STORE_STORAGE, "the other store");
+    CHECK(report.epoch == 2 && report.term == 1 && report.next_name == 25, "opening %" PRIu64 ", next name %" PRIu64, report.epoch,
+        report.next_name);
+    CHECK(
+        relkvanu_store_put(store, 25, "state", 5) == RELKVANU_STORE_STORAGE && relkvanu_store_sweep(store, &left) == RELKVANU_STORE_STORAGE,
+        "the other store");
     CHECK(done(back, RELKVANU_CALL_RESTORE, RELKVANU_STORE_NOW, savepoint).what == RELKVANU_RESTORED_SAVEPOINT, "a restore");
     CHECK(relkvanu_store_sweep(back, &left) == RELKVANU_STORE_OK && left == 0, "a sweep");
     CHECK(has_files(1) && !has_files(17), "the files after the sweep");
@@ -418,7 +424,8 @@ static void put_back_again(void) {
     run_sql(in("b.db"), "DROP TRIGGER no");
     options.flags = RELKVANU_STORE_BACKUP;
     relkvanu_store_close(opens_at("b.db", &options, RELKVANU_STORE_OK));
-    CHECK(report.next_name == 200001 && report.replayed == 4, "next name %" PRIu64 ", %" PRIu64 " calls", report.next_name, report.replayed);
+    CHECK(
+        report.next_name == 200001 && report.replayed == 4, "next name %" PRIu64 ", %" PRIu64 " calls", report.next_name, report.replayed);
 }
 
 /* A storage of another job, or none, is refused for a backup too. */
@@ -454,7 +461,8 @@ static void of_a_cancelled_job(void) {
     CHECK(report.mode.what == RELKVANU_MODE_CANCELLED && report.next_name == SUBTASKS + 1, "next name %" PRIu64, report.next_name);
 }
 
-const struct test backup_cases[] = {{"a_backup", a_backup}, {"a_backup_with_images", a_backup_with_images}, {"flags_of_a_backup", flags_of_a_backup},
-    {"no_backup", no_backup}, {"a_part_that_was_left", a_part_that_was_left}, {"of_a_closed_store", of_a_closed_store},
-    {"in_a_forked_child", in_a_forked_child}, {"under_load", under_load}, {"at_once", at_once}, {"put_back", put_back},
-    {"put_back_again", put_back_again}, {"put_back_elsewhere", put_back_elsewhere}, {"of_a_cancelled_job", of_a_cancelled_job}, {NULL, NULL}};
+const struct test backup_cases[] = {{"a_backup", a_backup}, {"a_backup_with_images", a_backup_with_images},
+    {"flags_of_a_backup", flags_of_a_backup}, {"no_backup", no_backup}, {"a_part_that_was_left", a_part_that_was_left},
+    {"of_a_closed_store", of_a_closed_store}, {"in_a_forked_child", in_a_forked_child}, {"under_load", under_load}, {"at_once", at_once},
+    {"put_back", put_back}, {"put_back_again", put_back_again}, {"put_back_elsewhere", put_back_elsewhere},
+    {"of_a_cancelled_job", of_a_cancelled_job}, {NULL, NULL}};

@@ -11,14 +11,19 @@ static relkvanu_store *new_job(uint64_t image_calls) {
 static void lists(void) {
     relkvanu_store *store = new_job(0);
     uint64_t fresh[] = {1, 2}, files[4] = {0};
-    relkvanu_store_call calls[] = {{.call = {.kind = RELKVANU_CALL_TICK, .now = 10}}, {.call = {.kind = RELKVANU_CALL_DISPOSE, .number = 9}},
+    relkvanu_store_call calls[] = {{.call = {.kind = RELKVANU_CALL_TICK, .now = 10}},
+        {.call = {.kind = RELKVANU_CALL_DISPOSE, .number = 9}},
         {.call = {.kind = RELKVANU_CALL_ACK, .now = 11, .number = 1, .index = 3}, .first = fresh, .first_len = 2},
-        {.call = {.kind = RELKVANU_CALL_TAKE, .number = 4}, .files = files, .files_len = 4}, {.call = {.kind = RELKVANU_CALL_DECLINE, .now = 12, .number = 1}},
+        {.call = {.kind = RELKVANU_CALL_TAKE, .number = 4}, .files = files, .files_len = 4},
+        {.call = {.kind = RELKVANU_CALL_DECLINE, .now = 12, .number = 1}},
         {.call = {.kind = RELKVANU_CALL_TAKE, .number = 4}, .files = files, .files_len = 4}};
     CHECK(relkvanu_store_calls(store, calls, 6) == RELKVANU_STORE_OK, "the list");
-    CHECK(calls[0].answer.what == RELKVANU_TICK_TRIGGERED && calls[0].place == 1 && calls[0].choice.what == RELKVANU_CHOICE_FRESH, "the tick");
-    CHECK(calls[1].answer.code == RELKVANU_REFUSED && calls[1].answer.what == RELKVANU_NO_SUCH_SAVEPOINT && calls[1].place == 0, "the refusal");
-    CHECK(calls[2].answer.what == RELKVANU_ACK_PENDING && calls[2].answer.a == 7 && calls[2].place == 2 && calls[2].choice.what == 0, "the acknowledgement");
+    CHECK(calls[0].answer.what == RELKVANU_TICK_TRIGGERED && calls[0].place == 1 && calls[0].choice.what == RELKVANU_CHOICE_FRESH,
+        "the tick");
+    CHECK(calls[1].answer.code == RELKVANU_REFUSED && calls[1].answer.what == RELKVANU_NO_SUCH_SAVEPOINT && calls[1].place == 0,
+        "the refusal");
+    CHECK(calls[2].answer.what == RELKVANU_ACK_PENDING && calls[2].answer.a == 7 && calls[2].place == 2 && calls[2].choice.what == 0,
+        "the acknowledgement");
     CHECK(calls[3].answer.what == RELKVANU_TAKEN && calls[3].answer.a == 0 && calls[3].place == 0, "a take of nothing has no line");
     CHECK(calls[4].answer.what == RELKVANU_DECLINE_ABORTED && calls[4].answer.a == 2 && calls[4].place == 3, "the decline");
     CHECK(calls[5].answer.a == 2 && files[0] + files[1] == 3 && calls[5].place == 4, "the take");
@@ -116,7 +121,8 @@ static void the_next_tick(void) {
     const uint64_t longest[] = {600000, 30}; /* told at once, and then it does not spin */
     for (size_t i = 0; i < 2; i++) {
         CHECK(relkvanu_store_await_tick(store, longest[i], &tick) == RELKVANU_STORE_TIMED_OUT && tick.answer.code == RELKVANU_REFUSED &&
-                  tick.answer.what == RELKVANU_NOT_RUNNING, "await: what %" PRIu32, tick.answer.what);
+                  tick.answer.what == RELKVANU_NOT_RUNNING,
+            "await: what %" PRIu32, tick.answer.what);
     }
     done(store, RELKVANU_CALL_RESTORE, 120000, 0);
     wait = wait_of(store);
@@ -130,9 +136,12 @@ static void the_next_tick(void) {
 static void an_awaited_tick(void) {
     relkvanu_store *store = new_job(0); /* due after 10 ms */
     relkvanu_store_call tick;
-    CHECK(relkvanu_store_await_tick(store, 10000, &tick) == RELKVANU_STORE_OK && tick.answer.what == RELKVANU_TICK_TRIGGERED && tick.answer.b == 1, "what %" PRIu32, tick.answer.what);
+    CHECK(relkvanu_store_await_tick(store, 10000, &tick) == RELKVANU_STORE_OK && tick.answer.what == RELKVANU_TICK_TRIGGERED &&
+              tick.answer.b == 1,
+        "what %" PRIu32, tick.answer.what);
     CHECK(tick.choice.what == RELKVANU_CHOICE_FRESH && tick.place == 1, "the choice");
-    CHECK(relkvanu_store_await_tick(store, 10000, &tick) == RELKVANU_STORE_OK && tick.answer.what == RELKVANU_TICK_HELD_AT_ONCE, "what %" PRIu32, tick.answer.what);
+    CHECK(relkvanu_store_await_tick(store, 10000, &tick) == RELKVANU_STORE_OK && tick.answer.what == RELKVANU_TICK_HELD_AT_ONCE,
+        "what %" PRIu32, tick.answer.what);
     CHECK(relkvanu_store_await_tick(store, 60, &tick) == RELKVANU_STORE_TIMED_OUT, "it spins while it is held");
     relkvanu_store_stop(store);
     CHECK(relkvanu_store_await_tick(store, 10000, &tick) == RELKVANU_STORE_STOPPED, "stop");
@@ -147,7 +156,8 @@ static void images_and_cuts(void) {
     }
     relkvanu_store_counts counts;
     relkvanu_store_count(store, &counts);
-    CHECK(counts.images >= 15 && counts.failed_images == 0 && counts.calls == calls && counts.largest == 1, "%" PRIu64 " images", counts.images);
+    CHECK(counts.images >= 15 && counts.failed_images == 0 && counts.calls == calls && counts.largest == 1, "%" PRIu64 " images",
+        counts.images);
     relkvanu_store_close(store);
     size_t len;
     struct told *rows = log_rows(in("x.db"), 0, &len);
@@ -160,5 +170,5 @@ static void images_and_cuts(void) {
     relkvanu_store_close(store);
 }
 
-const struct test call_cases[] = {{"lists", lists}, {"bad_arguments", bad_arguments}, {"moments", moments}, {"the_next_tick", the_next_tick},
-    {"an_awaited_tick", an_awaited_tick}, {"images_and_cuts", images_and_cuts}, {NULL, NULL}};
+const struct test call_cases[] = {{"lists", lists}, {"bad_arguments", bad_arguments}, {"moments", moments},
+    {"the_next_tick", the_next_tick}, {"an_awaited_tick", an_awaited_tick}, {"images_and_cuts", images_and_cuts}, {NULL, NULL}};

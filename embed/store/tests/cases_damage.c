@@ -27,7 +27,8 @@ static void refuses(int status, const char *words) {
 }
 
 static void other_files(void) {
-    static const char text[] = "This is no database, but a text of more than a hundred bytes, so that SQLite reads its header and says so. It ends here.";
+    static const char text[] =
+        "This is no database, but a text of more than a hundred bytes, so that SQLite reads its header and says so. It ends here.";
     int file = open(in("x.db"), O_CREAT | O_WRONLY, 0600);
     CHECK(write(file, text, sizeof text) == sizeof text, "text");
     close(file);
@@ -57,13 +58,17 @@ static void replace_last(const char *line, uint32_t what, uint64_t a, uint64_t b
     char sql[600];
     sqlite3 *db;
     sqlite3_stmt *it;
-    CHECK(sqlite3_open(in("x.db"), &db) == SQLITE_OK && sqlite3_prepare_v2(db, "SELECT chain FROM log WHERE place = 17", -1, &it, NULL) == SQLITE_OK &&
-              sqlite3_step(it) == SQLITE_ROW, "the call before");
+    CHECK(sqlite3_open(in("x.db"), &db) == SQLITE_OK &&
+              sqlite3_prepare_v2(db, "SELECT chain FROM log WHERE place = 17", -1, &it, NULL) == SQLITE_OK &&
+              sqlite3_step(it) == SQLITE_ROW,
+        "the call before");
     struct rks_row row = {(const uint8_t *)line, strlen(line), {.what = what, .a = a, .b = b}, NULL, CALLS, 0};
     uint32_t chain = rks_chain((uint32_t)sqlite3_column_int64(it, 0), &row);
     sqlite3_finalize(it);
     sqlite3_close(db);
-    snprintf(sql, sizeof sql, "UPDATE log SET line='%s', what=%" PRIu32 ", a=%" PRIu64 ", b=%" PRIu64 ", chain=%" PRIu32 " WHERE place = 18", line, what, a, b, chain);
+    snprintf(sql, sizeof sql,
+        "UPDATE log SET line='%s', what=%" PRIu32 ", a=%" PRIu64 ", b=%" PRIu64 ", chain=%" PRIu32 " WHERE place = 18", line, what, a, b,
+        chain);
     run_sql(in("x.db"), sql);
 }
 
@@ -94,7 +99,8 @@ static void other_names(void) {
     relkvanu_store *store = opens(&options, RELKVANU_STORE_OK);
     for (uint64_t i = 1; i <= CALLS; i++) {
         relkvanu_answer answer;
-        CHECK(relkvanu_store_reserve(store, 1, 1, &answer) == RELKVANU_STORE_OK && answer.what == RELKVANU_RESERVED && answer.a == i, "name %" PRIu64, answer.a);
+        CHECK(relkvanu_store_reserve(store, 1, 1, &answer) == RELKVANU_STORE_OK && answer.what == RELKVANU_RESERVED && answer.a == i,
+            "name %" PRIu64, answer.a);
     }
     relkvanu_store_close(store);
     replace_last("reserve 1 1", RELKVANU_RESERVED, 17, 1);
@@ -113,7 +119,8 @@ static void damaged_rows(void) {
     static const struct {
         const char *sql, *words, *back;
     } all[] = {
-        {"UPDATE log SET line = replace(line, '+1 ', '+9 ') WHERE place = 2", "call 2 is damaged", "UPDATE log SET line = replace(line, '+9 ', '+1 ') WHERE place = 2"},
+        {"UPDATE log SET line = replace(line, '+1 ', '+9 ') WHERE place = 2", "call 2 is damaged",
+            "UPDATE log SET line = replace(line, '+9 ', '+1 ') WHERE place = 2"},
         {"UPDATE log SET a = a + 1 WHERE place = 3", "call 3 is damaged", "UPDATE log SET a = a - 1 WHERE place = 3"},
         {"UPDATE log SET chain = chain + 1 WHERE place = 18", "call 18 is damaged", "UPDATE log SET chain = chain - 1 WHERE place = 18"},
         {"UPDATE log SET place = 40 WHERE place = 5", "lacks call 5", "UPDATE log SET place = 5 WHERE place = 40"},
@@ -142,7 +149,8 @@ static void an_earlier_image(void) {
     refuses(RELKVANU_STORE_DAMAGED, "image after call 18");
     options.flags = RELKVANU_STORE_EARLIER_IMAGE;
     relkvanu_store *store = opens(&options, RELKVANU_STORE_OK);
-    CHECK(report.image_place < CALLS && report.image_place + report.replayed == CALLS && report.replayed != 0, "%" PRIu64, report.image_place);
+    CHECK(report.image_place < CALLS && report.image_place + report.replayed == CALLS && report.replayed != 0, "%" PRIu64,
+        report.image_place);
     relkvanu_store_close(store);
     options.flags = RELKVANU_STORE_RECOVER;
     store = opens(&options, RELKVANU_STORE_OK); /* the damaged one is gone */
@@ -211,7 +219,8 @@ static void replaced_files(void) {
         CHECK(rename(in(names[i]), in("away")) == 0, "%s", names[i]);
         copy_file(in("away"), in(names[i]), -1);
         relkvanu_store_call call = {.call = {.kind = RELKVANU_CALL_SAVEPOINT, .now = 5}};
-        CHECK(relkvanu_store_calls(store, &call, 1) == RELKVANU_STORE_FAILED && call.answer.code == RELKVANU_STORE_NOT_MADE, "%s", names[i]);
+        CHECK(
+            relkvanu_store_calls(store, &call, 1) == RELKVANU_STORE_FAILED && call.answer.code == RELKVANU_STORE_NOT_MADE, "%s", names[i]);
         CHECK(relkvanu_store_calls(store, &call, 1) == RELKVANU_STORE_CLOSED, "%s", names[i]);
         CHECK(relkvanu_store_message(store, words, sizeof words) == strlen(words) && strstr(words, "replaced") != NULL, "%s", words);
         relkvanu_store_close(store);
@@ -221,5 +230,6 @@ static void replaced_files(void) {
     }
 }
 
-const struct test damage_cases[] = {{"other_files", other_files}, {"other_answers", other_answers}, {"other_names", other_names}, {"damaged_rows", damaged_rows},
-    {"an_earlier_image", an_earlier_image}, {"any_damaged_byte", any_damaged_byte}, {"replaced_files", replaced_files}, {NULL, NULL}};
+const struct test damage_cases[] = {{"other_files", other_files}, {"other_answers", other_answers}, {"other_names", other_names},
+    {"damaged_rows", damaged_rows}, {"an_earlier_image", an_earlier_image}, {"any_damaged_byte", any_damaged_byte},
+    {"replaced_files", replaced_files}, {NULL, NULL}};

@@ -104,7 +104,8 @@ static void deletes_and_reports(void) {
     await_released(store, 0);
     discards(&second);
     CHECK(second.status == RELKVANU_STORE_NOT_NOW, "a second discarder: status %d", second.status);
-    CHECK(d.deleted == 48 && d.largest > 1 && !has_file(store, 1) && !has_file(store, 216) && has_file(store, 301), "%u deleted", d.deleted);
+    CHECK(
+        d.deleted == 48 && d.largest > 1 && !has_file(store, 1) && !has_file(store, 216) && has_file(store, 301), "%u deleted", d.deleted);
     stop(&d);
     relkvanu_store_close(store);
 }
@@ -172,7 +173,9 @@ static void without_marker(void) {
 
 static void write_marker(relkvanu_store *store, uint64_t job, uint64_t epoch) {
     int file = openat(relkvanu_store_folder(store), ".relkvanu-job", O_WRONLY | O_TRUNC);
-    CHECK(file >= 0 && dprintf(file, "relkvanu job %016" PRIx64 "%016" PRIx64 "\nepoch %" PRIu64 "\n", job, report.job[1], epoch) > 0 && close(file) == 0, "marker");
+    CHECK(file >= 0 && dprintf(file, "relkvanu job %016" PRIx64 "%016" PRIx64 "\nepoch %" PRIu64 "\n", job, report.job[1], epoch) > 0 &&
+              close(file) == 0,
+        "marker");
 }
 
 /* Another host has opened a copy of the job, or has given the folder to another job: nothing of it is deleted any more. */

@@ -163,10 +163,10 @@ static void files_of_a_folder(void) {
     puts_file(&it, 5, "state", RELKVANU_STORAGE_PRESENT);
     CHECK(mkdir(in("state/6"), 0700) == 0 && listed(&it, 0).all == 3, "%zu files", listed(&it, 0).all);
     CHECK(it.delete_files(it.with, files, 5, outcomes) == RELKVANU_STORAGE_OK, "no deletion");
-    CHECK(outcomes[0] == RELKVANU_STORAGE_DELETED && outcomes[1] == RELKVANU_STORAGE_DELETED &&
-        outcomes[2] == RELKVANU_STORAGE_DELETED, "deleted");
-    CHECK(outcomes[3] == RELKVANU_STORAGE_UNDELETED && outcomes[4] == RELKVANU_STORAGE_MISSING &&
-        has("state/6"), "%d %d", outcomes[3], outcomes[4]);
+    CHECK(outcomes[0] == RELKVANU_STORAGE_DELETED && outcomes[1] == RELKVANU_STORAGE_DELETED && outcomes[2] == RELKVANU_STORAGE_DELETED,
+        "deleted");
+    CHECK(outcomes[3] == RELKVANU_STORAGE_UNDELETED && outcomes[4] == RELKVANU_STORAGE_MISSING && has("state/6"), "%d %d", outcomes[3],
+        outcomes[4]);
     CHECK(listed(&it, 0).all == 0 && it.delete_files(it.with, NULL, 0, NULL) == RELKVANU_STORAGE_OK, "files are left");
     relkvanu_storage_close_folder(&it);
 }
@@ -212,14 +212,14 @@ static void killed_before_the_rename(void) {
         die_at_renames();
         _exit(it.put(it.with, 7, "state", 5));
     }
-    CHECK(waitpid(child, &status, 0) == child && WIFSIGNALED(status) &&
-        WTERMSIG(status) == SIGSYS, "a child ended with %x", (unsigned)status);
+    CHECK(waitpid(child, &status, 0) == child && WIFSIGNALED(status) && WTERMSIG(status) == SIGSYS, "a child ended with %x",
+        (unsigned)status);
     CHECK(has("state/s-7.bin.part") && !has("state/s-7.bin"), "the folder");
     struct found found = listed(&it, 0);
     CHECK(found.all == 1 && found.counts[7] == 1 && found.bytes == 5, "%zu files", found.all);
     puts_file(&it, 7, "other", RELKVANU_STORAGE_PRESENT);
-    CHECK(it.delete_files(it.with, &file, 1, &outcome) == RELKVANU_STORAGE_OK &&
-        outcome == RELKVANU_STORAGE_DELETED, "outcome %d", outcome);
+    CHECK(
+        it.delete_files(it.with, &file, 1, &outcome) == RELKVANU_STORAGE_OK && outcome == RELKVANU_STORAGE_DELETED, "outcome %d", outcome);
     CHECK(!has("state/s-7.bin.part") && listed(&it, 0).all == 0, "a part is left");
     relkvanu_storage_close_folder(&it);
 }
@@ -236,11 +236,11 @@ static void links_are_not_followed(void) {
     puts_file(&it, 7, "other", RELKVANU_STORAGE_PRESENT);
     puts_file(&it, 8, "other", RELKVANU_STORAGE_PRESENT);
     CHECK(!has("state/7.part") && !has("made"), "a put");
-    CHECK(it.delete_files(it.with, &file, 1, &outcome) == RELKVANU_STORAGE_OK &&
-        outcome == RELKVANU_STORAGE_DELETED, "outcome %d", outcome);
+    CHECK(
+        it.delete_files(it.with, &file, 1, &outcome) == RELKVANU_STORAGE_OK && outcome == RELKVANU_STORAGE_DELETED, "outcome %d", outcome);
     CHECK(!has("state/7") && has("elsewhere"), "a deletion");
-    CHECK(rename(in("state/.relkvanu-storage"), in("marker")) == 0 &&
-        symlink("../marker", in("state/.relkvanu-storage")) == 0, "the marker");
+    CHECK(
+        rename(in("state/.relkvanu-storage"), in("marker")) == 0 && symlink("../marker", in("state/.relkvanu-storage")) == 0, "the marker");
     CHECK(it.check(it.with) == RELKVANU_STORAGE_FAILED && errno == ELOOP, "errno %d", errno);
     puts_file(&it, 9, "state", RELKVANU_STORAGE_FAILED);
     CHECK(!has("state/9") && !has("state/9.part"), "a put");
@@ -253,8 +253,8 @@ static void refuses_all(const relkvanu_storage *it, int status) {
     uint8_t outcomes[] = {9, 9};
     CHECK(it->check(it->with) == status, "check");
     puts_file(it, 9, "state", status);
-    CHECK(it->delete_files(it->with, files, 2, outcomes) == status && outcomes[0] == 0 &&
-        outcomes[1] == 0, "%d %d", outcomes[0], outcomes[1]);
+    CHECK(it->delete_files(it->with, files, 2, outcomes) == status && outcomes[0] == 0 && outcomes[1] == 0, "%d %d", outcomes[0],
+        outcomes[1]);
 }
 
 static void the_marker_of_another_job(void) {
@@ -279,8 +279,8 @@ static void the_folder_is_removed(void) {
     make_file("state/8", "");
     puts_file(&it, 9, "state", RELKVANU_STORAGE_OK);
     CHECK(has("away/9") && !has("state/9") && listed(&it, 0).all == 2, "the folder");
-    CHECK(unlink(in("away/7")) == 0 && unlink(in("away/9")) == 0 && unlink(in("away/.relkvanu-storage")) == 0 &&
-        rmdir(in("away")) == 0, "the folder");
+    CHECK(unlink(in("away/7")) == 0 && unlink(in("away/9")) == 0 && unlink(in("away/.relkvanu-storage")) == 0 && rmdir(in("away")) == 0,
+        "the folder");
     refuses_all(&it, RELKVANU_STORAGE_NOT_THERE);
     int status = it.list(it.with, 0, note, &found); /* a removed folder is an empty one, where it can be read */
     CHECK((status == RELKVANU_STORAGE_OK || status == RELKVANU_STORAGE_NOT_THERE) && found.pages == 0, "status %d", status);
@@ -305,7 +305,8 @@ static void names_with_unusual_bytes(void) {
     struct found found = listed(&it, 0);
     CHECK(found.all == 2 && found.counts[7] == 1 && found.counts[8] == 1, "%zu files", found.all);
     CHECK(it.delete_files(it.with, files, 2, outcomes) == RELKVANU_STORAGE_OK && outcomes[0] == 1 && outcomes[1] == 1 &&
-        listed(&it, 0).all == 0, "deletions");
+              listed(&it, 0).all == 0,
+        "deletions");
     for (size_t i = 0; i < sizeof others / sizeof *others; i++) {
         CHECK(has(others[i]), "%s", others[i]);
     }
@@ -338,8 +339,8 @@ static void pages_of_a_listing(void) {
     for (size_t i = 0; i < sizeof most / sizeof *most; i++) {
         struct found found = listed(&it, most[i]);
         size_t greatest = most[i] == 0 || most[i] > 1000 ? 1000 : most[i];
-        CHECK(found.all == 2501 && found.greatest == greatest && found.pages == (2501 + greatest - 1) / greatest &&
-            found.bytes == 2502, "%zu files", found.all);
+        CHECK(found.all == 2501 && found.greatest == greatest && found.pages == (2501 + greatest - 1) / greatest && found.bytes == 2502,
+            "%zu files", found.all);
         for (int file = 0; file < 2500; file++) {
             CHECK(found.counts[file] == (file == 1 ? 2 : 1), "file %d", file);
         }
@@ -352,8 +353,8 @@ static bool delete_page(void *with, const relkvanu_storage_file *files, size_t l
     relkvanu_storage *it = with;
     for (size_t i = 0; i < len; i++) {
         uint8_t outcome;
-        CHECK(it->delete_files(it->with, &files[i].file, 1, &outcome) == RELKVANU_STORAGE_OK &&
-            outcome != RELKVANU_STORAGE_UNDELETED, "file %" PRIu64, files[i].file);
+        CHECK(it->delete_files(it->with, &files[i].file, 1, &outcome) == RELKVANU_STORAGE_OK && outcome != RELKVANU_STORAGE_UNDELETED,
+            "file %" PRIu64, files[i].file);
     }
     return true;
 }

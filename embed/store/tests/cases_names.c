@@ -48,8 +48,8 @@ static relkvanu_store_call made(relkvanu_store *store, relkvanu_call call) {
 
 static uint64_t reserved(relkvanu_store *store, uint64_t term, uint64_t count) {
     relkvanu_answer answer;
-    CHECK(relkvanu_store_reserve(store, term, count, &answer) == RELKVANU_STORE_OK && answer.code == RELKVANU_DONE && answer.what == RELKVANU_RESERVED &&
-              answer.b == count,
+    CHECK(relkvanu_store_reserve(store, term, count, &answer) == RELKVANU_STORE_OK && answer.code == RELKVANU_DONE &&
+              answer.what == RELKVANU_RESERVED && answer.b == count,
         "code %" PRIu32 ", what %" PRIu32, answer.code, answer.what);
     return answer.a;
 }
@@ -61,12 +61,14 @@ static relkvanu_answer acked(relkvanu_store *store, uint64_t term, uint64_t id, 
 }
 
 static void fenced(relkvanu_answer answer, uint32_t why, uint64_t file) {
-    CHECK(answer.code == RELKVANU_FENCED && answer.what == why && answer.a == file, "code %" PRIu32 ", what %" PRIu32 " %" PRIu64, answer.code, answer.what, answer.a);
+    CHECK(answer.code == RELKVANU_FENCED && answer.what == why && answer.a == file, "code %" PRIu32 ", what %" PRIu32 " %" PRIu64,
+        answer.code, answer.what, answer.a);
 }
 
 static void check_term(relkvanu_store *store, uint64_t term, uint64_t next) {
     relkvanu_answer answer;
-    CHECK(relkvanu_store_term(store, &answer) == RELKVANU_STORE_OK && answer.code == RELKVANU_DONE && answer.what == RELKVANU_TERM, "code %" PRIu32, answer.code);
+    CHECK(relkvanu_store_term(store, &answer) == RELKVANU_STORE_OK && answer.code == RELKVANU_DONE && answer.what == RELKVANU_TERM,
+        "code %" PRIu32, answer.code);
     CHECK(answer.a == term && answer.b == next, "term %" PRIu64 ", next name %" PRIu64, answer.a, answer.b);
 }
 
@@ -92,7 +94,8 @@ static uint64_t complete(relkvanu_store *store, uint64_t term, uint64_t name) {
 /* The worked example of docs/LOGS.md, as far as a store has it; then the recovery has all of it. */
 static void terms_and_names(void) {
     relkvanu_store *store = named_job();
-    CHECK(report.term == 1 && report.next_name == 1 && !report.is_recovered, "term %" PRIu64 ", next name %" PRIu64, report.term, report.next_name);
+    CHECK(report.term == 1 && report.next_name == 1 && !report.is_recovered, "term %" PRIu64 ", next name %" PRIu64, report.term,
+        report.next_name);
     check_term(store, 1, 1);
     CHECK(reserved(store, 1, 10) == 1, "the first names");
     uint64_t first = complete(store, 1, 1);
@@ -108,14 +111,15 @@ static void terms_and_names(void) {
     CHECK(late.code == RELKVANU_DONE && late.what == RELKVANU_ACK_LATE && late.a == 1, "what %" PRIu32 " %" PRIu64, late.what, late.a);
     uint64_t second = trigger(store);
     relkvanu_store_call restore = made(store, (relkvanu_call){.kind = RELKVANU_CALL_RESTORE, .now = RELKVANU_STORE_NOW});
-    CHECK(restore.answer.what == RELKVANU_RESTORED_CHECKPOINT && restore.answer.b == first && restore.term == 2, "term %" PRIu64, restore.term);
+    CHECK(restore.answer.what == RELKVANU_RESTORED_CHECKPOINT && restore.answer.b == first && restore.term == 2, "term %" PRIu64,
+        restore.term);
     fenced(acked(store, 1, second, 0, 9), RELKVANU_OLD_TERM, 0);
     CHECK(reserved(store, 2, 3) == 11, "names are given once");
     relkvanu_store_close(store);
     relkvanu_store_options options = named_options(RELKVANU_STORE_RECOVER, 0);
     store = opens(&options, RELKVANU_STORE_OK);
-    CHECK(report.term == 2 && report.next_name == 14 && report.is_recovered && !report.settings_differ, "term %" PRIu64 ", next name %" PRIu64, report.term,
-        report.next_name);
+    CHECK(report.term == 2 && report.next_name == 14 && report.is_recovered && !report.settings_differ,
+        "term %" PRIu64 ", next name %" PRIu64, report.term, report.next_name);
     CHECK(reserved(store, 2, 1) == 14, "after a recovery");
     relkvanu_store_call cancel = made(store, (relkvanu_call){.kind = RELKVANU_CALL_CANCEL, .now = RELKVANU_STORE_NOW});
     CHECK(cancel.answer.what == RELKVANU_CANCELLED && cancel.term == 3, "term %" PRIu64, cancel.term);
@@ -170,8 +174,8 @@ static void by_an_earlier_image(void) {
     opens(&options, RELKVANU_STORE_DAMAGED);
     options.flags = RELKVANU_STORE_EARLIER_IMAGE;
     store = opens(&options, RELKVANU_STORE_OK);
-    CHECK(report.replayed != 0 && report.image_place + report.replayed == 21 && report.term == 5 && report.next_name == 18, "term %" PRIu64 ", next name %" PRIu64,
-        report.term, report.next_name);
+    CHECK(report.replayed != 0 && report.image_place + report.replayed == 21 && report.term == 5 && report.next_name == 18,
+        "term %" PRIu64 ", next name %" PRIu64, report.term, report.next_name);
     CHECK(reserved(store, 5, 1) == 18, "names are given once");
     relkvanu_store_close(store);
 }
@@ -184,11 +188,14 @@ static void forfeits(void) {
     for (size_t i = 0; i < 65537; i++) {
         names[i] = i + 1;
     }
-    CHECK(relkvanu_store_forfeit(store, 1, names, 65537, &answer) == RELKVANU_STORE_BAD_ARGUMENT && answer.code == RELKVANU_STORE_NOT_MADE, "too many");
-    CHECK(relkvanu_store_garbage(store, names, 65537, garbage, others, &answer) == RELKVANU_STORE_OK && answer.what == RELKVANU_GARBAGE, "garbage");
+    CHECK(relkvanu_store_forfeit(store, 1, names, 65537, &answer) == RELKVANU_STORE_BAD_ARGUMENT && answer.code == RELKVANU_STORE_NOT_MADE,
+        "too many");
+    CHECK(relkvanu_store_garbage(store, names, 65537, garbage, others, &answer) == RELKVANU_STORE_OK && answer.what == RELKVANU_GARBAGE,
+        "garbage");
     CHECK(answer.a == 0 && answer.b == 1 && others[0] == 65537, "%" PRIu64 " garbage, %" PRIu64 " others", answer.a, answer.b);
     CHECK(relkvanu_store_forfeit(store, 1, names, 65536, &answer) == RELKVANU_STORE_OK && answer.what == RELKVANU_FORFEITED, "all names");
-    CHECK(relkvanu_store_garbage(store, names, 65537, garbage, others, &answer) == RELKVANU_STORE_OK && answer.a == 65536 && answer.b == 1, "garbage");
+    CHECK(relkvanu_store_garbage(store, names, 65537, garbage, others, &answer) == RELKVANU_STORE_OK && answer.a == 65536 && answer.b == 1,
+        "garbage");
     CHECK(garbage[0] == 1 && garbage[65535] == 65536, "in their order");
     CHECK(relkvanu_store_forfeit(store, 1, names, 0, &answer) == RELKVANU_STORE_OK && answer.what == RELKVANU_FORFEITED, "none");
     CHECK(relkvanu_store_forfeit(store, 9, names, 5000, &answer) == RELKVANU_STORE_OK, "another term");
@@ -233,8 +240,8 @@ static void sweeps_at_any_time(void) {
     for (uint64_t name = 1; name <= 33; name++) {
         make_file(name);
     }
-    complete(store, 1, 1);     /* 1 to 8 are in use */
-    complete(store, 1, 9);     /* 1 to 8 wait */
+    complete(store, 1, 1); /* 1 to 8 are in use */
+    complete(store, 1, 9); /* 1 to 8 wait */
     relkvanu_answer answer;
     uint64_t given_up[] = {17, 18};
     CHECK(relkvanu_store_forfeit(store, 1, given_up, 2, &answer) == RELKVANU_STORE_OK && answer.code == RELKVANU_DONE, "forfeit");
@@ -253,7 +260,8 @@ static void sweeps_at_any_time(void) {
     CHECK(rmdir(in("storage/19.part")) == 0, "the folder");
     make_file(20); /* a task of the ended term writes on */
     CHECK(relkvanu_store_put(store, 21, "state", 5) == RELKVANU_STORE_OK && has_file(21), "so does its put");
-    CHECK(relkvanu_store_sweep(store, &left) == RELKVANU_STORE_OK && left == 0 && !has_file(20) && !has_file(21) && has_file(31), "the next sweep");
+    CHECK(relkvanu_store_sweep(store, &left) == RELKVANU_STORE_OK && left == 0 && !has_file(20) && !has_file(21) && has_file(31),
+        "the next sweep");
     relkvanu_store_close(store);
 }
 
@@ -264,7 +272,9 @@ static void its_own_file(void) {
     size_t left;
     CHECK(relkvanu_store_open(&store, in("storage/7"), &options, &report) == RELKVANU_STORE_OK, "%s", report.message);
     CHECK(reserved(store, 1, 10) == 1, "the names");
-    CHECK(relkvanu_store_put(store, 7, "state", 5) == RELKVANU_STORE_PRESENT && relkvanu_store_put(store, 8, "state", 5) == RELKVANU_STORE_OK, "put");
+    CHECK(
+        relkvanu_store_put(store, 7, "state", 5) == RELKVANU_STORE_PRESENT && relkvanu_store_put(store, 8, "state", 5) == RELKVANU_STORE_OK,
+        "put");
     made(store, (relkvanu_call){.kind = RELKVANU_CALL_RESTORE, .now = RELKVANU_STORE_NOW});
     CHECK(relkvanu_store_sweep(store, &left) == RELKVANU_STORE_OK && left == 0 && has_file(7) && !has_file(8), "a sweep");
     relkvanu_store_close(store);
@@ -280,7 +290,9 @@ static void a_later_opening(void) {
     }
     made(store, (relkvanu_call){.kind = RELKVANU_CALL_RESTORE, .now = RELKVANU_STORE_NOW});
     FILE *marker = fopen(in("storage/.relkvanu-job"), "w");
-    CHECK(marker != NULL && fprintf(marker, "relkvanu job %016" PRIx64 "%016" PRIx64 "\nepoch 2\n", report.job[0], report.job[1]) > 0 && fclose(marker) == 0, "marker");
+    CHECK(marker != NULL && fprintf(marker, "relkvanu job %016" PRIx64 "%016" PRIx64 "\nepoch 2\n", report.job[0], report.job[1]) > 0 &&
+              fclose(marker) == 0,
+        "marker");
     CHECK(relkvanu_store_sweep(store, &left) == RELKVANU_STORE_STORAGE && has_file(1) && has_file(3), "a sweep");
     CHECK(relkvanu_store_put(store, 4, "state", 5) == RELKVANU_STORE_STORAGE && !has_file(4), "a put");
     relkvanu_store_close(store);
@@ -304,14 +316,16 @@ static void adopts(void) {
     relkvanu_store *store = opens(&options, RELKVANU_STORE_OK);
     CHECK(report.next_name == 701, "next name %" PRIu64, report.next_name);
     CHECK(reserved(store, 1, 1) == 701 && relkvanu_store_put(store, 701, "state", 5) == RELKVANU_STORE_OK, "a name");
-    CHECK(relkvanu_store_sweep(store, &left) == RELKVANU_STORE_OK && left == 0 && !has_file(700) && !has_file(3) && has_file(701), "a sweep");
+    CHECK(
+        relkvanu_store_sweep(store, &left) == RELKVANU_STORE_OK && left == 0 && !has_file(700) && !has_file(3) && has_file(701), "a sweep");
     relkvanu_store_close(store);
 }
 
 static int64_t format_of(void) {
     sqlite3 *db;
     sqlite3_stmt *it;
-    CHECK(sqlite3_open(in("x.db"), &db) == SQLITE_OK && sqlite3_prepare_v2(db, "PRAGMA user_version", -1, &it, NULL) == SQLITE_OK && sqlite3_step(it) == SQLITE_ROW,
+    CHECK(sqlite3_open(in("x.db"), &db) == SQLITE_OK && sqlite3_prepare_v2(db, "PRAGMA user_version", -1, &it, NULL) == SQLITE_OK &&
+              sqlite3_step(it) == SQLITE_ROW,
         "user_version");
     int64_t format = sqlite3_column_int64(it, 0);
     sqlite3_finalize(it);
@@ -336,10 +350,13 @@ static void a_fence(void) {
     fenced(made(store, (relkvanu_call){.kind = RELKVANU_CALL_FENCE, .number = 300}).answer, RELKVANU_NAME_IN_USE, 0);
     relkvanu_answer bad = made(store, (relkvanu_call){.kind = RELKVANU_CALL_FENCE, .number = 0}).answer;
     CHECK(bad.code == RELKVANU_BAD_ARGUMENT && bad.what == RELKVANU_BAD_NAME, "code %" PRIu32 ", what %" PRIu32, bad.code, bad.what);
-    relkvanu_store_call calls[] = {{.call = {.kind = RELKVANU_CALL_RESTORE, .now = RELKVANU_STORE_NOW}}, {.call = {.kind = RELKVANU_CALL_FENCE, .number = 301}},
-        {.call = {.kind = RELKVANU_CALL_FENCE, .number = 400}}, {.call = {.kind = RELKVANU_CALL_RESERVE, .number = 5, .term = 1}}};
-    CHECK(relkvanu_store_calls(store, calls, 4) == RELKVANU_STORE_OK && calls[0].answer.code == RELKVANU_DONE && calls[0].term == 0, "the restore");
-    CHECK(calls[1].answer.code == RELKVANU_DONE && calls[1].answer.what == RELKVANU_NAMED && calls[1].term == 1 && calls[1].place != 0, "the fence");
+    relkvanu_store_call calls[] = {{.call = {.kind = RELKVANU_CALL_RESTORE, .now = RELKVANU_STORE_NOW}},
+        {.call = {.kind = RELKVANU_CALL_FENCE, .number = 301}}, {.call = {.kind = RELKVANU_CALL_FENCE, .number = 400}},
+        {.call = {.kind = RELKVANU_CALL_RESERVE, .number = 5, .term = 1}}};
+    CHECK(relkvanu_store_calls(store, calls, 4) == RELKVANU_STORE_OK && calls[0].answer.code == RELKVANU_DONE && calls[0].term == 0,
+        "the restore");
+    CHECK(calls[1].answer.code == RELKVANU_DONE && calls[1].answer.what == RELKVANU_NAMED && calls[1].term == 1 && calls[1].place != 0,
+        "the fence");
     fenced(calls[2].answer, RELKVANU_HAS_NAMES, 0);
     CHECK(calls[3].answer.what == RELKVANU_RESERVED && calls[3].answer.a == 301, "the first names");
     uint64_t id = trigger(store);
@@ -386,8 +403,8 @@ static void an_old_file(void) {
     relkvanu_store_options options = job_options(RELKVANU_STORE_RECOVER, RELKVANU_STORE_NO_IMAGES);
     relkvanu_store *store = opens(&options, RELKVANU_STORE_OK);
     CHECK(report.is_recovered && !report.settings_differ && report.term == 0 && report.epoch == 2, "epoch %" PRIu64, report.epoch);
-    CHECK(report.image_place == 20 && report.replayed == 7 && report.choice.what == RELKVANU_CHOICE_CHECKPOINT && report.choice.a == 2, "%" PRIu64 " and %" PRIu64,
-        report.image_place, report.replayed);
+    CHECK(report.image_place == 20 && report.replayed == 7 && report.choice.what == RELKVANU_CHOICE_CHECKPOINT && report.choice.a == 2,
+        "%" PRIu64 " and %" PRIu64, report.image_place, report.replayed);
     CHECK(report.taken == 2 && report.mode.what == RELKVANU_MODE_RUNNING, "%" PRIu64 " taken", report.taken);
     CHECK(done(store, RELKVANU_CALL_RESTORE, 30, 0).what == RELKVANU_RESTORED_CHECKPOINT, "a restore");
     CHECK(checkpoint(store, 5000) == 4, "the next record");
@@ -445,7 +462,8 @@ static bool takes_part(struct task *t, uint64_t id, unsigned *seed) {
     bool is_late = answer.code == RELKVANU_FENCED;
     t->fleet->late += is_late;
     CHECK(!is_late || answer.what == RELKVANU_OLD_TERM, "what %" PRIu32, answer.what);
-    CHECK(relkvanu_store_forfeit(store, t->term, names, 3, &answer) == RELKVANU_STORE_OK, "forfeit"); /* what was acknowledged is not held any more */
+    CHECK(relkvanu_store_forfeit(store, t->term, names, 3, &answer) == RELKVANU_STORE_OK,
+        "forfeit"); /* what was acknowledged is not held any more */
     return !is_late;
 }
 
@@ -587,10 +605,13 @@ static void a_sweeper_beside_tasks(void) {
     CHECK(used == files_there() && used == 2 * SUBTASKS, "%" PRIu64 " files in use, and %u in the folder", used, files_there());
     relkvanu_store_counts counts;
     relkvanu_store_count(fleet.store, &counts);
-    CHECK(fleet.late >= 3 && counts.swept > ROUNDS * SUBTASKS && counts.unissued == 0, "%u calls came late, %" PRIu64 " files were swept", (unsigned)fleet.late, counts.swept);
+    CHECK(fleet.late >= 3 && counts.swept > ROUNDS * SUBTASKS && counts.unissued == 0, "%u calls came late, %" PRIu64 " files were swept",
+        (unsigned)fleet.late, counts.swept);
     relkvanu_store_close(fleet.store);
 }
 
-const struct test name_cases[] = {{"terms_and_names", terms_and_names}, {"reserved_and_killed", reserved_and_killed}, {"by_an_earlier_image", by_an_earlier_image}, {"forfeits", forfeits}, {"no_names", no_names},
-    {"sweeps_at_any_time", sweeps_at_any_time}, {"its_own_file", its_own_file}, {"a_later_opening", a_later_opening}, {"adopts", adopts}, {"a_fence", a_fence}, {"a_fence_without_a_folder", a_fence_without_a_folder},
-    {"an_old_file", an_old_file}, {"a_sweeper_beside_tasks", a_sweeper_beside_tasks}, {NULL, NULL}};
+const struct test name_cases[] = {{"terms_and_names", terms_and_names}, {"reserved_and_killed", reserved_and_killed},
+    {"by_an_earlier_image", by_an_earlier_image}, {"forfeits", forfeits}, {"no_names", no_names},
+    {"sweeps_at_any_time", sweeps_at_any_time}, {"its_own_file", its_own_file}, {"a_later_opening", a_later_opening}, {"adopts", adopts},
+    {"a_fence", a_fence}, {"a_fence_without_a_folder", a_fence_without_a_folder}, {"an_old_file", an_old_file},
+    {"a_sweeper_beside_tasks", a_sweeper_beside_tasks}, {NULL, NULL}};

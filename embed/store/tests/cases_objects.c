@@ -228,8 +228,7 @@ static int in_a_child(void *with) {
     size_t left;
     bool is_refused = own->check(own->with) == RELKVANU_STORAGE_NOT_THERE && own->put(own->with, 8, "", 0) == RELKVANU_STORAGE_NOT_THERE &&
                       own->delete_files(own->with, &file, 1, &outcome) == RELKVANU_STORAGE_NOT_THERE &&
-                          outcome == RELKVANU_STORAGE_UNDELETED &&
-                      own->list(own->with, 0, note_sum, sums) == RELKVANU_STORAGE_NOT_THERE &&
+                      outcome == RELKVANU_STORAGE_UNDELETED && own->list(own->with, 0, note_sum, sums) == RELKVANU_STORAGE_NOT_THERE &&
                       relkvanu_store_storage(own->with, &again) == RELKVANU_STORE_FORKED && again.with == NULL &&
                       relkvanu_store_sweep_storage(own->with, own, &left) == RELKVANU_STORE_FORKED;
     return is_refused ? 0 : 1;
@@ -248,11 +247,11 @@ static void the_own_folder(void) {
     CHECK(own.list(own.with, 0, note_sum, sums) == RELKVANU_STORAGE_OK && sums[0] == 7 && sums[1] == 5, "%" PRIu64 " bytes", sums[1]);
     CHECK(in_child(in_a_child, &own) == 0, "a child");
     CHECK(rename(in("storage/.relkvanu-job"), in("marker")) == 0 && own.check(own.with) == RELKVANU_STORAGE_NOT_THERE, "the marker");
-    CHECK(own.delete_files(own.with, files, 2, outcomes) == RELKVANU_STORAGE_NOT_THERE && outcomes[0] == 0 &&
-        outcomes[1] == 0, "deletions");
+    CHECK(
+        own.delete_files(own.with, files, 2, outcomes) == RELKVANU_STORAGE_NOT_THERE && outcomes[0] == 0 && outcomes[1] == 0, "deletions");
     CHECK(rename(in("marker"), in("storage/.relkvanu-job")) == 0, "the marker");
-    CHECK(own.delete_files(own.with, files, 2, outcomes) == RELKVANU_STORAGE_OK && outcomes[0] == 1 &&
-        outcomes[1] == 2, "%d %d", outcomes[0], outcomes[1]);
+    CHECK(own.delete_files(own.with, files, 2, outcomes) == RELKVANU_STORAGE_OK && outcomes[0] == 1 && outcomes[1] == 2, "%d %d",
+        outcomes[0], outcomes[1]);
     relkvanu_store_close(store);
     options = job_options(RELKVANU_STORE_CREATE_ONLY, 0);
     CHECK(unlink(in("x.db")) == 0 && unlink(in("x.db-wal")) == 0, "x.db");

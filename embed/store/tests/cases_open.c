@@ -28,15 +28,19 @@ static void makes_and_recovers(void) {
     options.flags = RELKVANU_STORE_RECOVER;
     options.settings.interval = 11;
     store = opens(&options, RELKVANU_STORE_OK);
-    CHECK(report.is_recovered && report.settings_differ && report.epoch == 2 && report.replayed == 9 && report.image_place == 0, "the report");
+    CHECK(report.is_recovered && report.settings_differ && report.epoch == 2 && report.replayed == 9 && report.image_place == 0,
+        "the report");
     CHECK(report.job[0] == job[0] && report.job[1] == job[1] && (job[0] | job[1]) != 0, "another job");
-    CHECK(report.choice.what == RELKVANU_CHOICE_CHECKPOINT && report.choice.a == id && report.mode.what == RELKVANU_MODE_RUNNING, "the report");
+    CHECK(report.choice.what == RELKVANU_CHOICE_CHECKPOINT && report.choice.a == id && report.mode.what == RELKVANU_MODE_RUNNING,
+        "the report");
     check_steps(again, 4);
     done(store, RELKVANU_CALL_CANCEL, 1000, 0);
     relkvanu_store_close(store);
     options = job_options(RELKVANU_STORE_CREATE, 5);
     store = opens(&options, RELKVANU_STORE_OK);
-    CHECK(!report.settings_differ && report.epoch == 3 && report.replayed == 10 && report.moment == 1000 && report.mode.what == RELKVANU_MODE_CANCELLED, "the report");
+    CHECK(!report.settings_differ && report.epoch == 3 && report.replayed == 10 && report.moment == 1000 &&
+              report.mode.what == RELKVANU_MODE_CANCELLED,
+        "the report");
     check_steps(ended, 3);
     relkvanu_store_close(store);
 }
@@ -224,9 +228,12 @@ static int calls_in_child(void *with) {
     size_t len = 1;
     relkvanu_store_call call = {.call = {.kind = RELKVANU_CALL_TICK}};
     bool is_told = relkvanu_store_calls(store, &call, 1) == RELKVANU_STORE_FORKED && call.answer.code == RELKVANU_STORE_NOT_MADE &&
-                   relkvanu_store_submit(store, &call, 1, 1) == RELKVANU_STORE_FORKED && relkvanu_store_read(store, &handle) == RELKVANU_STORE_FORKED &&
-                   relkvanu_store_next_tick(store, &wait) == RELKVANU_STORE_FORKED && relkvanu_store_unknown(store, files, &len) == RELKVANU_STORE_FORKED &&
-                   relkvanu_store_discard(store, 1, NULL, NULL) == RELKVANU_STORE_FORKED && relkvanu_store_await_tick(store, 1, &call) == RELKVANU_STORE_FORKED;
+                   relkvanu_store_submit(store, &call, 1, 1) == RELKVANU_STORE_FORKED &&
+                   relkvanu_store_read(store, &handle) == RELKVANU_STORE_FORKED &&
+                   relkvanu_store_next_tick(store, &wait) == RELKVANU_STORE_FORKED &&
+                   relkvanu_store_unknown(store, files, &len) == RELKVANU_STORE_FORKED &&
+                   relkvanu_store_discard(store, 1, NULL, NULL) == RELKVANU_STORE_FORKED &&
+                   relkvanu_store_await_tick(store, 1, &call) == RELKVANU_STORE_FORKED;
     relkvanu_store_stop(store);
     relkvanu_store_close(store);
     return is_told ? status_of("x.db") : 99;
@@ -274,7 +281,8 @@ static void a_reader_of_another_program(void) {
     sqlite3 *db;
     relkvanu_store_options options = job_options(RELKVANU_STORE_CREATE, 0);
     relkvanu_store_close(opens(&options, RELKVANU_STORE_OK));
-    CHECK(sqlite3_open(in("x.db"), &db) == SQLITE_OK && sqlite3_exec(db, "BEGIN; SELECT * FROM job", NULL, NULL, NULL) == SQLITE_OK, "a reader");
+    CHECK(sqlite3_open(in("x.db"), &db) == SQLITE_OK && sqlite3_exec(db, "BEGIN; SELECT * FROM job", NULL, NULL, NULL) == SQLITE_OK,
+        "a reader");
     opens(&options, RELKVANU_STORE_IN_USE);
     CHECK(says("in use by another program") || says("locked"), "%s", report.message);
     sqlite3_close(db);
@@ -292,7 +300,9 @@ static int lacks_rights(void *with) {
 static void a_read_only_file(void) {
     relkvanu_store_options options = job_options(RELKVANU_STORE_CREATE, 0);
     relkvanu_store_close(opens(&options, RELKVANU_STORE_OK));
-    CHECK(chmod(in("x.db"), 0444) == 0 && chmod(in("x.db.lock"), 0666) == 0 && chmod(in("x.db-shm"), 0666) == 0 && chmod(in("x.db-wal"), 0666) == 0 && chmod(in("."), 0777) == 0, "modes");
+    CHECK(chmod(in("x.db"), 0444) == 0 && chmod(in("x.db.lock"), 0666) == 0 && chmod(in("x.db-shm"), 0666) == 0 &&
+              chmod(in("x.db-wal"), 0666) == 0 && chmod(in("."), 0777) == 0,
+        "modes");
     if (geteuid() == 0) {
         CHECK(in_child(lacks_rights, NULL) == 0, "a read-only file");
     } else {
@@ -300,6 +310,8 @@ static void a_read_only_file(void) {
     }
 }
 
-const struct test open_cases[] = {{"makes_and_recovers", makes_and_recovers}, {"needs_a_flag", needs_a_flag}, {"checks_the_settings", checks_the_settings}, {"checks_each_setting", checks_each_setting}, {"checks_the_shape", checks_the_shape},
+const struct test open_cases[] = {{"makes_and_recovers", makes_and_recovers}, {"needs_a_flag", needs_a_flag},
+    {"checks_the_settings", checks_the_settings}, {"checks_each_setting", checks_each_setting}, {"checks_the_shape", checks_the_shape},
     {"makes_private_files", makes_private_files}, {"one_at_a_time", one_at_a_time}, {"a_forked_child", a_forked_child},
-    {"a_child_that_outlives", a_child_that_outlives}, {"a_reader_of_another_program", a_reader_of_another_program}, {"a_read_only_file", a_read_only_file}, {NULL, NULL}};
+    {"a_child_that_outlives", a_child_that_outlives}, {"a_reader_of_another_program", a_reader_of_another_program},
+    {"a_read_only_file", a_read_only_file}, {NULL, NULL}};

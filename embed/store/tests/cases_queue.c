@@ -18,7 +18,8 @@ static void submits(void) {
     relkvanu_store_options options = job_options(RELKVANU_STORE_CREATE, 0);
     relkvanu_store *store = opens(&options, RELKVANU_STORE_OK);
     CHECK(!is_readable(store, 0) && relkvanu_store_completed(store, some, 7) == 0, "a completion of nothing");
-    CHECK(relkvanu_store_submit(store, calls, 1, 1) == RELKVANU_STORE_BAD_ARGUMENT && calls[0].answer.code == RELKVANU_STORE_NOT_MADE, "a bad call");
+    CHECK(relkvanu_store_submit(store, calls, 1, 1) == RELKVANU_STORE_BAD_ARGUMENT && calls[0].answer.code == RELKVANU_STORE_NOT_MADE,
+        "a bad call");
     CHECK(relkvanu_store_submit(store, calls, 0, 1) == RELKVANU_STORE_BAD_ARGUMENT, "no call");
     relkvanu *handle; /* all wait behind this read, and are one group */
     CHECK(relkvanu_store_read(store, &handle) == RELKVANU_STORE_OK, "read");
@@ -32,7 +33,8 @@ static void submits(void) {
         CHECK(is_readable(store, 10000), "no completion");
         size_t len = relkvanu_store_completed(store, some, 7);
         for (size_t i = 0; i < len; i++, found++) {
-            CHECK(some[i].status == RELKVANU_STORE_OK && some[i].token == found && !is_seen[some[i].token], "token %" PRIu64, some[i].token);
+            CHECK(
+                some[i].status == RELKVANU_STORE_OK && some[i].token == found && !is_seen[some[i].token], "token %" PRIu64, some[i].token);
             is_seen[some[i].token] = true;
             CHECK(calls[some[i].token].answer.what == RELKVANU_SAVEPOINT_TRIGGERED && calls[some[i].token].place == found + 1, "an answer");
         }
@@ -41,7 +43,8 @@ static void submits(void) {
     relkvanu_store_counts counts;
     relkvanu_store_count(store, &counts);
     CHECK(counts.calls == MANY && counts.largest == MANY && counts.commits == 1, "%" PRIu64 " commits", counts.commits);
-    relkvanu_store_call last[2] = {{.call = {.kind = RELKVANU_CALL_DISPOSE, .number = 9}}, {.call = {.kind = RELKVANU_CALL_DECLINE, .now = 1, .number = 1}}};
+    relkvanu_store_call last[2] = {
+        {.call = {.kind = RELKVANU_CALL_DISPOSE, .number = 9}}, {.call = {.kind = RELKVANU_CALL_DECLINE, .now = 1, .number = 1}}};
     CHECK(relkvanu_store_submit(store, last, 2, 77) == RELKVANU_STORE_OK, "submit");
     relkvanu_store_close(store); /* which waits for it */
     CHECK(last[0].answer.code == RELKVANU_REFUSED && last[1].answer.code == RELKVANU_DONE && last[1].place == MANY + 1, "the last submit");
@@ -119,7 +122,8 @@ static void a_woken_timer(void) {
             usleep(10000);
             CHECK(relkvanu_store_calls(store, &call, 1) == RELKVANU_STORE_OK, "a decline");
         }
-        CHECK(call.answer.what == RELKVANU_DECLINE_ABORTED, "checkpoint %" PRIu64 ": what %" PRIu32 ", code %" PRIu32, id, call.answer.what, call.answer.code);
+        CHECK(call.answer.what == RELKVANU_DECLINE_ABORTED, "checkpoint %" PRIu64 ": what %" PRIu32 ", code %" PRIu32, id, call.answer.what,
+            call.answer.code);
     }
     relkvanu_store_stop(store);
     CHECK(pthread_join(timer.thread, NULL) == 0, "a thread");
@@ -129,4 +133,5 @@ static void a_woken_timer(void) {
     relkvanu_store_close(store);
 }
 
-const struct test queue_cases[] = {{"submits", submits}, {"callers_and_readers", callers_and_readers}, {"a_woken_timer", a_woken_timer}, {NULL, NULL}};
+const struct test queue_cases[] = {
+    {"submits", submits}, {"callers_and_readers", callers_and_readers}, {"a_woken_timer", a_woken_timer}, {NULL, NULL}};

@@ -138,7 +138,9 @@ static void a_marker_without_an_epoch(void) {
     relkvanu_store_options options = storage_options(RELKVANU_STORE_CREATE, 0);
     relkvanu_store_close(opens(&options, RELKVANU_STORE_OK));
     FILE *marker = fopen(in("storage/.relkvanu-job"), "w");
-    CHECK(marker != NULL && fprintf(marker, "relkvanu job %016" PRIx64 "%016" PRIx64 "\n", report.job[0], report.job[1]) > 0 && fclose(marker) == 0, "marker");
+    CHECK(marker != NULL && fprintf(marker, "relkvanu job %016" PRIx64 "%016" PRIx64 "\n", report.job[0], report.job[1]) > 0 &&
+              fclose(marker) == 0,
+        "marker");
     relkvanu_store_close(opens(&options, RELKVANU_STORE_OK));
     CHECK(report.epoch == 2, "epoch %" PRIu64, report.epoch);
 }
@@ -189,6 +191,7 @@ static void a_sweep(void) {
     relkvanu_store_close(store);
 }
 
-const struct test storage_cases[] = {{"a_folder_with_files", a_folder_with_files}, {"not_mounted", not_mounted}, {"of_another_job", of_another_job},
-    {"named_or_not", named_or_not}, {"one_folder_for_all", one_folder_for_all}, {"before_the_marker", before_the_marker}, {"an_older_copy", an_older_copy}, {"a_full_storage", a_full_storage},
+const struct test storage_cases[] = {{"a_folder_with_files", a_folder_with_files}, {"not_mounted", not_mounted},
+    {"of_another_job", of_another_job}, {"named_or_not", named_or_not}, {"one_folder_for_all", one_folder_for_all},
+    {"before_the_marker", before_the_marker}, {"an_older_copy", an_older_copy}, {"a_full_storage", a_full_storage},
     {"a_marker_without_an_epoch", a_marker_without_an_epoch}, {"a_sweep", a_sweep}, {NULL, NULL}};

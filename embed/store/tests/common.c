@@ -7,8 +7,11 @@
 static const uint64_t shape[] = {SUBTASKS};
 
 relkvanu_store_options job_options(uint32_t flags, uint64_t image_calls) {
-    return (relkvanu_store_options){.flags = flags | RELKVANU_STORE_PLAIN, .image_calls = image_calls,
-        .settings = {.interval = 10, .at_once = 1, .timeout = UINT64_C(1) << 30, .tolerable = 1000, .retained = 1}, .shape = shape, .shape_len = 1};
+    return (relkvanu_store_options){.flags = flags | RELKVANU_STORE_PLAIN,
+        .image_calls = image_calls,
+        .settings = {.interval = 10, .at_once = 1, .timeout = UINT64_C(1) << 30, .tolerable = 1000, .retained = 1},
+        .shape = shape,
+        .shape_len = 1};
 }
 
 relkvanu_store_options options_in(const char *folder, uint32_t flags, uint64_t image_calls) {
@@ -29,15 +32,16 @@ void tell(int told_file, const relkvanu_store_call *call) {
     if (call->place != 0) {
         char text[LINE + 100];
         struct told told = told_of(call);
-        int len = snprintf(text, sizeof text, "%" PRIu64 " %" PRIu32 " %" PRIu64 " %" PRIu64 " %s\n", told.place, told.what, told.a, told.b, told.line);
+        int len = snprintf(
+            text, sizeof text, "%" PRIu64 " %" PRIu32 " %" PRIu64 " %" PRIu64 " %s\n", told.place, told.what, told.a, told.b, told.line);
         CHECK(write(told_file, text, (size_t)len) == len, "TOLD");
     }
 }
 
 struct told told_of(const relkvanu_store_call *call) {
     struct told told = {call->place, call->answer.a, call->answer.b, call->answer.what, ""};
-    relkvanu_answer written =
-        relkvanu_call_line(&call->call, call->first, call->first_len, call->second, call->second_len, (uint8_t *)told.line, sizeof told.line - 1);
+    relkvanu_answer written = relkvanu_call_line(
+        &call->call, call->first, call->first_len, call->second, call->second_len, (uint8_t *)told.line, sizeof told.line - 1);
     if (written.code == RELKVANU_NO_MEMORY) { /* a test refuses one request */
         return told_of(call);
     }
@@ -62,13 +66,15 @@ void shadow_open_as(struct shadow *shadow, const char *path) {
     sqlite3 *db = opened(path);
     sqlite3_stmt *it = NULL;
     uint64_t numbers[7], shape_found[256];
-    CHECK(sqlite3_prepare_v2(db, "SELECT opening FROM job", -1, &it, NULL) == SQLITE_OK && sqlite3_step(it) == SQLITE_ROW, "%s", sqlite3_errmsg(db));
+    CHECK(sqlite3_prepare_v2(db, "SELECT opening FROM job", -1, &it, NULL) == SQLITE_OK && sqlite3_step(it) == SQLITE_ROW, "%s",
+        sqlite3_errmsg(db));
     const char *config = (const char *)sqlite3_column_text(it, 0), *job = strchr(config, '\n') + 1;
     relkvanu_answer first = relkvanu_line_says((const uint8_t *)config, strcspn(config, "\n"), numbers, 7);
     relkvanu_answer second = relkvanu_line_says((const uint8_t *)job, strcspn(job, "\n"), shape_found, 256);
     CHECK(first.what == RELKVANU_LINE_CONFIG && second.what == RELKVANU_LINE_JOB, "%s", config);
     relkvanu_store_options options = {.settings = {numbers[0], numbers[1], numbers[2], numbers[3], numbers[4], numbers[5], numbers[6] != 0},
-        .shape = shape_found, .shape_len = second.a};
+        .shape = shape_found,
+        .shape_len = second.a};
     shadow_open(shadow, &options);
     if (first_name_of(config) != 0) {
         CHECK(relkvanu_fence(&shadow->handle, first_name_of(config)).what == RELKVANU_NAMED, "%s", config);
@@ -92,8 +98,8 @@ void shadow_make(struct shadow *shadow, const struct told *told) {
     CHECK(told->place == shadow->place + 1, "call %" PRIu64 " comes after call %" PRIu64, told->place, shadow->place);
     relkvanu_answer got = relkvanu_line(&shadow->handle, (const uint8_t *)told->line, strlen(told->line), files, 4096);
     CHECK(got.code == RELKVANU_DONE && got.what == told->what && got.a == told->a && got.b == told->b,
-        "call %" PRIu64 ", %s: %" PRIu32 "/%" PRIu32 " %" PRIu64 " %" PRIu64 ", and not %" PRIu32 " %" PRIu64 " %" PRIu64, told->place, told->line, got.code,
-        got.what, got.a, got.b, told->what, told->a, told->b);
+        "call %" PRIu64 ", %s: %" PRIu32 "/%" PRIu32 " %" PRIu64 " %" PRIu64 ", and not %" PRIu32 " %" PRIu64 " %" PRIu64, told->place,
+        told->line, got.code, got.what, got.a, got.b, told->what, told->a, told->b);
     shadow->place++;
 }
 
@@ -129,8 +135,8 @@ struct told *log_rows(const char *path, uint64_t after, size_t *len) {
         rows = realloc(rows, room * sizeof *rows);
         CHECK(rows != NULL, "no memory");
         struct told *row = &rows[(*len)++];
-        *row = (struct told){(uint64_t)sqlite3_column_int64(it, 0), (uint64_t)sqlite3_column_int64(it, 1), (uint64_t)sqlite3_column_int64(it, 2),
-            (uint32_t)sqlite3_column_int64(it, 3), ""};
+        *row = (struct told){(uint64_t)sqlite3_column_int64(it, 0), (uint64_t)sqlite3_column_int64(it, 1),
+            (uint64_t)sqlite3_column_int64(it, 2), (uint32_t)sqlite3_column_int64(it, 3), ""};
         snprintf(row->line, sizeof row->line, "%s", (const char *)sqlite3_column_text(it, 4));
     }
     CHECK(code == SQLITE_DONE, "%s", sqlite3_errmsg(db));

@@ -14,15 +14,15 @@
 
 enum { SUBTASKS = 8, LINE = 400, PATHS = 600, MOST_FILES = 64 };
 
-#define CHECK(condition, ...)                                              \
-    do {                                                                   \
-        if (!(condition)) {                                                \
+#define CHECK(condition, ...)                                               \
+    do {                                                                    \
+        if (!(condition)) {                                                 \
             fprintf(stderr, "%s:%d: %s: ", __FILE__, __LINE__, #condition); \
-            fprintf(stderr, __VA_ARGS__);                                  \
-            fputc('\n', stderr);                                           \
-            fflush(stderr);                                                \
-            abort();                                                       \
-        }                                                                  \
+            fprintf(stderr, __VA_ARGS__);                                   \
+            fputc('\n', stderr);                                            \
+            fflush(stderr);                                                 \
+            abort();                                                        \
+        }                                                                   \
     } while (0)
 
 /* What a caller was told, or what the log has. */

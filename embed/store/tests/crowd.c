@@ -26,7 +26,8 @@ static int open_again(void) {
         status = relkvanu_store_open(&store, path, &options, &report);
     }
     CHECK(status == RELKVANU_STORE_OK, "status %d: %s", status, report.message);
-    CHECK(report.term >= term && report.next_name >= next_name && (report.term != 0) == has_names, "term %" PRIu64 ", next name %" PRIu64, report.term, report.next_name);
+    CHECK(report.term >= term && report.next_name >= next_name && (report.term != 0) == has_names, "term %" PRIu64 ", next name %" PRIu64,
+        report.term, report.next_name);
     term = report.term;
     if (file < report.epoch * 10000000) {
         file = report.epoch * 10000000;
@@ -50,15 +51,15 @@ static void reopen(void) {
 
 static void raise_to(atomic_uint_fast64_t *last, uint64_t told) {
     uint_fast64_t before = *last;
-    while (before < told && !atomic_compare_exchange_weak(last, &before, told)) {
-    }
+    while (before < told && !atomic_compare_exchange_weak(last, &before, told)) {}
 }
 
 static int make(relkvanu_store_call *calls, size_t len) {
     pthread_rwlock_rdlock(&use);
     int status = relkvanu_store_calls(store, calls, len);
     for (size_t i = 0; i < len; i++) {
-        CHECK(status == RELKVANU_STORE_OK || (calls[i].answer.code == RELKVANU_STORE_NOT_MADE && calls[i].place == 0), "an answer with the status %d", status);
+        CHECK(status == RELKVANU_STORE_OK || (calls[i].answer.code == RELKVANU_STORE_NOT_MADE && calls[i].place == 0),
+            "an answer with the status %d", status);
         tell(told_to, &calls[i]);
         raise_to(&term, calls[i].term);
         raise_to(&next_name, names_of(&calls[i].answer).end);
@@ -95,7 +96,8 @@ static void discard(unsigned *seed) {
     size_t len = make(calls, 1) == RELKVANU_STORE_OK ? calls[0].answer.a : 0;
     memset(calls, 0, sizeof calls);
     for (size_t i = 0; i < len; i++) {
-        calls[i].call = (relkvanu_call){.kind = rand_r(seed) % 8 != 0 ? RELKVANU_CALL_DELETED : RELKVANU_CALL_UNDELETED, .number = files[i]};
+        calls[i].call =
+            (relkvanu_call){.kind = rand_r(seed) % 8 != 0 ? RELKVANU_CALL_DELETED : RELKVANU_CALL_UNDELETED, .number = files[i]};
     }
     if (len != 0) {
         make(calls, len);
@@ -139,7 +141,11 @@ static void acknowledge(struct task *t, unsigned *seed, uint64_t id, uint16_t in
     fresh[0] = has_names ? t->held.next : atomic_fetch_add(&file, 2);
     fresh[1] = fresh[0] + 1;
     t->held.next += has_names ? 2 : 0;
-    relkvanu_store_call call = {.call = {.kind = RELKVANU_CALL_ACK, .number = id, .index = index}, .first = fresh, .first_len = 2, .second = &reused, .second_len = reused != 0};
+    relkvanu_store_call call = {.call = {.kind = RELKVANU_CALL_ACK, .number = id, .index = index},
+        .first = fresh,
+        .first_len = 2,
+        .second = &reused,
+        .second_len = reused != 0};
     relkvanu_store_call forfeit = {.call = {.kind = RELKVANU_CALL_FORFEIT}, .first = fresh, .first_len = 2};
     uint32_t code = has_names ? make_in(t, &call) : (uint32_t)make(&call, 1);
     if (has_names && (code == RELKVANU_REFUSED || rand_r(seed) % 20 == 0)) {
@@ -161,7 +167,10 @@ static void *calls(void *with) {
         } else if (pick < 25) {
             discard(&seed);
         } else if (pick < 27) {
-            call.call = (relkvanu_call){.kind = pick < 26 ? RELKVANU_CALL_RESTORE : RELKVANU_CALL_DECLINE, .now = 1, .number = pick < 26 ? 0 : pending, .index = me % SUBTASKS,
+            call.call = (relkvanu_call){.kind = pick < 26 ? RELKVANU_CALL_RESTORE : RELKVANU_CALL_DECLINE,
+                .now = 1,
+                .number = pick < 26 ? 0 : pending,
+                .index = me % SUBTASKS,
                 .term = pick < 26 ? 0 : task.term};
             make(&call, 1);
         } else {

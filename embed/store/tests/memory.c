@@ -78,13 +78,14 @@ static void watch_sqlite(void) {
     sqlite3_mem_methods mine = lite;
     mine.xMalloc = lite_malloc;
     mine.xRealloc = lite_realloc;
-    CHECK(sqlite3_config(SQLITE_CONFIG_MALLOC, &mine) == SQLITE_OK && sqlite3_config(SQLITE_CONFIG_LOOKASIDE, 0, 0) == SQLITE_OK, "SQLite's allocator");
+    CHECK(sqlite3_config(SQLITE_CONFIG_MALLOC, &mine) == SQLITE_OK && sqlite3_config(SQLITE_CONFIG_LOOKASIDE, 0, 0) == SQLITE_OK,
+        "SQLite's allocator");
 }
 
 static char path[PATHS], storage[PATHS];
 static struct told told[400];
 static size_t told_len;
-static char words[RELKVANU_STORE_MESSAGE]; /* of the last opening */
+static char words[RELKVANU_STORE_MESSAGE];    /* of the last opening */
 static uint32_t plain = RELKVANU_STORE_PLAIN; /* or 0: the job has names */
 static uint64_t term;                         /* 0: the job has none */
 
@@ -111,7 +112,8 @@ static int make(relkvanu_store *store, relkvanu_store_call *calls, size_t len) {
         if (status == RELKVANU_STORE_OK && calls[i].place != 0) {
             told[told_len++] = told_of(&calls[i]);
         }
-        bool has_none = status == RELKVANU_STORE_OK && (calls[i].answer.code == RELKVANU_NO_MEMORY || calls[i].answer.code == RELKVANU_STORE_NOT_MADE);
+        bool has_none =
+            status == RELKVANU_STORE_OK && (calls[i].answer.code == RELKVANU_NO_MEMORY || calls[i].answer.code == RELKVANU_STORE_NOT_MADE);
         CHECK(status == RELKVANU_STORE_OK || calls[i].answer.code == RELKVANU_STORE_NOT_MADE, "an answer with the status %d", status);
         status = has_none ? RELKVANU_STORE_NO_MEMORY : status;
     }
@@ -151,14 +153,16 @@ static int work(relkvanu_store *store, uint64_t file) {
     for (size_t i = 0; i < SUBTASKS; i++) {
         files[i][0] = file + 2 * i;
         files[i][1] = file + 2 * i + 1;
-        calls[i] = (relkvanu_store_call){.call = {.kind = RELKVANU_CALL_ACK, .number = id, .index = (uint16_t)i, .term = term}, .first = files[i], .first_len = 2};
+        calls[i] = (relkvanu_store_call){
+            .call = {.kind = RELKVANU_CALL_ACK, .number = id, .index = (uint16_t)i, .term = term}, .first = files[i], .first_len = 2};
     }
     calls[SUBTASKS] = (relkvanu_store_call){.call = {.kind = RELKVANU_CALL_TAKE, .number = 4}, .files = taken, .files_len = 4};
     calls[SUBTASKS + 1] = (relkvanu_store_call){.call = {.kind = RELKVANU_CALL_RESTORE}};
     if ((status = make(store, calls, SUBTASKS + 2)) != RELKVANU_STORE_OK) {
         return status;
     }
-    CHECK((term == 0) == (calls[SUBTASKS + 1].term == 0) && (term == 0 || calls[SUBTASKS + 1].term == term + 1), "the term %" PRIu64, calls[SUBTASKS + 1].term);
+    CHECK((term == 0) == (calls[SUBTASKS + 1].term == 0) && (term == 0 || calls[SUBTASKS + 1].term == term + 1), "the term %" PRIu64,
+        calls[SUBTASKS + 1].term);
     term = calls[SUBTASKS + 1].term;
     status = relkvanu_store_unknown(store, list, &len);
     CHECK(status != RELKVANU_STORE_OK || len <= 2, "a sweep");
@@ -224,8 +228,8 @@ static void check_job(void) {
     CHECK(len >= told_len && len <= told_len + SUBTASKS + 2, "%zu calls, %zu were told", len, told_len);
     shadow_open_as(&shadow, path);
     for (size_t i = 0; i < len; i++) {
-        CHECK(i >= told_len || (rows[i].place == told[i].place && strcmp(rows[i].line, told[i].line) == 0 && rows[i].a == told[i].a), "call %zu: %s, not %s", i + 1,
-            rows[i].line, told[i].line);
+        CHECK(i >= told_len || (rows[i].place == told[i].place && strcmp(rows[i].line, told[i].line) == 0 && rows[i].a == told[i].a),
+            "call %zu: %s, not %s", i + 1, rows[i].line, told[i].line);
         shadow_make(&shadow, &rows[i]);
     }
     CHECK(relkvanu_store_open(&store, path, &options, &report) == RELKVANU_STORE_OK && shadow_equals(&shadow, store), "another image");
@@ -244,8 +248,8 @@ static bool refuse(enum kind kind, unsigned long nth, bool is_for_good, bool is_
     int status = open_and_work(10001, RELKVANU_STORE_NO_IMAGES);
     bool is_reached = kind == COORDINATOR ? heap_requests() >= nth : requests >= nth;
     set_none();
-    CHECK(status == RELKVANU_STORE_OK || status == RELKVANU_STORE_NO_MEMORY || status == RELKVANU_STORE_OUT_OF_MEMORY || status == RELKVANU_STORE_CLOSED ||
-              (kind == SQLITE && status == RELKVANU_STORE_FAILED),
+    CHECK(status == RELKVANU_STORE_OK || status == RELKVANU_STORE_NO_MEMORY || status == RELKVANU_STORE_OUT_OF_MEMORY ||
+              status == RELKVANU_STORE_CLOSED || (kind == SQLITE && status == RELKVANU_STORE_FAILED),
         "status %d: %s", status, words);
     check_job();
     return is_reached;
@@ -308,8 +312,10 @@ static int use_folder(const relkvanu_storage_options *options) {
     CHECK((it.with != NULL) == (status == RELKVANU_STORAGE_OK), "status %d", status);
     if (status == RELKVANU_STORAGE_OK) {
         status = it.put(it.with, 7, "state", 5);
-        CHECK(status == RELKVANU_STORAGE_OK && it.list(it.with, 0, no_page, NULL) == RELKVANU_STORAGE_OK, "only the opening asks for memory");
-        CHECK(it.delete_files(it.with, &file, 1, &outcome) == RELKVANU_STORAGE_OK && outcome == RELKVANU_STORAGE_DELETED, "outcome %d", outcome);
+        CHECK(
+            status == RELKVANU_STORAGE_OK && it.list(it.with, 0, no_page, NULL) == RELKVANU_STORAGE_OK, "only the opening asks for memory");
+        CHECK(it.delete_files(it.with, &file, 1, &outcome) == RELKVANU_STORAGE_OK && outcome == RELKVANU_STORAGE_DELETED, "outcome %d",
+            outcome);
     }
     relkvanu_storage_close_folder(&it);
     return status;
@@ -348,7 +354,8 @@ int main(int argc, char **argv) {
                 continue; /* the heap of the tests refuses one */
             }
             unsigned tried = refuse_each((enum kind)kind, is_for_good, way >= 2);
-            printf("store: memory of %s, %s, of a %s: up to request %u\n", names[kind], is_for_good ? "for good" : "once", way >= 2 ? "recovery" : "new job", tried);
+            printf("store: memory of %s, %s, of a %s: up to request %u\n", names[kind], is_for_good ? "for good" : "once",
+                way >= 2 ? "recovery" : "new job", tried);
             passed++;
         }
     }

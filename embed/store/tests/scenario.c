@@ -12,9 +12,9 @@ enum { LIST = 5, RESERVED = 20 };
 
 static relkvanu_store *store;
 static int told_to;
-static uint64_t epoch, term; /* 0: the job has no names */
+static uint64_t epoch, term;  /* 0: the job has no names */
 static bool has_files, turns; /* what MODE says */
-static struct names held; /* names that no file has so far */
+static struct names held;     /* names that no file has so far */
 static uint64_t given_up[RESERVED];
 static size_t given_up_len;
 
@@ -26,7 +26,8 @@ static int make(relkvanu_store_call *calls, size_t len) {
         }
     }
     for (size_t i = 0; i < len && status != RELKVANU_STORE_OK; i++) {
-        CHECK(calls[i].answer.code == RELKVANU_STORE_NOT_MADE && calls[i].place == 0 && calls[i].term == 0, "an answer with the status %d", status);
+        CHECK(calls[i].answer.code == RELKVANU_STORE_NOT_MADE && calls[i].place == 0 && calls[i].term == 0, "an answer with the status %d",
+            status);
     }
     return status;
 }
@@ -102,12 +103,15 @@ static int forfeit(void) {
 /* A task that should be dead goes on: nothing of it is made. */
 static int old_task(const struct state *state) {
     uint64_t file = held.next;
-    relkvanu_store_call calls[] = {{.call = {.kind = RELKVANU_CALL_ACK, .index = SUBTASKS - 1, .number = state->pending, .term = term - 1}, .first = &file, .first_len = 1},
-        {.call = {.kind = RELKVANU_CALL_DECLINE, .number = state->pending, .term = term - 1}}, {.call = {.kind = RELKVANU_CALL_RESERVE, .number = 1, .term = term - 1}}};
+    relkvanu_store_call calls[] = {{.call = {.kind = RELKVANU_CALL_ACK, .index = SUBTASKS - 1, .number = state->pending, .term = term - 1},
+                                       .first = &file,
+                                       .first_len = 1},
+        {.call = {.kind = RELKVANU_CALL_DECLINE, .number = state->pending, .term = term - 1}},
+        {.call = {.kind = RELKVANU_CALL_RESERVE, .number = 1, .term = term - 1}}};
     int status = make(calls, 3);
     for (size_t i = 0; i < 3 && status == RELKVANU_STORE_OK; i++) {
-        CHECK(calls[i].answer.code == RELKVANU_FENCED && calls[i].answer.what == RELKVANU_OLD_TERM && calls[i].place == 0, "an old task's call %zu: code %" PRIu32, i,
-            calls[i].answer.code);
+        CHECK(calls[i].answer.code == RELKVANU_FENCED && calls[i].answer.what == RELKVANU_OLD_TERM && calls[i].place == 0,
+            "an old task's call %zu: code %" PRIu32, i, calls[i].answer.code);
     }
     return status;
 }
@@ -120,8 +124,12 @@ static int acknowledge(const struct state *state, uint64_t nth) {
         files[len][0] = made_file(epoch * 1000000 + nth * 100 + i * 2);
         files[len][1] = made_file(epoch * 1000000 + nth * 100 + i * 2 + 1);
         if (files[len][0] != 0 && files[len][1] != 0) {
-            calls[len] = (relkvanu_store_call){.call = {.kind = RELKVANU_CALL_ACK, .index = (uint16_t)(SUBTASKS - state->missing + i), .number = state->pending, .term = term},
-                .first = files[len], .first_len = 2};
+            calls[len] = (relkvanu_store_call){.call = {.kind = RELKVANU_CALL_ACK,
+                                                   .index = (uint16_t)(SUBTASKS - state->missing + i),
+                                                   .number = state->pending,
+                                                   .term = term},
+                .first = files[len],
+                .first_len = 2};
             len++;
         } else if (files[len][0] + files[len][1] != 0) {
             given_up[given_up_len++] = files[len][0] + files[len][1]; /* the one that was put */
@@ -133,12 +141,14 @@ static int acknowledge(const struct state *state, uint64_t nth) {
 }
 
 static int restore(void) {
-    relkvanu_store_call calls[] = {{.call = {.kind = RELKVANU_CALL_RESTORE}}, {.call = {.kind = RELKVANU_CALL_FENCE, .number = epoch * 1000000}}};
+    relkvanu_store_call calls[] = {
+        {.call = {.kind = RELKVANU_CALL_RESTORE}}, {.call = {.kind = RELKVANU_CALL_FENCE, .number = epoch * 1000000}}};
     bool begins = turns && term == 0;
     int status = make(calls, begins ? 2 : 1);
     if (status == RELKVANU_STORE_OK) {
         uint64_t next = begins ? calls[1].term : calls[0].term;
-        CHECK(begins ? calls[1].answer.what == RELKVANU_NAMED && next == 1 : next == term + (term != 0), "term %" PRIu64 " after %" PRIu64, next, term);
+        CHECK(begins ? calls[1].answer.what == RELKVANU_NAMED && next == 1 : next == term + (term != 0), "term %" PRIu64 " after %" PRIu64,
+            next, term);
         term = next;
         held.next = held.end;
     }
@@ -234,7 +244,8 @@ static void check_folder(const char *folder) {
         found += it->d_name[0] != '.';
         CHECK(it->d_name[0] == '.' || relkvanu_count(handle, strtoull(it->d_name, NULL, 10)).b != 0, "%s is left", it->d_name);
     }
-    CHECK(found == relkvanu_file_counts(handle).in_use, "%" PRIu64 " of %" PRIu64 " files are there", found, relkvanu_file_counts(handle).in_use);
+    CHECK(found == relkvanu_file_counts(handle).in_use, "%" PRIu64 " of %" PRIu64 " files are there", found,
+        relkvanu_file_counts(handle).in_use);
     relkvanu_store_read_end(store);
     closedir(listing);
 }

@@ -461,13 +461,13 @@ static int open_of(int at, const char *name, int flags, int mode) {
     return result;
 }
 
-#define MODE(mode)                      \
-    int mode = 0;                       \
+#define MODE(mode)                              \
+    int mode = 0;                               \
     if ((flags & (O_CREAT | O_TMPFILE)) != 0) { \
-        va_list more;                   \
-        va_start(more, flags);          \
-        mode = va_arg(more, int);       \
-        va_end(more);                   \
+        va_list more;                           \
+        va_start(more, flags);                  \
+        mode = va_arg(more, int);               \
+        va_end(more);                           \
     }
 
 int open(const char *name, int flags, ...) {
@@ -561,9 +561,19 @@ __attribute__((constructor)) static void see_raw_calls(void) {
     }
     dl_iterate_phdr(find_code, code);
     struct sock_filter filter[] = {
-        LOAD(nr), IS(SYS_openat, 4, 0), IS(SYS_unlinkat, 3, 0), IS(SYS_renameat, 2, 0), IS(SYS_renameat2, 1, 0), RETURN(SECCOMP_RET_ALLOW),
-        BPF_STMT(BPF_LD | BPF_W | BPF_ABS, offsetof(struct seccomp_data, instruction_pointer) + 4), IS(code[0] >> 32, 0, 4),
-        LOAD(instruction_pointer), REACHES(code[0], 0, 2), REACHES(code[1], 1, 0), RETURN(SECCOMP_RET_ALLOW), RETURN(SECCOMP_RET_TRAP),
+        LOAD(nr),
+        IS(SYS_openat, 4, 0),
+        IS(SYS_unlinkat, 3, 0),
+        IS(SYS_renameat, 2, 0),
+        IS(SYS_renameat2, 1, 0),
+        RETURN(SECCOMP_RET_ALLOW),
+        BPF_STMT(BPF_LD | BPF_W | BPF_ABS, offsetof(struct seccomp_data, instruction_pointer) + 4),
+        IS(code[0] >> 32, 0, 4),
+        LOAD(instruction_pointer),
+        REACHES(code[0], 0, 2),
+        REACHES(code[1], 1, 0),
+        RETURN(SECCOMP_RET_ALLOW),
+        RETURN(SECCOMP_RET_TRAP),
     };
     struct sock_fprog program = {sizeof filter / sizeof filter[0], filter};
     bool is_one_part = code[0] != 0 && code[0] >> 32 == code[1] >> 32;

@@ -18,12 +18,12 @@
 #include <sys/wait.h>
 #include <unistd.h>
 
-#define CHECK(condition)                                                      \
-    do {                                                                      \
-        if (!(condition)) {                                                   \
-            fprintf(stderr, "%s:%d: %s\n", __FILE__, __LINE__, #condition);   \
-            abort();                                                          \
-        }                                                                     \
+#define CHECK(condition)                                                    \
+    do {                                                                    \
+        if (!(condition)) {                                                 \
+            fprintf(stderr, "%s:%d: %s\n", __FILE__, __LINE__, #condition); \
+            abort();                                                        \
+        }                                                                   \
     } while (0)
 
 using namespace ckpt;
@@ -42,8 +42,12 @@ static std::atomic<long> left_to_allocate(-1); // -1: as many as are wanted
     throw std::bad_alloc();
 }
 
-[[gnu::noinline]] void operator delete(void *at) noexcept { free(at); }
-[[gnu::noinline]] void operator delete(void *at, std::size_t) noexcept { free(at); }
+[[gnu::noinline]] void operator delete(void *at) noexcept {
+    free(at);
+}
+[[gnu::noinline]] void operator delete(void *at, std::size_t) noexcept {
+    free(at);
+}
 
 static Folder opened(const fs::path &path, folder_options how = {}) {
     fs::create_directories(path);
@@ -59,7 +63,9 @@ static std::error_code why_not(const fs::path &path, const std::string &job, con
     return std::get<std::error_code>(it);
 }
 
-static void write_file(const fs::path &path, const std::string &text) { std::ofstream(path) << text; }
+static void write_file(const fs::path &path, const std::string &text) {
+    std::ofstream(path) << text;
+}
 
 static std::map<std::uint64_t, std::uint64_t> listed(Storage &it, std::size_t most = 0) {
     std::map<std::uint64_t, std::uint64_t> found;
@@ -82,7 +88,7 @@ static void whose_it_is(const fs::path &at) {
     Folder it = opened(at), moved = std::move(it);
     CHECK(!moved.check() && why_not(at, "others") == storage_error::other_job && why_not(at, "") == storage_error::bad_argument);
     CHECK(why_not(at, std::string("orders\0x", 8)) == storage_error::bad_argument &&
-        why_not(at, "orders", {false, "a/", "", "", ""}) == storage_error::bad_argument);
+          why_not(at, "orders", {false, "a/", "", "", ""}) == storage_error::bad_argument);
     it = opened(at);
     moved = std::move(it);
     CHECK(!moved.check() && std::holds_alternative<Folder>(Folder::open(at, "orders")));
@@ -100,8 +106,8 @@ static void files_of_a_folder(const fs::path &at) {
     Folder it = opened(at, {true, "a \xff%s-", "\n.bin", "", ""});
     std::string found;
     CHECK(!it.put(7, "state") && !it.put(UINT64_MAX, "") && it.put(7, "other") == storage_error::present);
-    CHECK(!it.get(7, found) && found == "state" && !it.get(UINT64_MAX, found) && found.empty() &&
-        it.get(8, found) == storage_error::absent);
+    CHECK(
+        !it.get(7, found) && found == "state" && !it.get(UINT64_MAX, found) && found.empty() && it.get(8, found) == storage_error::absent);
     CHECK(fs::exists(at / "a \xff%s-7\n.bin"));
     write_file(at / "a \xff%s-9\n.bin.part", "st");
     write_file(at / "a \xff%s-09\n.bin", "");
@@ -112,7 +118,7 @@ static void files_of_a_folder(const fs::path &at) {
     deletion outcomes[5];
     CHECK(!it.remove(all, outcomes));
     CHECK(outcomes[0] == deletion::undeleted && outcomes[1] == deletion::deleted && outcomes[2] == deletion::missing &&
-        outcomes[3] == deletion::deleted);
+          outcomes[3] == deletion::deleted);
     CHECK(outcomes[4] == deletion::deleted && listed(it).empty() && fs::exists(at / "9") && fs::exists(at / "a \xff%s-09\n.bin"));
     CHECK(it.remove(files(all, 2), outcomes) == storage_error::bad_argument);
 }
@@ -122,8 +128,8 @@ static void links(const fs::path &at) {
     std::string found;
     write_file(at / "notes", "state");
     fs::create_symlink("notes", at / "7");
-    CHECK(listed(it).empty() && it.get(7, found) == std::errc::too_many_symbolic_link_levels &&
-        it.put(7, "other") == storage_error::present);
+    CHECK(
+        listed(it).empty() && it.get(7, found) == std::errc::too_many_symbolic_link_levels && it.put(7, "other") == storage_error::present);
     const std::uint64_t file[] = {7};
     deletion outcome[1];
     CHECK(!it.remove(file, outcome) && outcome[0] == deletion::deleted && fs::exists(at / "notes") && !fs::is_symlink(at / "7"));
@@ -140,7 +146,7 @@ static void a_folder_that_is_removed(const fs::path &at) {
     CHECK(!it.remove(file, outcome) && outcome[0] == deletion::missing && fs::exists(at / "7"));
     fs::remove_all(at.string() + "-away");
     CHECK(it.check() == storage_error::not_there && it.put(8, "") == storage_error::not_there &&
-        it.remove(file, outcome) == storage_error::not_there);
+          it.remove(file, outcome) == storage_error::not_there);
     CHECK(outcome[0] == deletion::undeleted && fs::exists(at / "7") && !fs::exists(at / "8"));
 }
 
@@ -159,7 +165,7 @@ static void killed_in_a_put(const fs::path &at) {
     int status = 0;
     CHECK(waitpid(child, &status, 0) == child && WIFSIGNALED(status) && WTERMSIG(status) == SIGXFSZ);
     CHECK((listed(it) == std::map<std::uint64_t, std::uint64_t>{{7, 1000}}) && !fs::exists(at / "7") &&
-        it.put(7, contents) == storage_error::present);
+          it.put(7, contents) == storage_error::present);
     const std::uint64_t file[] = {7};
     deletion outcome[1];
     CHECK(!it.remove(file, outcome) && outcome[0] == deletion::deleted && !it.put(7, contents));
@@ -235,7 +241,9 @@ private:
     std::map<std::uint64_t, std::string> objects_;
 };
 
-static bool ends(void *, const relkvanu_storage_file *, std::size_t) { return false; }
+static bool ends(void *, const relkvanu_storage_file *, std::size_t) {
+    return false;
+}
 
 static void an_own_storage(const fs::path &) {
     Objects objects;
@@ -254,7 +262,7 @@ static void an_own_storage(const fs::path &) {
     CHECK(it.delete_files(it.with, all, 2, outcomes) == RELKVANU_STORAGE_OK && outcomes[0] == 1 && outcomes[1] == 2);
     objects.fault = std::make_error_code(std::errc::io_error);
     CHECK(it.check(it.with) == RELKVANU_STORAGE_FAILED && errno == EIO &&
-        it.delete_files(it.with, all, 2, outcomes) == RELKVANU_STORAGE_FAILED && outcomes[1] == 0);
+          it.delete_files(it.with, all, 2, outcomes) == RELKVANU_STORAGE_FAILED && outcomes[1] == 0);
     objects.fault = make_error_code(storage_error::other_job);
     CHECK(it.check(it.with) == RELKVANU_STORAGE_OTHER_JOB && objects.check().message() == "OtherJob");
 }

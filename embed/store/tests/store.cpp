@@ -11,12 +11,12 @@
 #include <sys/stat.h>
 #include <unistd.h>
 
-#define CHECK(condition)                                                        \
-    do {                                                                        \
-        if (!(condition)) {                                                     \
+#define CHECK(condition)                                                         \
+    do {                                                                         \
+        if (!(condition)) {                                                      \
             std::fprintf(stderr, "%s:%d: %s\n", __FILE__, __LINE__, #condition); \
-            std::abort();                                                       \
-        }                                                                       \
+            std::abort();                                                        \
+        }                                                                        \
     } while (0)
 
 static const std::uint64_t two[] = {2};
@@ -70,7 +70,8 @@ static void calls(const std::string &path) {
     const std::uint64_t bad[] = {0};
     CHECK(why(job.restore(0, bad)) == ckpt::store_error::bad_argument); /* no line has such a shape */
     auto other = ckpt::Store::open(path, options(RELKVANU_STORE_RECOVER));
-    CHECK(std::get<ckpt::not_opened>(other).why == ckpt::store_error::in_use && std::get<ckpt::not_opened>(other).message.find("process") != std::string::npos);
+    CHECK(std::get<ckpt::not_opened>(other).why == ckpt::store_error::in_use &&
+          std::get<ckpt::not_opened>(other).message.find("process") != std::string::npos);
     std::uint64_t wait = 0;
     CHECK(!job.next_tick(wait) && wait <= 20);
     CHECK(job.counts().calls == 3 && job.message().empty() && job.folder() == -1);
@@ -196,7 +197,8 @@ static void storage(const std::string &path) {
     job.stop();
     thread.join();
     CHECK(ended == ckpt::store_error::stopped && std::holds_alternative<ckpt::restored>(job.restore()));
-    CHECK(!job.sweep_storage(files, left) && left == 0 && access((folder + "/s-77").c_str(), F_OK) != 0 && access((folder + "/s-12").c_str(), F_OK) == 0);
+    CHECK(!job.sweep_storage(files, left) && left == 0 && access((folder + "/s-77").c_str(), F_OK) != 0 &&
+          access((folder + "/s-12").c_str(), F_OK) == 0);
     CHECK(rename((folder + "/s-.relkvanu-storage").c_str(), (folder + "/away").c_str()) == 0);
     CHECK(job.sweep_storage(files, left) == ckpt::store_error::storage && access((folder + "/s-12").c_str(), F_OK) == 0);
 }
@@ -235,7 +237,8 @@ static void names(const std::string &path) {
     CHECK(why(job.reserve(2, 0)) == ckpt::error::fenced_bad_count && why(job.fence(9)) == ckpt::error::fenced_has_names);
 
     ckpt::Store plain = opened(path + "7", RELKVANU_STORE_CREATE);
-    CHECK(plain.report().term == 0 && why(plain.term()) == ckpt::error::fenced_no_names && why(plain.garbage(all)) == ckpt::error::fenced_no_names);
+    CHECK(plain.report().term == 0 && why(plain.term()) == ckpt::error::fenced_no_names &&
+          why(plain.garbage(all)) == ckpt::error::fenced_no_names);
     CHECK(std::get<ckpt::restored>(plain.restore()).term == 0 && std::holds_alternative<ckpt::fenced>(plain.fence(10)));
     CHECK(std::get<ckpt::reserved>(plain.reserve(1, 2)).first == 10);
 }
@@ -274,7 +277,8 @@ static void limits(const std::string &path) {
     CHECK(not_opened(path, with, ckpt::store_error::bad_argument) == path + ": the shape has 0 vertices, and has to have 1 to 256");
     with.shape_len = 2;
     with.shape = empty;
-    CHECK(not_opened(path, with, ckpt::store_error::bad_argument) == path + ": the shape has 0 subtasks in vertex 1, and has to have at least 1 in each");
+    CHECK(not_opened(path, with, ckpt::store_error::bad_argument) ==
+          path + ": the shape has 0 subtasks in vertex 1, and has to have at least 1 in each");
     with.shape = large;
     CHECK(not_opened(path, with, ckpt::store_error::bad_argument) == path + ": the shape has 4097 subtasks, and has to have at most 4096");
 }

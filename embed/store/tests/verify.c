@@ -23,7 +23,9 @@ static struct told *read_told(const char *name, size_t *len) {
     while (from != NULL && fgets(line, sizeof line, from) != NULL) {
         struct told *it = &told[(*len)++];
         CHECK(*len < MOST_TOLD, "too many calls");
-        CHECK(sscanf(line, "%" SCNu64 " %" SCNu32 " %" SCNu64 " %" SCNu64 " %399[^\n]", &it->place, &it->what, &it->a, &it->b, it->line) == 5, "%s", line);
+        CHECK(
+            sscanf(line, "%" SCNu64 " %" SCNu32 " %" SCNu64 " %" SCNu64 " %399[^\n]", &it->place, &it->what, &it->a, &it->b, it->line) == 5,
+            "%s", line);
     }
     if (from != NULL) {
         fclose(from);
@@ -43,14 +45,15 @@ struct check {
 
 static void check_same(const struct told *told, const struct told *row) {
     CHECK(strcmp(row->line, told->line) == 0 && row->what == told->what && row->a == told->a && row->b == told->b,
-        "call %" PRIu64 " was told as %s: %" PRIu32 " %" PRIu64 " %" PRIu64 ", and the log has %s: %" PRIu32 " %" PRIu64 " %" PRIu64, told->place, told->line,
-        told->what, told->a, told->b, row->line, row->what, row->a, row->b);
+        "call %" PRIu64 " was told as %s: %" PRIu32 " %" PRIu64 " %" PRIu64 ", and the log has %s: %" PRIu32 " %" PRIu64 " %" PRIu64,
+        told->place, told->line, told->what, told->a, told->b, row->line, row->what, row->a, row->b);
 }
 
 /* What the call says of terms and names, read from its text. */
 static void check_names(struct check *c, const struct told *call) {
     uint64_t term;
-    bool has_term = sscanf(call->line, "in %" SCNu64, &term) == 1 || sscanf(call->line, "reserve %" SCNu64, &term) == 1 || sscanf(call->line, "forfeit %" SCNu64, &term) == 1;
+    bool has_term = sscanf(call->line, "in %" SCNu64, &term) == 1 || sscanf(call->line, "reserve %" SCNu64, &term) == 1 ||
+                    sscanf(call->line, "forfeit %" SCNu64, &term) == 1;
     if (call->what == RELKVANU_NAMED) {
         c->term = 1;
     } else if (c->term != 0 && call->what >= RELKVANU_RESTORED_CHECKPOINT && call->what <= RELKVANU_CANCELLED) {
@@ -59,7 +62,8 @@ static void check_names(struct check *c, const struct told *call) {
     CHECK(!has_term || term == c->term || !c->is_whole, "call %" PRIu64 ", %s, in the term %" PRIu64, call->place, call->line, c->term);
     c->term = has_term && term > c->term ? term : c->term; /* the beginning may be cut */
     if (call->what == RELKVANU_RESERVED) {
-        CHECK(call->a >= c->next_name && call->b >= 1, "call %" PRIu64 ": the names from %" PRIu64 " on are given again", call->place, call->a);
+        CHECK(call->a >= c->next_name && call->b >= 1, "call %" PRIu64 ": the names from %" PRIu64 " on are given again", call->place,
+            call->a);
         c->next_name = call->a + call->b;
     }
 }
@@ -75,7 +79,8 @@ static void check_files(const char *folder, relkvanu_store *store) {
                 char name[PATHS], contents[8] = "";
                 snprintf(name, sizeof name, "%s/storage/%" PRIu64, folder, files[at]);
                 FILE *from = fopen(name, "r");
-                CHECK(from != NULL && fread(contents, 1, sizeof contents, from) == 5 && memcmp(contents, "state", 5) == 0, "%s of record %" PRIu64, name, it.a);
+                CHECK(from != NULL && fread(contents, 1, sizeof contents, from) == 5 && memcmp(contents, "state", 5) == 0,
+                    "%s of record %" PRIu64, name, it.a);
                 fclose(from);
             }
         }
@@ -120,7 +125,8 @@ int main(int argc, char **argv) {
     struct check c = {.is_whole = true};
     CHECK(argc == 4 || argc == 5, "verify FOLDER TOLD MOST [files|backup]");
     bool is_backup = argc == 5 && strcmp(argv[4], "backup") == 0;
-    relkvanu_store_options options = options_in(argv[1], is_backup ? RELKVANU_STORE_BACKUP : RELKVANU_STORE_RECOVER, RELKVANU_STORE_NO_IMAGES);
+    relkvanu_store_options options =
+        options_in(argv[1], is_backup ? RELKVANU_STORE_BACKUP : RELKVANU_STORE_RECOVER, RELKVANU_STORE_NO_IMAGES);
     c.told = read_told(argv[2], &c.told_len);
     snprintf(path, sizeof path, "%s/x.db", argv[1]);
     int status = relkvanu_store_open(&store, path, &options, &report);
@@ -144,8 +150,8 @@ int main(int argc, char **argv) {
     uint64_t last = c.rows_len != 0 ? c.rows[c.rows_len - 1].place : 0;
     CHECK(report.image_place + report.replayed == last, "%" PRIu64 " calls", report.image_place + report.replayed);
     CHECK(!c.is_whole || shadow_equals(&c.shadow, store), "another image");
-    CHECK(report.term >= c.term && report.next_name >= c.next_name && (!c.is_whole || report.term == c.term), "term %" PRIu64 " after %" PRIu64
-          ", next name %" PRIu64 " after %" PRIu64, report.term, c.term, report.next_name, c.next_name);
+    CHECK(report.term >= c.term && report.next_name >= c.next_name && (!c.is_whole || report.term == c.term),
+        "term %" PRIu64 " after %" PRIu64 ", next name %" PRIu64 " after %" PRIu64, report.term, c.term, report.next_name, c.next_name);
     if (argc == 5 && !is_backup) {
         check_files(argv[1], store);
     }
