@@ -103,7 +103,8 @@ class Run:
         assert process.returncode == -signal.SIGKILL, told
 
     def verify(self, most, what=None):
-        ran = subprocess.run([self.bin / "verify", self.folder, self.told, str(most), *([what] if what else [])], stdout=subprocess.PIPE, stderr=subprocess.STDOUT, text=True, timeout=120)
+        command = [self.bin / "verify", self.folder, self.told, str(most), self.mode, *([what] if what else [])]
+        ran = subprocess.run(command, stdout=subprocess.PIPE, stderr=subprocess.STDOUT, text=True, timeout=120)
         assert ran.returncode == 0, ran.stdout
         words = ran.stdout.split()
         return int(words[0]), words[-1] == "whole"
