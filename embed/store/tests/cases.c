@@ -4,6 +4,7 @@
 #include <errno.h>
 #include <fcntl.h>
 #include <signal.h>
+#include <sys/resource.h>
 #include <sys/stat.h>
 #include <sys/wait.h>
 #include <unistd.h>
@@ -59,6 +60,13 @@ uint64_t checkpoint(relkvanu_store *store, uint64_t file) {
             answer.code, answer.what);
     }
     return ticked.b;
+}
+
+void limit_files(size_t bytes) {
+    struct rlimit limit;
+    CHECK(signal(SIGXFSZ, SIG_IGN) != SIG_ERR && getrlimit(RLIMIT_FSIZE, &limit) == 0, "limits");
+    limit.rlim_cur = bytes != 0 ? bytes : limit.rlim_max;
+    CHECK(setrlimit(RLIMIT_FSIZE, &limit) == 0, "the limit");
 }
 
 int in_child(int (*run)(void *with), void *with) {

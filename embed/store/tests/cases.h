@@ -21,6 +21,9 @@ uint64_t checkpoint(relkvanu_store *store, uint64_t file);
 /* Runs the function in a child, and returns its exit status. */
 int in_child(int (*run)(void *with), void *with);
 
+/* A write behind so many bytes of any file fails with EFBIG, and none does after 0. */
+void limit_files(size_t bytes);
+
 bool says(const char *words); /* whether the report's message has the words */
 
 struct test {

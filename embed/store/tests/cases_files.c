@@ -3,8 +3,6 @@
 
 #include <errno.h>
 #include <fcntl.h>
-#include <signal.h>
-#include <sys/resource.h>
 #include <sys/stat.h>
 #include <unistd.h>
 
@@ -52,14 +50,10 @@ static void a_number_is_put_once(void) {
 /* A file of more than 1000 bytes can't be written. */
 static void one_that_can_not_be_written(void) {
     relkvanu_store *store = opened();
-    struct rlimit before, limit;
     static char contents[2000];
-    CHECK(signal(SIGXFSZ, SIG_IGN) != SIG_ERR && getrlimit(RLIMIT_FSIZE, &before) == 0, "limits");
-    limit = before;
-    limit.rlim_cur = 1000;
-    CHECK(setrlimit(RLIMIT_FSIZE, &limit) == 0, "the limit");
+    limit_files(1000);
     int status = relkvanu_store_put(store, 7, contents, sizeof contents), error = errno;
-    CHECK(setrlimit(RLIMIT_FSIZE, &before) == 0, "no limit");
+    limit_files(0);
     CHECK(status == RELKVANU_STORE_NOT_PUT && error == EFBIG, "status %d, errno %d", status, error);
     CHECK(!has("storage/7") && !has("storage/7.part"), "a file is left");
     CHECK(relkvanu_store_put(store, 7, contents, sizeof contents) == RELKVANU_STORE_OK, "the same number once more");

@@ -10,7 +10,6 @@
 #include <signal.h>
 #include <stddef.h>
 #include <sys/prctl.h>
-#include <sys/resource.h>
 #include <sys/stat.h>
 #include <sys/syscall.h>
 #include <sys/wait.h>
@@ -174,14 +173,10 @@ static void files_of_a_folder(void) {
 /* A file of more than 1000 bytes can't be written. */
 static void one_that_can_not_be_put(void) {
     relkvanu_storage it = opened(NULL, NULL);
-    struct rlimit before, limit;
     static char contents[2000];
-    CHECK(signal(SIGXFSZ, SIG_IGN) != SIG_ERR && getrlimit(RLIMIT_FSIZE, &before) == 0, "limits");
-    limit = before;
-    limit.rlim_cur = 1000;
-    CHECK(setrlimit(RLIMIT_FSIZE, &limit) == 0, "the limit");
+    limit_files(1000);
     int status = it.put(it.with, 7, contents, sizeof contents), error = errno;
-    CHECK(setrlimit(RLIMIT_FSIZE, &before) == 0, "no limit");
+    limit_files(0);
     CHECK(status == RELKVANU_STORAGE_FAILED && error == EFBIG && listed(&it, 0).all == 0, "status %d, errno %d", status, error);
     CHECK(it.put(it.with, 7, contents, sizeof contents) == RELKVANU_STORAGE_OK, "the same number once more");
     relkvanu_storage_close_folder(&it);

@@ -8,7 +8,7 @@ at what is left.
   call, too: each file in use is there, and the next process leaves no other.
 - The same while a backup is made. Each backup that has its name is whole, and has what was answered before; what fails for the backup
   alone stops no call; and the next backup of that name succeeds.
-- A crowd of threads is killed at 200 random moments; loses power, so that only what was synced is left, or something of the rest (power.py);
+- A crowd of threads is killed at 40 random moments; loses power, so that only what was synced is left, or something of the rest (power.py);
   and goes on after syncs that fail. ROUNDS (default 1) multiplies these.
 
 The last line has the counts."""
@@ -32,7 +32,7 @@ LISTS = 14  # of the scenario
 WORKERS = 3
 NOT_PUT = 15
 STOPS = 4  # of a crowd's job
-KILLED = 50  # jobs of crowds that are killed: 200 random moments
+KILLED = 10  # jobs of crowds that are killed: 40 random moments
 MOST_BESIDE = 24 * 6 * 40  # calls of a long crowd that nobody was told
 LEAST_LOST = 200  # losses that take something which a killed process leaves
 
@@ -103,7 +103,8 @@ class Run:
         assert process.returncode == -signal.SIGKILL, told
 
     def verify(self, most, what=None):
-        ran = subprocess.run([self.bin / "verify", self.folder, self.told, str(most), *([what] if what else [])], stdout=subprocess.PIPE, stderr=subprocess.STDOUT, text=True, timeout=120)
+        command = [self.bin / "verify", self.folder, self.told, str(most), self.mode, *([what] if what else [])]
+        ran = subprocess.run(command, stdout=subprocess.PIPE, stderr=subprocess.STDOUT, text=True, timeout=120)
         assert ran.returncode == 0, ran.stdout
         words = ran.stdout.split()
         return int(words[0]), words[-1] == "whole"
@@ -210,28 +211,31 @@ class Tests:
         return ended != 0 or status != 0 or calls != 0
 
     def backups(self, base):
-        self.each(base, 3000, self.backup_at, die="N")
-        self.each(base, 3000, self.backup_at, step=self.step(3), die="N", die_after=1)
+        self.each(base, self.backup_at, die="N")
+        self.each(base, self.backup_at, step=self.step(3), die="N", die_after=1)
         for loss in Loss:
-            self.each(base, 3000, self.backup_at, step=self.step(9), die="N", loss=loss)
+            self.each(base, self.backup_at, step=self.step(3), die="N", loss=loss)
         for often in (1, 0):
             for fault in ("any", "short", "full", "quota", "sync", "read"):
-                self.each(base, 3000, self.backup_at, step=self.step(1 if fault == "any" else 2), fault=fault, at="N", on="/backups", **{"for": often})
-        self.each(base, 3000, self.backup_at, step=self.step(5), fault="any", at="N", **{"for": 1})
+                self.each(base, self.backup_at, fault=fault, at="N", on="/backups", **{"for": often})
+        self.each(base, self.backup_at, step=self.step(5), fault="any", at="N", **{"for": 1})
 
-    def each(self, base, most, run_at=None, step=1, **what):
-        """The n-th call for each n, until the scenario ends without the fault."""
-        name = f"{base.work.name} {what}"
-        reached = 0
+    def each(self, base, run_at=None, step=1, **what):
+        """The n-th call for each n."""
+        name, run_at = f"{base.work.name} {what}", run_at or self.at
+        numbers = range(1, self.calls(base, run_at, what) + 1, step)
         with concurrent.futures.ThreadPoolExecutor(WORKERS) as pool:
-            for begin in range(1, most, 30 * step):
-                numbers = range(begin, begin + 30 * step, step)
-                found = list(pool.map(lambda it: self.note(f"{name} at {it}", run_at or self.at, base, it, what), numbers))
-                reached += sum(it is True for it in found)
-                if not any(found):
-                    break
+            found = list(pool.map(lambda it: self.note(f"{name} at {it}", run_at, base, it, what), numbers))
+        reached = sum(it is True for it in found)  # some faults change nothing that anybody is told
         self.note(f"{name}: {reached} reached", lambda: check(reached > 0, "the fault was never reached"))
-        return reached
+
+    def calls(self, base, run_at, what):
+        """How many calls of a run might fail so."""
+        run, count = base.copy(self.folder()), self.folder()
+        given = {name: 10 ** 9 if value == "N" else value for name, value in what.items() if name != "loss"}
+        (run.saves if run_at == self.backup_at else run.scenario)(count=count, **given)
+        shutil.rmtree(run.work)
+        return int(count.read_text())
 
     def step(self, step):
         """With more rounds each call is tried."""
@@ -239,31 +243,31 @@ class Tests:
 
     def ends(self, base):
         """The end after one call and that before the next differ in nothing but what was told."""
-        self.each(base, 3000, die="N")
-        self.each(base, 3000, step=self.step(7), die="N", die_after=1)
+        self.each(base, die="N")
+        self.each(base, step=self.step(7), die="N", die_after=1)
 
     def faults(self, base):
         for often in (1, 0):
-            self.each(base, 3000, step=1 if often else self.step(3), fault="any", at="N", **{"for": often})
-            self.each(base, 3000, step=self.step(7), fault="short", at="N", **{"for": often})
-            self.each(base, 3000, step=self.step(11), fault="full", at="N", **{"for": often})
-        self.each(base, 3000, step=self.step(11), fault="quota", at="N")
+            self.each(base, step=1 if often else self.step(3), fault="any", at="N", **{"for": often})
+            self.each(base, step=self.step(7), fault="short", at="N", **{"for": often})
+            self.each(base, step=self.step(11), fault="full", at="N", **{"for": often})
+        self.each(base, step=self.step(11), fault="quota", at="N")
 
     def reads(self, base):
         for often in (1, 0):
-            self.each(base, 600, step=self.step(5), fault="read", at="N", **{"for": often})
+            self.each(base, fault="read", at="N", **{"for": often})
 
     def names(self, new, killed, plain):
         """Jobs with names, and a plain one that gets some."""
         for base in (new, killed):
-            self.each(base, 6000, step=self.step(13), die="N")
-            self.each(base, 6000, step=self.step(17), fault="any", at="N", **{"for": 1})
-            self.each(base, 6000, step=self.step(61), fault="any", at="N", **{"for": 0})
+            self.each(base, step=self.step(13), die="N")
+            self.each(base, step=self.step(17), fault="any", at="N", **{"for": 1})
+            self.each(base, step=self.step(61), fault="any", at="N", **{"for": 0})
             for loss in Loss:
-                self.each(base, 6000, step=self.step(61), die="N", loss=loss)
+                self.each(base, step=self.step(23), die="N", loss=loss)
         turning = plain.copy(self.folder(), "turn")
-        self.each(turning, 3000, step=self.step(5), die="N")
-        self.each(turning, 3000, step=self.step(5), fault="any", at="N", **{"for": 1})
+        self.each(turning, step=self.step(5), die="N")
+        self.each(turning, step=self.step(5), fault="any", at="N", **{"for": 1})
 
     def controls(self):
         """If a sync is left out, a loss of power does harm: otherwise the others would show nothing."""

@@ -6,6 +6,7 @@
  * later ones; STORE_RANDOM=p: each fails with 1/p; STORE_ON: only paths with this text, or that end with it if it ends with $. "change" is a
  * file that is made, cut, renamed or removed.
  * "grow" lets files grow by STORE_GROWS bytes from one sync to the next: writes behind these fail with the error number STORE_ERROR.
+ * STORE_COUNT=FILE: at the end of the process gets how many calls were counted for STORE_DIE or STORE_AT.
  * STORE_JOURNAL=FILE: appends what the process does to the files, and embed/power.py makes of it what a loss of power leaves. Processes may
  * share it. What one writes to the file STORE_TOLD is in it too: others have learned that then.
  * STORE_DELAY: a sync takes so many microseconds longer.
@@ -136,6 +137,14 @@ static bool fails(const char *kind, const char *path) {
     }
     long nth = __atomic_add_fetch(&faulty, 1, __ATOMIC_SEQ_CST), from = number("STORE_AT", 1), len = number("STORE_FOR", 1);
     return nth >= from && (len == 0 || nth < from + len);
+}
+
+__attribute__((destructor)) static void tell_count(void) {
+    FILE *to = getenv("STORE_COUNT") != NULL ? fopen(getenv("STORE_COUNT"), "w") : NULL;
+    if (to != NULL) {
+        fprintf(to, "%ld\n", calls + faulty);
+        fclose(to);
+    }
 }
 
 /* Appends a record, in one write. */

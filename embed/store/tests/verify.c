@@ -1,4 +1,4 @@
-/* verify FOLDER TOLD MOST [files|backup]: opens the job FOLDER/x.db again, and checks that each call of TOLD is there as it was told, unless the log was cut
+/* verify FOLDER TOLD MOST MODE [files|backup]: opens the job FOLDER/x.db again, and checks that each call of TOLD is there as it was told, unless the log was cut
  * there; that at most MOST calls are there beside those; and that a second coordinator answers all calls as they were answered, and then
  * has the same image. In a job with names no name was given twice, no term came back, and both go on from what was told; with "files" each file in
  * use is in the folder, whole. The calls beside are appended to TOLD, for a next run. The last word of the line that it prints is "part" if the log was
@@ -118,24 +118,31 @@ static void compare(struct check *c) {
     }
 }
 
+/* Opens the job, and closes it. If nobody was told of a call, the process may have ended before there was a job: then one of the mode is made. */
+static void open_first(const char *path, relkvanu_store_options *options, const char *mode, bool is_told) {
+    relkvanu_store *store;
+    relkvanu_store_report report;
+    int status = relkvanu_store_open(&store, path, options, &report);
+    if (status == RELKVANU_STORE_ABSENT && !is_told) {
+        options->flags = RELKVANU_STORE_CREATE | (strcmp(mode, "plain") == 0 ? RELKVANU_STORE_PLAIN : 0);
+        status = relkvanu_store_open(&store, path, options, &report);
+    }
+    CHECK(status == RELKVANU_STORE_OK, "status %d: %s", status, report.message);
+    relkvanu_store_close(store);
+}
+
 int main(int argc, char **argv) {
     char path[PATHS];
     relkvanu_store *store;
     relkvanu_store_report report;
     struct check c = {.is_whole = true};
-    CHECK(argc == 4 || argc == 5, "verify FOLDER TOLD MOST [files|backup]");
-    bool is_backup = argc == 5 && strcmp(argv[4], "backup") == 0;
+    CHECK(argc == 5 || argc == 6, "verify FOLDER TOLD MOST MODE [files|backup]");
+    bool is_backup = argc == 6 && strcmp(argv[5], "backup") == 0;
     relkvanu_store_options options =
         options_in(argv[1], is_backup ? RELKVANU_STORE_BACKUP : RELKVANU_STORE_RECOVER, RELKVANU_STORE_NO_IMAGES);
     c.told = read_told(argv[2], &c.told_len);
     snprintf(path, sizeof path, "%s/x.db", argv[1]);
-    int status = relkvanu_store_open(&store, path, &options, &report);
-    if (status == RELKVANU_STORE_ABSENT && c.told_len == 0) {
-        options.flags = RELKVANU_STORE_CREATE;
-        status = relkvanu_store_open(&store, path, &options, &report);
-    }
-    CHECK(status == RELKVANU_STORE_OK, "status %d: %s", status, report.message);
-    relkvanu_store_close(store);
+    open_first(path, &options, argv[4], c.told_len != 0);
     c.rows = log_rows(path, 0, &c.rows_len);
     c.to = told_file(argv[2]);
     shadow_open_as(&c.shadow, path);
@@ -145,14 +152,14 @@ int main(int argc, char **argv) {
     compare(&c);
     options.flags &= ~RELKVANU_STORE_BACKUP;
     CHECK(c.beside <= strtoull(argv[3], NULL, 10), "%zu calls beside those that were told", c.beside);
-    status = relkvanu_store_open(&store, path, &options, &report);
+    int status = relkvanu_store_open(&store, path, &options, &report);
     CHECK(status == RELKVANU_STORE_OK, "status %d: %s", status, report.message);
     uint64_t last = c.rows_len != 0 ? c.rows[c.rows_len - 1].place : 0;
     CHECK(report.image_place + report.replayed == last, "%" PRIu64 " calls", report.image_place + report.replayed);
     CHECK(!c.is_whole || shadow_equals(&c.shadow, store), "another image");
     CHECK(report.term >= c.term && report.next_name >= c.next_name && (!c.is_whole || report.term == c.term),
         "term %" PRIu64 " after %" PRIu64 ", next name %" PRIu64 " after %" PRIu64, report.term, c.term, report.next_name, c.next_name);
-    if (argc == 5 && !is_backup) {
+    if (argc == 6 && !is_backup) {
         check_files(argv[1], store);
     }
     relkvanu_store_close(store);

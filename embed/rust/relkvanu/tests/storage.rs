@@ -1,10 +1,13 @@
 //! A storage: a folder, its errors, an end in the middle of a put, links, odd names and pages; and a store over a storage of the engine.
 #![cfg(feature = "store")]
+mod common;
+
+use common::{new_job, triggered, Place};
 use relkvanu::storage::{
     Deletion, Folder, FolderOptions, Page, Storage, StorageError, StoredFile, PAGE,
 };
-use relkvanu::store::{Options, Store, StoreErrorKind, NOW};
-use relkvanu::{Answer, Call, Settings};
+use relkvanu::store::{Store, StoreErrorKind, NOW};
+use relkvanu::{Answer, Call};
 use std::alloc::{GlobalAlloc, Layout, System};
 use std::cell::Cell;
 use std::collections::{BTreeMap, BTreeSet};
@@ -53,36 +56,14 @@ fn without_memory<T>(make: impl FnOnce() -> T) -> T {
     told
 }
 
-/// A folder of the test's own, which is removed.
-struct Place(PathBuf);
-
-impl Place {
-    fn new(name: &str) -> Place {
-        let path =
-            std::env::temp_dir().join(format!("relkvanu-storage-{name}-{}", std::process::id()));
-        fs::create_dir_all(path.join("state")).unwrap();
-        Place(path)
-    }
-
-    fn state(&self) -> PathBuf {
-        self.0.join("state")
-    }
-
-    fn opened(&self, prefix: &[u8], suffix: &[u8]) -> Folder {
-        let how = FolderOptions {
-            is_new: true,
-            prefix: prefix.to_vec(),
-            suffix: suffix.to_vec(),
-            marker: None,
-        };
-        Folder::open(&self.state(), "orders", &how).unwrap()
-    }
-}
-
-impl Drop for Place {
-    fn drop(&mut self) {
-        let _ = fs::remove_dir_all(&self.0);
-    }
+fn opened(place: &Place, prefix: &[u8], suffix: &[u8]) -> Folder {
+    let how = FolderOptions {
+        is_new: true,
+        prefix: prefix.to_vec(),
+        suffix: suffix.to_vec(),
+        marker: None,
+    };
+    Folder::open(&place.state(), "orders", &how).unwrap()
 }
 
 fn listed(storage: &dyn Storage, most: usize) -> BTreeMap<u64, u64> {
@@ -213,7 +194,7 @@ fn files_with_unusual_names() {
     let place = Place::new("files");
     let state = place.state();
     let (prefix, suffix) = (b"a \xff%s-", b"\n\"");
-    let folder = place.opened(prefix, suffix);
+    let folder = opened(&place, prefix, suffix);
     let name = |file: &str, end: &str| {
         file_of(
             &state,
@@ -261,7 +242,7 @@ fn files_with_unusual_names() {
 #[test]
 fn links_are_not_followed() {
     let place = Place::new("links");
-    let folder = place.opened(b"", b"");
+    let folder = opened(&place, b"", b"");
     let (elsewhere, link) = (place.0.join("elsewhere"), place.state().join("7"));
     fs::write(&elsewhere, "state").unwrap();
     symlink(&elsewhere, &link).unwrap();
@@ -282,7 +263,7 @@ fn links_are_not_followed() {
 #[test]
 fn a_folder_that_is_removed() {
     let place = Place::new("removed");
-    let (folder, away) = (place.opened(b"", b""), place.0.join("away"));
+    let (folder, away) = (opened(&place, b"", b""), place.0.join("away"));
     fs::rename(place.state(), &away).unwrap();
     fs::create_dir(place.state()).unwrap();
     fs::write(place.state().join("7"), "").unwrap();
@@ -308,7 +289,7 @@ fn killed_in_a_put() {
         return;
     }
     let place = Place::new("killed");
-    let folder = place.opened(b"", b"");
+    let folder = opened(&place, b"", b"");
     let limited = "ulimit -c 0; ulimit -f 1; exec \"$0\" --exact killed_in_a_put --nocapture";
     let child = Command::new("bash")
         .args(["-c", limited])
@@ -331,7 +312,7 @@ fn killed_in_a_put() {
 #[test]
 fn pages_and_threads() {
     let place = Place::new("pages");
-    let folder = place.opened(b"", b"");
+    let folder = opened(&place, b"", b"");
     thread::scope(|scope| {
         for part in 0..3 {
             let folder = &folder;
@@ -360,7 +341,7 @@ fn pages_and_threads() {
 #[test]
 fn memory_that_runs_out() {
     let place = Place::new("memory");
-    let folder = place.opened(b"", b"");
+    let folder = opened(&place, b"", b"");
     without_memory(|| folder.put(7, b"state")).unwrap();
     assert!(matches!(
         without_memory(|| folder.get(7)),
@@ -441,25 +422,18 @@ impl Storage for Objects {
     }
 }
 
-const SETTINGS: Settings = Settings {
-    interval: 10,
-    pause: 0,
-    at_once: 1,
-    timeout: 1 << 30,
-    tolerable: 1000,
-    retained: 1,
-    keep_on_cancel: false,
-};
+/// A job of one task, and its term.
+fn job_of(place: &Place) -> (Store, u64) {
+    let store = Store::open(&place.job(), &new_job(&[1])).unwrap();
+    let term = store.report().names.unwrap().term;
+    (store, term)
+}
 
 /// A checkpoint of one task, with a file of a name that it reserves and puts.
 fn complete(store: &Store, storage: &dyn Storage, term: u64) -> u64 {
     let file = store.reserve(term, 1).unwrap().start;
     storage.put(file, b"state").unwrap();
-    let due = store.read(|job| job.due()).unwrap();
-    let Some(Answer::Triggered { id, .. }) = store.call(Call::Tick { now: due }).unwrap().called()
-    else {
-        panic!("no checkpoint");
-    };
+    let id = triggered(store);
     let ack = Call::AckIn {
         term,
         now: NOW,
@@ -477,10 +451,7 @@ fn complete(store: &Store, storage: &dyn Storage, term: u64) -> u64 {
 fn a_store_over_a_storage_of_the_engine() {
     let place = Place::new("store");
     let objects = Objects::default();
-    let mut options = Options::new(SETTINGS, &[1]);
-    options.create = true;
-    let store = Store::open(&place.0.join("job.db"), &options).unwrap();
-    let term = store.report().names.unwrap().term;
+    let (store, term) = job_of(&place);
     let first = complete(&store, &objects, term);
     let last = complete(&store, &objects, term);
     let given_up: Vec<u64> = store.reserve(term, 3).unwrap().collect();
@@ -521,10 +492,7 @@ fn a_store_over_a_storage_of_the_engine() {
 fn a_discarder_ends_at_another_job() {
     let place = Place::new("other");
     let objects = Objects::default();
-    let mut options = Options::new(SETTINGS, &[1]);
-    options.create = true;
-    let store = Store::open(&place.0.join("job.db"), &options).unwrap();
-    let term = store.report().names.unwrap().term;
+    let (store, term) = job_of(&place);
     let first = complete(&store, &objects, term);
     complete(&store, &objects, term);
     objects.fails(Some(|| StorageError::OtherJob));

@@ -1,49 +1,23 @@
 //! The durable coordinator: calls and refusals, a recovery, threads, submits, a read that panics, and the discarder.
 #![cfg(feature = "store")]
+mod common;
+
+use common::{new_job, triggered, Place, SETTINGS};
 use relkvanu::store::{CallError, Options, Outcome, Step, Store, StoreErrorKind, NOW};
 use relkvanu::{Answer, Call, Choice, Fault, Fenced, Mode, Refusal, Settings};
 use std::collections::BTreeSet;
 use std::fs;
 use std::mem::size_of;
-use std::path::{Path, PathBuf};
+use std::path::Path;
 use std::sync::atomic::{AtomicU64, Ordering};
 use std::thread;
 use std::time::Duration;
 
-const SETTINGS: Settings = Settings {
-    interval: 10,
-    pause: 0,
-    at_once: 1,
-    timeout: 1 << 30,
-    tolerable: 1000,
-    retained: 1,
-    keep_on_cancel: false,
-};
-
-/// A folder of the test's own, which is removed.
-struct Folder(PathBuf);
-
-impl Folder {
-    fn new(name: &str) -> Folder {
-        let path =
-            std::env::temp_dir().join(format!("relkvanu-store-{name}-{}", std::process::id()));
-        fs::create_dir_all(path.join("state")).unwrap();
-        Folder(path)
-    }
-
-    /// Without names.
-    fn open(&self) -> Store {
-        let mut options = Options::new(SETTINGS, &[2]);
-        options.create = true;
-        options.plain = true;
-        Store::open(&self.0.join("job.db"), &options).unwrap()
-    }
-}
-
-impl Drop for Folder {
-    fn drop(&mut self) {
-        fs::remove_dir_all(&self.0).unwrap();
-    }
+/// A job without names.
+fn plain(place: &Place) -> Store {
+    let mut options = new_job(&[2]);
+    options.plain = true;
+    Store::open(&place.job(), &options).unwrap()
 }
 
 fn ack(store: &Store, id: u64, index: u16, file: u64) -> Answer {
@@ -59,11 +33,7 @@ fn ack(store: &Store, id: u64, index: u16, file: u64) -> Answer {
 
 /// A checkpoint with two files from a number on.
 fn complete(store: &Store, file: u64) -> u64 {
-    let due = store.read(|job| job.due()).unwrap();
-    let ticked = store.call(Call::Tick { now: due }).unwrap();
-    let Some(Answer::Triggered { id, .. }) = ticked.called() else {
-        panic!("{ticked:?}");
-    };
+    let id = triggered(store);
     assert_eq!(ack(store, id, 0, file), Answer::AckPending { missing: 1 });
     assert!(matches!(
         ack(store, id, 1, file + 1),
@@ -74,8 +44,8 @@ fn complete(store: &Store, file: u64) -> u64 {
 
 #[test]
 fn calls_and_a_recovery() {
-    let folder = Folder::new("calls");
-    let store = folder.open();
+    let folder = Place::new("calls");
+    let store = plain(&folder);
     assert!(!store.report().is_recovered);
     assert_eq!(store.report().steps, [Step::StartTasks]);
     complete(&store, 1);
@@ -101,7 +71,7 @@ fn calls_and_a_recovery() {
         StoreErrorKind::BadArgument
     );
     let mut options = Options::new(SETTINGS, &[2]);
-    let second = Store::open(&folder.0.join("job.db"), &options).unwrap_err();
+    let second = Store::open(&folder.job(), &options).unwrap_err();
     assert_eq!(second.kind, StoreErrorKind::InUse);
     assert!(
         second.message.contains(&std::process::id().to_string()),
@@ -110,7 +80,7 @@ fn calls_and_a_recovery() {
     let job = store.report().job;
     drop(store);
     options.settings.interval = 20;
-    let store = Store::open(&folder.0.join("job.db"), &options).unwrap();
+    let store = Store::open(&folder.job(), &options).unwrap();
     let report = store.report();
     assert!(
         report.is_recovered && report.settings_differ && report.epoch == 2 && report.job == job
@@ -142,8 +112,8 @@ fn calls_and_a_recovery() {
 
 #[test]
 fn openings_that_are_refused() {
-    let folder = Folder::new("refused");
-    let path = folder.0.join("job.db");
+    let folder = Place::new("refused");
+    let path = folder.job();
     let mut options = Options::new(SETTINGS, &[2]);
     assert_eq!(
         Store::open(&path, &options).unwrap_err().kind,
@@ -154,8 +124,8 @@ fn openings_that_are_refused() {
         StoreErrorKind::BadArgument
     );
     options.create = true;
-    options.storage = Some(folder.0.join("state"));
-    fs::write(folder.0.join("state/5"), "").unwrap();
+    options.storage = Some(folder.state());
+    fs::write(folder.state().join("5"), "").unwrap();
     let why = Store::open(&path, &options).unwrap_err();
     assert!(
         why.kind == StoreErrorKind::Storage && !why.closes(),
@@ -165,8 +135,8 @@ fn openings_that_are_refused() {
 
 #[test]
 fn threads_share_it() {
-    let folder = Folder::new("threads");
-    let store = folder.open();
+    let folder = Place::new("threads");
+    let store = plain(&folder);
     thread::scope(|scope| {
         for _ in 0..16 {
             scope.spawn(|| {
@@ -185,8 +155,8 @@ fn threads_share_it() {
 
 #[test]
 fn a_read_that_panics() {
-    let folder = Folder::new("panics");
-    let store = folder.open();
+    let folder = Place::new("panics");
+    let store = plain(&folder);
     complete(&store, 1);
     let read = std::panic::catch_unwind(std::panic::AssertUnwindSafe(|| {
         store.read(|job| panic!("{}", job.due()))
@@ -223,11 +193,10 @@ const RESTORE: Call = Call::Restore {
 
 #[test]
 fn terms_and_names() {
-    let folder = Folder::new("names");
-    let mut options = Options::new(SETTINGS, &[2]);
-    options.create = true;
-    options.storage = Some(folder.0.join("state"));
-    let store = Store::open(&folder.0.join("job.db"), &options).unwrap();
+    let folder = Place::new("names");
+    let mut options = new_job(&[2]);
+    options.storage = Some(folder.state());
+    let store = Store::open(&folder.job(), &options).unwrap();
     let names = store.report().names.unwrap();
     assert_eq!((names.term, names.next_name), (1, 1));
     assert_eq!(store.reserve(1, 5).unwrap(), 1..6);
@@ -238,11 +207,7 @@ fn terms_and_names() {
         store.put(9, b"other").unwrap_err().kind,
         StoreErrorKind::Present
     );
-    let due = store.read(|job| job.due()).unwrap();
-    let Some(Answer::Triggered { id, .. }) = store.call(Call::Tick { now: due }).unwrap().called()
-    else {
-        panic!("no trigger");
-    };
+    let id = triggered(&store);
     assert_eq!(
         ack_in(&store, 1, id, 0, 1).unwrap(),
         Answer::AckPending { missing: 1 }
@@ -259,9 +224,9 @@ fn terms_and_names() {
     assert_eq!(store.sweep().unwrap(), 0);
     assert_eq!((store.counts().swept, store.counts().unissued), (1, 1));
     assert!(
-        !folder.0.join("state/3").exists()
-            && folder.0.join("state/2").exists()
-            && folder.0.join("state/9").exists()
+        !folder.state().join("3").exists()
+            && folder.state().join("2").exists()
+            && folder.state().join("9").exists()
     );
     assert_eq!(store.call(RESTORE).unwrap().term, Some(2));
     fenced(store.reserve(1, 1), Fenced::OldTerm);
@@ -274,8 +239,8 @@ fn terms_and_names() {
 
 #[test]
 fn a_job_gets_names() {
-    let folder = Folder::new("fence");
-    let store = folder.open();
+    let folder = Place::new("fence");
+    let store = plain(&folder);
     assert_eq!(store.report().names, None);
     complete(&store, 1);
     fenced(store.term(), Fenced::NoNames);
@@ -291,8 +256,8 @@ fn a_job_gets_names() {
 
 #[test]
 fn submits() {
-    let folder = Folder::new("submits");
-    let store = folder.open();
+    let folder = Place::new("submits");
+    let store = plain(&folder);
     let tokens: Vec<u64> = (0..100)
         .map(|_| store.submit(&[Call::Savepoint { now: NOW }]).unwrap())
         .collect();
@@ -311,8 +276,8 @@ fn submits() {
 
 #[test]
 fn a_discarder() {
-    let folder = Folder::new("discarder");
-    let store = folder.open();
+    let folder = Place::new("discarder");
+    let store = plain(&folder);
     let tries = AtomicU64::new(0);
     thread::scope(|scope| {
         let discarder = scope.spawn(|| {
@@ -352,8 +317,8 @@ fn refused(path: &Path, options: &Options, kind: StoreErrorKind) -> String {
 /// The message names what is wrong and what is allowed.
 #[test]
 fn limits() {
-    let folder = Folder::new("limits");
-    let path = folder.0.join("job.db");
+    let folder = Place::new("limits");
+    let path = folder.job();
     let bad = |change: fn(&mut Settings)| {
         let mut settings = SETTINGS;
         change(&mut settings);
@@ -386,8 +351,8 @@ fn limits() {
         ),
     ];
     for (settings, words) in settings {
-        let mut options = Options::new(settings, &[2]);
-        options.create = true;
+        let mut options = new_job(&[2]);
+        options.settings = settings;
         let told = refused(&path, &options, StoreErrorKind::BadArgument);
         assert_eq!(told, format!("{}: settings.{words}", path.display()));
     }
@@ -401,18 +366,16 @@ fn limits() {
         (&[4096, 1], "4097 subtasks, and has to have at most 4096"),
     ];
     for (shape, words) in shapes {
-        let mut options = Options::new(SETTINGS, shape);
-        options.create = true;
-        let told = refused(&path, &options, StoreErrorKind::BadArgument);
+        let told = refused(&path, &new_job(shape), StoreErrorKind::BadArgument);
         assert_eq!(told, format!("{}: the shape has {words}", path.display()));
     }
 }
 
 #[test]
 fn backups() {
-    let folder = Folder::new("backups");
+    let folder = Place::new("backups");
     let copy = folder.0.join("copy.db");
-    let store = folder.open();
+    let store = plain(&folder);
     complete(&store, 1);
     store.backup(&copy).unwrap();
     let again = store.backup(&copy).unwrap_err();
