@@ -89,6 +89,8 @@ install: $(LIBRARY) $(STORE) $(PAGES)/docs
 	$(INSTALL) -d $(into)/share/relkvanu/rust $(into)/share/gocode/src/relkvanu
 	$(INSTALL) -m 644 embed/rust/Cargo.toml embed/rust/Cargo.lock $(into)/share/relkvanu/rust
 	cp -R embed/rust/relkvanu embed/rust/relkvanu-sys $(into)/share/relkvanu/rust
+	$(INSTALL) -d $(into)/share/relkvanu/service
+	$(INSTALL) -m 644 service/client/python/relkvanu_service.py $(into)/share/relkvanu/service
 	chmod -R u=rwX,go=rX $(into)/share/relkvanu
 	$(INSTALL) -m 644 embed/go/go.mod $(GO_SOURCES) $(into)/share/gocode/src/relkvanu
 	for it in $(OF_CRATES); do \

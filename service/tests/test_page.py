@@ -1,4 +1,5 @@
 """The page in chromium: what it shows of a job that runs, live, in light and dark and at 400 pixels."""
+import base64
 import os
 import shutil
 import threading
@@ -6,17 +7,19 @@ import time
 
 from harness import served, until
 from run import Skipped
-from relkvanu_service import Service, ack, decline, deleted, savepoint
+from relkvanu_service import Service, deleted, savepoint
 
 PICTURES = os.environ.get("RELKVANU_PICTURES")
 
 
 class Engine(threading.Thread):
-    """A small engine: five subtasks that acknowledge each checkpoint, one late, and now and then not at all."""
+    """A small engine of a job with names: five subtasks that acknowledge each checkpoint, one late, and now and then not at all. It begins the
+    job again at its tenth checkpoint."""
 
     def __init__(self, url):
         super().__init__(daemon=True)
-        self.job = Service(url).open("orders", {"interval": 250, "timeout": 1000, "tolerable": 100, "retained": 2}, [2, 3])
+        self.job = Service(url).open("orders", {"interval": 250, "timeout": 1000, "tolerable": 100, "retained": 2}, [2, 3], names=True)
+        self.task = self.job.begin().session()
         self.over, self.number, self.completed = threading.Event(), 0, 0
 
     def run(self):
@@ -27,19 +30,25 @@ class Engine(threading.Thread):
                 if event["event"] == "triggered" and not self.over.is_set():
                     self.take_part(event["id"])
 
+    def acknowledge(self, record, subtask):
+        self.task.ack(record, subtask, [self.task.name()], sizes=[1_000_000 + 20_000 * self.number])
+
     def take_part(self, record):
         self.number += 1
         subtasks = ["0.0", "0.1", "1.0", "1.1", "1.2"]
+        if self.number == 10:
+            self.task = self.job.begin().session()  # which ends this record
+            return
         if self.number % 9 == 4:
-            self.job.calls([decline(record, "1.1")])
+            self.task.decline(record, "1.1")
             return
         slow = None if self.number % 7 == 5 else subtasks[-1]
-        for place, subtask in enumerate(subtasks[:-1]):
-            self.job.calls([ack(record, subtask, [record * 100 + place])])
+        for subtask in subtasks[:-1]:
+            self.acknowledge(record, subtask)
         if slow is None:
             return  # 1.2 never acknowledges, and the checkpoint expires
         time.sleep(0.02 * (self.number % 5))
-        self.job.calls([ack(record, slow, [record * 100 + 9])])
+        self.acknowledge(record, slow)
         self.completed += 1
 
 
@@ -80,17 +89,30 @@ def width(page, wanted, dark):
     page.execute_cdp_cmd("Emulation.setEmulatedMedia", {"features": [{"name": "prefers-color-scheme", "value": scheme}]})
 
 
-def picture(page, name, most=10000):
-    """Takes a picture of the page, or of so many pixels of it from the top."""
-    if PICTURES:
-        import base64
+def show_term(page):
+    """Asks the page for the term, which it shows until the next event."""
+    page.execute_script("document.getElementById('do-term').click()")
+    return until(lambda: texts(page, "#term")[0], 10, 0.01)
 
-        time.sleep(1.5)
-        size = page.execute_script("const it = document.documentElement; return {x: 0, y: 0, width: it.clientWidth, height: it.scrollHeight, scale: 1}")
-        size["height"] = min(size["height"], most)
-        shot = page.execute_cdp_cmd("Page.captureScreenshot", {"captureBeyondViewport": True, "format": "png", "clip": size})
-        with open(f"{PICTURES}/{name}.png", "wb") as it:
-            it.write(base64.b64decode(shot["data"]))
+
+def picture(page, name, last="main"):
+    """Takes a picture of the page down to an element, of a job with names with the term."""
+    if not PICTURES:
+        return
+    time.sleep(1.5)
+    has_term = not page.execute_script("return document.getElementById('do-term').hidden")
+    size = """
+        const it = document.documentElement, end = document.querySelector(arguments[0]).getBoundingClientRect().bottom + window.scrollY + 16;
+        return {x: 0, y: 0, width: it.clientWidth, height: Math.min(it.scrollHeight, end), scale: 1}"""
+    for _ in range(40):
+        if has_term:
+            show_term(page)
+        clip = page.execute_script(size, last)
+        shot = page.execute_cdp_cmd("Page.captureScreenshot", {"captureBeyondViewport": True, "format": "png", "clip": clip})
+        if not has_term or texts(page, "#term")[0]:  # no event meanwhile
+            break
+    with open(f"{PICTURES}/{name}.png", "wb") as it:
+        it.write(base64.b64decode(shot["data"]))
 
 
 def contrast(page):
@@ -158,7 +180,7 @@ def test_what_the_page_shows():
 
 def looked_at(page, server, engine):
     job = engine.job
-    until(lambda: engine.completed >= 8, 30)
+    until(lambda: engine.completed >= 10, 30)
     files = job.take(3)
     job.calls([deleted(file) for file in files[:2]])
     page.get(f"{server.url}/#/jobs/orders")
@@ -217,8 +239,9 @@ def looked_at(page, server, engine):
         Discarder(engine).start()
         time.sleep(10)
     look_up(page, files[0])
+    assert show_term(page).startswith("The term is 3:")
     picture(page, "service-page")
-    picture(page, "service-page-top", 1130)
+    picture(page, "service-page-top", "section:has(#durations)")
     least = [contrast(page)]
     width(page, 1200, True)
     page.refresh()

@@ -1,12 +1,16 @@
 """A backup that is restored: which records have all their files, which files nobody knows, and the page's commands for PostgreSQL."""
+import glob
 import os
 import re
+import shlex
+import shutil
 import subprocess
 
-from harness import PROGRAM, TOP, Server, folder, served, until
+from harness import PROGRAM, SERVICE, TOP, Server, folder, lose_history, served, until
 from postgres import postgres
 from relkvanu_service import Service, ack, dispose, restore, savepoint
 from test_commands import SETTINGS, Asked
+from test_sweep import names_in
 
 
 def write(folder, *files):
@@ -19,6 +23,18 @@ def discard(server, folder, *more):
     words = [PROGRAM, "discard", "--once", "--job", "orders", "--url", server.url, "--folder", folder, "--prefix", "s-", "--suffix", ".bin", *more]
     told = subprocess.run(words, stderr=subprocess.PIPE, text=True, timeout=60, check=False)
     assert told.returncode == 0, told.stderr
+
+
+def ran(words):
+    """A command of the Python package: its status, its lines, and its errors."""
+    environment = {**os.environ, "PYTHONPATH": f"{TOP}/embed/python:{SERVICE}/client/python"}
+    told = subprocess.run(["/usr/bin/python3", *words], env=environment, stdout=subprocess.PIPE, stderr=subprocess.PIPE, text=True, timeout=60, check=False)
+    return told.returncode, told.stdout.splitlines(), told.stderr
+
+
+def savepoints_by_python(url, place, *more):
+    words = ["-m", "relkvanu.savepoints", "--service", url, "--job", "orders", "--folder", place, "--prefix", "s-", "--suffix", ".bin"]
+    return ran([*words, "--patience", "5s", *more])
 
 
 def test_records_that_have_all_their_files():
@@ -46,8 +62,19 @@ def test_records_that_have_all_their_files():
         text = {line.split()[0]: line for line in ask(*words).splitlines()}
         assert text[str(first)].split()[-2:] == ["2", "none"], text
         assert text[str(latest)].endswith("1: 4") and "checkpoint, the latest" in text[str(latest)], text
+        # the command in Python needs the marker, and says the same
+        status, lines, told = savepoints_by_python(server.url, files)
+        assert (status, lines) == (78, []) and "no marker" in told, (status, told)
+        with open(f"{files}/{job.marker()[0]}", "w", encoding="utf-8") as it:
+            it.write(job.marker()[1])
+        write(files, "4.bin.part")
+        assert savepoints_by_python(server.url, files)[:2] == (0, ask(*words).splitlines())
         os.remove(f"{files}/s-3.bin")
         assert "1: 3" in ask(*words, status=1)
+        status, lines, told = savepoints_by_python(server.url, files)
+        assert status == 1 and lines[2].endswith("1: 3") and "no such record has all its files" in told, (status, lines, told)
+        assert savepoints_by_python(server.url, files, "--job", "another")[0] == 1
+        assert savepoints_by_python("http://127.0.0.1:1", files, "--patience", "1s")[:2] == (75, [])
         assert "No such file" in ask("savepoints", "orders", "--folder", f"{files}/none", status=78)
         return "a savepoint and a checkpoint"
 
@@ -82,6 +109,59 @@ def test_files_that_nobody_knows():
             it.write("relkvanu discard deletes files of the job orders, opened at 1, from this folder.\n")
         assert ".relkvanu-orders" in ask(*words, status=78)
         return "three files, and five refusals"
+
+
+def python_commands(server, place):
+    """The three commands of docs/SERVICE.md for files in a bucket, over a folder."""
+    with open(f"{TOP}/docs/SERVICE.md", encoding="utf-8") as it:
+        blocks = it.read().partition("### If the files are in a bucket\n")[2].partition("\n### ")[0].split("```")[1::2]
+    given = {"http://127.0.0.1:7780": server.url, "--bucket": "--folder", "state": place, "orders/state-": "s-"}
+    commands = [[given.get(word, word) for word in shlex.split(block)][1:] for block in blocks]
+    return [[*words[:words.index("--token-file")], *words[words.index("--token-file") + 2:]] for words in commands]
+
+
+def test_the_page_restores_files_of_a_bucket():
+    """When the backup is made savepoints 1 and 2 have their files, and file 4 waits for deletion. Later 3 and 4 are deleted, and 5 and 6 are new."""
+    with folder() as at:
+        files = f"{at}/files"
+        os.mkdir(files)
+        server = Server(at, names=True).start()
+        job = Service(server.url).open("orders", SETTINGS, [1])
+        job.claim(files)
+        task = job.begin().session(block=2)
+
+        def saved(count):
+            names = [task.name() for _ in range(count)]
+            for name in names:
+                with open(f"{files}/s-{name}", "xb") as it:
+                    it.write(b"state")
+            task.ack(job.call(savepoint())["id"], "0.0", names)
+
+        for count in (2, 1, 1):
+            saved(count)
+        job.call(dispose(3))
+        subprocess.run([PROGRAM, "backup", "--database", server.database, "--to", f"{at}/copy.db"], check=True, timeout=60)
+        job.call(dispose(2))
+        saved(2)
+        find, discarder, sweeper = python_commands(server, files)
+        assert ran(discarder)[0] == 0 and names_in(files) == ["s-1", "s-2", "s-5", "s-6"], names_in(files)
+        server.stop()
+        for path in glob.glob(f"{server.database}*"):
+            os.rename(path, f"{at}/aside-{os.path.basename(path)}")
+        lose_history(server)
+        shutil.copyfile(f"{at}/copy.db", server.database)
+        server.start()
+        status, lines, told = ran(find)
+        assert (status, [line.split()[4:] for line in lines[1:]]) == (0, [["none"], ["1:", "3"]]), (status, lines, told)
+        job.call(restore(1))
+        assert ran(discarder)[0] == 0 and job.state()["files"]["waiting"] == 0
+        status, lines, told = ran(sweeper)
+        assert (status, sorted(lines[:-1])) == (3, ["unissued s-5 5", "unissued s-6 5"]), (status, lines, told)
+        subprocess.run([PROGRAM, "fence", "orders", "1000", "--url", server.url], check=True, stdout=subprocess.DEVNULL, timeout=60)
+        assert job.begin().session().name() == 1000
+        assert ran([*sweeper, "--delete"])[0] == 0 and names_in(files) == ["s-1", "s-2"], names_in(files)
+        server.stop()
+        return "a savepoint that has its files"
 
 
 def page_commands(after, port):

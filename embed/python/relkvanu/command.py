@@ -1,4 +1,4 @@
-"""What the commands relkvanu.sweep and relkvanu.discard share: the job of a service, the place of its files, and why they end."""
+"""What relkvanu.sweep, relkvanu.discard and relkvanu.savepoints share: the job of a service, the place of its files, and why they end."""
 import argparse
 import contextlib
 import importlib

@@ -14,7 +14,7 @@ import boto3
 from botocore.config import Config
 
 import relkvanu.sweep
-from relkvanu import Coordinator, FileCounts, Settings
+from relkvanu import Coordinator, FileCounts, Settings, savepoints
 from relkvanu.discard import Discarder, work
 from relkvanu.others import OthersFiles, check_names, say_names
 from relkvanu.s3 import Bucket, KeepsVersions
@@ -375,11 +375,33 @@ class Sweeping(OnAServer):
             self.s3.put_bucket_versioning(Bucket=self.bucket, VersioningConfiguration={"Status": "Enabled"})
             self.assertEqual(self.ran([*words, "--delete"]), (78, []))
 
-    def ran(self, words):
+    def ran(self, words, main=relkvanu.sweep.main):
         out = io.StringIO()
         with contextlib.redirect_stdout(out), contextlib.redirect_stderr(io.StringIO()):
-            status = relkvanu.sweep.main(words)
+            status = main(words)
         return status, out.getvalue().split("\n")[:-1]
+
+    def test_which_records_have_all_their_files(self):
+        """Checkpoint 1 has the files 5 and 6, and savepoint 2 has 7. An object with a longer name is none of them."""
+        self.job.savepoint(20)
+        self.job.ack_in(1, 20, 2, 0, 0, [7])
+        self.files.delete([6])
+        self.s3.put_object(Bucket=self.bucket, Key="orders/state-6.sst.part", Body=b"")
+        self.s3.put_object(Bucket=self.bucket, Key="orders/old/state-6.sst", Body=b"")
+        words = ["--job", "orders", "--bucket", self.bucket, "--prefix", "orders/state-", "--suffix", ".sst", "--patience", "1s",
+                 "--endpoint", os.environ["S3_ENDPOINT"], "--region", os.environ["S3_REGION"]]
+        with served(self.job) as url:
+            words += ["--service", url]
+            self.assertEqual(self.ran(words, savepoints.main), (0, [
+                "RECORD  KIND                    TRIGGERED             FILES  ABSENT",
+                "1       checkpoint, the latest  1970-01-01T00:00:00Z  2      1: 6",
+                "2       savepoint               1970-01-01T00:00:00Z  1      none"]))
+            self.files.delete([7])
+            status, told = self.ran(words, savepoints.main)
+            self.assertEqual((status, [line.split()[-2:] for line in told[1:]]), (1, [["1:", "6"], ["1:", "7"]]))
+            self.assertEqual(self.ran([*words, "--prefix", "elsewhere/state-"], savepoints.main), (78, []))
+            self.assertEqual(self.ran([*words, "--job", "others"], savepoints.main), (1, []))
+            self.assertEqual(self.ran([*words, "--endpoint", "http://127.0.0.1:1"], savepoints.main), (75, []))
 
 
 if __name__ == "__main__":

@@ -1,4 +1,5 @@
-"""A job with names whose files tests sweep, and a stand-in for the service, which answers what relkvanu.sweep asks for one job."""
+"""A job with names whose files tests sweep, and a stand-in for the service, which answers what relkvanu.sweep and relkvanu.savepoints ask for
+one job."""
 import contextlib
 import http.server
 import json
@@ -22,9 +23,28 @@ def job_with_files() -> Coordinator:
     return job
 
 
+def state(job: Coordinator) -> "dict[str, object]":
+    """What the service says of the job."""
+    choice, live, place = job.choice(), [], 0
+    while (record := job.live(place)) is not None:
+        live.append({"id": record.id, "kind": record.kind.value, "done": record.done})
+        place += 1
+    chosen = {"kind": "fresh"} if choice is None else {"kind": choice.kind.value, "id": choice.id}
+    return {"name": "orders", "opened": OPENED, "choice": chosen, "live": live}
+
+
+def record(job: Coordinator, number: int) -> "dict[str, object]":
+    """What it says of a live record."""
+    told = job.show(number).metadata
+    acks = [{**ack, "files": [str(file) for file in ack["files"]]} for ack in told["acks"]]
+    return {"id": number, "live": {**told, "acks": acks}}
+
+
 def answer(job: Coordinator, method: str, path: str, body: bytes) -> "tuple[int, object]":
     if (method, path) == ("GET", "/v1/jobs/orders"):
-        return 200, {"name": "orders", "opened": OPENED}
+        return 200, state(job)
+    if method == "GET" and path.startswith("/v1/jobs/orders/records/"):
+        return 200, record(job, int(path.rpartition("/")[2]))
     if (method, path) != ("POST", "/v1/jobs/orders/garbage"):
         return 404, {"error": "no such job"}
     try:
