@@ -137,7 +137,8 @@ typedef struct {
  * one RELKVANU_CALL_FENCE (see relkvanu_store_calls). A library that knows no names refuses the file of a job with names: RELKVANU_STORE_NOT_A_STORE.
  *
  * With options.storage a new job puts its marker, the file .relkvanu-job (.relkvanu-job.new while it is written), into the folder, and a recovery
- * looks for it. So it refuses a folder of another job and one that is not mounted. The marker names the last opening, so a copy of
+ * looks for it. So it refuses a folder of another job and one that is not mounted. A symbolic link in the place of the marker is refused too, and
+ * not followed. The marker names the last opening, so a copy of
  * PATH from before that opening is refused too: it does not know the files of later calls. (If the disk was full at that opening, the marker
  * names an earlier one.) NEVER PUT BACK A COPY OR SNAPSHOT THAT WAS TAKEN SINCE THE
  * LAST OPENING (of the file, its disk or its machine): it can't be told from the file itself, and its sweep deletes the files of all calls
