@@ -1,4 +1,4 @@
-"""losses.py: the samples of docs/EMBEDDING.md and README.md lose power (power.py), at any call that writes and in each way.
+"""losses.py: the samples of embed/samples lose power (power.py), at any call that writes and in each way.
 `embed/faults` builds them and calls this. ROUNDS in the environment has so many times as many losses; 0 is each.
 
 - Those that begin anew tell each acknowledgement and each report of a deletion. What was acknowledged is whole after a loss, and what was

@@ -1,7 +1,7 @@
 /* The coordinator of a stream processor's checkpoints.
  *
  * Link librelkvanu.a, which `make` builds in build and a release contains. It takes its memory from malloc. If a program defines the
- * three functions of relkvanu_alloc.h, it takes its memory from them. docs/EMBEDDING.md has worked examples. docs/RULES.md says what
+ * three functions of relkvanu_alloc.h, it takes its memory from them. docs/C.md has worked examples. docs/RULES.md says what
  * each call does.
  *
  * Conditions for the caller:

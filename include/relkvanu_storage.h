@@ -102,7 +102,8 @@ typedef struct {
 /* Opens a folder as a storage. File 7 has the name 7 between the prefix and the suffix, and .part behind it while it is not whole. The
  * folder stays open, so no call reaches a folder that is mounted or renamed to its path later. No symbolic link in it is followed, and
  * what is no regular file is no file of a listing. A put writes beside the name, syncs, gives the file its name and syncs the folder. A
- * file system that can't sync a folder (EINVAL) is taken: there a loss of power may take files that were put. The name of the job has to be
+ * file system that can't sync a folder (EINVAL of that sync) is taken: there a loss of power may take files that were put. Each other error
+ * of a sync is reported, and so is EINVAL of a file's: the file was not put, and no file counts as deleted. The name of the job has to be
  * one that no other job has, in any environment: a second job of the same name would sweep the files of the first. Several jobs may share a folder if their
  * prefixes or suffixes differ.
  *

@@ -137,7 +137,8 @@ typedef struct {
  * one RELKVANU_CALL_FENCE (see relkvanu_store_calls). A library that knows no names refuses the file of a job with names: RELKVANU_STORE_NOT_A_STORE.
  *
  * With options.storage a new job puts its marker, the file .relkvanu-job (.relkvanu-job.new while it is written), into the folder, and a recovery
- * looks for it. So it refuses a folder of another job and one that is not mounted. The marker names the last opening, so a copy of
+ * looks for it. So it refuses a folder of another job and one that is not mounted. A symbolic link in the place of the marker is refused too, and
+ * not followed. The marker names the last opening, so a copy of
  * PATH from before that opening is refused too: it does not know the files of later calls. (If the disk was full at that opening, the marker
  * names an earlier one.) NEVER PUT BACK A COPY OR SNAPSHOT THAT WAS TAKEN SINCE THE
  * LAST OPENING (of the file, its disk or its machine): it can't be told from the file itself, and its sweep deletes the files of all calls
@@ -145,7 +146,7 @@ typedef struct {
  *
  * With options.storage NULL none of this is there: no marker (a folder that is not mounted is not noticed), no refusal of an older copy, no
  * refusal to begin a new job over old files (RELKVANU_STORE_CREATE after PATH was lost begins at epoch 1, gives out names from 1 on, and without
- * names its sweep deletes all), and no sync of the folder in relkvanu_store_discard. The engine does each of them itself (docs/EMBEDDING.md, section 15,
+ * names its sweep deletes all), and no sync of the folder in relkvanu_store_discard. The engine does each of them itself (docs/DURABLE.md, A storage for state files,
  * which has all but the refusal of an older copy: never put one back). A
  * job over a storage of the engine's own that has files is made with RELKVANU_STORE_PLAIN, and gets names above all of these by a fence. */
 int relkvanu_store_open(relkvanu_store **store, const char *path, const relkvanu_store_options *options, relkvanu_store_report *report);
@@ -265,7 +266,7 @@ typedef void (*relkvanu_store_delete)(void *with, const uint64_t *files, size_t 
 int relkvanu_store_discard(relkvanu_store *store, size_t batch, relkvanu_store_delete delete_files, void *with);
 
 /* State files in the folder options.storage, by their numbers: file 7 has the name 7, and 7.part while it is not whole. A task in another process,
- * which has no store, makes them in the same way (docs/EMBEDDING.md, section 14). An engine may name
+ * which has no store, makes them in the same way (docs/DURABLE.md, Tasks in other processes). An engine may name
  * its files otherwise, and then makes and deletes them itself. Several threads may put, delete and commit at once. Without a folder:
  * RELKVANU_STORE_BAD_ARGUMENT, and no file counts as gone. */
 
@@ -325,7 +326,7 @@ void relkvanu_store_stop(relkvanu_store *store);
  * has ended, also on other hosts, since terms and numbers of records are given again. The opening counts as later than all that have used
  * the storage, so another store over this folder puts and deletes nothing more. It gives out each name up to the greatest that
  * options.storage has a file of; without options.storage the engine reserves so many before its restore. Then the engine restores a record
- * whose files are all there (docs/EMBEDDING.md, section 14), and sweeps. */
+ * whose files are all there (docs/DURABLE.md, A backup), and sweeps. */
 int relkvanu_store_backup(relkvanu_store *store, const char *path, char *message, size_t message_len);
 
 /* Counts since the opening. */

@@ -1,4 +1,4 @@
-//! The lines that docs/EMBEDDING.md shows for Rattle.
+//! The lines that docs/RATTLE.md shows.
 use ckpt_core::Core;
 use ckpt_ids::{
     Call, CheckpointId, Choice, Config, FileId, Files, Reply, Shape, SubtaskId, Target, TickEnd,

@@ -1,5 +1,5 @@
 //! Tests of the coordinator: what no row of `examples/rows` and no test of `embed` shows of
-//! [`ckpt_core::Core`], and the lines that docs/EMBEDDING.md shows.
+//! [`ckpt_core::Core`], and the lines that docs/RATTLE.md shows.
 //!
 //! `docs/DECISIONS.md` says why these tests are not in the crate that they test.
 #![tactic(auto)]

@@ -1,7 +1,7 @@
 """A coordinator whose calls are durable: one SQLite file for each job, so that an engine writes no log, lock, sync or recovery.
 
 librelkvanu-store.so.0 comes from where the package finds librelkvanu.so.0. Otherwise the import raises ImportError. Threads wait in C, so
-each of them may call, and the calls of all that wait are committed together. docs/EMBEDDING.md has an engine.
+each of them may call, and the calls of all that wait are committed together. docs/DURABLE.md has an engine.
 """
 import contextlib
 import ctypes
@@ -516,7 +516,7 @@ class Store:
         "NotNow" (another backup writes it) or "NotPut" (a full disk, say): then there is none, and the store goes on.
 
         A BACKUP LACKS THE CALLS SINCE IT WAS MADE. Store(.., backup=True) opens it, once, after all processes and tasks of the job have ended, and then
-        the engine restores a record whose files are all there: docs/EMBEDDING.md, section 14. Without that it raises StoreError("Storage")."""
+        the engine restores a record whose files are all there: docs/DURABLE.md, A backup. Without that it raises StoreError("Storage")."""
         message = ctypes.create_string_buffer(512)
         with self._use() as store:
             status = _library.relkvanu_store_backup(store, os.fsencode(path), message, len(message))

@@ -1,5 +1,6 @@
 """State files in a folder: put whole or not at all, deleted for good, listed by pages, and never in a folder that is not the job's."""
 import errno
+import itertools
 import os
 import unittest
 from unittest import mock
@@ -7,6 +8,23 @@ from unittest import mock
 from folders import InFolder
 from relkvanu import Coordinator, Error, FileCounts, Settings
 from relkvanu.storage import Exists, Folder, Names, NotThere, OtherJob, StorageError, discard, sweep, unknown
+
+
+# What a sync may say, but for EINVAL.
+SYNC_ERRORS = (errno.EIO, errno.ENOSPC, errno.EDQUOT, errno.EROFS, errno.EPERM, errno.EACCES, errno.EBADF, errno.EAGAIN, errno.ENOSYS,
+               errno.EOPNOTSUPP, errno.ENODEV, errno.ESTALE)
+
+
+def failing_syncs(end, error):
+    """The sync of a file or folder whose path ends so fails with this errno."""
+    real = os.fsync
+
+    def fails(fd):
+        if os.readlink(f"/proc/self/fd/{fd}").endswith(end):
+            raise OSError(error, os.strerror(error))
+        real(fd)
+
+    return mock.patch("os.fsync", fails)
 
 
 class WithStorage(InFolder):
@@ -125,18 +143,16 @@ class Putting(WithStorage):
             self.assertEqual((told.exception.errno, self.names()), (errno.EIO, []), call)
         self.folder.put(7, b"state")
 
-    def test_a_folder_that_is_not_synced_leaves_no_file(self):
-        real, calls = os.fsync, []
+    def test_a_file_or_folder_that_is_not_synced_leaves_no_file(self):
+        for end, error in (("/7.part", errno.EINVAL), *itertools.product(("/7.part", f"/{self.path.name}"), SYNC_ERRORS)):
+            with failing_syncs(end, error), self.assertRaises(StorageError) as told:
+                self.folder.put(7, b"state")
+            self.assertEqual((told.exception.errno, self.names()), (error, []), end)
 
-        def second_fails(fd):
-            calls.append(fd)
-            if len(calls) == 2:
-                raise OSError(errno.EIO, "planted")
-            real(fd)
-
-        with mock.patch("os.fsync", second_fails), self.assertRaises(StorageError):
+    def test_a_file_system_that_syncs_no_folder(self):
+        with failing_syncs(f"/{self.path.name}", errno.EINVAL):
             self.folder.put(7, b"state")
-        self.assertEqual(self.names(), [])
+        self.assertEqual(self.folder.get(7), b"state")
 
     def test_a_short_write_goes_on(self):
         real = os.write
@@ -195,11 +211,12 @@ class Deleting(WithStorage):
         self.assertEqual(self.names(), ["1", "3", "5"])
 
     def test_a_folder_that_is_not_synced_has_deleted_nothing(self):
-        with mock.patch("os.fsync", side_effect=OSError(errno.EIO, "planted")):
-            self.assertEqual(set(self.folder.delete([1, 77])), {1, 77})
+        for error in SYNC_ERRORS:
+            with failing_syncs(f"/{self.path.name}", error):
+                self.assertEqual(set(self.folder.delete([1, 77])), {1, 77}, error)
 
     def test_a_file_system_that_syncs_no_folder(self):
-        with mock.patch("os.fsync", side_effect=OSError(errno.EINVAL, "planted")):
+        with failing_syncs(f"/{self.path.name}", errno.EINVAL):
             self.assertEqual(self.folder.delete([1]), {})
 
     def test_a_link_is_deleted_and_its_target_stays(self):

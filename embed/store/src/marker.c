@@ -23,8 +23,22 @@ int rks_open_folder(relkvanu_store *s, const char *folder) {
     return s->folder >= 0 ? RELKVANU_STORE_OK : storage_fault(s, folder, strerror(errno), "");
 }
 
+/* A symbolic link may lead to the marker of another folder, so none is followed. */
+static int open_marker(const relkvanu_store *s) {
+    return openat(s->folder, MARKER, O_RDONLY | O_NOFOLLOW | O_NONBLOCK | O_CLOEXEC);
+}
+
+static int link_fault(relkvanu_store *s, const char *folder, const char *name) {
+    return storage_fault(s, folder, "a symbolic link is in the place of its marker: ", name);
+}
+
+static bool is_there(const relkvanu_store *s, const char *name, struct stat *found) {
+    return fstatat(s->folder, name, found, AT_SYMLINK_NOFOLLOW) == 0;
+}
+
 bool rks_has_marker(const relkvanu_store *s) {
-    return s->folder < 0 || faccessat(s->folder, MARKER, F_OK, 0) == 0;
+    struct stat found;
+    return s->folder < 0 || (is_there(s, MARKER, &found) && S_ISREG(found.st_mode));
 }
 
 bool rks_is_own(const relkvanu_store *s, const char *name) {
@@ -75,10 +89,11 @@ static bool found_file(const relkvanu_store *s, char *name, size_t name_len) {
 
 int rks_check_new_folder(relkvanu_store *s, const char *folder) {
     char name[256];
+    struct stat found;
     if (folder == NULL) {
         return RELKVANU_STORE_OK;
     }
-    if (faccessat(s->folder, MARKER, F_OK, 0) == 0) {
+    if (is_there(s, MARKER, &found)) {
         return storage_fault(s, folder, "it has the marker of another job, and this one is new", "");
     }
     if ((s->options.flags & RELKVANU_STORE_ADOPT) != 0) {
@@ -93,9 +108,9 @@ int rks_check_new_folder(relkvanu_store *s, const char *folder) {
 int rks_write_marker(relkvanu_store *s, const char *folder, uint64_t epoch) {
     char text[MARKER_LEN];
     snprintf(text, sizeof text, "relkvanu job %s\nepoch %" PRIu64 "\n", s->identity, epoch);
-    int file = openat(s->folder, UNFINISHED, O_WRONLY | O_CREAT | O_TRUNC | O_CLOEXEC, 0600);
+    int file = openat(s->folder, UNFINISHED, O_WRONLY | O_CREAT | O_TRUNC | O_NOFOLLOW | O_NONBLOCK | O_CLOEXEC, 0600);
     if (file < 0) {
-        return rks_file_fault(s, folder, errno);
+        return errno == ELOOP ? link_fault(s, folder, UNFINISHED) : rks_file_fault(s, folder, errno);
     }
     bool is_written = rks_write_whole(file, text, strlen(text), 0) && fsync(file) == 0;
     int error = errno;
@@ -120,7 +135,7 @@ int rks_owner(const relkvanu_store *s) {
     if (s->folder < 0) {
         return RELKVANU_STORE_OK;
     }
-    int file = openat(s->folder, MARKER, O_RDONLY | O_CLOEXEC);
+    int file = open_marker(s);
     if (file < 0) {
         return RELKVANU_STORE_NOT_NOW;
     }
@@ -134,8 +149,10 @@ int rks_owner(const relkvanu_store *s) {
 
 int rks_read_marker(relkvanu_store *s, const char *folder, uint64_t *marked) {
     char identity[RKS_IDENTITY + 1] = "";
-    int file = openat(s->folder, MARKER, O_RDONLY | O_CLOEXEC);
-    if (file < 0) {
+    int file = open_marker(s);
+    if (file < 0 && errno == ELOOP) {
+        return link_fault(s, folder, MARKER);
+    } else if (file < 0) {
         return storage_fault(s, folder, errno == ENOENT ? "it has no marker: is the storage mounted?" : strerror(errno), "");
     }
     bool is_marker = parses(file, identity, marked);

@@ -6,6 +6,7 @@
 #include <signal.h>
 #include <sys/resource.h>
 #include <sys/stat.h>
+#include <sys/syscall.h>
 #include <sys/wait.h>
 #include <unistd.h>
 
@@ -82,6 +83,27 @@ int in_child(int (*run)(void *with), void *with) {
 
 bool says(const char *words) {
     return strstr(report.message, words) != NULL;
+}
+
+static const char *unsynced = "";
+static int sync_error;
+
+void fail_syncs(const char *end, int error) {
+    unsynced = end;
+    sync_error = error;
+}
+
+/* In place of that of the C library. */
+int fsync(int fd) {
+    char link[64], path[PATHS] = "";
+    size_t len = strlen(unsynced);
+    snprintf(link, sizeof link, "/proc/self/fd/%d", fd);
+    ssize_t found = sync_error == 0 ? -1 : readlink(link, path, sizeof path - 1);
+    if (found >= (ssize_t)len && strcmp(path + found - (ssize_t)len, unsynced) == 0) {
+        errno = sync_error;
+        return -1;
+    }
+    return (int)syscall(SYS_fsync, fd);
 }
 
 static bool passes(const char *within, const struct test *test) {

@@ -26,6 +26,9 @@ void limit_files(size_t bytes);
 
 bool says(const char *words); /* whether the report's message has the words */
 
+/* From now on the sync of a file or folder whose path ends so fails with this errno; 0: none fails. */
+void fail_syncs(const char *end, int error);
+
 struct test {
     const char *name;
     void (*run)(void);

@@ -182,6 +182,62 @@ static void one_that_can_not_be_put(void) {
     relkvanu_storage_close_folder(&it);
 }
 
+/* A put and a deletion while the sync of a file or of the folder fails with this errno. */
+static void fails_to_sync(const relkvanu_storage *it, const char *end, int error) {
+    fail_syncs(end, error);
+    puts_file(it, 7, "state", RELKVANU_STORAGE_FAILED);
+    CHECK(errno == error && !has("state/7") && !has("state/7.part"), "errno %d, not %d", errno, error);
+    fail_syncs("", 0);
+}
+
+static void fails_to_delete(const relkvanu_storage *it, int error) {
+    uint64_t file = 8;
+    uint8_t outcome = 9;
+    puts_file(it, file, "state", RELKVANU_STORAGE_OK);
+    fail_syncs("/state", error);
+    CHECK(it->delete_files(it->with, &file, 1, &outcome) == RELKVANU_STORAGE_FAILED && errno == error, "errno %d, not %d", errno, error);
+    CHECK(outcome == RELKVANU_STORAGE_UNDELETED, "outcome %d", outcome);
+    fail_syncs("", 0);
+}
+
+static const int SYNC_ERRORS[] = {EIO, ENOSPC, EDQUOT, EROFS, EPERM, EACCES, EBADF, EINTR, EAGAIN, ENOSYS, EOPNOTSUPP, ENODEV, ESTALE};
+enum { SYNC_ERRORS_LEN = sizeof SYNC_ERRORS / sizeof *SYNC_ERRORS };
+
+/* Of all errors of a sync one is taken: EINVAL, of a folder. A file system that can't sync a folder says so. */
+static void syncs_that_fail(void) {
+    relkvanu_storage it = opened(NULL, NULL);
+    uint64_t file = 7;
+    uint8_t outcome = 9;
+    for (int i = 0; i < SYNC_ERRORS_LEN; i++) {
+        fails_to_sync(&it, "/state/7.part", SYNC_ERRORS[i]);
+        fails_to_sync(&it, "/state", SYNC_ERRORS[i]);
+        fails_to_delete(&it, SYNC_ERRORS[i]);
+    }
+    fails_to_sync(&it, "/state/7.part", EINVAL);
+    fail_syncs("/state", EINVAL);
+    puts_file(&it, file, "state", RELKVANU_STORAGE_OK);
+    reads(&it, file, "state");
+    CHECK(
+        it.delete_files(it.with, &file, 1, &outcome) == RELKVANU_STORAGE_OK && outcome == RELKVANU_STORAGE_DELETED, "outcome %d", outcome);
+    relkvanu_storage_close_folder(&it);
+}
+
+/* Nor is a storage begun, unless the file system syncs no folder at all. */
+static void a_marker_that_is_not_synced(void) {
+    relkvanu_storage_options new = state_of("orders");
+    for (int i = 0; i < SYNC_ERRORS_LEN; i++) {
+        fail_syncs("/state", SYNC_ERRORS[i]);
+        opens_as(&new, RELKVANU_STORAGE_FAILED);
+        fail_syncs("/state/.relkvanu-storage.part", SYNC_ERRORS[i]);
+        opens_as(&new, RELKVANU_STORAGE_FAILED);
+        CHECK(!has("state/.relkvanu-storage") && !has("state/.relkvanu-storage.part"), "a marker after errno %d", SYNC_ERRORS[i]);
+    }
+    fail_syncs("/state/.relkvanu-storage.part", EINVAL);
+    opens_as(&new, RELKVANU_STORAGE_FAILED);
+    fail_syncs("/state", EINVAL);
+    opens_as(&new, RELKVANU_STORAGE_OK);
+}
+
 /* From now on the process is killed when it gives a file another name. */
 static void die_at_renames(void) {
     struct sock_filter steps[] = {
@@ -399,6 +455,8 @@ const struct test folder_cases[] = {
     {"bad_arguments_of_a_folder", bad_arguments},
     {"files_of_a_folder", files_of_a_folder},
     {"one_that_can_not_be_put", one_that_can_not_be_put},
+    {"syncs_that_fail", syncs_that_fail},
+    {"a_marker_that_is_not_synced", a_marker_that_is_not_synced},
     {"killed_before_the_rename", killed_before_the_rename},
     {"links_are_not_followed", links_are_not_followed},
     {"the_marker_of_another_job", the_marker_of_another_job},

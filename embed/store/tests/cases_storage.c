@@ -1,6 +1,7 @@
 /* The storage folder: whose it is, and what a sweep may delete. */
 #include "cases.h"
 
+#include <errno.h>
 #include <fcntl.h>
 #include <sys/stat.h>
 #include <unistd.h>
@@ -123,14 +124,61 @@ static void an_older_copy(void) {
 /* On a full disk a job is recovered, so that its discarder can make room, and a new one is not made. */
 static void a_full_storage(void) {
     relkvanu_store_options options = storage_options(RELKVANU_STORE_CREATE, 0);
-    CHECK(symlink("/dev/full", in("storage/.relkvanu-job.new")) == 0, "a link");
+    fail_syncs("/storage/.relkvanu-job.new", ENOSPC);
     opens(&options, RELKVANU_STORE_FULL);
-    unlink(in("storage/.relkvanu-job.new"));
+    fail_syncs("", 0);
     relkvanu_store_close(opens(&options, RELKVANU_STORE_OK));
-    CHECK(symlink("/dev/full", in("storage/.relkvanu-job.new")) == 0, "a link");
+    fail_syncs("/storage/.relkvanu-job.new", ENOSPC);
     uint64_t epoch = report.epoch;
     relkvanu_store_close(opens(&options, RELKVANU_STORE_OK));
     CHECK(report.epoch == epoch + 1 && has("storage/.relkvanu-job"), "epoch %" PRIu64, report.epoch);
+}
+
+/* A file system that can't sync a folder keeps no files of a job. */
+static void a_folder_that_is_not_synced(void) {
+    relkvanu_store_options options = storage_options(RELKVANU_STORE_CREATE, 0);
+    fail_syncs("/storage", EINVAL);
+    opens(&options, RELKVANU_STORE_FAILED);
+    fail_syncs("", 0);
+    relkvanu_store *store = opens(&options, RELKVANU_STORE_OK);
+    relkvanu_storage storage;
+    uint64_t file = 7;
+    uint8_t outcome = 9;
+    CHECK(relkvanu_store_storage(store, &storage) == RELKVANU_STORE_OK, "the folder");
+    CHECK(relkvanu_store_put(store, file, "state", 5) == RELKVANU_STORE_OK, "a put");
+    fail_syncs("/storage", EINVAL);
+    CHECK(relkvanu_store_put(store, 8, "state", 5) == RELKVANU_STORE_NOT_PUT && errno == EINVAL && !has("storage/8"), "errno %d", errno);
+    CHECK(storage.delete_files(storage.with, &file, 1, &outcome) == RELKVANU_STORAGE_FAILED && errno == EINVAL, "errno %d", errno);
+    CHECK(outcome == RELKVANU_STORAGE_UNDELETED, "outcome %d", outcome);
+    relkvanu_store_close(store);
+}
+
+/* It might lead to the folder of another job, or to a file that is no marker. */
+static void a_marker_that_is_a_link(void) {
+    relkvanu_store_options options = storage_options(RELKVANU_STORE_CREATE, 0);
+    struct stat found;
+    make_file("elsewhere");
+    CHECK(symlink("../elsewhere", in("storage/.relkvanu-job.new")) == 0, "a link");
+    opens(&options, RELKVANU_STORE_STORAGE);
+    CHECK(says("a symbolic link is in the place of its marker: .relkvanu-job.new"), "%s", report.message);
+    CHECK(stat(in("elsewhere"), &found) == 0 && found.st_size == 0, "the link was followed");
+    unlink(in("storage/.relkvanu-job.new"));
+    relkvanu_store *store = opens(&options, RELKVANU_STORE_OK);
+    CHECK(relkvanu_store_put(store, 7, "state", 5) == RELKVANU_STORE_OK, "a put");
+    CHECK(rename(in("storage/.relkvanu-job"), in("marker")) == 0 && symlink("../marker", in("storage/.relkvanu-job")) == 0, "the marker");
+    CHECK(relkvanu_store_put(store, 8, "state", 5) == RELKVANU_STORE_STORAGE && !has("storage/8"), "a put beside a link");
+    relkvanu_storage storage;
+    uint64_t file = 7;
+    uint8_t outcome = 9;
+    CHECK(relkvanu_store_storage(store, &storage) == RELKVANU_STORE_OK, "the folder");
+    CHECK(storage.delete_files(storage.with, &file, 1, &outcome) == RELKVANU_STORAGE_NOT_THERE && has("storage/7"), "outcome %d", outcome);
+    relkvanu_store_close(store);
+    opens(&options, RELKVANU_STORE_STORAGE);
+    CHECK(says("a symbolic link is in the place of its marker: .relkvanu-job"), "%s", report.message);
+    CHECK(unlink(in("x.db")) == 0 && unlink(in("x.db-wal")) == 0 && unlink(in("marker")) == 0, "the job");
+    options.flags |= RELKVANU_STORE_ADOPT;
+    opens(&options, RELKVANU_STORE_STORAGE); /* the link leads nowhere now */
+    CHECK(says("the marker of another job") && !has("marker"), "%s", report.message);
 }
 
 /* Earlier versions wrote the first line alone. */
@@ -194,4 +242,5 @@ static void a_sweep(void) {
 const struct test storage_cases[] = {{"a_folder_with_files", a_folder_with_files}, {"not_mounted", not_mounted},
     {"of_another_job", of_another_job}, {"named_or_not", named_or_not}, {"one_folder_for_all", one_folder_for_all},
     {"before_the_marker", before_the_marker}, {"an_older_copy", an_older_copy}, {"a_full_storage", a_full_storage},
+    {"a_folder_that_is_not_synced", a_folder_that_is_not_synced}, {"a_marker_that_is_a_link", a_marker_that_is_a_link},
     {"a_marker_without_an_epoch", a_marker_without_an_epoch}, {"a_sweep", a_sweep}, {NULL, NULL}};

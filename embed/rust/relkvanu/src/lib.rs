@@ -11,7 +11,7 @@
 //!
 //! The coordinator reads no clock and deletes no file by itself. The caller gives the moment of each call, in
 //! milliseconds, at most 2^62 - 1, and fetches the files to delete. `docs/RULES.md` says what each call does and when
-//! it is refused. `docs/EMBEDDING.md` shows an engine.
+//! it is refused. `docs/RUST.md` shows engines.
 //!
 //! **Who may delete a file.** The files of an accepted acknowledgement belong to the coordinator, even if it came late.
 //! After a refusal a task deletes a file only if no accepted acknowledgement ever named it: after
