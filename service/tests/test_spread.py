@@ -128,6 +128,32 @@ def test_one_name_is_one_job():
         return f"20 names, each opened once by 6 clients at 3 processes; {rivals} were refused by the database"
 
 
+def test_a_name_that_another_process_took():
+    """Two processes open a job of one name in the same moment: that which the database refuses has nothing of it, and makes no call of it later."""
+    with postgres() as database, folder() as at:
+        servers, body = members(at, database.url, 2), {"name": "same", "settings": {"interval": 200}, "shape": [1]}
+        # both wait with the rows of the new jobs until this ends
+        held = subprocess.Popen([f"{database.bin}/psql", "-XAtq", database.url, "-c", "begin; lock table job in share row exclusive mode; select pg_sleep(1); commit"],
+                                stdout=subprocess.DEVNULL)
+        until(lambda: database.sql("select count(*) from pg_locks where mode = 'ShareRowExclusiveLock' and granted") == "1")
+        told = []
+        threads = [threading.Thread(target=lambda to: told.append(to.request("POST", "/v1/jobs", body)[0]), args=(server,)) for server in servers]
+        for thread in threads:
+            thread.start()
+        for thread in threads:
+            thread.join()
+        assert held.wait(20) == 0 and sum(server.log().count("a job is not opened here") for server in servers) == 1
+        assert sorted(told) in ([200, 201], [201, 503]), told
+        # until its first checkpoint is due, and longer
+        until(lambda: database.sql("select count(*) from call") != "0")
+        time.sleep(0.5)
+        assert [server.get("/v1/jobs/same")[0] for server in servers] == [200, 200]
+        assert database.sql("select count(*) from call where job not in (select job from job)") == "0"
+        for server in servers:
+            assert server.stop() == 0
+        return f"one is open; the answers were {' and '.join(map(str, sorted(told)))}"
+
+
 def test_processes_come_and_go():
     """One that joins or leaves, is killed, or is suspended: the others have its jobs within seconds, and no answered call is lost."""
     with postgres() as database, folder() as at:
