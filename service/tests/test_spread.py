@@ -9,6 +9,7 @@ import time
 from harness import PROGRAM, PgArchive, Server, configured, folder, free_port, until
 from partition import Line
 from postgres import postgres
+from preloaded import Clocks
 from relkvanu_service import Service, ack, savepoint
 from spread import CONFIG, LEASE, SHARDS, Answers, even, member, members, owned, owners, run, shards
 from writers import Writer, check
@@ -152,6 +153,36 @@ def test_a_name_that_another_process_took():
         for server in servers:
             assert server.stop() == 0
         return f"one is open; the answers were {' and '.join(map(str, sorted(told)))}"
+
+
+def test_one_that_stands_by_beside_those_that_share():
+    """A process that does not share follows the logs of two that do, with clocks that differ. It leads once they are gone, and has all jobs and
+    all calls."""
+    with postgres() as database, folder() as at:
+        clocks = Clocks(at)
+        clocks.set(day=60)
+        servers = [member(at, database.url), member(at, database.url, prefix=clocks.prefix)]
+        for server in servers:
+            server.start()
+        even(servers)
+        opened(servers[1:], 3)
+        alone = Server(at, database.url, configured(at, CONFIG)).stand_by()
+        # the jobs that the first one opens have lower numbers, and the moments of their calls are earlier
+        opened(servers[:1], 3, 3)
+        jobs = {name: Service(url).job(name) for name, url in sorted(owners(database).items())}
+        numbers = [int(number) for number in database.sql("select job from job order by name").splitlines()]
+        assert len(numbers) == 6 and max(numbers[3:]) < min(numbers[:3]), numbers
+        for _ in range(2):
+            for job in jobs.values():
+                job.call(savepoint())
+            time.sleep(0.3)
+        for server in servers:
+            assert server.stop() == 0
+        alone.wait_ready()
+        assert {job["name"]: job["seq"] for job in alone.get("/v1/jobs")[2]["jobs"]} == dict.fromkeys(jobs, 2)
+        assert [Service(alone.url).job(name).call(savepoint())["seq"] for name in jobs] == [3] * 6
+        alone.stop()
+        return "6 jobs of two processes, whose clocks are a minute apart"
 
 
 def test_processes_come_and_go():
