@@ -1,4 +1,5 @@
 """Jobs that are spread over several processes of one PostgreSQL: which process has them, what the others answer, and how they move."""
+import asyncio
 import http.client
 import os
 import signal
@@ -183,6 +184,54 @@ def test_one_that_stands_by_beside_those_that_share():
         assert [Service(alone.url).job(name).call(savepoint())["seq"] for name in jobs] == [3] * 6
         alone.stop()
         return "6 jobs of two processes, whose clocks are a minute apart"
+
+
+class Late(Line):
+    """A line that keeps the first message with these words, and what follows on its connection, until it is let go."""
+
+    def __init__(self, to, words):
+        self.words, self.is_kept, self.is_let_go = words, False, False
+        super().__init__(to)
+
+    async def pipe(self, reader, writer):
+        try:
+            while data := await reader.read(1 << 20):
+                if self.words in data and not self.is_kept:
+                    self.is_kept = True
+                    await self.let_go()
+                writer.write(data)
+                await writer.drain()
+        except OSError:
+            pass
+        writer.close()
+
+    async def let_go(self):
+        while not self.is_let_go:
+            await asyncio.sleep(0.01)
+
+
+def test_shards_that_are_freed_late():
+    """A process frees shards, and the line keeps that until it has got them again. Then it has them still, and each has its jobs once."""
+    with postgres() as database, folder() as at:
+        line, other = Late(database.port, b"set owner = null"), member(at, database.url)
+        first = member(at, database.url.replace(str(database.port), str(line.port))).start()
+        opened([first], SHARDS)
+        other.start(ready=False)
+        until(lambda: line.is_kept)
+        # it gives that connection up after some time, and frees them by another one
+        even([first, other], 60)
+        assert other.stop() == 0
+        even([first])
+        all_of, connections = "select number, owner, epoch from shard order by number", "select count(*) from pg_stat_activity where application_name = 'relkvanu'"
+        before, count = database.sql(all_of), int(database.sql(connections))
+        line.is_let_go = True
+        # the connection that was given up ends once it has done what it was sent
+        until(lambda: int(database.sql(connections)) < count)
+        time.sleep(0.5)
+        assert database.sql(all_of) == before
+        assert len(listed(first)) == SHARDS and first.process.poll() is None
+        first.stop()
+        return f"{SHARDS} shards, each in its epoch"
 
 
 def test_processes_come_and_go():
