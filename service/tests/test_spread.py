@@ -210,6 +210,35 @@ class Late(Line):
             await asyncio.sleep(0.01)
 
 
+def test_a_poll_that_reads_late():
+    """A poll reads from the database while its job goes to another process, which goes on with it. It is not answered: events of the other
+    process's identity of the log would come with this one's, and no place that is known would be one of no log."""
+    with postgres() as database, folder() as at:
+        first = member(at, database.url).start()
+        opened([first], SHARDS)
+        job, statuses = database.sql(f"select name from job where job & 63 = {SHARDS - 1}"), []
+        for words, is_of_before in ((b"answer like 'ack completed%'", False), (b"from its where number", True)):
+            earlier, seq = Service(first.url).job(job).state()["log"], Service(first.url).job(job).call(savepoint())["seq"]
+            assert first.stop() == 0
+            line = Late(database.port, words)
+            first, other = member(at, database.url.replace(str(database.port), str(line.port))).start(), member(at, database.url)
+            after, log = (seq, earlier) if is_of_before else (seq - 1, Service(first.url).job(job).state()["log"])
+            poll = threading.Thread(target=lambda to, path: statuses.append(to.get(path)[0]), args=(first, f"/v1/jobs/{job}/events?after={after}&log={log}"))
+            poll.start()
+            until(lambda: line.is_kept)
+            other.start(ready=False)
+            even([first, other])
+            assert owners(database)[job] == other.url
+            Service(other.url).job(job).call(savepoint())
+            line.is_let_go = True
+            poll.join(30)
+            assert first.stop() == 0
+            first = other
+        first.stop()
+        assert statuses == [503, 503], statuses
+        return "503"
+
+
 def test_shards_that_are_freed_late():
     """A process frees shards, and the line keeps that until it has got them again. Then it has them still, and each has its jobs once."""
     with postgres() as database, folder() as at:
