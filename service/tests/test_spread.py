@@ -501,10 +501,29 @@ def test_the_way_from_one_leader_and_back():
         return "by way of two that share"
 
 
-def earlier(database, epoch):
-    """The tables are as version 4 had them, with a leader that is gone."""
+def test_a_leader_of_an_earlier_version_that_runs():
+    """When the tables get shards its lease is not over, so it may still answer. Until it is, nobody has its jobs."""
+    took = []
+    with postgres() as database, folder() as at:
+        for spreads in (False, True):
+            alone = Server(at, database.url, configured(at, CONFIG)).start()
+            opened([alone], 2)
+            assert alone.stop() == 0
+            earlier(database, 7, f"clock_timestamp() + interval '{LEASE} s'", LEASE)
+            upgraded, started = member(at, database.url) if spreads else Server(at, database.url, configured(at, CONFIG)), time.monotonic()
+            upgraded.start()
+            until(lambda: shards(upgraded) == SHARDS)
+            took.append(time.monotonic() - started)
+            assert database.sql("select count(*) from leader") == "0" and len(listed(upgraded)) == 2
+            assert upgraded.stop() == 0
+        assert min(took) >= LEASE and max(took) < LEASE + 10, took
+        return f"{', '.join(f'{seconds:.1f}' for seconds in took)} s with a lease of {LEASE} s"
+
+
+def earlier(database, epoch, until="'-infinity'", lease=5):
+    """The tables are as version 4 had them, with a leader that is gone, or one that has a lease."""
     database.sql(f"""drop table shard; drop table member; delete from log_start where shard != 1; alter table log_start drop constraint log_start_pkey;
-        alter table log_start drop column shard; alter table log_start add primary key (number); insert into leader values(true, {epoch}, 'x', '-infinity', 5);
+        alter table log_start drop column shard; alter table log_start add primary key (number); insert into leader values(true, {epoch}, 'x', {until}, {lease});
         update schema_version set number = 4""")
 
 
