@@ -529,10 +529,11 @@ def earlier(database, epoch, until="'-infinity'", lease=5):
 
 def test_settings_of_sharing():
     for words, why in [(["--spread"], "PostgreSQL can be spread"), (["--spread", "--database", "postgres://x@127.0.0.1/x"], "advertise is missing"),
-                       (["--spread", "--database", "postgres://x@127.0.0.1/x", "--advertise", "a:1"], "is no address")]:
+                       (["--spread", "--database", "postgres://x@127.0.0.1/x", "--advertise", "a:1"], "is no address"),
+                       (["--spread", "--database", "postgres://x@127.0.0.1/x", "--advertise", "http://a:1?b"], "is no address")]:
         told = subprocess.run([PROGRAM, "serve", "--listen", f"127.0.0.1:{free_port()}", *words], stderr=subprocess.PIPE, text=True, timeout=20, check=False)
         assert told.returncode == 78 and why in told.stderr, told
-    return "3 refused"
+    return "4 refused"
 
 
 def test_faults():
