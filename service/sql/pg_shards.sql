@@ -6,7 +6,11 @@ create table if not exists member(
 -- The jobs whose numbers have this rest, and which member may write them. A change of the owner begins a new epoch.
 create table if not exists shard(
     number bigint primary key check (number between 0 and 63), owner text references member on delete set null, epoch bigint not null);
-insert into shard select it, null, coalesce((select max(epoch) from leader), 0) from generate_series(0, 63) it on conflict do nothing;
+-- A leader of an earlier version may answer until its lease is over. Until then it has all shards, as a member that has ended.
+insert into member select 'earlier', holder, false, 0, coalesce(lease, 0), until from leader where until > clock_timestamp()
+    on conflict do nothing;
+insert into shard select it, (select name from member where name = 'earlier'), coalesce((select max(epoch) from leader), 0)
+    from generate_series(0, 63) it on conflict do nothing;
 -- Each time a process got a shard: the log's identity since, and how many calls each of its jobs had. The number is the epoch. Those of
 -- earlier versions are of all shards.
 alter table log_start add column if not exists shard bigint not null default -1;

@@ -249,7 +249,8 @@ impl Config {
 fn is_address(address: &str) -> bool {
     let uri: Option<Uri> = address.trim_end_matches('/').parse().ok();
     uri.is_some_and(|uri| {
-        matches!(uri.scheme_str(), Some("http" | "https")) && uri.host().is_some() && uri.path() == "/"
+        let is_whole = uri.path() == "/" && uri.query().is_none();
+        matches!(uri.scheme_str(), Some("http" | "https")) && uri.host().is_some() && is_whole
     })
 }
 

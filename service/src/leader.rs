@@ -116,6 +116,7 @@ impl Leader {
             board.beat();
             lease.keep(store).map_err(StartError::NotLeading)
         };
+        followed.jobs.look_at_all();
         followed.catch_up(self.reader.as_mut(), &mut keep)?;
         keep()?;
         followed.jobs.take_stock(self.reader.as_mut(), self.keeping, &mut keep)?;

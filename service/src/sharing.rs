@@ -105,7 +105,7 @@ pub struct State {
     /// Shards whose jobs could not be read, and when.
     bad: Vec<(Held, Instant)>,
     /// Those that the writer has given up, and that are not free yet.
-    to_free: Shards,
+    to_free: Vec<Held>,
 }
 
 impl Sharer {
@@ -124,8 +124,8 @@ impl Sharer {
 
     fn turn(&mut self) -> Result<(), DbError> {
         if !self.state.to_free.is_empty() {
-            self.shares.free(self.state.to_free)?;
-            self.state.to_free = Shards::default();
+            self.shares.free(&self.state.to_free)?;
+            self.state.to_free.clear();
         }
         let members = self.look()?;
         let Some(part) = part_of(&members.all, self.shares.name()) else {
@@ -134,7 +134,7 @@ impl Sharer {
         };
         let (mine, free) = (members.of(Some(self.shares.name())), members.free());
         if mine.len() > part && free.len() < STEP {
-            return self.give_up(mine, mine.len() - part);
+            return self.give_up(&members, mine.len() - part);
         }
         if mine.len() < part && !free.is_empty() {
             self.shares.take(STEP.min(part - mine.len()))?;
@@ -156,12 +156,12 @@ impl Sharer {
         Ok(members)
     }
 
-    /// Gives up some of these shards, after the writer has done what is under way.
-    fn give_up(&mut self, mine: Shards, surplus: usize) -> Result<(), DbError> {
-        let all: Vec<u8> = mine.iter().collect();
-        let some: Shards = all.into_iter().rev().take(surplus.min(STEP)).collect();
+    /// Gives up some of this process's shards, after the writer has done what is under way.
+    fn give_up(&mut self, members: &Members, surplus: usize) -> Result<(), DbError> {
+        let mine = members.held(self.shares.name());
+        let some: Vec<Held> = mine.into_iter().rev().take(surplus.min(STEP)).collect();
         let (reply, done) = oneshot::channel();
-        if self.inbox.send(Message::GiveUp(some, reply)).is_err() {
+        if self.inbox.send(Message::GiveUp(some.iter().map(|held| held.shard).collect(), reply)).is_err() {
             return Ok(());
         }
         // an error: the writer has ended, and with it the process
@@ -169,8 +169,8 @@ impl Sharer {
             return Ok(());
         };
         self.state.to_free = some;
-        self.shares.free(some)?;
-        self.state.to_free = Shards::default();
+        self.shares.free(&self.state.to_free)?;
+        self.state.to_free.clear();
         self.metrics.forget_all(&jobs.iter().map(String::as_str).collect());
         Ok(())
     }

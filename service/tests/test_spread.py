@@ -1,4 +1,5 @@
 """Jobs that are spread over several processes of one PostgreSQL: which process has them, what the others answer, and how they move."""
+import asyncio
 import http.client
 import os
 import signal
@@ -9,6 +10,7 @@ import time
 from harness import PROGRAM, PgArchive, Server, configured, folder, free_port, until
 from partition import Line
 from postgres import postgres
+from preloaded import Clocks
 from relkvanu_service import Service, ack, savepoint
 from spread import CONFIG, LEASE, SHARDS, Answers, even, member, members, owned, owners, run, shards
 from writers import Writer, check
@@ -126,6 +128,139 @@ def test_one_name_is_one_job():
         for server in servers:
             server.stop()
         return f"20 names, each opened once by 6 clients at 3 processes; {rivals} were refused by the database"
+
+
+def test_a_name_that_another_process_took():
+    """Two processes open a job of one name in the same moment: that which the database refuses has nothing of it, and makes no call of it later."""
+    with postgres() as database, folder() as at:
+        servers, body = members(at, database.url, 2), {"name": "same", "settings": {"interval": 200}, "shape": [1]}
+        # both wait with the rows of the new jobs until this ends
+        held = subprocess.Popen([f"{database.bin}/psql", "-XAtq", database.url, "-c", "begin; lock table job in share row exclusive mode; select pg_sleep(1); commit"],
+                                stdout=subprocess.DEVNULL)
+        until(lambda: database.sql("select count(*) from pg_locks where mode = 'ShareRowExclusiveLock' and granted") == "1")
+        told = []
+        threads = [threading.Thread(target=lambda to: told.append(to.request("POST", "/v1/jobs", body)[0]), args=(server,)) for server in servers]
+        for thread in threads:
+            thread.start()
+        for thread in threads:
+            thread.join()
+        assert held.wait(20) == 0 and sum(server.log().count("a job is not opened here") for server in servers) == 1
+        assert sorted(told) in ([200, 201], [201, 503]), told
+        # until its first checkpoint is due, and longer
+        until(lambda: database.sql("select count(*) from call") != "0")
+        time.sleep(0.5)
+        assert [server.get("/v1/jobs/same")[0] for server in servers] == [200, 200]
+        assert database.sql("select count(*) from call where job not in (select job from job)") == "0"
+        for server in servers:
+            assert server.stop() == 0
+        return f"one is open; the answers were {' and '.join(map(str, sorted(told)))}"
+
+
+def test_one_that_stands_by_beside_those_that_share():
+    """A process that does not share follows the logs of two that do, with clocks that differ. It leads once they are gone, and has all jobs and
+    all calls."""
+    with postgres() as database, folder() as at:
+        clocks = Clocks(at)
+        clocks.set(day=60)
+        servers = [member(at, database.url), member(at, database.url, prefix=clocks.prefix)]
+        for server in servers:
+            server.start()
+        even(servers)
+        opened(servers[1:], 3)
+        alone = Server(at, database.url, configured(at, CONFIG)).stand_by()
+        # the jobs that the first one opens have lower numbers, and the moments of their calls are earlier
+        opened(servers[:1], 3, 3)
+        jobs = {name: Service(url).job(name) for name, url in sorted(owners(database).items())}
+        numbers = [int(number) for number in database.sql("select job from job order by name").splitlines()]
+        assert len(numbers) == 6 and max(numbers[3:]) < min(numbers[:3]), numbers
+        for _ in range(2):
+            for job in jobs.values():
+                job.call(savepoint())
+            time.sleep(0.3)
+        for server in servers:
+            assert server.stop() == 0
+        alone.wait_ready()
+        assert {job["name"]: job["seq"] for job in alone.get("/v1/jobs")[2]["jobs"]} == dict.fromkeys(jobs, 2)
+        assert [Service(alone.url).job(name).call(savepoint())["seq"] for name in jobs] == [3] * 6
+        alone.stop()
+        return "6 jobs of two processes, whose clocks are a minute apart"
+
+
+class Late(Line):
+    """A line that keeps the first message with these words, and what follows on its connection, until it is let go."""
+
+    def __init__(self, to, words):
+        self.words, self.is_kept, self.is_let_go = words, False, False
+        super().__init__(to)
+
+    async def pipe(self, reader, writer):
+        try:
+            while data := await reader.read(1 << 20):
+                if self.words in data and not self.is_kept:
+                    self.is_kept = True
+                    await self.let_go()
+                writer.write(data)
+                await writer.drain()
+        except OSError:
+            pass
+        writer.close()
+
+    async def let_go(self):
+        while not self.is_let_go:
+            await asyncio.sleep(0.01)
+
+
+def test_a_poll_that_reads_late():
+    """A poll reads from the database while its job goes to another process, which goes on with it. It is not answered: events of the other
+    process's identity of the log would come with this one's, and no place that is known would be one of no log."""
+    with postgres() as database, folder() as at:
+        first = member(at, database.url).start()
+        opened([first], SHARDS)
+        job, statuses = database.sql(f"select name from job where job & 63 = {SHARDS - 1}"), []
+        for words, is_of_before in ((b"answer like 'ack completed%'", False), (b"from its where number", True)):
+            earlier, seq = Service(first.url).job(job).state()["log"], Service(first.url).job(job).call(savepoint())["seq"]
+            assert first.stop() == 0
+            line = Late(database.port, words)
+            first, other = member(at, database.url.replace(str(database.port), str(line.port))).start(), member(at, database.url)
+            after, log = (seq, earlier) if is_of_before else (seq - 1, Service(first.url).job(job).state()["log"])
+            poll = threading.Thread(target=lambda to, path: statuses.append(to.get(path)[0]), args=(first, f"/v1/jobs/{job}/events?after={after}&log={log}"))
+            poll.start()
+            until(lambda: line.is_kept)
+            other.start(ready=False)
+            even([first, other])
+            assert owners(database)[job] == other.url
+            Service(other.url).job(job).call(savepoint())
+            line.is_let_go = True
+            poll.join(30)
+            assert first.stop() == 0
+            first = other
+        first.stop()
+        assert statuses == [503, 503], statuses
+        return "503"
+
+
+def test_shards_that_are_freed_late():
+    """A process frees shards, and the line keeps that until it has got them again. Then it has them still, and each has its jobs once."""
+    with postgres() as database, folder() as at:
+        line, other = Late(database.port, b"set owner = null"), member(at, database.url)
+        first = member(at, database.url.replace(str(database.port), str(line.port))).start()
+        opened([first], SHARDS)
+        other.start(ready=False)
+        until(lambda: line.is_kept)
+        # it gives that connection up after some time, and frees them by another one
+        even([first, other], 60)
+        assert other.stop() == 0
+        even([first])
+        all_of, connections = "select number, owner, epoch from shard order by number", "select count(*) from pg_stat_activity where application_name = 'relkvanu'"
+        before, count = database.sql(all_of), int(database.sql(connections))
+        line.is_let_go = True
+        # the connection that was given up ends once it has done what it was sent
+        until(lambda: int(database.sql(connections)) < count)
+        time.sleep(0.5)
+        assert database.sql(all_of) == before
+        assert len(listed(first)) == SHARDS and first.process.poll() is None
+        first.stop()
+        return f"{SHARDS} shards, each in its epoch"
 
 
 def test_processes_come_and_go():
@@ -366,19 +501,39 @@ def test_the_way_from_one_leader_and_back():
         return "by way of two that share"
 
 
-def earlier(database, epoch):
-    """The tables are as version 4 had them, with a leader that is gone."""
+def test_a_leader_of_an_earlier_version_that_runs():
+    """When the tables get shards its lease is not over, so it may still answer. Until it is, nobody has its jobs."""
+    took = []
+    with postgres() as database, folder() as at:
+        for spreads in (False, True):
+            alone = Server(at, database.url, configured(at, CONFIG)).start()
+            opened([alone], 2)
+            assert alone.stop() == 0
+            earlier(database, 7, f"clock_timestamp() + interval '{LEASE} s'", LEASE)
+            upgraded, started = member(at, database.url) if spreads else Server(at, database.url, configured(at, CONFIG)), time.monotonic()
+            upgraded.start()
+            until(lambda: shards(upgraded) == SHARDS)
+            took.append(time.monotonic() - started)
+            assert database.sql("select count(*) from leader") == "0" and len(listed(upgraded)) == 2
+            assert upgraded.stop() == 0
+        assert min(took) >= LEASE and max(took) < LEASE + 10, took
+        return f"{', '.join(f'{seconds:.1f}' for seconds in took)} s with a lease of {LEASE} s"
+
+
+def earlier(database, epoch, until="'-infinity'", lease=5):
+    """The tables are as version 4 had them, with a leader that is gone, or one that has a lease."""
     database.sql(f"""drop table shard; drop table member; delete from log_start where shard != 1; alter table log_start drop constraint log_start_pkey;
-        alter table log_start drop column shard; alter table log_start add primary key (number); insert into leader values(true, {epoch}, 'x', '-infinity', 5);
+        alter table log_start drop column shard; alter table log_start add primary key (number); insert into leader values(true, {epoch}, 'x', {until}, {lease});
         update schema_version set number = 4""")
 
 
 def test_settings_of_sharing():
     for words, why in [(["--spread"], "PostgreSQL can be spread"), (["--spread", "--database", "postgres://x@127.0.0.1/x"], "advertise is missing"),
-                       (["--spread", "--database", "postgres://x@127.0.0.1/x", "--advertise", "a:1"], "is no address")]:
+                       (["--spread", "--database", "postgres://x@127.0.0.1/x", "--advertise", "a:1"], "is no address"),
+                       (["--spread", "--database", "postgres://x@127.0.0.1/x", "--advertise", "http://a:1?b"], "is no address")]:
         told = subprocess.run([PROGRAM, "serve", "--listen", f"127.0.0.1:{free_port()}", *words], stderr=subprocess.PIPE, text=True, timeout=20, check=False)
         assert told.returncode == 78 and why in told.stderr, told
-    return "3 refused"
+    return "4 refused"
 
 
 def test_faults():

@@ -65,13 +65,14 @@ class Bucket:
         return found
 
     def delete(self, files: Iterable[int]) -> Dict[int, str]:
-        """An object counts as deleted if the server says so of its key, and has the marker afterwards. An error says nothing of what was
-        deleted, nor does a time-out."""
+        """An object counts as deleted if the server says so of its key, and has the marker before and afterwards. An error says nothing of
+        what was deleted, nor does a time-out."""
         some = list(files)
         failed: Dict[int, str] = {}
-        for start in range(0, len(some), MOST_KEYS):
-            failed.update(self._delete_some(some[start:start + MOST_KEYS]))
         try:
+            self.check()
+            for start in range(0, len(some), MOST_KEYS):
+                failed.update(self._delete_some(some[start:start + MOST_KEYS]))
             self.check()
         except StorageError as error:
             return dict.fromkeys(some, str(error))

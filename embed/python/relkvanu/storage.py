@@ -50,7 +50,7 @@ class Storage(Protocol):
 
     def delete(self, files: Iterable[int]) -> Dict[int, str]:
         """Deletes files for good. Returns those that may be there still, each with the reason. A file that is not there counts as deleted, if
-        the storage is there and is the job's."""
+        the storage is there and is the job's. In that of another job nothing is deleted."""
 
     def pages(self, most: int = PAGE) -> Iterator[List[int]]:
         """The numbers of all files, also of those that were put in part. Raises StorageError: then the list is not whole."""
@@ -196,11 +196,12 @@ class Folder:
     def delete(self, files: Iterable[int]) -> Dict[int, str]:
         failed: Dict[int, str] = {}
         some = list(files)
-        for file in some:
-            reason = self._unlink(self.names.of(file)) or self._unlink(self._part.of(file))
-            if reason:
-                failed[file] = reason
         try:
+            self.check()
+            for file in some:
+                reason = self._unlink(self.names.of(file)) or self._unlink(self._part.of(file))
+                if reason:
+                    failed[file] = reason
             self.check()
             self._sync()
         except StorageError as error:

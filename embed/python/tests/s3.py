@@ -148,6 +148,14 @@ class Files(OnAServer):
         self.files.put(1, b"")
         self.s3.delete_object(Bucket=self.bucket, Key="jobs/orders/.relkvanu-storage")
         self.assertEqual(set(self.files.delete([1, 2])), {1, 2})
+        self.assertEqual(self.keys(), ["jobs/orders/1.sst"])
+
+    def test_objects_of_another_job_stay(self):
+        """That job has got the place since this one opened it."""
+        self.files.put(1, b"")
+        self.s3.put_object(Bucket=self.bucket, Key="jobs/orders/.relkvanu-storage", Body=b"relkvanu: state files of the job payments\n")
+        self.assertEqual(set(self.files.delete([1, 2])), {1, 2})
+        self.assertEqual(self.keys(), ["jobs/orders/1.sst"])
 
     def test_versions_that_are_switched_on_later(self):
         self.files.put(1, b"")

@@ -195,6 +195,13 @@ class Deleting(WithStorage):
     def test_without_the_marker_a_missing_file_is_not_deleted(self):
         (self.path / ".relkvanu-storage").unlink()
         self.assertEqual(set(self.folder.delete([1, 77])), {1, 77})
+        self.assertEqual(self.names(), ["1", "2", "3", "4", "5"])
+
+    def test_files_of_another_job_stay(self):
+        """That job has got the folder since this one opened it. A sweep that is under way asks for all of its pages."""
+        (self.path / ".relkvanu-storage").write_bytes(b"relkvanu: state files of the job payments\n")
+        self.assertEqual(set(self.folder.delete([1, 77])), {1, 77})
+        self.assertEqual(self.names(), ["1", "2", "3", "4", "5"])
 
     def test_in_a_folder_that_was_moved_away(self):
         """A path would lead to the other folder, and all files would count as deleted."""

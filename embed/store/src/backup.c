@@ -17,6 +17,7 @@ enum { PAGES = 256 };
 struct backup {
     const char *path;
     char *part, *part_wal, *part_journal; /* what SQLite may make beside the part is named after it */
+    char *part_lock;                      /* is there if the part's name is that of a job */
     int file;                             /* of the part; its lock keeps other backups out */
     bool is_own;                          /* whether this one has the lock */
     sqlite3 *db;
@@ -51,6 +52,7 @@ static int lite_failed(struct backup *b, int code) {
 
 static bool name_parts(struct backup *b) {
     bool is_made = asprintf(&b->part, "%s.part", b->path) >= 0;
+    is_made = is_made && asprintf(&b->part_lock, "%s.lock", b->part) >= 0;
     is_made = is_made && asprintf(&b->part_wal, "%s-wal", b->part) >= 0;
     return is_made && asprintf(&b->part_journal, "%s-journal", b->part) >= 0;
 }
@@ -78,11 +80,14 @@ static bool is_removed(const char *name) {
     return unlink(name) == 0 || errno == ENOENT;
 }
 
-/* Begins the part. One that was left by a process that was killed is begun anew. */
+/* Begins the part. One that was left by a process that was killed is begun anew. A job of that name is none: each has its lock beside it. */
 static int begin_part(struct backup *b) {
     struct stat target;
     if (lstat(b->path, &target) == 0) {
         return failed(b, b->path, EEXIST);
+    }
+    if (lstat(b->part_lock, &target) == 0) {
+        return told(b, RELKVANU_STORE_PRESENT, b->part, "it is the file of a job, and a backup would be written there first");
     }
     int file = open(b->part, O_RDWR | O_CREAT | O_CLOEXEC | O_NOFOLLOW, 0600);
     if (file < 0) {
@@ -240,6 +245,7 @@ int relkvanu_store_backup(relkvanu_store *s, const char *path, char *message, si
         close(b.file);
     }
     free(b.part);
+    free(b.part_lock);
     free(b.part_wal);
     free(b.part_journal);
     snprintf(message, message_len, "%s", status == RELKVANU_STORE_OK ? "" : words);

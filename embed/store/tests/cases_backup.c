@@ -180,6 +180,22 @@ static void no_backup(void) {
     CHECK(recovers("x.db", RELKVANU_STORE_RECOVER) == 2 * (1 + SUBTASKS), "%" PRIu64 " calls", calls_of(&report));
 }
 
+/* A job whose file has the name of the part, open or not: it stays as it is. */
+static void a_job_in_the_way(void) {
+    relkvanu_store_options options = job_options(RELKVANU_STORE_CREATE, 0);
+    relkvanu_store *other = opens_at("b.db.part", &options, RELKVANU_STORE_OK);
+    checkpoint(other, 1);
+    backs_up(other, "b.db", RELKVANU_STORE_PRESENT);
+    CHECK(strstr(message, "b.db.part: it is the file of a job") != NULL, "%s", message);
+    checkpoint(other, 101);
+    relkvanu_store_close(other);
+    relkvanu_store *store = opens(&options, RELKVANU_STORE_OK);
+    backs_up(store, "b.db", RELKVANU_STORE_PRESENT);
+    CHECK(!has("b.db"), "a backup");
+    relkvanu_store_close(store);
+    CHECK(recovers("b.db.part", RELKVANU_STORE_RECOVER) == 2 * (1 + SUBTASKS), "%" PRIu64 " calls", calls_of(&report));
+}
+
 /* What a process left that was killed is begun anew. */
 static void a_part_that_was_left(void) {
     relkvanu_store_options options = job_options(RELKVANU_STORE_CREATE, 0);
@@ -462,7 +478,7 @@ static void of_a_cancelled_job(void) {
 }
 
 const struct test backup_cases[] = {{"a_backup", a_backup}, {"a_backup_with_images", a_backup_with_images},
-    {"flags_of_a_backup", flags_of_a_backup}, {"no_backup", no_backup}, {"a_part_that_was_left", a_part_that_was_left},
-    {"of_a_closed_store", of_a_closed_store}, {"in_a_forked_child", in_a_forked_child}, {"under_load", under_load}, {"at_once", at_once},
-    {"put_back", put_back}, {"put_back_again", put_back_again}, {"put_back_elsewhere", put_back_elsewhere},
-    {"of_a_cancelled_job", of_a_cancelled_job}, {NULL, NULL}};
+    {"flags_of_a_backup", flags_of_a_backup}, {"no_backup", no_backup}, {"a_job_in_the_way", a_job_in_the_way},
+    {"a_part_that_was_left", a_part_that_was_left}, {"of_a_closed_store", of_a_closed_store}, {"in_a_forked_child", in_a_forked_child},
+    {"under_load", under_load}, {"at_once", at_once}, {"put_back", put_back}, {"put_back_again", put_back_again},
+    {"put_back_elsewhere", put_back_elsewhere}, {"of_a_cancelled_job", of_a_cancelled_job}, {NULL, NULL}};

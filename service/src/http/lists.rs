@@ -32,8 +32,11 @@ where
         let mut parts = vec![told];
         let told = others.all(place, request.headers()).await;
         for (headers, body) in told.as_ref().map_or(&[][..], Vec::as_slice) {
-            shards = shards.with(others::shards_of(headers));
-            parts.extend(serde_json::from_slice::<Value>(body).ok());
+            // the shards of a part that can't be read are missing
+            if let Ok(part) = serde_json::from_slice::<Value>(body) {
+                shards = shards.with(others::shards_of(headers));
+                parts.push(part);
+            }
         }
         match told {
             Ok(_) if shards == Shards::ALL => return Ok((shards, parts)),

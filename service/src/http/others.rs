@@ -241,8 +241,11 @@ pub async fn looked_again(app: &App, job: Option<&str>, reply: Reply) -> Reply {
     let (Some(others), Some(job)) = (&app.others, job) else {
         return reply;
     };
-    if reply.status() != 404 || reply.extensions().get::<NoSuchJob>().is_none() || app.board.number(job).is_some() {
+    if reply.status() != 404 || reply.extensions().get::<NoSuchJob>().is_none() {
         return reply;
+    }
+    if app.board.number(job).is_some() {
+        return moves();
     }
     others.owners.forget(job);
     match others.find(app, job).await {

@@ -1,7 +1,7 @@
 //! Whether the log has the events after a place that an engine knows. If it does not, the answer is 410.
 use super::query::Parameter;
 use super::reply::{refusal, Reply};
-use super::{no_job, App};
+use super::{gate, no_job, App};
 use crate::model::length_in;
 use serde_json::json;
 
@@ -23,9 +23,34 @@ pub struct Place<'a> {
     pub job: &'a str,
     pub number: i64,
     pub after: Option<u64>,
+    /// Since when this process has the job.
+    pub epoch: u64,
 }
 
-impl Place<'_> {
+impl<'a> Place<'a> {
+    /// A place of a job that this process has.
+    pub fn of(app: &App, job: &'a str, after: Option<u64>) -> Result<Place<'a>, Box<Reply>> {
+        let number = app.number(job)?;
+        match app.board.epoch_of(number) {
+            0 => Err(no_job(job).into()),
+            epoch => Ok(Place { job, number, after, epoch }),
+        }
+    }
+
+    /// Whether this process has had the job since then. Else what it has read may be of another owner, and of another identity of the log.
+    pub fn is_owned(&self, app: &App) -> bool {
+        app.board.is_ready() && app.board.epoch_of(self.number) == self.epoch
+    }
+
+    /// Refuses what may be of another owner.
+    pub async fn check_owner(&self, app: &App) -> Result<(), Box<Reply>> {
+        match self.is_owned(app) {
+            true => Ok(()),
+            false if app.board.is_ready() => Err(no_job(self.job).into()),
+            false => Err(gate::standby(app).await.into()),
+        }
+    }
+
     /// Whether this log has the place, or had it when the identity `known` of the log ended.
     pub async fn check_log(&self, app: &App, known: Option<&str>) -> Result<(), Box<Reply>> {
         let after = self.after.unwrap_or(0);
@@ -37,6 +62,7 @@ impl Place<'_> {
                 ended.map_or(0, |lengths| length_in(&lengths, number)).min(app.board.length(self.job))
             }
         };
+        self.check_owner(app).await?;
         if after > length {
             return Err(self.gone(app, "other_log", OTHER_LOG).into());
         }

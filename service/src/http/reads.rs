@@ -261,8 +261,8 @@ async fn events(app: &App, job: &str, query: &str) -> Result<Reply, Box<Reply>> 
     let wait = Parameter { name: "wait", most: MOST_WAIT, default: 0 };
     let (known, query) = query::text(query, "log");
     let [after, wait, most] = numbers(&query, [places::AFTER, wait, limit(MOST_ROWS, MOST_ROWS)])?;
-    let number = app.number(job)?;
-    let place = Place { job, number, after: places::given(after) };
+    let place = Place::of(app, job, places::given(after))?;
+    let number = place.number;
     place.check_log(app, known).await?;
     let after = place.after.unwrap_or(app.board.first(job) - 1);
     let mut last = app.board.events(job).ok_or_else(|| no_job(job))?;
@@ -281,6 +281,7 @@ async fn events(app: &App, job: &str, query: &str) -> Result<Reply, Box<Reply>> 
     let first = place.check_cut(app)?;
     let length = app.board.length(job);
     let page = app.read_events(move |reader| reader.events(number, after.max(first - 1), rows(most))).await?;
+    place.check_owner(app).await?;
     // if there is none, the calls that were committed before it was read are no events
     let none = if most > 0 { after.max(length) } else { after };
     let upto = page.last().map_or(none, |entry| entry.seq);

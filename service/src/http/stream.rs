@@ -37,8 +37,8 @@ pub async fn answer(
         Some((after, log)) => (Some(after), Some(log)),
         None => (places::given(after), known.map(str::to_string)),
     };
-    let number = app.number(&job)?;
-    let place = Place { job: &job, number, after };
+    let place = Place::of(app, &job, after)?;
+    let (number, epoch) = (place.number, place.epoch);
     place.check_log(app, known.as_deref()).await?;
     let first = place.check_cut(app)?;
     let last = app.board.events(&job).ok_or_else(|| no_job(&job))?;
@@ -46,7 +46,8 @@ pub async fn answer(
     let (sender, body) = Body::channel();
     let (calls, upto) = (app.board.length(&job), app.board.history(&job));
     let (keys, until) = (app.keys.generation(), caller.until);
-    let stream = Stream { app: Arc::clone(app), job, number, after, said: (calls, upto), last, keys, until, sender };
+    let said = (calls, upto);
+    let stream = Stream { app: Arc::clone(app), job, number, epoch, after, said, last, keys, until, sender };
     tokio::spawn(stream.feed());
     let mut reply = with_type(200, KIND, body);
     reply.headers_mut().insert(CACHE_CONTROL, HeaderValue::from_static("no-store"));
@@ -70,6 +71,7 @@ struct Stream {
     app: Arc<App>,
     job: String,
     number: i64,
+    epoch: u64,
     after: u64,
     /// How many calls there were, and how many of them the history had read, when that was told last.
     said: (u64, u64),
@@ -105,16 +107,23 @@ impl Stream {
         }
     }
 
-    /// The text of what has come, and whether it is the last.
+    /// The text of what has come, and whether it is the last. Nothing comes of a log that is another process's by now.
     async fn next(&mut self) -> Result<(String, bool), Box<Reply>> {
-        let place = Place { job: &self.job, number: self.number, after: Some(self.after) };
-        if place.check_cut(&self.app).is_err() {
+        let place = Place { job: &self.job, number: self.number, after: Some(self.after), epoch: self.epoch };
+        let is_cut = place.check_cut(&self.app).is_err();
+        if !place.is_owned(&self.app) {
+            return Ok((String::new(), true));
+        }
+        if is_cut {
             return Ok((message("gone", None, &json!({"reason": "cut"})), true));
         }
         let mut text = String::new();
         if *self.last.borrow() > self.after {
             let (number, after) = (self.number, self.after);
             let page = self.app.read_events(move |reader| reader.events(number, after, PAGE)).await?;
+            if !place.is_owned(&self.app) {
+                return Ok((String::new(), true));
+            }
             for entry in &page {
                 self.after = entry.seq;
                 if let Some(event) = render::event(entry, |seq| self.app.board.base(&self.job, seq)) {

@@ -29,8 +29,9 @@ const LEAVE: &str = "delete from member where name = $1";
 /// member.
 const TAKE: &str = "with free as (select number from shard where owner is null order by number limit $2::bigint for update)
     update shard set owner = $1, epoch = epoch + 1 from free where shard.number = free.number returning shard.number, epoch";
-const FREE: &str =
-    "update shard set owner = null where owner = $1 and ($2::bigint >> number::int) & 1 = 1 returning number";
+/// With the epochs in which they were had: one that comes late frees none that this process has got again.
+const FREE: &str = "update shard set owner = null from unnest($2::bigint[], $3::bigint[]) u(number, epoch)
+    where shard.number = u.number and shard.epoch = u.epoch and owner = $1 returning 1";
 /// A member that was deleted writes none. One that goes waits until this is done.
 const BEGIN: &str = "with m as (select from member where name = $1 for key share),
     s as (select u.number, u.epoch, u.lengths from m, unnest($2::bigint[], $3::bigint[], $4::text[]) u(number, epoch, lengths)
@@ -198,8 +199,9 @@ impl Shares {
     }
 
     /// Gives shards up, for which the writer commits no more.
-    pub fn free(&mut self, shards: Shards) -> Result<(), DbError> {
-        self.connection.query(FREE, &[&self.name, &shards.bits().to_string()])?;
+    pub fn free(&mut self, held: &[Held]) -> Result<(), DbError> {
+        let [numbers, epochs] = numbers_of(held);
+        self.connection.query(FREE, &[&self.name, &numbers, &epochs])?;
         Ok(())
     }
 
@@ -207,6 +209,15 @@ impl Shares {
     pub fn begin(&mut self, log: &str, held: &[Held], lengths: &[(i64, u64)]) -> Result<(), DbError> {
         begin(&mut self.connection, &self.name, log, held, lengths)
     }
+}
+
+/// Shards and their epochs, as arrays of the database.
+fn numbers_of(held: &[Held]) -> [String; 2] {
+    [array(held.iter().map(|it| it.shard.to_string())), array(held.iter().map(|it| it.epoch.to_string()))]
+}
+
+fn array(items: impl Iterator<Item = String>) -> String {
+    format!("{{{}}}", items.collect::<Vec<_>>().join(","))
 }
 
 fn connect(url: &str) -> Result<Connection, DbError> {
@@ -251,15 +262,8 @@ pub fn begin(
 ) -> Result<(), DbError> {
     let of = |shard| lengths.iter().copied().filter(|(job, _)| shard_of(*job) == shard).collect::<Vec<_>>();
     let texts = held.iter().map(|it| format!("\"{}\"", lengths_text(&of(it.shard))));
-    let array = |items: Vec<String>| format!("{{{}}}", items.join(","));
-    let given = [
-        name.to_string(),
-        array(held.iter().map(|it| it.shard.to_string()).collect()),
-        array(held.iter().map(|it| it.epoch.to_string()).collect()),
-        array(texts.collect()),
-        MOST_STARTS.to_string(),
-        log.to_string(),
-    ];
+    let [numbers, epochs] = numbers_of(held);
+    let given = [name.to_string(), numbers, epochs, array(texts), MOST_STARTS.to_string(), log.to_string()];
     let given = given.each_ref().map(String::as_str);
     match connection.query(BEGIN, &given)?.len() {
         written if written == held.len() => Ok(()),

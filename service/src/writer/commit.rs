@@ -38,7 +38,9 @@ impl Writer {
                 }
                 Err(Failure::NameTaken(why)) if !round.group.jobs.is_empty() => {
                     log::info(&format!("a job is not opened here: {why}"));
-                    round.uncreate(&mut self.jobs);
+                    for place in round.uncreate(&mut self.jobs) {
+                        self.timer.set(place, None);
+                    }
                 }
                 Err(Failure::Again(why)) if first.elapsed() < RETRY_FOR => {
                     log::warn(&format!("commit is tried again: {why}"));

@@ -52,22 +52,25 @@ impl Round {
         self.group.requests.push(Keyed { job, key: key.name, at, digest: key.digest, answers });
     }
 
-    /// Takes the new jobs out of it, since another process has one of their names.
-    pub fn uncreate(&mut self, jobs: &mut Jobs) {
+    /// Takes the new jobs out of it, since another process has one of their names. Returns their places, where nothing is to be ticked.
+    pub fn uncreate(&mut self, jobs: &mut Jobs) -> Vec<usize> {
         let gone = self.group.take_new();
         let places: Vec<usize> = gone.iter().filter_map(|number| jobs.place_of(*number)).collect();
-        for place in places {
-            jobs.unopen(place);
-            self.touched.remove(&place);
+        for place in &places {
+            jobs.unopen(*place);
+            self.touched.remove(place);
         }
+        self.postponed.retain(|(place, _)| !places.contains(place));
         for (created, _) in &mut self.created {
-            if matches!(created, Created::New { .. } | Created::Same { .. }) {
+            // one that differs may have been compared with a job that is taken out
+            if !matches!(created, Created::NotOpened(_)) {
                 *created = Created::Elsewhere;
             }
         }
         for done in self.done.iter_mut().filter(|done| done.job.is_some_and(|job| gone.contains(&job))) {
             done.done = CallsDone::NoJob;
         }
+        places
     }
 
     /// Opens a job of this name, unless there is one.

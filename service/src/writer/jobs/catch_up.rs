@@ -17,10 +17,14 @@ impl Jobs {
     /// Makes the calls of the log that these jobs have not made, and returns how many there were. Compares each answer.
     /// The number of statements does not depend on that of the jobs. Calls `beat` between them and between calls, and ends if that fails.
     pub fn catch_up(&mut self, reader: &mut dyn Reader, beat: Beat) -> Result<u64, StartError> {
+        let after = if self.read_to.is_some() { self.last_number } else { 0 };
         let changed = self.changed(reader)?;
         beat()?;
         let (mut behind, from) = (changed, self.jobs.len());
-        for opening in reader.jobs_after(self.shards, self.last_number)? {
+        for opening in reader.jobs_after(self.shards, after)? {
+            if self.numbers.contains_key(&opening.number) {
+                continue;
+            }
             let name = opening.name.clone();
             self.open(opening).map_err(|why| StartError::NotOpened { job: name, why })?;
         }
@@ -28,6 +32,12 @@ impl Jobs {
         self.delete_gone(reader)?;
         self.resume_all(from..self.jobs.len(), reader, beat)?;
         self.read_logs(behind, reader, beat)
+    }
+
+    /// The next time all jobs and all logs are looked at. Where several processes wrote, neither the numbers of jobs nor the moments of calls
+    /// rise in the order of the commits.
+    pub fn look_at_all(&mut self) {
+        self.read_to = None;
     }
 
     /// The places of jobs that may have calls which were not made here.
