@@ -50,7 +50,7 @@ SOURCES := $(wildcard crates/*/src/*.rt crates/*/src/*/*.rt crates/*/specs/*.ant
 $(ARCHIVE): $(SOURCES)
 	embed/archive
 
-build/librelkvanu.a: $(ARCHIVE) embed/c/heap.c embed/c/text.c embed/c/version.c include/relkvanu.h include/relkvanu_alloc.h packaging/relkvanu.map packaging/link
+build/librelkvanu.a: $(ARCHIVE) embed/archive embed/c/nulls.c embed/c/heap.c embed/c/text.c embed/c/version.c include/relkvanu.h include/relkvanu_alloc.h packaging/relkvanu.map packaging/link
 	embed/library build $(ARCHIVE)
 
 build/librelkvanu.so.0: build/librelkvanu.a

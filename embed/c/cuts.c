@@ -245,24 +245,11 @@ static void written(void) {
     CHECK(answer.code == RELKVANU_BAD_ARGUMENT && answer.what == RELKVANU_BAD_KIND);
 }
 
-/* Null for an empty list and buffer, and closing nothing. */
-static void nulls(void) {
-    begin();
-    CHECK(relkvanu_ack(&script.handle, 3000, 2, 0, 0, NULL, 0, NULL, 0).what == RELKVANU_ACK_PENDING);
-    CHECK(relkvanu_restore(&script.handle, 3000, 0, NULL, 0).what == RELKVANU_RESTORED_CHECKPOINT);
-    CHECK(relkvanu_take(&script.handle, NULL, 0).what == RELKVANU_TAKEN);
-    CHECK(relkvanu_show(&script.handle, 1, NULL, 0).code == RELKVANU_TOO_SHORT);
-    CHECK(relkvanu_line(&script.handle, NULL, 0, NULL, 0).what == RELKVANU_SKIPPED);
-    script_close(&script);
-    relkvanu_close(NULL);
-}
-
 int main(void) {
     cut_and_changed();
     faults();
     over_long();
     large_takes();
     written();
-    nulls();
     return 0;
 }

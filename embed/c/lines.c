@@ -1,6 +1,5 @@
-/* lines: tries the functions of relkvanu.h that read and write lines of a script, and null for empty lists. Expected values
- * come from docs/SCRIPT.md and docs/RULES.md. It also runs under AddressSanitizer, so each buffer is a block of its own with
- * the length that the call gets. */
+/* lines: tries the functions of relkvanu.h that read and write lines of a script. Expected values come from docs/SCRIPT.md and
+ * docs/RULES.md. It also runs under AddressSanitizer, so each buffer is a block of its own with the length that the call gets. */
 #include "../../include/relkvanu.h"
 
 #include <inttypes.h>
@@ -299,32 +298,11 @@ static void try_cut_lines(void) {
     relkvanu_close(&job);
 }
 
-/* A null pointer is allowed for an empty list or buffer, and as the handle of a close. */
-static void try_nulls(void) {
-    relkvanu job = {NULL};
-    relkvanu_settings settings = {1000, 0, 1, 10000, 0, 1, false};
-    uint64_t shape[] = {1};
-    relkvanu_close(NULL);
-    wanted("open in no shape", relkvanu_open(&job, &settings, NULL, 0, 0, 1, 3, 5), RELKVANU_BAD_ARGUMENT, RELKVANU_BAD_SHAPE, 0, 0);
-    wanted("open", relkvanu_open(&job, &settings, shape, 1, 0, 1, 3, 5), RELKVANU_DONE, RELKVANU_OPENED, 0, 0);
-    wanted("tick", relkvanu_tick(&job, 1000), RELKVANU_DONE, RELKVANU_TICK_TRIGGERED, 0, 1);
-    wanted("ack", relkvanu_ack(&job, 1000, 1, 0, 0, NULL, 0, NULL, 0), RELKVANU_DONE, RELKVANU_ACK_COMPLETED, 0, 0);
-    wanted("restore", relkvanu_restore(&job, 1001, 0, NULL, 0), RELKVANU_DONE, RELKVANU_RESTORED_CHECKPOINT, 0, 1);
-    wanted("take", relkvanu_take(&job, NULL, 0), RELKVANU_DONE, RELKVANU_TAKEN, 0, 0);
-    wanted("line", relkvanu_line(&job, NULL, 0, NULL, 0), RELKVANU_DONE, RELKVANU_SKIPPED, 0, 0);
-    if (relkvanu_refusal_text(RELKVANU_IN_USE, NULL, 0) != strlen("InUse")) {
-        fprintf(stderr, "lines: the length of InUse\n");
-        faults++;
-    }
-    relkvanu_close(&job);
-}
-
 int main(void) {
     try_calls();
     try_opening();
     try_writing();
     try_lengths();
     try_cut_lines();
-    try_nulls();
     return faults == 0 ? 0 : 1;
 }

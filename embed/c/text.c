@@ -4,8 +4,6 @@
 
 #include <string.h>
 
-#undef relkvanu_answer_text
-
 #define UNKNOWN "unknown code {c}, what {w}, a {a}, b {b}"
 
 /* {a} and {b} stand for the answer's numbers. */

@@ -13,9 +13,6 @@
 #include <time.h>
 #include <unistd.h>
 
-#undef relkvanu_ack
-#undef relkvanu_show
-
 relkvanu_answer proved_ack(relkvanu *handle, uint64_t now, uint64_t id, uint16_t vertex, uint16_t index, const uint64_t *fresh,
     size_t fresh_len, const uint64_t *reused, size_t reused_len);
 relkvanu_answer proved_deleted(relkvanu *handle, uint64_t file);

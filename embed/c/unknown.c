@@ -2,11 +2,6 @@
  * and neither end the program nor take the answer for another. */
 #include "../../include/relkvanu.h"
 
-#undef relkvanu_ack
-#undef relkvanu_restore
-#undef relkvanu_line
-#undef relkvanu_line_says
-
 enum { NUMBER = 999 };
 
 static relkvanu_answer done(void) {

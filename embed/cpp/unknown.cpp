@@ -14,16 +14,7 @@ static relkvanu_answer answer() {
     return {code, what, 0, 0};
 }
 
-/* The functions of the library that are called here; the header has macros for some of them. */
-#undef relkvanu_open
-#undef relkvanu_close
-#undef relkvanu_ack
-#undef relkvanu_restore
-#undef relkvanu_take
-#undef relkvanu_refusal_text
-#undef relkvanu_forfeit
-#undef relkvanu_ack_in
-#undef relkvanu_garbage
+/* The functions of the library that are called here. */
 extern "C" {
 /* clang-format off */
 relkvanu_answer relkvanu_open(relkvanu *handle, const relkvanu_settings *, const uint64_t *, size_t, uint64_t, uint64_t, uint64_t, uint64_t) {

@@ -3,8 +3,6 @@ package relkvanu
 // #include <relkvanu.h>
 import "C"
 
-import "unsafe"
-
 // Terms and names. A coordinator with names gives out the numbers of the files that tasks will write, each once, and counts the terms of the
 // job. Each accepted restore and cancel ends the term. What a task of an ended term sends returns FencedOldTerm, and changes nothing. A
 // coordinator without names returns FencedNoNames for each of these calls, except Fence.
@@ -108,24 +106,19 @@ type Garbage struct {
 func (c *Coordinator) Garbage(files []uint64) (Garbage, error) {
 	rooms := newSorting(files)
 	return rooms.sorted(c.only(C.RELKVANU_GARBAGE, func(handle *C.relkvanu) C.relkvanu_answer {
-		return C.relkvanu_garbage(handle, rooms.at(rooms.files), rooms.length, rooms.at(rooms.garbage), rooms.length, rooms.at(rooms.unissued), rooms.length)
+		at, length := list(files)
+		garbage, _ := list(rooms.garbage)
+		unissued, _ := list(rooms.unissued)
+		return C.relkvanu_garbage(handle, at, length, garbage, length, unissued, length)
 	}))
 }
 
-// sorting has files, and room for those that are garbage and for those that were not given out. Each has a place more, so that it has an address.
-type sorting struct {
-	files, garbage, unissued []uint64
-	length                   C.size_t
-}
+// sorting has room for those of some files that are garbage, and for those that were not given out.
+type sorting struct{ garbage, unissued []uint64 }
 
 func newSorting(files []uint64) sorting {
-	room := func() []uint64 { return make([]uint64, len(files)+1) }
-	it := sorting{room(), room(), room(), C.size_t(len(files))}
-	copy(it.files, files)
-	return it
+	return sorting{make([]uint64, len(files)), make([]uint64, len(files))}
 }
-
-func (s sorting) at(room []uint64) *C.uint64_t { return (*C.uint64_t)(unsafe.Pointer(&room[0])) }
 
 func (s sorting) sorted(answer C.relkvanu_answer, err error) (Garbage, error) {
 	if err != nil {

@@ -100,7 +100,7 @@ func words() (first, second C.uint64_t, err error) {
 	return C.uint64_t(binary.LittleEndian.Uint64(bytes[:8])), C.uint64_t(binary.LittleEndian.Uint64(bytes[8:])), nil
 }
 
-// list is the address of the first number. The header's functions take none of an empty list.
+// list is the address of the first number, and nil for an empty list, which the library takes.
 func list(numbers []uint64) (*C.uint64_t, C.size_t) {
 	if len(numbers) == 0 {
 		return nil, 0

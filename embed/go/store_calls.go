@@ -218,7 +218,10 @@ func (s *Store) Term() (RunningTerm, error) {
 func (s *Store) Garbage(files []uint64) (Garbage, error) {
 	rooms := newSorting(files)
 	return rooms.sorted(s.told(C.RELKVANU_GARBAGE, func(answer *C.relkvanu_answer) C.int {
-		return C.relkvanu_store_garbage(s.store, rooms.at(rooms.files), rooms.length, rooms.at(rooms.garbage), rooms.at(rooms.unissued), answer)
+		at, length := list(files)
+		garbage, _ := list(rooms.garbage)
+		unissued, _ := list(rooms.unissued)
+		return C.relkvanu_store_garbage(s.store, at, length, garbage, unissued, answer)
 	}))
 }
 

@@ -1,7 +1,33 @@
-"""The texts of answers in C, for embed/c/text.c."""
-from typing import Dict, List, Tuple
+"""The texts of answers in C, for embed/c/text.c, and the functions that take null, embed/c/nulls.c."""
+from typing import Any, Dict, List, Tuple
 
 from made import header
+from made.header import parameters, pointed
+
+NULLS = """/* The functions of the library whose lists may be null with length 0, and relkvanu_close, which may be given NULL. Each passes a list that
+ * is empty as one element, which nobody reads or writes, because the proved functions take no null pointer. embed/archive gives those
+ * the names proved_relkvanu_.., which no shared library shows. Not proved: embed/c/empty.c tests it. Made from include/relkvanu.h by
+ * embed/bindings: change the header, and run that. */
+/* clang-format off */
+#include "../../include/relkvanu.h"
+
+/* The proved function of this name. A sanitizer sees a null that it is given. */
+#define PROVED(function) __attribute__((visibility("hidden"), nonnull)) __typeof__(function) proved_##function
+
+static const uint64_t element;
+
+#define LIST(list) list##_len != 0 ? list : (void *)&element, list##_len
+
+PROVED(relkvanu_close);
+
+void relkvanu_close(relkvanu *handle) {
+    if (handle != NULL) {
+        proved_relkvanu_close(handle);
+    }
+}
+"""
+# The function that takes null itself.
+TAKES_NULL = "relkvanu_answer_text"
 
 
 def texts() -> List[Tuple[str, List[Tuple[str, str]], str]]:
@@ -19,6 +45,27 @@ def texts() -> List[Tuple[str, List[Tuple[str, str]], str]]:
 def function(code: str, of: List[Tuple[str, str]]) -> str:
     cases = "".join(f'    case RELKVANU_{name}: return "{form}";\n' for name, form in of)
     return f"static const char *{code.lower()}_text(uint32_t what) {{\n    switch (what) {{\n{cases}    default: return UNKNOWN;\n    }}\n}}\n\n"
+
+
+def c_type(node: Any) -> str:
+    name, depth, is_const = pointed(node)
+    return f"{'const ' if is_const else ''}{name} {'*' * depth}"
+
+
+def with_lists(name: str, function: Any) -> str:
+    """The function in C that passes the lists of one that is proved; nothing if it has none."""
+    kinds = dict(parameters(function))
+    lists = [it for it in kinds if f"{it}_len" in kinds]
+    if not lists or name == TAKES_NULL:
+        return ""
+    given = ", ".join(c_type(kind) + it for it, kind in kinds.items())
+    lengths = [f"{it}_len" for it in lists]
+    passed = ", ".join(f"LIST({it})" if it in lists else it for it in kinds if it not in lengths)
+    return f"\nPROVED({name});\n\n{c_type(function.type)}{name}({given}) {{\n    return proved_{name}({passed});\n}}\n"
+
+
+def nulls(functions: Dict[str, Any]) -> str:
+    return NULLS + "".join(with_lists(name, it) for name, it in functions.items())
 
 
 def made() -> Dict[str, str]:

@@ -12,7 +12,7 @@
 
 enum { PLACES = 64 };
 
-/* at is never null if there is memory: the symbols of the library take no null pointer. */
+/* at is null only without memory. */
 struct room {
     void *at;
     size_t len;

@@ -201,7 +201,7 @@ def line_call(line: bytes) -> Optional[Call]:
     text, call = _text(line), header.relkvanu_call()
     fresh = reused = 0
     while True:
-        first, second = (U64 * max(fresh, 1))(), (U64 * max(reused, 1))()
+        first, second = (U64 * fresh)(), (U64 * reused)()
         answer = _shared().relkvanu_line_call(text, len(line), ctypes.byref(call), first, fresh, second, reused)
         if answer.code != header.TOO_SHORT:
             break

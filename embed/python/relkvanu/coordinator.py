@@ -204,13 +204,11 @@ def _u64(value: int) -> int:
 
 
 def _words(values: Sequence[int]) -> Any:
-    """An array with at least one place, because no pointer may be null."""
-    return (U64 * max(len(values), 1))(*map(_u64, values))
+    return (U64 * len(values))(*map(_u64, values))
 
 
 def _text(text: bytes) -> Any:
-    """The bytes, or one byte if there is none, because no pointer may be null."""
-    return (ctypes.c_uint8 * max(len(text), 1)).from_buffer_copy(text or b" ")
+    return (ctypes.c_uint8 * len(text)).from_buffer_copy(text)
 
 
 def _keys() -> Tuple[int, int]:
@@ -283,8 +281,8 @@ def _written(write: Callable[[Any, int], Any]) -> str:
 
 def _shown(line: bytes) -> Optional[int]:
     """The record of a show line, or None for another line."""
-    call, none = header.relkvanu_call(), _words(())
-    _shared().relkvanu_line_call(_text(line), len(line), ctypes.byref(call), none, 0, none, 0)
+    call = header.relkvanu_call()
+    _shared().relkvanu_line_call(_text(line), len(line), ctypes.byref(call), None, 0, None, 0)
     return call.number if call.kind == header.CALL_SHOW else None
 
 
@@ -470,7 +468,7 @@ class Coordinator:
         """Of these files, in their order: those that are garbage, which may be deleted at any time, also while tasks run; and those
         whose names were not given out, which nobody deletes. Changes nothing. Ask a coordinator whose calls are durable."""
         length = len(files)
-        garbage, unissued = (U64 * max(length, 1))(), (U64 * max(length, 1))()
+        garbage, unissued = (U64 * length)(), (U64 * length)()
         answer = _told(self._call("garbage", _words(files), length, garbage, length, unissued, length), header.GARBAGE)
         return Garbage(tuple(garbage[: answer.a]), tuple(unissued[: answer.b]))
 
@@ -492,7 +490,7 @@ class Coordinator:
     def take(self, most: int) -> Taken:
         """Fetches at most `most` files that wait for deletion. Report each by deleted() or undeleted(). A repeated
         acknowledgement that comes late may hand out a file that no longer exists: report it as deleted."""
-        files = (U64 * max(_u64(most), 1))()
+        files = (U64 * _u64(most))()
         answer = _done(self._call("take", files, most))
         return Taken(tuple(files[: answer.a]))
 
@@ -517,7 +515,7 @@ class Coordinator:
         """Makes the call of a script's line (docs/SCRIPT.md): the bytes before its newline. Returns None if it has no words or is a
         comment. Raises BadLine if it can't be read or makes no call, and what the call raises. A take line fetches at most
         `most` files. If it would fetch more, it raises TooShort, and nothing has changed."""
-        files = (U64 * max(_u64(most), 1))()
+        files = (U64 * _u64(most))()
         text = _text(line)
         with self._lock:
             self._calls += 1

@@ -180,7 +180,7 @@ class _List:
 
     def __init__(self, calls: Sequence[Call]) -> None:
         self.length = len(calls)
-        self.calls = (store_header.relkvanu_store_call * max(len(calls), 1))()
+        self.calls = (store_header.relkvanu_store_call * len(calls))()
         self.kept: List[Any] = []
         for given, call in zip(calls, self.calls):
             now = store_header.NOW if given.now is None else _within(given.now, 63)
@@ -190,7 +190,7 @@ class _List:
             for name, array, length in (
                 ("first", _words(given.first), len(given.first)),
                 ("second", _words(given.second), len(given.second)),
-                ("files", (U64 * max(places, 1))(), places),
+                ("files", (U64 * places)(), places),
             ):
                 self.kept.append(array)
                 setattr(call, name, ctypes.cast(array, ctypes.POINTER(U64)))
@@ -398,7 +398,7 @@ class Store:
     def garbage(self, files: Sequence[int]) -> Garbage:
         """Of these files those that may be deleted at any time, and those whose names were not given out, which nobody deletes."""
         answer, length = header.relkvanu_answer(), len(files)
-        garbage, unissued = (U64 * max(length, 1))(), (U64 * max(length, 1))()
+        garbage, unissued = (U64 * length)(), (U64 * length)()
         with self._use() as store:
             self._check(_library.relkvanu_store_garbage(store, _words(files), length, garbage, unissued, ctypes.byref(answer)))
         _told(answer, header.GARBAGE)
