@@ -1,6 +1,6 @@
 //! Runs a script through a session, and keeps its history.
 use crate::history::History;
-use ckpt_ids::CheckpointId;
+use ckpt_ids::{Call, CheckpointId};
 use ckpt_lines::Line;
 use ckpt_session::{Secret, Session};
 use ckpt_workers::InOrder;
@@ -16,17 +16,25 @@ pub(crate) struct Subject {
 impl Subject {
     fn of(line: &Line) -> Subject {
         let (now, id) = match line {
-            Line::Start { now } | Line::Tick { now } | Line::Savepoint { now } => (*now, 0),
-            Line::Restore { now, .. } | Line::Cancel { now } => (*now, 0),
-            Line::Ack { now, id, .. } | Line::Decline { now, id, .. } => (*now, id.0),
+            Line::Start { now } => (*now, 0),
+            Line::Call(call) => subject_of(call),
             Line::All { now, id, .. } => (*now, id.0),
-            Line::Dispose { id } => (0, id.0),
             _ => (0, 0),
         };
         Subject {
             now,
             id: CheckpointId(id),
         }
+    }
+}
+
+fn subject_of(call: &Call) -> (u64, u64) {
+    match call {
+        Call::Tick { now } | Call::Savepoint { now } | Call::Cancel { now } => (*now, 0),
+        Call::Restore { now, .. } => (*now, 0),
+        Call::Ack { now, id, .. } | Call::Decline { now, id, .. } => (*now, id.0),
+        Call::Dispose { id } => (0, id.0),
+        _ => (0, 0),
     }
 }
 

@@ -1,15 +1,12 @@
 -- What a line of a log asks of a handle, or the answer if it asks for nothing.
-use Rattle.std.specs.Prelude.{ℕ, Bool, false, ◌||◌, List, Result, Ok, Err}
-use Rattle.ckpt_ids.specs.declared.shape.ShapeFault.{ShapeFault}
+use Rattle.std.specs.Prelude.{ℕ, List, Result, Ok, Err}
 use Rattle.ckpt_lines.specs.declared.fault.LineFault.{LineFault}
 use Rattle.ckpt_lines.specs.declared.fault.LineFault.TheVariants as fault
-use Rattle.ckpt_lines.specs.declared.meaning.Meaning as script
-use Rattle.ckpt_lines.specs.declared.meaning.Meaning.TheVariants.{Skip}
+use Rattle.ckpt_lines.specs.declared.line.Line.{Line}
+use Rattle.ckpt_lines.specs.declared.line.Line.TheVariants.{Skip, BadShape}
 use Rattle.ckpt_term_lines.specs.declared.line.TermLine.{TermLine}
-use Rattle.ckpt_term_lines.specs.declared.meaning.TermMeaning.{TermMeaning}
-use Rattle.ckpt_term_lines.specs.declared.meaning.TermMeaning.TheVariants as meant
-use Rattle.ckpt_term_lines.specs.TermMeanings.{term_has_new_shape, term_meaning}
-use Rattle.ckpt_term_lines.specs.TermReading.{term_may_want_memory, term_reading}
+use Rattle.ckpt_term_lines.specs.declared.line.TermLine.TheVariants as line
+use Rattle.ckpt_term_lines.specs.TermReading.{term_reading}
 use Rattle.ckpt_embed.specs.declared.answer.Answer.{Answer}
 use Rattle.ckpt_embed.specs.declared.asked.Asked.{Asked}
 use Rattle.ckpt_embed.specs.declared.asked.Asked.TheVariants.{Fence, Call}
@@ -32,32 +29,21 @@ fault_told fault.Extra = bad_line 5
 fault_told fault.Memory = out_of_memory
 
 -- a line of a script that makes no call
-abbrev pub other_told : script.Meaning → Answer
+abbrev pub other_told : Line → Answer
 other_told Skip = done 37 0 0
+other_told BadShape = bad_argument bad_shape
 other_told other = no_call
 
-abbrev pub asked_by : TermMeaning → Result Asked Answer
-asked_by (meant.Fence first) = Ok (Fence first)
-asked_by (meant.Call call) = Ok (Call call)
-asked_by (meant.Other other) = Err (other_told other)
-asked_by meant.NoCall = Err no_call
-
-abbrev pub meaning_said : Result TermMeaning ShapeFault → Result Asked Answer
-meaning_said (Ok meant) = asked_by meant
-meaning_said (Err why) = Err (bad_argument bad_shape)
+abbrev pub asked_by : TermLine → Result Asked Answer
+asked_by (line.Fence first) = Ok (Fence first)
+asked_by (line.Call call) = Ok (Call call)
+asked_by (line.Other other) = Err (other_told other)
+asked_by line.NoCall = Err no_call
 
 abbrev pub line_said : Result TermLine LineFault → Result Asked Answer
-line_said (Ok line) = meaning_said (term_meaning line)
+line_said (Ok line) = asked_by line
 line_said (Err why) = Err (fault_told why)
 
 -- what the line asks for, or the answer if it asks for nothing
 unfoldable pub said : List ℕ → Result Asked Answer
 said bytes = line_said (term_reading bytes)
-
-abbrev pub shape_wants : Result TermLine LineFault → Bool
-shape_wants (Ok line) = term_has_new_shape line
-shape_wants (Err why) = false
-
--- whether reading the line may run out of memory
-unfoldable pub reading_wants : List ℕ → Bool
-reading_wants bytes = term_may_want_memory bytes || shape_wants (term_reading bytes)

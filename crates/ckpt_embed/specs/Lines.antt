@@ -10,7 +10,8 @@ use Rattle.ckpt_lines.specs.declared.fault.LineFault.{LineFault}
 use Rattle.ckpt_lines.specs.declared.line.Line.{Line}
 use Rattle.ckpt_lines.specs.declared.line.Line.TheVariants as line
 use Rattle.ckpt_term_lines.specs.declared.line.TermLine.{TermLine}
-use Rattle.ckpt_term_lines.specs.declared.line.TermLine.TheVariants.{Plain}
+use Rattle.ckpt_term_lines.specs.declared.line.TermLine.TheVariants.{Other}
+use Rattle.ckpt_term_lines.specs.TermReading.{term_may_want_memory}
 use Rattle.ckpt_terms.specs.declared.call.FencedCall.{FencedCall}
 use Rattle.ckpt_terms.specs.declared.call.FencedCall.TheVariants.{Make}
 use Rattle.ckpt_terms.specs.declared.machine.Machine.{Machine}
@@ -20,7 +21,7 @@ use Rattle.ckpt_embed.specs.declared.answer.Answer.{Answer}
 use Rattle.ckpt_embed.specs.declared.asked.Asked.{Asked}
 use Rattle.ckpt_embed.specs.declared.asked.Asked.TheVariants as ask
 use Rattle.ckpt_embed.specs.declared.handle.Handle.{Handle}
-use Rattle.ckpt_embed.specs.Asking.{fault_told, reading_wants, said}
+use Rattle.ckpt_embed.specs.Asking.{fault_told, said}
 use Rattle.ckpt_embed.specs.Buffers.{files_in, show_told, StandsInFront}
 use Rattle.ckpt_embed.specs.Fenced.{call_step, fence_step, machine_in, no_names, term_step, term_wants}
 use Rattle.ckpt_embed.specs.Told.{done, no_memory, told, too_short}
@@ -117,7 +118,7 @@ said_wants k (Err answer) = false
 -- a line runs out of memory only if reading it or making its call may
 abbrev pub LineWantsMemory : Handle → List ℕ → Answer → Type 0
 LineWantsMemory old bytes answer =
-    (m : State) → old.value ≡ Some m → answer.code ≡ no_memory → (reading_wants bytes || said_wants (machine_in old m) (said bytes)) ≡ true
+    (m : State) → old.value ≡ Some m → answer.code ≡ no_memory → (term_may_want_memory bytes || said_wants (machine_in old m) (said bytes)) ≡ true
 
 -- the kind of the line
 abbrev pub line_number : Line → ℕ
@@ -141,13 +142,13 @@ line_numbers line = []
 abbrev pub numbers_told : ℕ → List ℕ → ℕ → Answer
 numbers_told what numbers places = if nat_lt places (length numbers) then too_short (length numbers) else done what (length numbers) 0
 
--- a line that scripts do not have makes a call, or is refused where it should
+-- other lines make a call, or are refused where they should
 abbrev pub says_told : Result TermLine LineFault → ℕ → Answer
-says_told (Ok (Plain line)) places = numbers_told (line_number line) (line_numbers line) places
+says_told (Ok (Other line)) places = numbers_told (line_number line) (line_numbers line) places
 says_told (Ok line) places = numbers_told 42 [] places
 says_told (Err why) places = fault_told why
 
 abbrev pub says_numbers : Result TermLine LineFault → List ℕ
-says_numbers (Ok (Plain line)) = line_numbers line
+says_numbers (Ok (Other line)) = line_numbers line
 says_numbers (Ok line) = []
 says_numbers (Err why) = []

@@ -7,14 +7,13 @@ use Rattle.ckpt_ids.specs.declared.subtask.SubtaskId.{SubtaskId}
 use Rattle.ckpt_model.specs.State.{Opening}
 use Rattle.ckpt_lines.specs.declared.limits.TheConstants.{LONGEST_LINE}
 use Rattle.ckpt_lines.specs.declared.line.Line.TheVariants as script
-use Rattle.ckpt_lines.specs.Meanings.{is_new_shape}
-use Rattle.ckpt_lines.specs.Reading.{reading}
+use Rattle.ckpt_lines.specs.Reading.{is_new_shape, reading}
 use Rattle.ckpt_lines.specs.CallTexts.{config_text, job_text, line_of_config, start_text}
 use Rattle.ckpt_terms.specs.declared.call.FencedCall.TheVariants.{Reserve, Forfeit, Make}
 use Rattle.ckpt_term_lines.specs.declared.line.TermLine.{TermLine}
 use Rattle.ckpt_term_lines.specs.declared.line.TermLine.TheVariants as line
 use Rattle.ckpt_term_lines.specs.TermReading.{term_reading}
-use Rattle.ckpt_term_lines.specs.TermTexts.{fence_text, line_of_term_call, term_text}
+use Rattle.ckpt_term_lines.specs.TermTexts.{fence_text, term_text}
 use Rattle.ckpt_embed.specs.declared.answer.Answer.{Answer}
 use Rattle.ckpt_embed.specs.declared.asked.Asked.{Asked}
 use Rattle.ckpt_embed.specs.declared.asked.Asked.TheVariants as ask
@@ -69,7 +68,7 @@ asked_text (ask.Call call) = term_text call
 -- the line that asks for it
 abbrev pub line_of_asked : Asked → TermLine
 line_of_asked (ask.Fence first) = line.Fence first
-line_of_asked (ask.Call call) = line_of_term_call call
+line_of_asked (ask.Call call) = line.Call call
 
 -- the answer for a text if the buffer has this many places: how many bytes it has, unless it is too long for a line
 abbrev pub text_told : List ℕ → ℕ → Answer

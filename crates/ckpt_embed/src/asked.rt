@@ -2,16 +2,17 @@
 
 ghost use Rattle.std.specs.Prelude.{◌≡◌, ◌≢◌, true, Ok, Err, IfOk, IfErr, IfSome};
 ghost use Rattle.ckpt_terms.specs.declared.call.FencedCall.TheVariants.{Make};
+ghost use Rattle.ckpt_term_lines.specs.TermReading.{term_may_want_memory};
 ghost use Rattle.ckpt_embed.specs.declared.asked.Asked.TheVariants as ask;
-ghost use Rattle.ckpt_embed.specs.Asking.{asked_by, fault_told, reading_wants, said};
+ghost use Rattle.ckpt_embed.specs.Asking.{asked_by, fault_told, said};
 ghost use Rattle.ckpt_embed.specs.Calls.{HasNoNumbers};
 ghost use Rattle.ckpt_embed.specs.Told.{no_memory};
 
 use crate::answer::Answer;
 use crate::calls::BAD_SHAPE;
-use ckpt_ids::{Call, ShapeFault};
-use ckpt_lines::{LineFault, Meaning, usual_call};
-use ckpt_term_lines::{TermMeaning, parse_term_line};
+use ckpt_ids::Call;
+use ckpt_lines::{Line, LineFault, usual_call};
+use ckpt_term_lines::{TermLine, parse_term_line};
 use ckpt_terms::FencedCall;
 use std::alloc::Global;
 
@@ -53,34 +54,30 @@ pub(crate) fn usual(line: &[u8]) -> Option<Call>
 }
 
 /// What the line asks for, or the answer if it asks for nothing.
-#[tactic(auto, unfolding(crate::specs::Asking::said, crate::specs::Asking::reading_wants))]
+#[tactic(auto, unfolding(crate::specs::Asking::said))]
 pub(crate) fn said(alloc: Global, line: &[u8]) -> Result<Asked, Answer>
     ensures value { IfOk result (λ asked. said line.now ≡ Ok asked) }
     ensures fault { IfErr result (λ answer. answer.code ≢ no_memory → said line.now ≡ Err answer) }
-    ensures memory { IfErr result (λ answer. answer.code ≡ no_memory → reading_wants line.now ≡ true) }
+    ensures memory { IfErr result (λ answer. answer.code ≡ no_memory → term_may_want_memory line.now ≡ true) }
     ensures numbers { IfErr result HasNoNumbers }
 {
-    let read = match parse_term_line(alloc, line) {
-        Ok(read) => read,
-        Err(why) => return Err(of_line_fault(why)),
-    };
-    match read.meaning(alloc) {
-        Ok(meant) => asked_by(meant),
-        Err(ShapeFault::BadShape) => Err(Answer::bad_argument(BAD_SHAPE)),
-        Err(ShapeFault::Memory) => Err(Answer::out_of_memory()),
+    match parse_term_line(alloc, line) {
+        Ok(read) => asked_by(read),
+        Err(why) => Err(of_line_fault(why)),
     }
 }
 
 /// What is asked for by what a line says.
-fn asked_by(meant: TermMeaning) -> Result<Asked, Answer>
-    ensures value { result ≡ asked_by meant }
+fn asked_by(line: TermLine) -> Result<Asked, Answer>
+    ensures value { result ≡ asked_by line }
     ensures code { IfErr result (λ answer. answer.code ≢ no_memory) }
 {
-    match meant {
-        TermMeaning::Fence { first } => Ok(Asked::Fence { first }),
-        TermMeaning::Call(call) => Ok(Asked::Call(call)),
-        TermMeaning::Other(Meaning::Skip) => Err(Answer::done(SKIPPED, 0, 0)),
-        TermMeaning::Other(_) | TermMeaning::NoCall => Err(Answer::bad_line(FAULT_NO_CALL)),
+    match line {
+        TermLine::Fence { first } => Ok(Asked::Fence { first }),
+        TermLine::Call(call) => Ok(Asked::Call(call)),
+        TermLine::Other(Line::Skip) => Err(Answer::done(SKIPPED, 0, 0)),
+        TermLine::Other(Line::BadShape) => Err(Answer::bad_argument(BAD_SHAPE)),
+        TermLine::Other(_) | TermLine::NoCall => Err(Answer::bad_line(FAULT_NO_CALL)),
     }
 }
 

@@ -8,7 +8,7 @@ ghost use Rattle.ckpt_model.specs.Steps.{step};
 ghost use Rattle.ckpt_term_lines.specs.TermReading.{term_may_want_memory, term_reading};
 ghost use Rattle.ckpt_terms.specs.Machines.{core_in, is_free, names_in, passes};
 ghost use Rattle.ckpt_embed.specs.declared.asked.Asked.TheVariants as ask;
-ghost use Rattle.ckpt_embed.specs.Asking.{reading_wants, said};
+ghost use Rattle.ckpt_embed.specs.Asking.{said};
 ghost use Rattle.ckpt_embed.specs.Buffers.{StandsInFront, files_in};
 ghost use Rattle.ckpt_embed.specs.Calls.{HasNoNumbers, StaysAsItWas, StaysClosed};
 ghost use Rattle.ckpt_embed.specs.Fenced.{IsHandled, IsTaken};
@@ -82,7 +82,7 @@ fn make_line(alloc: Global, machine: &mut Machine, line: &[u8], files: &mut [u64
     ensures handled { IsTaken (λ k. line_step k (length files.old) line.now) machine.old machine.new result }
     ensures front { BringsLineFiles (core_in machine.old) line.now files.old files.new result }
     ensures kept { result.code ≢ 0 → files.new ≡ files.old }
-    ensures memory { result.code ≡ no_memory → (reading_wants line.now || said_wants machine.old (said line.now)) ≡ true }
+    ensures memory { result.code ≡ no_memory → (term_may_want_memory line.now || said_wants machine.old (said line.now)) ≡ true }
     ensures numbers { HasNoNumbers result }
     ensures names { is_free_line (said line.now) ≡ true → names_in machine.new ≡ names_in machine.old }
     ensures unchanged { result.code ≡ no_memory → machine.new ≡ machine.old }
@@ -211,7 +211,7 @@ pub fn line_says(alloc: Global, line: &[u8], numbers: &mut [u64]) -> Answer
     ensures numbers { HasNoNumbers result }
 {
     match parse_term_line(alloc, line) {
-        Ok(TermLine::Plain(read)) => write_line(&read, numbers),
+        Ok(TermLine::Other(read)) => write_line(&read, numbers),
         Ok(_) => write_numbers(LINE_CALL, &[], numbers),
         Err(why) => of_line_fault(why),
     }
@@ -247,7 +247,7 @@ fn write_line(line: &Line, numbers: &mut [u64]) -> Answer
             threads,
             first,
         } => write_numbers(LINE_ALL, &[*now, id.0, *threads, *first], numbers),
-        _ => write_numbers(LINE_CALL, &[], numbers),
+        Line::Call(_) | Line::BadShape => write_numbers(LINE_CALL, &[], numbers),
     }
 }
 

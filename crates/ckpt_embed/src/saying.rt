@@ -1,9 +1,10 @@
 //! Tells the call that a line of a log says. It is the inverse of `writing`.
 
 ghost use Rattle.std.specs.Prelude.{◌≡◌, ◌≢◌, ◌≤◌, [], true, false, length, Ok};
+ghost use Rattle.ckpt_term_lines.specs.TermReading.{term_may_want_memory};
 ghost use Rattle.ckpt_embed.specs.Buffers.{StandsInFront};
 ghost use Rattle.ckpt_embed.specs.Calls.{HasNoNumbers};
-ghost use Rattle.ckpt_embed.specs.Asking.{reading_wants, said};
+ghost use Rattle.ckpt_embed.specs.Asking.{said};
 ghost use Rattle.ckpt_embed.specs.Saying.{BringsCallList, BringsFields, CallHasLists, GivesBack, HasLists, asked_told, call_fields, call_first};
 ghost use Rattle.ckpt_embed.specs.Saying.{call_has_no_fields, call_second, fields_of, fields_with, first_of, has_no_fields, lists_told, meant_told};
 ghost use Rattle.ckpt_embed.specs.Saying.{says_call, second_of, target_number};
@@ -51,7 +52,7 @@ pub fn line_call(
     ensures second { BringsCallList second_of line.now result second.old second.new }
     ensures given { GivesBack line.now result call.new first.new second.new }
     ensures kept { result.what ≢ says_call → (call.new ≡ call.old) × (first.new ≡ first.old) × (second.new ≡ second.old) }
-    ensures memory { result.code ≡ no_memory → reading_wants line.now ≡ true }
+    ensures memory { result.code ≡ no_memory → term_may_want_memory line.now ≡ true }
     ensures numbers { HasNoNumbers result }
 {
     match said(alloc, line) {

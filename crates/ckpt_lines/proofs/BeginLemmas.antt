@@ -1,8 +1,7 @@
 -- What a text with a keyword and a space at its start says.
-use Rattle.ckpt_lines.proofs.Names.{◌≡◌, ℕ, List, ◌∷◌, ◌++◌, Option, Some, None, ap, sym, ◌∙◌, refl, append_cancel_left, IfNone, Keyword, Config, Job, Start, Tick, Savepoint, Ack, Decline, Dispose}
-use Rattle.ckpt_lines.proofs.Names.{Restore, Cancel, Take, Deleted, Undeleted, Show, Count, All, keyword_of, spelling, BeginsWith, BeginsWithNone, is_long, is_recognized, words_of, common_steps}
+use Rattle.ckpt_lines.proofs.Names.{◌≡◌, ℕ, List, ◌∷◌, ◌++◌, Option, Some, None, ap, ◌∙◌, refl, IfNone, Keyword, Tick, Savepoint, Ack, Dispose}
+use Rattle.ckpt_lines.proofs.Names.{Take, Deleted, Undeleted, Count, spelling, BeginsWith, BeginsWithNone, is_long, is_recognized, words_of, common_steps}
 use Rattle.ckpt_lines.proofs.Names.{arith}
-use Rattle.ckpt_lines.proofs.KeywordLemmas.{found}
 
 -- the keyword is the first word
 spelled : (first : Keyword) (rest : List ℕ) → words_of (spelling first ++ 32 ∷ rest) ≡ spelling first ∷ words_of rest
@@ -10,14 +9,6 @@ spelled first rest = grind (arith, common_steps)
 
 pub words_of-begin : (text : List ℕ) (first : Keyword) (rest : List ℕ) → BeginsWith text first rest → words_of text ≡ spelling first ∷ words_of rest
 words_of-begin text first rest begins = ap words_of begins ∙ spelled first rest
-
--- two keywords have two spellings
-same_keyword : (first second : Keyword) → spelling first ≡ spelling second → first ≡ second
-same_keyword first second same = grind (arith, common_steps)
-
--- a text begins in one way at most
-pub begins_once : (text : List ℕ) (first second : Keyword) (rest others : List ℕ) → BeginsWith text first rest → BeginsWith text second others → (first ≡ second) × (rest ≡ others)
-begins_once text first second rest others begins again = grind (arith, common_steps)
 
 -- a text that begins with neither of these two begins with no long keyword
 pub no_long : (text : List ℕ) → ((rest : List ℕ) → BeginsWith text Savepoint rest → ⊥) → ((rest : List ℕ) → BeginsWith text Undeleted rest → ⊥) → BeginsWithNone is_long text

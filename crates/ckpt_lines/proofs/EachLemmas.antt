@@ -1,5 +1,5 @@
 -- Reading words one after the other, as a loop does.
-use Rattle.ckpt_lines.proofs.Names.{◌≡◌, ℕ, List, [], ◌∷◌, ◌++◌, Result, Ok, Err, refl, sym, ap, ◌∙◌, append_assoc, append-nil, LineFault, ◌>>=◌, each, common_steps, arith}
+use Rattle.ckpt_lines.proofs.Names.{◌≡◌, ℕ, List, [], ◌∷◌, ◌++◌, Result, Ok, Err, append_assoc, LineFault, ◌>>=◌, each, common_steps, arith}
 
 -- what was read before, and then what is still to be read
 abbrev pub with_front : {X : Type 0} → List X → Result (List X) LineFault → Result (List X) LineFault

@@ -1,6 +1,6 @@
 -- The number at a text's start, byte by byte.
-use Rattle.ckpt_lines.proofs.Names.{◌≡◌, ℕ, zero, suc, add-one, add-suc, add-zero, pow-suc, lt-ltb, ◌+◌, ◌-◌, ◌*◌, ◌^◌, ◌<◌, ◌≤◌, ◌==◌, Bool, true, false, ltb, if◌then◌else◌, Result, sym, List, []}
-use Rattle.ckpt_lines.proofs.Names.{◌∷◌, length, take, drop, get_or, Option, Some, None, Ok, Err, refl, ap, ◌∙◌, arith, ltb-true, is_ascii_digit, option_map, nat_tests, get_or-take, length-take-le}
+use Rattle.ckpt_lines.proofs.Names.{◌≡◌, ℕ, zero, suc, add-suc, add-zero, pow-suc, ◌+◌, ◌-◌, ◌*◌, ◌^◌, ◌<◌, ◌≤◌, ◌==◌, Bool, true, false, ltb, if◌then◌else◌, Result, sym, List, []}
+use Rattle.ckpt_lines.proofs.Names.{◌∷◌, length, take, drop, get_or, Option, Some, None, Ok, Err, refl, ap, ◌∙◌, arith, ltb-true, option_map, nat_tests, get_or-take, length-take-le}
 use Rattle.ckpt_lines.proofs.Names.{take_all, passes_at_first, fails_before_first, prefix_len-le-length, LineFault, FileWord, Fresh, Reused, file_place, number_place, file_word, is_fresh, number_of}
 use Rattle.ckpt_lines.proofs.Names.{signed, with_digit, begins_with_space, first_length, is_space, words_of, common_steps}
 use Rattle.ckpt_lines.specs.declared.fault.LineFault.TheVariants as fault

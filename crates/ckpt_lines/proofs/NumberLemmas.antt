@@ -1,6 +1,6 @@
 -- A number is read digit by digit.
 use Rattle.ckpt_lines.proofs.Names.{◌≡◌, ℕ, ◌+◌, ◌-◌, ◌*◌, ◌^◌, ◌<◌, ◌≤◌, Bool, true, false, ◌&&◌, cond, ltb, List, [], ◌∷◌, length, take, get_or, Option, Some, None, refl, sym, ap, ◌∙◌, arith}
-use Rattle.ckpt_lines.proofs.Names.{lt-ltb, ltb-true, zero, suc, is_ascii_digit, digit_value, all_ascii_digits, digits_value, and_parts, and_from, nat_tests, digits_value_more, take_all}
+use Rattle.ckpt_lines.proofs.Names.{lt-ltb, ltb-true, zero, suc, is_ascii_digit, digit_value, all_ascii_digits, digits_value, and_parts, and_from, nat_tests, digits_value_more}
 use Rattle.ckpt_lines.proofs.Names.{digits_value-take-le, is_number, number_of, with_digit, common_steps}
 
 -- this many bytes from the start are digits, and spell the number

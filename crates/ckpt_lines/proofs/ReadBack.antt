@@ -1,21 +1,25 @@
 -- The line of each call is read as that call.
-use Rattle.std.proofs.Common.{◌≡◌, ℕ, ◌<◌, Bool, true, false, ◌&&◌, ltb, length, List, [], ◌∷◌, ◌++◌, Option, Ok, refl, sym, ap, subst, ◌∙◌, arith, append_assoc}
-use Rattle.std.specs.List.{list_all}
+use Rattle.std.proofs.Common.{◌≡◌, ℕ, ◌<◌, Bool, true, false, List, [], ◌∷◌, ◌++◌, Option, Some, None, Ok, refl, sym, ap, subst, ◌∙◌, arith, append_assoc}
 use Rattle.std.specs.Prelude.{All, map, flat_map, codes, decimal}
 use Rattle.ckpt_ids.specs.declared.subtask.SubtaskId.{SubtaskId}
+use Rattle.ckpt_ids.specs.declared.call.Target.{Target}
 use Rattle.ckpt_ids.specs.declared.call.Target.TheVariants as target
 use Rattle.ckpt_ids.specs.declared.call.Call.{Call}
 use Rattle.ckpt_ids.specs.declared.call.Call.TheVariants as call
 use Rattle.ckpt_ids.specs.Ascending.{IsAscending}
 use Rattle.ckpt_ids.specs.Shapes.{IsShape}
 use Rattle.ckpt_ids.specs.Configuration.{Configuration, IsWithinLimits}
+use Rattle.ckpt_ids.proofs.LimitLemmas.{shape_holds}
 use Rattle.ckpt_lines.specs.declared.line.Line.{Line}
 use Rattle.ckpt_lines.specs.declared.line.Line.TheVariants as line
-use Rattle.ckpt_lines.specs.Keywords.{keyword_of}
-use Rattle.ckpt_lines.specs.Reading.{line_of, row, number_line, job_line, ack_line, decline_line, restore_line, config_line, retention_place, ended}
+use Rattle.ckpt_lines.specs.declared.keyword.Keyword.{Keyword}
+use Rattle.ckpt_lines.specs.declared.keyword.Keyword.TheVariants as keyword
+use Rattle.ckpt_lines.specs.Keywords.{keyword_of, spelling}
+use Rattle.ckpt_lines.specs.Reading.{line_of, row, number_call, number_line, only_number, start_line, job_line, ack_line, decline_line, restore_line, restoring, config_line, retention_place, target_place, ended}
 use Rattle.ckpt_texts.specs.Texts.{spaced}
 use Rattle.ckpt_texts.specs.MetadataTexts.{subtask_bytes}
-use Rattle.ckpt_lines.specs.CallTexts.{call_text, triggers_text, limits_text, subtask_text, files_text, line_of_call, config_text, line_of_config, job_text, start_text, retention_text, parallelisms, Fits, FitsSubtask, FitsCall, IsReadAs}
+use Rattle.ckpt_lines.specs.CallTexts.{call_text, triggers_text, limits_text, subtask_text, files_text, config_text, line_of_config, job_text, start_text, retention_text, parallelisms, Fits, FitsSubtask, FitsShape, FitsCall, IsReadAs}
+use Rattle.ckpt_lines.proofs.KeywordLemmas.{found}
 use Rattle.ckpt_lines.proofs.LineLemmas.{Each, from_all, IsPlain, IsWritten, last, next, each_next, each_before, plain_by, reading-written}
 use Rattle.ckpt_lines.proofs.NumberWords.{subtask_word, plain_number, plain_numbers, plain_subtask, plain_files, number_place-decimal, subtask_place-word, target_place-decimal, target_place-latest, each-numbers, file_places-words}
 
@@ -40,17 +44,18 @@ put_together text parts read same is = subst (λ (t : List ℕ). Says read t) (s
 pub one : (word : List ℕ) (n : ℕ) → IsPlain word → Fits n → IsWritten (word ++ 32 ∷ decimal n) (word ∷ decimal n ∷ [])
 one word n plain fits = next word (decimal n) (decimal n ∷ []) plain (last (decimal n) (plain_number n fits))
 
-number_read : (line : ℕ → Line) (n : ℕ) → Fits n → number_line line (decimal n ∷ []) ≡ Ok (line n)
-unfolding number_line ended
-number_read line n fits = rw (number_place-decimal n [] fits) refl
-
--- such a line is read as its keyword says
-numbered : (word : List ℕ) (line : ℕ → Line) (n : ℕ) → (list_all (λ b. ltb 32 b) word && ltb 0 (length word)) ≡ true → Fits n → line_of (word ∷ decimal n ∷ []) ≡ number_line line (decimal n ∷ []) → Says (line n) (word ++ 32 ∷ decimal n)
-numbered word line n plain fits is = read_as _ _ _ (one word n (plain_by word plain) fits) (is ∙ number_read line n fits)
+pub only : (n : ℕ) → Fits n → only_number (decimal n ∷ []) ≡ Ok n
+unfolding only_number ended
+only n fits = rw (number_place-decimal n [] fits) refl
 
 pub says_start : (now : ℕ) → Fits now → Says (line.Start now) (start_text now)
-unfolding line_of keyword_of row start_text
-says_start now fits = numbered (codes "start") line.Start now refl fits refl
+unfolding line_of keyword_of row start_line start_text
+says_start now fits = read_as _ _ _ (one (codes "start") now (plain_by (codes "start") refl) fits) (rw (only now fits) refl)
+
+-- a call of one number is read as its keyword says
+numbered : (first : Keyword) (n : ℕ) → IsPlain (spelling first) → Fits n → row first (decimal n ∷ []) ≡ number_line first (decimal n ∷ []) → Says (line.Call (number_call first n)) (spelling first ++ 32 ∷ decimal n)
+unfolding line_of number_line
+numbered first n plain fits is = read_as _ _ _ (one (spelling first) n plain fits) (rw ((found first).0, (found first).1, is, only n fits) refl)
 
 -- two numbers between the first word and the rest
 two : (word : List ℕ) (m n : ℕ) (rest : List ℕ) (words : List (List ℕ)) → IsPlain word → Fits m → Fits n → IsWritten rest words
@@ -60,7 +65,7 @@ two word m n rest words plain fits fits' written =
     let middle : IsWritten (decimal m ++ 32 ∷ (decimal n ++ 32 ∷ rest)) (decimal m ∷ decimal n ∷ words) = next (decimal m) _ _ (plain_number m fits) inner in
     next word _ _ plain middle
 
-pub decline : (now id : ℕ) (s : SubtaskId) → Fits now → Fits id → FitsSubtask s → Says (line.Decline now id s) (codes "decline" ++ 32 ∷ (decimal now ++ 32 ∷ (decimal id ++ 32 ∷ subtask_word s)))
+pub decline : (now id : ℕ) (s : SubtaskId) → Fits now → Fits id → FitsSubtask s → Says (line.Call (call.Decline now id s)) (codes "decline" ++ 32 ∷ (decimal now ++ 32 ∷ (decimal id ++ 32 ∷ subtask_word s)))
 unfolding line_of keyword_of row decline_line ended
 decline now id s now_fits id_fits s_fits =
     let sub : IsWritten (subtask_word s) (subtask_word s ∷ []) = last (subtask_word s) (plain_subtask s s_fits) in
@@ -69,7 +74,7 @@ decline now id s now_fits id_fits s_fits =
     (rw (number_place-decimal now (decimal id ∷ subtask_word s ∷ []) now_fits, number_place-decimal id (subtask_word s ∷ []) id_fits, subtask_place-word s [] s_fits) refl)
 
 pub ack : (now id : ℕ) (s : SubtaskId) (fresh reused : List ℕ) → Fits now → Fits id → FitsSubtask s → Each Fits fresh → Each Fits reused → IsAscending fresh → IsAscending reused
-    → Says (line.Ack now id s fresh reused) (codes "ack" ++ 32 ∷ (decimal now ++ 32 ∷ (decimal id ++ 32 ∷ (subtask_word s ++ (flat_map (λ f. 32 ∷ 43 ∷ decimal f) fresh ++ flat_map (λ f. 32 ∷ 61 ∷ decimal f) reused)))))
+    → Says (line.Call (call.Ack now id s fresh reused)) (codes "ack" ++ 32 ∷ (decimal now ++ 32 ∷ (decimal id ++ 32 ∷ (subtask_word s ++ (flat_map (λ f. 32 ∷ 43 ∷ decimal f) fresh ++ flat_map (λ f. 32 ∷ 61 ∷ decimal f) reused)))))
 unfolding line_of keyword_of row ack_line
 ack now id s fresh reused now_fits id_fits s_fits fresh_fit reused_fit order order' =
     let plus : 32 < 43 = omega arith in
@@ -87,19 +92,25 @@ restore_rest now word shape fits plain all =
     let inner : IsWritten (word ++ flat_map (λ n. 32 ∷ decimal n) shape) (word ∷ map decimal shape) = each_next decimal word shape plain (plain_numbers shape all) in
     next (codes "restore") _ _ (plain_by (codes "restore") refl) (next (decimal now) _ _ (plain_number now fits) inner)
 
-pub restore_latest : (now : ℕ) (shape : List ℕ) → Fits now → Each Fits shape
-    → Says (line.Restore now target.Latest shape) (codes "restore" ++ 32 ∷ (decimal now ++ 32 ∷ (codes "latest" ++ flat_map (λ n. 32 ∷ decimal n) shape)))
-unfolding line_of keyword_of row restore_line
-restore_latest now shape fits all =
-    read_as _ (codes "restore" ∷ decimal now ∷ codes "latest" ∷ map decimal shape) _ (restore_rest now (codes "latest") shape fits (plain_by (codes "latest") refl) all)
-    (rw (number_place-decimal now (codes "latest" ∷ map decimal shape) fits, target_place-latest (map decimal shape), each-numbers shape all) refl)
+-- a shape is the new shape, and none stays the old one
+restoring-call : (now : ℕ) (t : Target) (shape : Option (List ℕ)) → FitsShape shape → restoring now t (parallelisms shape) ≡ line.Call (call.Restore now t shape)
+restoring-call now t None fits = refl
+restoring-call now t (Some []) fits = absurd (omega (arith, fits.0.vertices_from))
+restoring-call now t (Some (p ∷ ps)) fits = rw (shape_holds (p ∷ ps) fits.0) refl
 
-pub restore_savepoint : (now id : ℕ) (shape : List ℕ) → Fits now → Fits id → Each Fits shape
-    → Says (line.Restore now (target.Savepoint id) shape) (codes "restore" ++ 32 ∷ (decimal now ++ 32 ∷ (decimal id ++ flat_map (λ n. 32 ∷ decimal n) shape)))
+each_fits : (shape : Option (List ℕ)) → FitsShape shape → Each Fits (parallelisms shape)
+each_fits None fits = tt
+each_fits (Some shape) fits = from_all Fits shape fits.1
+
+restore : (now : ℕ) (word : List ℕ) (t : Target) (shape : Option (List ℕ)) → Fits now → IsPlain word → FitsShape shape
+    → target_place (word ∷ map decimal (parallelisms shape)) ≡ Ok (t, map decimal (parallelisms shape))
+    → Says (line.Call (call.Restore now t shape)) (codes "restore" ++ 32 ∷ (decimal now ++ 32 ∷ (word ++ flat_map (λ n. 32 ∷ decimal n) (parallelisms shape))))
 unfolding line_of keyword_of row restore_line
-restore_savepoint now id shape fits fits' all =
-    read_as _ (codes "restore" ∷ decimal now ∷ decimal id ∷ map decimal shape) _ (restore_rest now (decimal id) shape fits (plain_number id fits') all)
-    (rw (number_place-decimal now (decimal id ∷ map decimal shape) fits, target_place-decimal id (map decimal shape) fits', each-numbers shape all) refl)
+restore now word t shape fits plain whole target =
+    let all = each_fits shape whole in
+    let ps = parallelisms shape in
+    read_as _ (codes "restore" ∷ decimal now ∷ word ∷ map decimal ps) _ (restore_rest now word ps fits plain all)
+    (rw (number_place-decimal now (word ∷ map decimal ps) fits, target, each-numbers ps all, restoring-call now t shape whole) refl)
 
 pub says_job : (first : ℕ) (others : List ℕ) → Each Fits (first ∷ others) → Says (line.Job (first ∷ others)) (job_text (first ∷ others))
 unfolding job_text line_of keyword_of row job_line
@@ -209,24 +220,25 @@ savepoint_parts : (now id : ℕ) (shape : Option (List ℕ)) → call_text (call
 unfolding call_text
 savepoint_parts now id shape = parts_4 (codes "restore") (spaced now) (spaced id) (flat_map spaced (parallelisms shape))
 
-pub says_call : (c : Call) → FitsCall c → Says (line_of_call c) (call_text c)
-unfolding call_text line_of keyword_of row
-says_call (call.Tick now) fits = numbered (codes "tick") line.Tick now refl fits refl
-says_call (call.Savepoint now) fits = numbered (codes "savepoint") line.Savepoint now refl fits refl
+pub says_call : (c : Call) → FitsCall c → Says (line.Call c) (call_text c)
+unfolding call_text row
+says_call (call.Tick now) fits = numbered keyword.Tick now (plain_by (codes "tick") refl) fits refl
+says_call (call.Savepoint now) fits = numbered keyword.Savepoint now (plain_by (codes "savepoint") refl) fits refl
 says_call (call.Ack now id s fresh reused) fits =
     put_together _ _ _ (ack_parts now id s fresh reused)
     (ack now id s fresh reused fits.0 fits.1 fits.2 (from_all Fits fresh fits.3.0) (from_all Fits reused fits.4.0) fits.3.1 fits.4.1)
 says_call (call.Decline now id s) fits = put_together _ _ _ (decline_parts now id s) (decline now id s fits.0 fits.1 fits.2)
-says_call (call.Dispose id) fits = numbered (codes "dispose") line.Dispose id refl fits refl
-says_call (call.Restore now target.Latest shape) fits = put_together _ _ _ (latest_parts now shape) (restore_latest now (parallelisms shape) fits.0 (from_all Fits (parallelisms shape) fits.2))
+says_call (call.Dispose id) fits = numbered keyword.Dispose id (plain_by (codes "dispose") refl) fits refl
+says_call (call.Restore now target.Latest shape) fits =
+    put_together _ _ _ (latest_parts now shape) (restore now (codes "latest") target.Latest shape fits.0 (plain_by (codes "latest") refl) fits.2 (target_place-latest (map decimal (parallelisms shape))))
 says_call (call.Restore now (target.Savepoint id) shape) fits =
-    put_together _ _ _ (savepoint_parts now id shape) (restore_savepoint now id (parallelisms shape) fits.0 fits.1 (from_all Fits (parallelisms shape) fits.2))
-says_call (call.Cancel now) fits = numbered (codes "cancel") line.Cancel now refl fits refl
-says_call (call.Take most) fits = numbered (codes "take") line.Take most refl fits refl
-says_call (call.Deleted file) fits = numbered (codes "deleted") line.Deleted file refl fits refl
-says_call (call.Undeleted file) fits = numbered (codes "undeleted") line.Undeleted file refl fits refl
-says_call (call.Show id) fits = numbered (codes "show") line.Show id refl fits refl
-says_call (call.Count file) fits = numbered (codes "count") line.Count file refl fits refl
+    put_together _ _ _ (savepoint_parts now id shape) (restore now (decimal id) (target.Savepoint id) shape fits.0 (plain_number id fits.1) fits.2 (target_place-decimal id (map decimal (parallelisms shape)) fits.1))
+says_call (call.Cancel now) fits = numbered keyword.Cancel now (plain_by (codes "cancel") refl) fits refl
+says_call (call.Take most) fits = numbered keyword.Take most (plain_by (codes "take") refl) fits refl
+says_call (call.Deleted file) fits = numbered keyword.Deleted file (plain_by (codes "deleted") refl) fits refl
+says_call (call.Undeleted file) fits = numbered keyword.Undeleted file (plain_by (codes "undeleted") refl) fits refl
+says_call (call.Show id) fits = numbered keyword.Show id (plain_by (codes "show") refl) fits refl
+says_call (call.Count file) fits = numbered keyword.Count file (plain_by (codes "count") refl) fits refl
 
 -- and so it is read
 pub start : (now : ℕ) → Fits now → IsReadAs (line.Start now) (start_text now)
@@ -238,5 +250,5 @@ job_of shape is all = read_back (line.Job shape) (job_text shape) (says_job_of s
 pub config : (c : Configuration) → IsWithinLimits c → IsReadAs (line_of_config c) (config_text c)
 config c is = read_back (line_of_config c) (config_text c) (says_config c is)
 
-pub reads : (c : Call) → FitsCall c → IsReadAs (line_of_call c) (call_text c)
-reads c fits = read_back (line_of_call c) (call_text c) (says_call c fits)
+pub reads : (c : Call) → FitsCall c → IsReadAs (line.Call c) (call_text c)
+reads c fits = read_back (line.Call c) (call_text c) (says_call c fits)

@@ -1,11 +1,9 @@
 -- The reading of a line never says that memory ran out.
-use Rattle.ckpt_lines.proofs.Names.{◌≡◌, ◌≢◌, ℕ, Bool, true, false, cond, ◌==◌, List, [], ◌∷◌, Option, Some, None, Result, Ok, Err, IfErr, refl, codes, ok_or, bytes_eq, strip_carriage_return}
-use Rattle.ckpt_lines.proofs.Names.{SubtaskId, LineFault, Keyword, Line, FileWord, Fresh, Reused, keyword_of, ◌>>=◌, is_memory, place, number_place, subtask_place, retention_place, target_place}
-use Rattle.ckpt_lines.proofs.Names.{ended, each, config_line, job_line, some_parallelisms, number_line, file_places, ack_line, decline_line, restore_line, all_line, row, row_of, line_of, is_comment}
+use Rattle.ckpt_lines.proofs.Names.{◌≡◌, ◌≢◌, ℕ, Bool, false, cond, List, [], ◌∷◌, Option, Result, Ok, Err, IfErr, refl, codes, ok_or, bytes_eq, strip_carriage_return}
+use Rattle.ckpt_lines.proofs.Names.{SubtaskId, LineFault, Keyword, Line, FileWord, ◌>>=◌, is_memory, place, number_place, subtask_place, retention_place, target_place}
+use Rattle.ckpt_lines.proofs.Names.{ended, each, config_line, job_line, some_parallelisms, start_line, number_line, only_number, file_places, ack_line, decline_line, restore_line, all_line, row, row_of, line_of}
 use Rattle.ckpt_lines.proofs.Names.{is_too_long, reading, number, subtask, retention, target_of, savepoint, file_word, signed, number_of, subtask_of, words_of, common_steps, arith}
 use Rattle.ckpt_lines.specs.declared.fault.LineFault.TheVariants as fault
-use Rattle.ckpt_lines.specs.declared.keyword.Keyword.TheVariants as keyword
-use Rattle.ckpt_lines.specs.declared.line.Line.TheVariants as line
 
 abbrev pub NoMemory : {X : Type 0} → Result X LineFault → Type 0
 NoMemory read = IfErr read (λ why. is_memory why ≡ false)
@@ -92,9 +90,17 @@ job-no_memory : (words : List (List ℕ)) → NoMemory (job_line words)
 unfolding job_line
 job-no_memory words = bind (each number words) _ (numbers-no_memory words) (λ ps. some-no_memory ps)
 
-number_line-no_memory : (line : ℕ → Line) (words : List (List ℕ)) → NoMemory (number_line line words)
+pub only-no_memory : (words : List (List ℕ)) → NoMemory (only_number words)
+unfolding only_number
+only-no_memory words = number_then words _ (λ n. bind (ended n.1) _ (ended-no_memory n.1) (λ _. tt))
+
+start-no_memory : (words : List (List ℕ)) → NoMemory (start_line words)
+unfolding start_line
+start-no_memory words = bind (only_number words) _ (only-no_memory words) (λ now. tt)
+
+number_line-no_memory : (first : Keyword) (words : List (List ℕ)) → NoMemory (number_line first words)
 unfolding number_line
-number_line-no_memory line words = number_then words _ (λ n. ended_then n.1 (line n.0))
+number_line-no_memory first words = bind (only_number words) _ (only-no_memory words) (λ n. tt)
 
 files-no_memory : (words : List (List ℕ)) → NoMemory (file_places words)
 unfolding file_places
@@ -120,7 +126,7 @@ all-no_memory words =
 
 row-no_memory : (first : Keyword) (words : List (List ℕ)) → NoMemory (row first words)
 unfolding row
-row-no_memory first words = grind (arith, common_steps, ack-no_memory, all-no_memory, config-no_memory, decline-no_memory, job-no_memory, number_line-no_memory, restore-no_memory)
+row-no_memory first words = grind (arith, common_steps, ack-no_memory, all-no_memory, config-no_memory, decline-no_memory, job-no_memory, number_line-no_memory, restore-no_memory, start-no_memory)
 
 row_of-no_memory : (first : Option Keyword) (words : List (List ℕ)) → NoMemory (row_of first words)
 row_of-no_memory first words = grind (arith, common_steps, row-no_memory)

@@ -7,6 +7,7 @@ use Rattle.ckpt_ids.specs.declared.call.Call.{Call}
 use Rattle.ckpt_ids.specs.declared.call.Call.TheVariants as call
 use Rattle.ckpt_ids.specs.Ascending.{IsAscending}
 use Rattle.ckpt_ids.specs.Configuration.{Configuration}
+use Rattle.ckpt_ids.specs.Shapes.{IsShape}
 use Rattle.ckpt_lines.specs.declared.limits.TheConstants.{LONGEST_LINE}
 use Rattle.ckpt_lines.specs.declared.line.Line.{Line}
 use Rattle.ckpt_lines.specs.declared.line.Line.TheVariants as line
@@ -51,21 +52,6 @@ call_text (call.Undeleted file) = codes "undeleted" ++ spaced file
 call_text (call.Show id) = codes "show" ++ spaced id
 call_text (call.Count file) = codes "count" ++ spaced file
 
--- the line that says the call
-abbrev pub line_of_call : Call → Line
-line_of_call (call.Tick now) = line.Tick now
-line_of_call (call.Savepoint now) = line.Savepoint now
-line_of_call (call.Ack now id s fresh reused) = line.Ack now id s fresh reused
-line_of_call (call.Decline now id s) = line.Decline now id s
-line_of_call (call.Dispose id) = line.Dispose id
-line_of_call (call.Restore now t shape) = line.Restore now t (parallelisms shape)
-line_of_call (call.Cancel now) = line.Cancel now
-line_of_call (call.Take most) = line.Take most
-line_of_call (call.Deleted file) = line.Deleted file
-line_of_call (call.Undeleted file) = line.Undeleted file
-line_of_call (call.Show id) = line.Show id
-line_of_call (call.Count file) = line.Count file
-
 abbrev pub retention_text : Bool → List ℕ
 retention_text true = codes " keep"
 retention_text false = codes " delete"
@@ -90,7 +76,7 @@ job_text shape = codes "job" ++ flat_map spaced shape
 unfoldable pub start_text : ℕ → List ℕ
 start_text now = codes "start" ++ spaced now
 
--- what the types of the places allow: numbers of 64 bits, halves of a subtask of 16 bits
+-- what the types of the places allow: numbers of 64 bits, halves of a subtask of 16 bits, shapes
 abbrev pub Fits : ℕ → Type 0
 Fits n = n < 2 ^ 64
 
@@ -104,13 +90,17 @@ FitsTarget (target.Savepoint id) = Fits id
 abbrev pub FitsFiles : List ℕ → Type 0
 FitsFiles files = All Fits files × IsAscending files
 
+abbrev pub FitsShape : Option (List ℕ) → Type 0
+FitsShape None = ⊤
+FitsShape (Some shape) = IsShape shape × All Fits shape
+
 abbrev pub FitsCall : Call → Type 0
 FitsCall (call.Tick now) = Fits now
 FitsCall (call.Savepoint now) = Fits now
 FitsCall (call.Ack now id s fresh reused) = Fits now × Fits id × FitsSubtask s × FitsFiles fresh × FitsFiles reused
 FitsCall (call.Decline now id s) = Fits now × Fits id × FitsSubtask s
 FitsCall (call.Dispose id) = Fits id
-FitsCall (call.Restore now t shape) = Fits now × FitsTarget t × All Fits (parallelisms shape)
+FitsCall (call.Restore now t shape) = Fits now × FitsTarget t × FitsShape shape
 FitsCall (call.Cancel now) = Fits now
 FitsCall (call.Take most) = Fits most
 FitsCall (call.Deleted file) = Fits file

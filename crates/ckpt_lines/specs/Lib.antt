@@ -2,7 +2,6 @@
 pub mod Bytes
 pub mod CallTexts
 pub mod Keywords
-pub mod Meanings
 pub mod Reading
 pub mod Usual
 pub mod Values

@@ -1,17 +1,20 @@
--- What a line says: a line of the table, or the first fault from the left.
+-- What a line says, or the first fault from the left.
 use Rattle.std.specs.Prelude.{◌≡◌, ℕ, Bool, true, false, not, ◌&&◌, ◌==◌, nat_lt, List, [], ◌∷◌, length, slice_index, if◌then◌else◌, Option, Some, None, Result, Ok, Err}
 use Rattle.std.specs.List.{filter_map}
 use Rattle.std.specs.Str.Lines.{strip_carriage_return}
 use Rattle.ckpt_ids.specs.declared.subtask.SubtaskId.{SubtaskId}
+use Rattle.ckpt_ids.specs.declared.call.Call as calls
+use Rattle.ckpt_ids.specs.declared.call.Call.TheVariants as call
 use Rattle.ckpt_ids.specs.declared.call.Target.{Target}
 use Rattle.ckpt_ids.specs.Ascending.{ascending}
+use Rattle.ckpt_ids.specs.Shapes.{is_shape}
 use Rattle.ckpt_lines.specs.declared.fault.LineFault.{LineFault}
 use Rattle.ckpt_lines.specs.declared.fault.LineFault.TheVariants as fault
 use Rattle.ckpt_lines.specs.declared.keyword.Keyword.{Keyword}
 use Rattle.ckpt_lines.specs.declared.keyword.Keyword.TheVariants as keyword
 use Rattle.ckpt_lines.specs.declared.limits.TheConstants.{LONGEST_LINE}
 use Rattle.ckpt_lines.specs.declared.line.Line.{Line}
-use Rattle.ckpt_lines.specs.declared.line.Line.TheVariants.{Skip, Config, Job, Start, Tick, Savepoint, Ack, Decline, Dispose, Restore, Cancel, Take, Deleted, Undeleted, Show, Count, All}
+use Rattle.ckpt_lines.specs.declared.line.Line.TheVariants.{Skip, Config, Job, Start, Call, BadShape, All}
 use Rattle.ckpt_lines.specs.declared.values.FileWord.{FileWord}
 use Rattle.ckpt_lines.specs.Bytes.{hash}
 use Rattle.ckpt_lines.specs.Keywords.{keyword_of, spelling, takes_memory}
@@ -84,11 +87,34 @@ job_line words = do
   some_parallelisms parallelisms
 
 -- one number and nothing after it
-unfoldable pub number_line : (ℕ → Line) → List (List ℕ) → Result Line LineFault
-number_line line words = do
+unfoldable pub only_number : List (List ℕ) → Result ℕ LineFault
+only_number words = do
   n ← number_place words
   _ ← ended n.1
-  Ok (line n.0)
+  Ok n.0
+
+unfoldable pub start_line : List (List ℕ) → Result Line LineFault
+start_line words = do
+  now ← only_number words
+  Ok (Start now)
+
+-- the call of a line of this keyword with one number
+abbrev pub number_call : Keyword → ℕ → calls.Call
+number_call keyword.Tick now = call.Tick now
+number_call keyword.Savepoint now = call.Savepoint now
+number_call keyword.Dispose id = call.Dispose id
+number_call keyword.Cancel now = call.Cancel now
+number_call keyword.Take most = call.Take most
+number_call keyword.Deleted file = call.Deleted file
+number_call keyword.Undeleted file = call.Undeleted file
+number_call keyword.Show id = call.Show id
+-- the only other keyword with such a line is `count`
+number_call _ file = call.Count file
+
+unfoldable pub number_line : Keyword → List (List ℕ) → Result Line LineFault
+number_line first words = do
+  n ← only_number words
+  Ok (Call (number_call first n))
 
 -- the fresh files and the reused ones, for any order of the words
 unfoldable pub file_places : List (List ℕ) → Result (List ℕ × List ℕ) LineFault
@@ -102,7 +128,7 @@ ack_line words = do
   id ← number_place now.1
   subtask ← subtask_place id.1
   files ← file_places subtask.1
-  Ok (Ack now.0 id.0 subtask.0 files.0 files.1)
+  Ok (Call (call.Ack now.0 id.0 subtask.0 files.0 files.1))
 
 unfoldable pub decline_line : List (List ℕ) → Result Line LineFault
 decline_line words = do
@@ -110,14 +136,26 @@ decline_line words = do
   id ← number_place now.1
   subtask ← subtask_place id.1
   _ ← ended subtask.1
-  Ok (Decline now.0 id.0 subtask.0)
+  Ok (Call (call.Decline now.0 id.0 subtask.0))
+
+-- the parallelisms of a `restore`, if it has any, are the new shape
+abbrev pub is_new_shape : List ℕ → Bool
+is_new_shape [] = true
+is_new_shape (p ∷ ps) = is_shape (p ∷ ps)
+
+abbrev pub new_shape : List ℕ → Option (List ℕ)
+new_shape [] = None
+new_shape (p ∷ ps) = Some (p ∷ ps)
+
+abbrev pub restoring : ℕ → Target → List ℕ → Line
+restoring now target ps = if is_new_shape ps then Call (call.Restore now target (new_shape ps)) else BadShape
 
 unfoldable pub restore_line : List (List ℕ) → Result Line LineFault
 restore_line words = do
   now ← number_place words
   target ← target_place now.1
   parallelisms ← each number target.1
-  Ok (Restore now.0 target.0 parallelisms)
+  Ok (restoring now.0 target.0 parallelisms)
 
 unfoldable pub all_line : List (List ℕ) → Result Line LineFault
 all_line words = do
@@ -132,20 +170,12 @@ all_line words = do
 unfoldable pub row : Keyword → List (List ℕ) → Result Line LineFault
 row keyword.Config words = config_line words
 row keyword.Job words = job_line words
-row keyword.Start words = number_line Start words
-row keyword.Tick words = number_line Tick words
-row keyword.Savepoint words = number_line Savepoint words
+row keyword.Start words = start_line words
 row keyword.Ack words = ack_line words
 row keyword.Decline words = decline_line words
-row keyword.Dispose words = number_line Dispose words
 row keyword.Restore words = restore_line words
-row keyword.Cancel words = number_line Cancel words
-row keyword.Take words = number_line Take words
-row keyword.Deleted words = number_line Deleted words
-row keyword.Undeleted words = number_line Undeleted words
-row keyword.Show words = number_line Show words
-row keyword.Count words = number_line Count words
 row keyword.All words = all_line words
+row first words = number_line first words
 
 abbrev pub row_of : Option Keyword → List (List ℕ) → Result Line LineFault
 row_of None words = Err fault.Word

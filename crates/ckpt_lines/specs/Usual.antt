@@ -1,11 +1,11 @@
 -- Usual lines, whose call is made from their bytes: a usual keyword, a space, and one number.
-use Rattle.std.specs.Prelude.{◌≡◌, ℕ, Bool, true, false, List, [], ◌∷◌, ◌++◌, Ok}
+use Rattle.std.specs.Prelude.{◌≡◌, ℕ, Bool, true, false, List, ◌∷◌, ◌++◌, Ok}
 use Rattle.std.specs.Str.Lines.{strip_carriage_return}
 use Rattle.ckpt_lines.specs.declared.keyword.Keyword.{Keyword}
 use Rattle.ckpt_lines.specs.declared.keyword.Keyword.TheVariants.{Tick, Savepoint, Ack, Dispose, Take, Deleted, Undeleted, Count}
 use Rattle.ckpt_lines.specs.Bytes.{space}
 use Rattle.ckpt_lines.specs.Keywords.{spelling}
-use Rattle.ckpt_lines.specs.Reading.{is_too_long, number_place}
+use Rattle.ckpt_lines.specs.Reading.{is_too_long, only_number}
 use Rattle.ckpt_lines.specs.Words.{words_of}
 
 -- the keywords of usual lines
@@ -31,7 +31,7 @@ pub record IsUsual (line : List ℕ) : Type 0 where
   pub short : is_too_long line ≡ false
   pub usual : is_usual keyword ≡ true
   pub begins : BeginsWith (strip_carriage_return line) keyword rest
-  pub numbered : number_place (words_of rest) ≡ Ok (number, [])
+  pub numbered : only_number (words_of rest) ≡ Ok number
 
 -- the keywords that are recognized by their bytes: the usual ones, and `ack`
 abbrev pub is_recognized : Keyword → Bool

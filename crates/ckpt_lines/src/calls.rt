@@ -1,7 +1,8 @@
 //! The line of a call.
 ghost use Rattle.std.specs.Prelude.{◌≡◌, ◌++◌, IfOk, OnOk, string_bytes};
 ghost use Rattle.ckpt_ids.specs.declared.call.Call.TheVariants.{Ack, Decline, Restore};
-ghost use Rattle.ckpt_lines.specs.CallTexts.{call_text, line_of_call, FitsCall, IsReadAs};
+ghost use Rattle.ckpt_lines.specs.declared.line.Line.TheVariants as line;
+ghost use Rattle.ckpt_lines.specs.CallTexts.{call_text, FitsCall, IsReadAs};
 
 use crate::pieces::{
     write_fresh, write_number, write_reused, write_shape, write_subtask, write_target,
@@ -18,7 +19,7 @@ const USUAL_LENGTH: usize = 64;
 /// files than a coordinator accepts can have such a line. Fails only if memory runs out.
 pub fn call_line(alloc: Global, call: &Call) -> Result<String, AllocError>
     ensures text { IfOk result (λ text. string_bytes text ≡ call_text call.now) }
-    ensures read { IfOk result (λ text. IsReadAs (line_of_call call.now) (string_bytes text)) }
+    ensures read { IfOk result (λ text. IsReadAs (line.Call call.now) (string_bytes text)) }
 {
     let mut text = String::with_capacity(alloc, USUAL_LENGTH)?;
     write_call(&mut text, call)?;

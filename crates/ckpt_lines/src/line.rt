@@ -1,13 +1,19 @@
-//! The lines of a job script, as they are read.
+//! What the lines of a job script say.
 use crate::numbers::Numbers;
-use ckpt_ids::{CheckpointId, FileId, Files, SubtaskId, Target};
+use ckpt_ids::{Call, CheckpointId};
 
-/// A line of a job script. Moments and durations are milliseconds.
+/// What a line of a job script says. Moments and durations are milliseconds.
+///
+/// The variants say which line each is. `Call` is twelve of them: `tick now`, `savepoint now`,
+/// `ack now id v.s` and then file words, `decline now id v.s`, `dispose id`,
+/// `restore now latest|id` and then the parallelisms of a new shape if there is one, `cancel now`,
+/// `take n`, `deleted f`, `undeleted f`, `show id` and `count f`.
 #[derive(Debug, Drop, PartialEq, Eq)]
 pub enum Line {
-    /// A line without words, or a comment.
+    /// Nothing: a line without words, or a comment.
     Skip,
-    /// `config interval pause at_once timeout tolerable retained keep|delete`
+    /// `config interval pause at_once timeout tolerable retained keep|delete`: how the job takes
+    /// checkpoints. A value may be outside the limits of [`Config::new`](ckpt_ids::Config::new).
     Config {
         /// Milliseconds between two triggers.
         interval: u64,
@@ -24,93 +30,24 @@ pub enum Line {
         /// Whether completed checkpoints are kept when the job is cancelled.
         keep_on_cancel: bool,
     },
-    /// `job p1 p2 ..`: the parallelism of each vertex, at least one.
+    /// `job p1 p2 ..`: the parallelisms of the job, at least one. They may be outside the limits of
+    /// a [`Shape`](ckpt_ids::Shape).
     Job {
         /// The parallelism of each vertex.
         parallelisms: Numbers,
     },
-    /// `start now`
+    /// `start now`: opens the coordinator.
     Start {
         /// The moment.
         now: u64,
     },
-    /// `tick now`
-    Tick {
-        /// The moment.
-        now: u64,
-    },
-    /// `savepoint now`
-    Savepoint {
-        /// The moment.
-        now: u64,
-    },
-    /// `ack now id v.s`, then file words: `+` and a new file, `=` and a reused one.
-    Ack {
-        /// The moment.
-        now: u64,
-        /// The number of the record.
-        id: CheckpointId,
-        /// The subtask.
-        subtask: SubtaskId,
-        /// The new files.
-        fresh: Files,
-        /// The reused files.
-        reused: Files,
-    },
-    /// `decline now id v.s`
-    Decline {
-        /// The moment.
-        now: u64,
-        /// The number of the record.
-        id: CheckpointId,
-        /// The subtask.
-        subtask: SubtaskId,
-    },
-    /// `dispose id`
-    Dispose {
-        /// The number of the record.
-        id: CheckpointId,
-    },
-    /// `restore now latest|id`, then the parallelisms of a new shape. With none the shape stays.
-    Restore {
-        /// The moment.
-        now: u64,
-        /// What the job is restored from.
-        target: Target,
-        /// The parallelism of each vertex.
-        parallelisms: Numbers,
-    },
-    /// `cancel now`
-    Cancel {
-        /// The moment.
-        now: u64,
-    },
-    /// `take n`
-    Take {
-        /// How many files to fetch at most.
-        most: u64,
-    },
-    /// `deleted f`
-    Deleted {
-        /// The file.
-        file: FileId,
-    },
-    /// `undeleted f`
-    Undeleted {
-        /// The file.
-        file: FileId,
-    },
-    /// `show id`
-    Show {
-        /// The number of the record.
-        id: CheckpointId,
-    },
-    /// `count f`
-    Count {
-        /// The file.
-        file: FileId,
-    },
-    /// `all now id threads first`: an acknowledgement for each missing subtask.
+    /// A call of the coordinator.
+    Call(Call),
+    /// A `restore` whose parallelisms [`Shape::new`](ckpt_ids::Shape::new) refuses as a shape. It
+    /// makes no call.
+    BadShape,
+    /// `all now id threads first`: an acknowledgement for each missing subtask of the pending
+    /// record `id`, with one new file each, numbered from `first` on.
     All {
         /// The moment.
         now: u64,

@@ -62,8 +62,6 @@ pub fn job_line(alloc: Global, shape: &Shape) -> Result<String, AllocError>
     ensures text { IfOk result (λ text. string_bytes text ≡ job_text shape.now) }
     ensures read { IfOk result (λ text. IsReadAs (Job shape.now) (string_bytes text)) }
 {
-    // The contract of this read says that it is a shape.
-    let _ = shape.size();
     let mut text = String::from_str(alloc, "job")?;
     write_shape(&mut text, shape)?;
     Ok(text)

@@ -1,5 +1,6 @@
 //! Parts of lines. Their contracts also say what the types of numbers allow, for reading them back.
 ghost use Rattle.std.specs.Prelude.{◌≡◌, ◌++◌, ◌<◌, ◌^◌, flat_map, decimal, All, OnOk, string_bytes};
+ghost use Rattle.ckpt_ids.specs.Shapes.{IsShape};
 ghost use Rattle.ckpt_texts.specs.Texts.{spaced};
 ghost use Rattle.ckpt_lines.specs.CallTexts.{Fits, FitsFiles, FitsSubtask, FitsTarget, fresh_text, reused_text, subtask_text, target_text};
 
@@ -48,7 +49,7 @@ pub(crate) fn write_reused(text: &mut String, files: &Files) -> Result<(), Alloc
 /// Appends the parallelisms.
 pub(crate) fn write_shape(text: &mut String, shape: &Shape) -> Result<(), AllocError>
     ensures text { OnOk result (string_bytes text.new ≡ string_bytes text.old ++ flat_map spaced shape.now) }
-    ensures fit { OnOk result (All Fits shape.now) }
+    ensures fit { OnOk result (IsShape shape.now × All Fits shape.now) }
 {
     for vertex in 0..shape.vertices() {
         if let Some(parallelism) = shape.parallelism(vertex) {

@@ -1,15 +1,16 @@
 //! Each kind of line, from the words after its first.
 ghost use Rattle.std.specs.Prelude.{◌≡◌, true};
 ghost use Rattle.ckpt_lines.specs.Keywords.{takes_memory};
-ghost use Rattle.ckpt_lines.specs.Reading.{ack_line, all_line, config_line, decline_line, ended, job_line, number_line, restore_line, row, Reads, IsExact};
+ghost use Rattle.ckpt_lines.specs.Reading.{ack_line, all_line, config_line, decline_line, ended, job_line, number_call, number_line, only_number, restore_line, row, start_line, Reads, IsExact};
 
 use crate::fault::LineFault;
 use crate::keyword::Keyword;
 use crate::line::Line;
 use crate::lists::{files, numbers};
 use crate::places::{keep_or_delete, subtask, target};
+use crate::restoring::restoring;
 use crate::words::Words;
-use ckpt_ids::{CheckpointId, FileId};
+use ckpt_ids::{Call, CheckpointId, FileId};
 use std::alloc::Global;
 
 /// Checks that no word follows the last one.
@@ -21,6 +22,17 @@ pub fn end(words: &mut Words<'_>) -> Result<(), LineFault>
         return Err(LineFault::Extra);
     }
     Ok(())
+}
+
+/// The next word as a number, which has to be the last word.
+#[tactic(auto, unfolding(crate::specs::Reading::only_number))]
+#[inline(always)]
+pub fn only_number(words: &mut Words<'_>) -> Result<u64, LineFault>
+    ensures { IsExact result (only_number words.old) }
+{
+    let number = words.number()?;
+    end(words)?;
+    Ok(number)
 }
 
 #[tactic(auto, unfolding(crate::specs::Reading::config_line))]
@@ -65,13 +77,13 @@ fn ack(alloc: Global, words: &mut Words<'_>) -> Result<Line, LineFault>
     let id = CheckpointId(words.number()?);
     let subtask = subtask(words)?;
     let (fresh, reused) = files(alloc, words)?;
-    Ok(Line::Ack {
+    Ok(Line::Call(Call::Ack {
         now,
         id,
         subtask,
         fresh,
         reused,
-    })
+    }))
 }
 
 #[tactic(auto, unfolding(crate::specs::Reading::decline_line))]
@@ -82,7 +94,7 @@ fn decline(words: &mut Words<'_>) -> Result<Line, LineFault>
     let id = CheckpointId(words.number()?);
     let subtask = subtask(words)?;
     end(words)?;
-    Ok(Line::Decline { now, id, subtask })
+    Ok(Line::Call(Call::Decline { now, id, subtask }))
 }
 
 #[tactic(auto, unfolding(crate::specs::Reading::restore_line))]
@@ -92,11 +104,7 @@ fn restore(alloc: Global, words: &mut Words<'_>) -> Result<Line, LineFault>
     let now = words.number()?;
     let target = target(words)?;
     let parallelisms = numbers(alloc, words)?;
-    Ok(Line::Restore {
-        now,
-        target,
-        parallelisms,
-    })
+    restoring(alloc, now, target, &parallelisms)
 }
 
 #[tactic(auto, unfolding(crate::specs::Reading::all_line))]
@@ -116,94 +124,49 @@ fn all(words: &mut Words<'_>) -> Result<Line, LineFault>
     })
 }
 
-#[tactic(auto, unfolding(crate::specs::Reading::number_line))]
+#[tactic(auto, unfolding(crate::specs::Reading::start_line))]
 fn start(words: &mut Words<'_>) -> Result<Line, LineFault>
-    ensures { IsExact result (number_line Line.Start words.old) }
+    ensures { IsExact result (start_line words.old) }
 {
-    let now = words.number()?;
-    end(words)?;
+    let now = only_number(words)?;
     Ok(Line::Start { now })
 }
 
-#[tactic(auto, unfolding(crate::specs::Reading::number_line))]
-fn tick(words: &mut Words<'_>) -> Result<Line, LineFault>
-    ensures { IsExact result (number_line Line.Tick words.old) }
+/// The call of a line of this keyword with one number.
+#[inline(always)]
+pub(crate) fn number_call(keyword: Keyword, number: u64) -> Call
+    ensures { result ≡ number_call keyword number }
 {
-    let now = words.number()?;
-    end(words)?;
-    Ok(Line::Tick { now })
+    match keyword {
+        Keyword::Tick => Call::Tick { now: number },
+        Keyword::Savepoint => Call::Savepoint { now: number },
+        Keyword::Dispose => Call::Dispose {
+            id: CheckpointId(number),
+        },
+        Keyword::Cancel => Call::Cancel { now: number },
+        Keyword::Take => Call::Take { most: number },
+        Keyword::Deleted => Call::Deleted {
+            file: FileId(number),
+        },
+        Keyword::Undeleted => Call::Undeleted {
+            file: FileId(number),
+        },
+        Keyword::Show => Call::Show {
+            id: CheckpointId(number),
+        },
+        // The only other keyword with such a line is `count`.
+        _ => Call::Count {
+            file: FileId(number),
+        },
+    }
 }
 
 #[tactic(auto, unfolding(crate::specs::Reading::number_line))]
-fn savepoint(words: &mut Words<'_>) -> Result<Line, LineFault>
-    ensures { IsExact result (number_line Line.Savepoint words.old) }
+fn number_line(keyword: Keyword, words: &mut Words<'_>) -> Result<Line, LineFault>
+    ensures { IsExact result (number_line keyword words.old) }
 {
-    let now = words.number()?;
-    end(words)?;
-    Ok(Line::Savepoint { now })
-}
-
-#[tactic(auto, unfolding(crate::specs::Reading::number_line))]
-fn dispose(words: &mut Words<'_>) -> Result<Line, LineFault>
-    ensures { IsExact result (number_line Line.Dispose words.old) }
-{
-    let id = CheckpointId(words.number()?);
-    end(words)?;
-    Ok(Line::Dispose { id })
-}
-
-#[tactic(auto, unfolding(crate::specs::Reading::number_line))]
-fn cancel(words: &mut Words<'_>) -> Result<Line, LineFault>
-    ensures { IsExact result (number_line Line.Cancel words.old) }
-{
-    let now = words.number()?;
-    end(words)?;
-    Ok(Line::Cancel { now })
-}
-
-#[tactic(auto, unfolding(crate::specs::Reading::number_line))]
-fn take(words: &mut Words<'_>) -> Result<Line, LineFault>
-    ensures { IsExact result (number_line Line.Take words.old) }
-{
-    let most = words.number()?;
-    end(words)?;
-    Ok(Line::Take { most })
-}
-
-#[tactic(auto, unfolding(crate::specs::Reading::number_line))]
-fn deleted(words: &mut Words<'_>) -> Result<Line, LineFault>
-    ensures { IsExact result (number_line Line.Deleted words.old) }
-{
-    let file = FileId(words.number()?);
-    end(words)?;
-    Ok(Line::Deleted { file })
-}
-
-#[tactic(auto, unfolding(crate::specs::Reading::number_line))]
-fn undeleted(words: &mut Words<'_>) -> Result<Line, LineFault>
-    ensures { IsExact result (number_line Line.Undeleted words.old) }
-{
-    let file = FileId(words.number()?);
-    end(words)?;
-    Ok(Line::Undeleted { file })
-}
-
-#[tactic(auto, unfolding(crate::specs::Reading::number_line))]
-fn show(words: &mut Words<'_>) -> Result<Line, LineFault>
-    ensures { IsExact result (number_line Line.Show words.old) }
-{
-    let id = CheckpointId(words.number()?);
-    end(words)?;
-    Ok(Line::Show { id })
-}
-
-#[tactic(auto, unfolding(crate::specs::Reading::number_line))]
-fn count(words: &mut Words<'_>) -> Result<Line, LineFault>
-    ensures { IsExact result (number_line Line.Count words.old) }
-{
-    let file = FileId(words.number()?);
-    end(words)?;
-    Ok(Line::Count { file })
+    let number = only_number(words)?;
+    Ok(Line::Call(number_call(keyword, number)))
 }
 
 /// The line of this kind, from the words after the first.
@@ -216,18 +179,11 @@ pub(crate) fn row(alloc: Global, keyword: Keyword, words: &mut Words<'_>) -> Res
         Keyword::Config => config(words),
         Keyword::Job => job(alloc, words),
         Keyword::Start => start(words),
-        Keyword::Tick => tick(words),
-        Keyword::Savepoint => savepoint(words),
         Keyword::Ack => ack(alloc, words),
         Keyword::Decline => decline(words),
-        Keyword::Dispose => dispose(words),
         Keyword::Restore => restore(alloc, words),
-        Keyword::Cancel => cancel(words),
-        Keyword::Take => take(words),
-        Keyword::Deleted => deleted(words),
-        Keyword::Undeleted => undeleted(words),
-        Keyword::Show => show(words),
-        Keyword::Count => count(words),
         Keyword::All => all(words),
+        // The others have one number, and say a call.
+        _ => number_line(keyword, words),
     }
 }

@@ -1,11 +1,10 @@
 -- What each line of a log does, and what it prints.
 use Rattle.std.specs.Prelude.{ℕ, ◌==◌, if◌then◌else◌, List, Option, Some, None, Result, Ok, Err}
-use Rattle.ckpt_ids.specs.declared.shape.ShapeFault.{ShapeFault}
 use Rattle.ckpt_model.specs.State.{State}
 use Rattle.ckpt_model.specs.Steps.{Stepped, step}
 use Rattle.ckpt_lines.specs.declared.fault.LineFault.{LineFault}
-use Rattle.ckpt_lines.specs.declared.meaning.Meaning.{Meaning}
-use Rattle.ckpt_lines.specs.declared.meaning.Meaning.TheVariants as script
+use Rattle.ckpt_lines.specs.declared.line.Line.{Line}
+use Rattle.ckpt_lines.specs.declared.line.Line.TheVariants as script
 use Rattle.ckpt_terms.specs.declared.call.FencedCall.{FencedCall}
 use Rattle.ckpt_terms.specs.declared.call.FencedCall.TheVariants.{Make}
 use Rattle.ckpt_terms.specs.declared.machine.FenceFault.{FenceFault}
@@ -16,9 +15,7 @@ use Rattle.ckpt_session.specs.declared.outcome.ScriptRefusal.TheVariants.{NotSta
 use Rattle.ckpt_session.specs.ScriptTexts.{fault_bytes}
 use Rattle.ckpt_session.specs.Sessions.{Done, Scene, obeyed, opening_scene, refused}
 use Rattle.ckpt_term_lines.specs.declared.line.TermLine.{TermLine}
-use Rattle.ckpt_term_lines.specs.declared.meaning.TermMeaning.{TermMeaning}
-use Rattle.ckpt_term_lines.specs.declared.meaning.TermMeaning.TheVariants as meaning
-use Rattle.ckpt_term_lines.specs.TermMeanings.{term_meaning}
+use Rattle.ckpt_term_lines.specs.declared.line.TermLine.TheVariants as line
 use Rattle.ckpt_log.specs.declared.outcome.LogOutcome.{LogOutcome}
 use Rattle.ckpt_log.specs.declared.outcome.LogOutcome.TheVariants.{Script, Refused, Began, Answered}
 use Rattle.ckpt_log.specs.declared.outcome.LogRefusal.{LogRefusal}
@@ -79,17 +76,16 @@ log_fenced log None first = in_script log (refused log.scene NotStarted)
 log_fenced log (Some m) first = fenced_by log first (fence_fault (machine_of m log.names) first)
 
 -- a line of a script that is no call; an `all` makes many calls, and a log has a line for each
-unfoldable pub log_set : LogScene → Meaning → LogDone
+unfoldable pub log_set : LogScene → Line → LogDone
 log_set log (script.Call call) = log_called log log.scene.core log.names (Make 0 call)
 log_set log (script.All now id threads first) = log_refused log NoCall
-log_set log said = in_script log (obeyed log.scene (Ok said))
+log_set log said = in_script log (obeyed log.scene said)
 
-unfoldable pub log_done : LogScene → Result TermMeaning ShapeFault → LogDone
-log_done log (Ok (meaning.Fence first)) = log_fenced log log.scene.core first
-log_done log (Ok (meaning.Call call)) = log_called log log.scene.core log.names call
-log_done log (Ok (meaning.Other said)) = log_set log said
-log_done log (Ok meaning.NoCall) = log_refused log NoCall
-log_done log (Err why) = in_script log (obeyed log.scene (Err why))
+unfoldable pub log_done : LogScene → TermLine → LogDone
+log_done log (line.Fence first) = log_fenced log log.scene.core first
+log_done log (line.Call call) = log_called log log.scene.core log.names call
+log_done log (line.Other said) = log_set log said
+log_done log line.NoCall = log_refused log NoCall
 
 -- what a line leaves, and what it prints
 abbrev pub LogSaid : Type 0
@@ -100,5 +96,5 @@ log_told done = (done.0, log_outcome_bytes done.1)
 
 -- a line with a fault changes nothing
 unfoldable pub log_said : ℕ → LogScene → Result TermLine LineFault → LogSaid
-log_said number log (Ok line) = log_told (log_done log (term_meaning line))
+log_said number log (Ok line) = log_told (log_done log line)
 log_said number log (Err why) = (log, fault_bytes number why)

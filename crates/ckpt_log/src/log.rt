@@ -2,7 +2,6 @@
 ghost use Rattle.std.specs.Prelude.{◌≡◌, ◌++◌, Ok, Err, IfOk, OnOk, is_err, string_bytes};
 ghost use Rattle.ckpt_model.specs.Steps.{step};
 ghost use Rattle.ckpt_session.specs.Sessions.{before_start, configured, obeyed, shaped, started_so_far};
-ghost use Rattle.ckpt_term_lines.specs.TermMeanings.{term_meaning};
 ghost use Rattle.ckpt_term_lines.specs.TermReading.{term_reading};
 ghost use Rattle.ckpt_log.specs.Logs.{in_script, log_called, log_done, log_fenced, log_said, log_set, opening_log, plainly_called, stepped};
 
@@ -10,9 +9,9 @@ use crate::outcome::{LogOutcome, LogRefusal};
 use crate::texts::write_log_outcome;
 use ckpt_core::{Core, CoreFault, Secret};
 use ckpt_ids::{Answer, Call, Config, Shape, ShapeFault};
-use ckpt_lines::{LineFault, Meaning, Numbers};
+use ckpt_lines::{Line, LineFault, Numbers};
 use ckpt_session::{Outcome, ScriptRefusal, write_fault};
-use ckpt_term_lines::{TermLine, TermMeaning, parse_term_line};
+use ckpt_term_lines::{TermLine, parse_term_line};
 use ckpt_terms::{FenceFault, FencedCall, Machine};
 use std::alloc::{AllocError, Global};
 use std::marker::Model;
@@ -102,28 +101,16 @@ impl Log {
         }
     }
 
-    /// Runs a line.
-    #[tactic(auto, unfolding(crate::specs::Logs::log_done))]
-    fn obey(&mut self, line: TermLine) -> Result<LogOutcome, AllocError>
-        ensures { IfOk result (λ outcome. (self.new, outcome) ≡ log_done self.old (term_meaning line)) }
-    {
-        match line.meaning(self.alloc) {
-            Ok(meaning) => self.carry_out(meaning),
-            Err(ShapeFault::BadShape) => Ok(self.refuse_shape()),
-            Err(ShapeFault::Memory) => Err(AllocError),
-        }
-    }
-
     /// Does what a line says.
     #[tactic(auto, unfolding(crate::specs::Logs::log_done))]
-    fn carry_out(&mut self, meaning: TermMeaning) -> Result<LogOutcome, AllocError>
-        ensures { IfOk result (λ outcome. (self.new, outcome) ≡ log_done self.old (Ok meaning)) }
+    fn obey(&mut self, line: TermLine) -> Result<LogOutcome, AllocError>
+        ensures { IfOk result (λ outcome. (self.new, outcome) ≡ log_done self.old line) }
     {
-        match meaning {
-            TermMeaning::Fence { first } => self.fence(first),
-            TermMeaning::Call(call) => self.call(&call),
-            TermMeaning::Other(said) => self.set(said),
-            TermMeaning::NoCall => Ok(LogOutcome::Refused(LogRefusal::NoCall)),
+        match line {
+            TermLine::Fence { first } => self.fence(first),
+            TermLine::Call(call) => self.call(&call),
+            TermLine::Other(said) => self.set(said),
+            TermLine::NoCall => Ok(LogOutcome::Refused(LogRefusal::NoCall)),
         }
     }
 
@@ -157,7 +144,7 @@ impl Log {
     /// The answer to a `restore` whose parallelisms are no shape.
     #[tactic(auto, unfolding(ckpt_session::specs::Sessions::obeyed))]
     fn refuse_shape(&self) -> LogOutcome
-        ensures { (self.now, result) ≡ in_script self.now (obeyed self.now.scene (Err ShapeFault.BadShape)) }
+        ensures { (self.now, result) ≡ in_script self.now (obeyed self.now.scene Line.BadShape) }
     {
         if self.machine.is_none() {
             return not_started();
@@ -167,12 +154,12 @@ impl Log {
 
     /// Does what a line of a script says that is no call.
     #[tactic(auto, unfolding(crate::specs::Logs::log_set, ckpt_session::specs::Sessions::obeyed))]
-    fn set(&mut self, said: Meaning) -> Result<LogOutcome, AllocError>
+    fn set(&mut self, said: Line) -> Result<LogOutcome, AllocError>
         ensures { IfOk result (λ outcome. (self.new, outcome) ≡ log_set self.old said) }
     {
         match said {
-            Meaning::Skip => Ok(LogOutcome::Script(Outcome::Silent)),
-            Meaning::Config {
+            Line::Skip => Ok(LogOutcome::Script(Outcome::Silent)),
+            Line::Config {
                 interval,
                 pause,
                 at_once,
@@ -192,11 +179,12 @@ impl Log {
                 );
                 Ok(self.configure(config.ok()))
             }
-            Meaning::Job { parallelisms } => self.reshape(&parallelisms),
-            Meaning::Start { now } => self.start(now),
-            // A line's meaning has its call elsewhere, but the type allows it here.
-            Meaning::Call(call) => self.call(&FencedCall::Make { term: 0, call }),
-            Meaning::All { .. } => Ok(LogOutcome::Refused(LogRefusal::NoCall)),
+            Line::Job { parallelisms } => self.reshape(&parallelisms),
+            Line::Start { now } => self.start(now),
+            Line::BadShape => Ok(self.refuse_shape()),
+            // A line has its call elsewhere, but the type allows it here.
+            Line::Call(call) => self.call(&FencedCall::Make { term: 0, call }),
+            Line::All { .. } => Ok(LogOutcome::Refused(LogRefusal::NoCall)),
         }
     }
 

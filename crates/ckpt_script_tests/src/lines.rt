@@ -1,6 +1,6 @@
 //! How lines are read, what they say, and the lines that are written for calls.
-use ckpt_ids::{CheckpointId, ShapeFault};
-use ckpt_lines::{Line, LineFault, Meaning, Numbers, call_line, parse_line};
+use ckpt_ids::CheckpointId;
+use ckpt_lines::{Line, LineFault, Numbers, call_line, parse_line};
 use std::alloc::{AllocError, Global};
 use std::process::Abort;
 use std::test::Fail;
@@ -8,19 +8,14 @@ use std::test::Fail;
 /// What a line says, in a form that can be compared.
 #[derive(Drop, PartialEq, Eq)]
 enum Said {
-    Meaning(Meaning),
-    NoShape,
+    Line(Line),
     Fault(LineFault),
 }
 
 /// What the line says. Fails only if memory runs out.
 fn read_once(alloc: Global, line: &[u8]) -> Result<Said, AllocError> {
     match parse_line(alloc, line) {
-        Ok(line) => match line.meaning(alloc) {
-            Ok(meaning) => Ok(Said::Meaning(meaning)),
-            Err(ShapeFault::BadShape) => Ok(Said::NoShape),
-            Err(ShapeFault::Memory) => Err(AllocError),
-        },
+        Ok(line) => Ok(Said::Line(line)),
         Err(LineFault::Memory) => Err(AllocError),
         Err(fault) => Ok(Said::Fault(fault)),
     }
@@ -37,7 +32,7 @@ fn read(alloc: Global, line: &[u8]) -> Result<Said, AllocError> {
 /// Whether the line says a call for which this line is written.
 fn is_written(alloc: Global, line: &str, written: &str) -> Result<bool, AllocError> {
     match read(alloc, line.as_bytes())? {
-        Said::Meaning(Meaning::Call(call)) => Ok(call_line(alloc, &call)?.as_str() == written),
+        Said::Line(Line::Call(call)) => Ok(call_line(alloc, &call)?.as_str() == written),
         _ => Ok(false),
     }
 }
@@ -126,7 +121,7 @@ fn faults(rt: HostRuntime) -> Result<(), Fail> {
 #[test]
 fn lines_that_say_no_call(rt: HostRuntime) -> Result<(), Fail> {
     let alloc = rt.alloc();
-    let config = Meaning::Config {
+    let config = Line::Config {
         interval: 9,
         pause: 0,
         at_once: 1,
@@ -136,20 +131,20 @@ fn lines_that_say_no_call(rt: HostRuntime) -> Result<(), Fail> {
         keep_on_cancel: true,
     };
     let parallelisms = Numbers::of([2, 0].to_vec(alloc)?);
-    let all = Meaning::All {
+    let all = Line::All {
         now: 1000,
         id: CheckpointId(1),
         threads: 99,
         first: 50,
     };
     let cases = [
-        (b"".as_slice(), Said::Meaning(Meaning::Skip)),
-        (b"  #tick 5", Said::Meaning(Meaning::Skip)),
-        (b"config 9 0 1 500 2 3 keep", Said::Meaning(config)),
-        (b"job 2 00", Said::Meaning(Meaning::Job { parallelisms })),
-        (b"start 0", Said::Meaning(Meaning::Start { now: 0 })),
-        (b"all 1000 1 99 50", Said::Meaning(all)),
-        (b"restore 5 latest 2 0", Said::NoShape),
+        (b"".as_slice(), Said::Line(Line::Skip)),
+        (b"  #tick 5", Said::Line(Line::Skip)),
+        (b"config 9 0 1 500 2 3 keep", Said::Line(config)),
+        (b"job 2 00", Said::Line(Line::Job { parallelisms })),
+        (b"start 0", Said::Line(Line::Start { now: 0 })),
+        (b"all 1000 1 99 50", Said::Line(all)),
+        (b"restore 5 latest 2 0", Said::Line(Line::BadShape)),
     ];
     for (line, expected) in cases {
         holds(&rt, read(alloc, line)? == expected, line);

@@ -4,12 +4,11 @@ use Rattle.std.specs.Prelude.{Option, Some, None, is_some, nat_le, Result, Ok, E
 use Rattle.std.proofs.lemmas.Bool.{both_ways}
 use Rattle.ckpt_ids.specs.declared.limits.TheConstants.{MOMENTS_END}
 use Rattle.ckpt_ids.specs.declared.call.Call.{Call}
-use Rattle.ckpt_ids.specs.declared.shape.ShapeFault.{ShapeFault}
 use Rattle.ckpt_ids.specs.Configuration.{Configuration}
 use Rattle.ckpt_ids.specs.Shapes.{is_shape}
 use Rattle.ckpt_model.specs.State.{State}
-use Rattle.ckpt_lines.specs.declared.meaning.Meaning.{Meaning}
-use Rattle.ckpt_lines.specs.declared.meaning.Meaning.TheVariants as meaning
+use Rattle.ckpt_lines.specs.declared.line.Line.{Line}
+use Rattle.ckpt_lines.specs.declared.line.Line.TheVariants as line
 use Rattle.ckpt_session.specs.declared.all.AllLine.{AllLine}
 use Rattle.ckpt_session.specs.ScriptTexts.{is_said}
 use Rattle.ckpt_session.specs.Sessions.{Scene, Done, configured, shaped, started, called, all_called, obeyed}
@@ -49,15 +48,15 @@ unfolding all_called
 on_all scene None all = λ s. (refl, refl)
 on_all scene (Some m) all = λ s. (refl, refl)
 
-pub kept : (scene : Scene) (m : Result Meaning ShapeFault) → is_said (obeyed scene m).1 ≡ true → ((obeyed scene m).0.config ≡ scene.config) × ((obeyed scene m).0.shape ≡ scene.shape)
+pub kept : (scene : Scene) (l : Line) → is_said (obeyed scene l).1 ≡ true → ((obeyed scene l).0.config ≡ scene.config) × ((obeyed scene l).0.shape ≡ scene.shape)
 unfolding obeyed
-kept scene (Ok meaning.Skip) = λ s. no_text s
-kept scene (Ok (meaning.Config interval pause at_once timeout tolerable retained keep_on_cancel)) = either scene (is_some scene.core) _ _ (λ s. (refl, refl)) (on_configured scene _)
-kept scene (Ok (meaning.Job parallelisms)) = either scene (is_some scene.core) _ _ (λ s. (refl, refl)) (on_shaped scene parallelisms)
-kept scene (Ok (meaning.Start now)) = either scene (is_some scene.core) _ _ (λ s. (refl, refl)) (on_started scene now scene.config scene.shape)
-kept scene (Ok (meaning.Call c)) = on_called scene scene.core c
-kept scene (Ok (meaning.All now id threads first)) = on_all scene scene.core _
-kept scene (Err why) = either scene (is_some scene.core) _ _ (λ s. (refl, refl)) (λ s. (refl, refl))
+kept scene line.Skip = λ s. no_text s
+kept scene (line.Config interval pause at_once timeout tolerable retained keep_on_cancel) = either scene (is_some scene.core) _ _ (λ s. (refl, refl)) (on_configured scene _)
+kept scene (line.Job parallelisms) = either scene (is_some scene.core) _ _ (λ s. (refl, refl)) (on_shaped scene parallelisms)
+kept scene (line.Start now) = either scene (is_some scene.core) _ _ (λ s. (refl, refl)) (on_started scene now scene.config scene.shape)
+kept scene (line.Call c) = on_called scene scene.core c
+kept scene line.BadShape = either scene (is_some scene.core) _ _ (λ s. (refl, refl)) (λ s. (refl, refl))
+kept scene (line.All now id threads first) = on_all scene scene.core _
 
 -- what follows of a fact follows of it beside an error
 pub on_err-then : {T E : Type 0} (r : Result T E) (P Q : Type 0) → (P → Q) → OnErr r P → OnErr r Q

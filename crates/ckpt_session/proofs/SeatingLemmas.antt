@@ -1,6 +1,6 @@
 -- What lines enter, one part after the other.
 use Rattle.std.proofs.Common.{◌≡◌, ℕ, List, [], ◌∷◌, ◌++◌, refl, sym, ap, subst, ◌∙◌, append_assoc, append-nil}
-use Rattle.std.specs.Prelude.{Some, Result}
+use Rattle.std.specs.Prelude.{Some, Ok, Result}
 use Rattle.std.proofs.lemmas.List.Elements.{All-append, All-cons, All-nil}
 use Rattle.ckpt_ids.specs.declared.call.Call.{Call}
 use Rattle.ckpt_ids.specs.declared.call.Call.TheVariants.{Show}
@@ -11,7 +11,7 @@ use Rattle.ckpt_locked.specs.Books.{History, entered}
 use Rattle.ckpt_locked.specs.Seats.{SeatsBelow}
 use Rattle.ckpt_lines.specs.declared.fault.LineFault.{LineFault}
 use Rattle.ckpt_lines.specs.declared.line.Line.{Line}
-use Rattle.ckpt_lines.specs.Meanings.{SaysCall}
+use Rattle.ckpt_lines.specs.declared.line.Line.TheVariants as line
 use Rattle.ckpt_session.specs.Seating.{Asks, EntersAll, EntersFor, Enters, Staged, by_line, entries_after}
 
 abbrev IsShow : ℕ → Entry → Type 0
@@ -61,9 +61,9 @@ all_after old mid new id threads asks all = record {
 }
 
 -- a line that is read as a call
-pub enters_call : (read : Result Line LineFault) (call : Call) (old : Staged) (new : List Entry) → SaysCall read call → new ≡ entries_after old call → EntersFor read old new
+pub enters_call : (read : Result Line LineFault) (call : Call) (old : Staged) (new : List Entry) → read ≡ Ok (line.Call call) → new ≡ entries_after old call → EntersFor read old new
 unfolding EntersFor Enters
-enters_call read call old new says e = rw (says.1, says.2) e
+enters_call read call old new says e = rw says e
 
 -- the call of a line is entered
 pub entered_by_line : (old : Staged) (m : State) (book new : History) (call : Call) → old.scene.core ≡ Some m → old.entries ≡ book.entries → new ≡ entered book MOST_SEATS call → new.entries ≡ entries_after old call

@@ -2,15 +2,12 @@
 use Rattle.std.specs.Prelude.{◌≡◌, ℕ, List, [], ◌∷◌, ◌++◌, All, if◌then◌else◌, None, is_some, Result, Ok, Err}
 use Rattle.ckpt_ids.specs.declared.call.Call.{Call}
 use Rattle.ckpt_ids.specs.declared.call.Call.TheVariants.{Show}
-use Rattle.ckpt_ids.specs.declared.shape.ShapeFault.{ShapeFault}
 use Rattle.ckpt_locked.specs.declared.book.Entry.{Entry}
 use Rattle.ckpt_locked.specs.declared.limits.TheConstants.{MOST_SEATS}
 use Rattle.ckpt_locked.specs.Seats.{SeatsBelow}
 use Rattle.ckpt_lines.specs.declared.line.Line.{Line}
+use Rattle.ckpt_lines.specs.declared.line.Line.TheVariants as line
 use Rattle.ckpt_lines.specs.declared.fault.LineFault.{LineFault}
-use Rattle.ckpt_lines.specs.declared.meaning.Meaning.{Meaning}
-use Rattle.ckpt_lines.specs.declared.meaning.Meaning.TheVariants as meaning
-use Rattle.ckpt_lines.specs.Meanings.{meaning}
 use Rattle.ckpt_session.specs.Sessions.{Scene, opening_scene}
 
 -- what contracts see of a session: what its script has set so far, and the entries of its book
@@ -48,17 +45,13 @@ pub record EntersAll (old new : List Entry) (id threads : ℕ) : Type 0 where
   pub seats : SeatsBelow threads shared
   pub asks_after : Asks (before ++ shared) new id
 
--- what a line enters that can be read, or a `restore` whose parallelisms are no shape
-unfoldable pub Enters : Result Meaning ShapeFault → Staged → List Entry → Type 0
-Enters (Ok meaning.Skip) old new = new ≡ old.entries
-Enters (Ok (meaning.Config interval pause at_once timeout tolerable retained keep_on_cancel)) old new = new ≡ old.entries
-Enters (Ok (meaning.Job parallelisms)) old new = new ≡ old.entries
-Enters (Ok (meaning.Start now)) old new = new ≡ old.entries
-Enters (Ok (meaning.Call call)) old new = new ≡ entries_after old call
-Enters (Ok (meaning.All now id threads first)) old new = EntersAll old.entries new id threads
-Enters (Err why) old new = new ≡ old.entries
+-- what a line enters
+unfoldable pub Enters : Line → Staged → List Entry → Type 0
+Enters (line.Call call) old new = new ≡ entries_after old call
+Enters (line.All now id threads first) old new = EntersAll old.entries new id threads
+Enters line old new = new ≡ old.entries
 
--- what a line enters: one with a fault makes no call
+-- a line with a fault makes no call
 unfoldable pub EntersFor : Result Line LineFault → Staged → List Entry → Type 0
-EntersFor (Ok line) old new = Enters (meaning line) old new
+EntersFor (Ok line) old new = Enters line old new
 EntersFor (Err why) old new = new ≡ old.entries

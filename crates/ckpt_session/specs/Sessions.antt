@@ -2,17 +2,14 @@
 use Rattle.std.specs.Prelude.{ℕ, nat_le, if◌then◌else◌, List, Option, Some, None, is_some, Result, Ok, Err}
 use Rattle.ckpt_ids.specs.declared.limits.TheConstants.{MOMENTS_END}
 use Rattle.ckpt_ids.specs.declared.call.Call.{Call}
-use Rattle.ckpt_ids.specs.declared.shape.ShapeFault.{ShapeFault}
 use Rattle.ckpt_ids.specs.Configuration.{Configuration, is_within_limits}
 use Rattle.ckpt_ids.specs.Configuration as configuration
 use Rattle.ckpt_ids.specs.Shapes.{is_shape}
 use Rattle.ckpt_model.specs.State.{State, Opening, opened}
 use Rattle.ckpt_model.specs.Steps.{step}
 use Rattle.ckpt_lines.specs.declared.line.Line.{Line}
+use Rattle.ckpt_lines.specs.declared.line.Line.TheVariants as line
 use Rattle.ckpt_lines.specs.declared.fault.LineFault.{LineFault}
-use Rattle.ckpt_lines.specs.declared.meaning.Meaning.{Meaning}
-use Rattle.ckpt_lines.specs.declared.meaning.Meaning.TheVariants as meaning
-use Rattle.ckpt_lines.specs.Meanings.{meaning}
 use Rattle.ckpt_session.specs.declared.outcome.Outcome.{Outcome}
 use Rattle.ckpt_session.specs.declared.outcome.Outcome.TheVariants.{Silent, Refused, Answered}
 use Rattle.ckpt_session.specs.declared.outcome.ScriptRefusal.{ScriptRefusal}
@@ -82,21 +79,17 @@ unfoldable pub all_called : Scene → Option State → AllLine → Done
 all_called scene None all = refused scene NotStarted
 all_called scene (Some m) all = in_core scene (all_obeyed m all)
 
--- what is said by a line that can be read, or by a `restore` whose parallelisms are no shape
-unfoldable pub obeyed : Scene → Result Meaning ShapeFault → Done
-obeyed scene (Ok meaning.Skip) = (scene, Silent)
-obeyed scene (Ok (meaning.Config interval pause at_once timeout tolerable retained keep_on_cancel)) =
-    before_start scene (configured scene (limited (configuration.configured interval pause at_once timeout tolerable retained keep_on_cancel)))
-obeyed scene (Ok (meaning.Job parallelisms)) = before_start scene (shaped scene parallelisms)
-obeyed scene (Ok (meaning.Start now)) = started_so_far scene now
-obeyed scene (Ok (meaning.Call c)) = called scene scene.core c
-obeyed scene (Ok (meaning.All now id threads first)) =
-    all_called scene scene.core (record { moment = now; id = id; threads = threads; first = first })
-obeyed scene (Err why) = after_start scene (refused scene BadShape)
-
 -- what a line does
-abbrev pub done_by : Scene → Line → Done
-done_by scene line = obeyed scene (meaning line)
+unfoldable pub obeyed : Scene → Line → Done
+obeyed scene line.Skip = (scene, Silent)
+obeyed scene (line.Config interval pause at_once timeout tolerable retained keep_on_cancel) =
+    before_start scene (configured scene (limited (configuration.configured interval pause at_once timeout tolerable retained keep_on_cancel)))
+obeyed scene (line.Job parallelisms) = before_start scene (shaped scene parallelisms)
+obeyed scene (line.Start now) = started_so_far scene now
+obeyed scene (line.Call c) = called scene scene.core c
+obeyed scene line.BadShape = after_start scene (refused scene BadShape)
+obeyed scene (line.All now id threads first) =
+    all_called scene scene.core (record { moment = now; id = id; threads = threads; first = first })
 
 -- what a line leaves, and what it prints
 abbrev pub Said : Type 0
@@ -107,5 +100,5 @@ told done = (done.0, outcome_bytes done.1)
 
 -- a line with a fault changes nothing
 unfoldable pub said : ℕ → Scene → Result Line LineFault → Said
-said number scene (Ok line) = told (done_by scene line)
+said number scene (Ok line) = told (obeyed scene line)
 said number scene (Err why) = (scene, fault_bytes number why)

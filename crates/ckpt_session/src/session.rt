@@ -2,19 +2,18 @@
 ghost use Rattle.std.specs.Prelude.{◌≡◌, ◌++◌, [], true, false, Ok, Err, None, IfOk, OnOk, OnErr, is_err, option_map, string_bytes};
 ghost use Rattle.std.specs.Option.{option_copied, option_map_or};
 ghost use Rattle.ckpt_locked.specs.Books.{state_of_book};
-ghost use Rattle.ckpt_lines.specs.Meanings.{meaning};
 ghost use Rattle.ckpt_lines.specs.Reading.{reading};
 ghost use Rattle.ckpt_session.specs.ScriptTexts.{outcome_bytes};
 ghost use Rattle.ckpt_texts.specs.Fronts.{KeepsFront};
 ghost use Rattle.ckpt_session.specs.Seating.{Enters, EntersAll, EntersFor, entries_after, given_up, opening_stage};
-ghost use Rattle.ckpt_session.specs.Sessions.{before_start, after_start, refused, configured, shaped, started_so_far, called, all_called, obeyed, done_by, said};
+ghost use Rattle.ckpt_session.specs.Sessions.{before_start, after_start, refused, configured, shaped, started_so_far, called, all_called, obeyed, said};
 
 use crate::all::{AllLine, LINE_SEAT};
 use crate::outcome::{Outcome, ScriptRefusal};
 use crate::texts::{write_fault, write_not_started, write_outcome};
 use ckpt_core::Secret;
 use ckpt_ids::{Call, CheckpointId, Config, Shape, ShapeFault};
-use ckpt_lines::{Line, LineFault, Meaning, Numbers, parse_line, usual_call};
+use ckpt_lines::{Line, LineFault, Numbers, parse_line, usual_call};
 use ckpt_locked::Book;
 use ckpt_texts::write_answer;
 use ckpt_workers::Team;
@@ -189,11 +188,11 @@ impl Session {
     ///
     /// Fails only if memory runs out. Then the coordinator is lost, as in [`Session::say_onto`].
     pub fn obey<T: Team>(&mut self, line: Line, team: &mut T) -> Result<Outcome, AllocError>
-        ensures done { IfOk result (λ outcome. (self.new.scene, outcome) ≡ done_by self.old.scene line) }
-        ensures entered { OnOk result (Enters (meaning line) self.old self.new.entries) }
+        ensures done { IfOk result (λ outcome. (self.new.scene, outcome) ≡ obeyed self.old.scene line) }
+        ensures entered { OnOk result (Enters line self.old self.new.entries) }
         ensures given_up { OnErr result (self.new ≡ given_up self.old) }
     {
-        let outcome = self.act(line.meaning(self.alloc), team);
+        let outcome = self.act(line, team);
         if outcome.is_err() {
             self.give_up();
         }
@@ -220,15 +219,15 @@ impl Session {
         line: Line,
         team: &mut T,
     ) -> Result<(), AllocError>
-        ensures scene { OnOk result (self.new.scene ≡ (done_by self.old.scene line).0) }
-        ensures text { OnOk result (string_bytes text.new ≡ string_bytes text.old ++ outcome_bytes (done_by self.old.scene line).1) }
+        ensures scene { OnOk result (self.new.scene ≡ (obeyed self.old.scene line).0) }
+        ensures text { OnOk result (string_bytes text.new ≡ string_bytes text.old ++ outcome_bytes (obeyed self.old.scene line).1) }
         ensures front { KeepsFront (string_bytes text.old) (string_bytes text.new) }
-        ensures entered { OnOk result (Enters (meaning line) self.old self.new.entries) }
+        ensures entered { OnOk result (Enters line self.old self.new.entries) }
         ensures told { OnErr result ((self.new.scene.config ≡ self.old.scene.config) × (self.new.scene.shape ≡ self.old.scene.shape)) }
     {
-        match line.meaning(self.alloc) {
-            Ok(Meaning::Call(call)) => self.tell_answer(text, call),
-            meant => self.tell_outcome(text, meant, team),
+        match line {
+            Line::Call(call) => self.tell_answer(text, call),
+            other => self.tell_outcome(text, other, team),
         }
     }
 
@@ -252,58 +251,39 @@ impl Session {
         }
     }
 
-    /// Does what is meant, and appends what that prints.
+    /// Does what a line says, and appends what that prints.
     #[inline(never)]
     fn tell_outcome<T: Team>(
         &mut self,
         text: &mut String,
-        meant: Result<Meaning, ShapeFault>,
+        line: Line,
         team: &mut T,
     ) -> Result<(), AllocError>
-        ensures scene { OnOk result (self.new.scene ≡ (obeyed self.old.scene meant).0) }
-        ensures text { OnOk result (string_bytes text.new ≡ string_bytes text.old ++ outcome_bytes (obeyed self.old.scene meant).1) }
+        ensures scene { OnOk result (self.new.scene ≡ (obeyed self.old.scene line).0) }
+        ensures text { OnOk result (string_bytes text.new ≡ string_bytes text.old ++ outcome_bytes (obeyed self.old.scene line).1) }
         ensures front { KeepsFront (string_bytes text.old) (string_bytes text.new) }
-        ensures entered { OnOk result (Enters meant self.old self.new.entries) }
+        ensures entered { OnOk result (Enters line self.old self.new.entries) }
         ensures told { OnErr result ((self.new.scene.config ≡ self.old.scene.config) × (self.new.scene.shape ≡ self.old.scene.shape)) }
-        ensures memory { meant ≡ Err ShapeFault.Memory → is_err result ≡ true }
     {
-        let outcome = self.act(meant, team);
+        let outcome = self.act(line, team);
         match &outcome {
             Ok(outcome) => write_outcome(self.alloc, text, outcome),
             Err(_) => Err(AllocError),
         }
     }
 
-    /// Does what is meant.
-    #[tactic(auto, unfolding(crate::specs::Sessions::obeyed, crate::specs::Seating::Enters))]
-    fn act<T: Team>(
-        &mut self,
-        meant: Result<Meaning, ShapeFault>,
-        team: &mut T,
-    ) -> Result<Outcome, AllocError>
-        ensures done { IfOk result (λ outcome. (self.new.scene, outcome) ≡ obeyed self.old.scene meant) }
-        ensures entered { OnOk result (Enters meant self.old self.new.entries) }
-        ensures told { OnErr result ((self.new.scene.config ≡ self.old.scene.config) × (self.new.scene.shape ≡ self.old.scene.shape)) }
-        ensures memory { meant ≡ Err ShapeFault.Memory → is_err result ≡ true }
-    {
-        match meant {
-            Ok(meaning) => self.carry_out(meaning, team),
-            Err(ShapeFault::BadShape) => Ok(self.refuse_shape()),
-            Err(ShapeFault::Memory) => Err(AllocError),
-        }
-    }
-
     /// Does what a line says.
     #[tactic(auto, unfolding(crate::specs::Sessions::obeyed, crate::specs::Seating::Enters))]
-    fn carry_out<T: Team>(&mut self, meaning: Meaning, team: &mut T) -> Result<Outcome, AllocError>
-        ensures done { IfOk result (λ outcome. (self.new.scene, outcome) ≡ obeyed self.old.scene (Ok meaning)) }
-        ensures entered { OnOk result (Enters (Ok meaning) self.old self.new.entries) }
+    fn act<T: Team>(&mut self, line: Line, team: &mut T) -> Result<Outcome, AllocError>
+        ensures done { IfOk result (λ outcome. (self.new.scene, outcome) ≡ obeyed self.old.scene line) }
+        ensures entered { OnOk result (Enters line self.old self.new.entries) }
         ensures told { OnErr result ((self.new.scene.config ≡ self.old.scene.config) × (self.new.scene.shape ≡ self.old.scene.shape)) }
     {
-        match meaning {
-            Meaning::Call(call) => self.answer(call),
-            Meaning::Skip => Ok(Outcome::Silent),
-            Meaning::Config {
+        match line {
+            Line::Call(call) => self.answer(call),
+            Line::Skip => Ok(Outcome::Silent),
+            Line::BadShape => Ok(self.refuse_shape()),
+            Line::Config {
                 interval,
                 pause,
                 at_once,
@@ -323,9 +303,9 @@ impl Session {
                 );
                 Ok(self.configure(config.ok()))
             }
-            Meaning::Job { parallelisms } => self.reshape(&parallelisms),
-            Meaning::Start { now } => self.start(now),
-            Meaning::All {
+            Line::Job { parallelisms } => self.reshape(&parallelisms),
+            Line::Start { now } => self.start(now),
+            Line::All {
                 now,
                 id,
                 threads,

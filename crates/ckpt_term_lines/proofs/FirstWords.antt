@@ -13,9 +13,8 @@ use Rattle.ckpt_lines.specs.Values.{number_of}
 use Rattle.ckpt_lines.specs.Words.{words_of}
 use Rattle.ckpt_term_lines.specs.declared.keyword.TermKeyword.{TermKeyword}
 use Rattle.ckpt_term_lines.specs.declared.keyword.TermKeyword.TheVariants.{Fence, Reserve, Forfeit, In}
-use Rattle.ckpt_term_lines.specs.declared.line.TermLine.TheVariants.{Plain}
 use Rattle.ckpt_term_lines.specs.TermKeywords.{term_keyword_of, term_keywords, term_spelling}
-use Rattle.ckpt_term_lines.specs.TermReading.{TermBegins, in_takes_memory, plain_row, term_line_of, term_reading}
+use Rattle.ckpt_term_lines.specs.TermReading.{TermBegins, in_takes_memory, plain_row, term_line_of, term_reading, without_term}
 
 -- what is found passes the test
 passes : {X : Type 0} (p : X → Bool) (xs : List X) (x : X) → find p xs ≡ Some x → p x ≡ true
@@ -43,19 +42,19 @@ no_line Forfeit words = refl
 no_line In words = refl
 
 -- the words of a script's line are read as that line
-pub as_script : (words : List (List ℕ)) (read : Line) → line_of words ≡ Ok read → term_line_of words ≡ Ok (Plain read)
+pub as_script : (words : List (List ℕ)) (read : Line) → line_of words ≡ Ok read → term_line_of words ≡ Ok (without_term read)
 unfolding term_line_of plain_row
 as_script [] read is = rw is refl
 as_script (word ∷ words) read is = by (term_keyword_of word) refl
   where
-    by : (first : Option TermKeyword) → term_keyword_of word ≡ first → term_line_of (word ∷ words) ≡ Ok (Plain read)
+    by : (first : Option TermKeyword) → term_keyword_of word ≡ first → term_line_of (word ∷ words) ≡ Ok (without_term read)
     by None e = rw (e, is) refl
     by (Some first) e =
         let none : line_of (word ∷ words) ≡ Err fault.Word = ap (λ (w : List ℕ). line_of (w ∷ words)) (sym (spelled word first e)) ∙ no_line first words in
         let clash : ◌≡◌ {A = Result Line LineFault} (Err fault.Word) (Ok read) = sym none ∙ is in
         absurd cc
 
-extends_by : (line : List ℕ) (read : Line) (b : Bool) → is_too_long line ≡ b → reading line ≡ Ok read → term_reading line ≡ Ok (Plain read)
+extends_by : (line : List ℕ) (read : Line) (b : Bool) → is_too_long line ≡ b → reading line ≡ Ok read → term_reading line ≡ Ok (without_term read)
 unfolding reading term_reading
 extends_by line read true long is =
     let clash : ◌≡◌ {A = Result Line LineFault} (Err fault.TooLong) (Ok read) = rw long at is in
@@ -65,7 +64,7 @@ extends_by line read false short is =
     rw short (as_script (words_of (strip_carriage_return line)) read words)
 
 -- and a line of a script as the same line
-pub extends_line : (line : List ℕ) (read : Line) → reading line ≡ Ok read → term_reading line ≡ Ok (Plain read)
+pub extends_line : (line : List ℕ) (read : Line) → reading line ≡ Ok read → term_reading line ≡ Ok (without_term read)
 extends_line line read is = extends_by line read (is_too_long line) refl is
 
 -- what is found of the first word says what the words are read as

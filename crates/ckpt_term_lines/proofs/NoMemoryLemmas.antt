@@ -2,10 +2,10 @@
 use Rattle.std.proofs.Common.{◌≡◌, ◌≢◌, ℕ, false, List, [], ◌∷◌, Option, Some, None, Err, refl}
 use Rattle.std.specs.Str.Lines.{strip_carriage_return}
 use Rattle.ckpt_lines.specs.declared.fault.LineFault.TheVariants as fault
-use Rattle.ckpt_lines.specs.Reading.{each, ended, is_memory, is_too_long, line_of}
+use Rattle.ckpt_lines.specs.Reading.{each, is_memory, is_too_long, line_of, only_number}
 use Rattle.ckpt_lines.specs.Values.{number}
 use Rattle.ckpt_lines.specs.Words.{words_of}
-use Rattle.ckpt_lines.proofs.ReadingLaws.{NoMemory, bind, either, ended-no_memory, line_of-no_memory, number_then, numbers-no_memory}
+use Rattle.ckpt_lines.proofs.ReadingLaws.{NoMemory, bind, either, line_of-no_memory, number_then, numbers-no_memory, only-no_memory}
 use Rattle.ckpt_term_lines.specs.declared.keyword.TermKeyword.{TermKeyword}
 use Rattle.ckpt_term_lines.specs.declared.keyword.TermKeyword.TheVariants as keyword
 use Rattle.ckpt_term_lines.specs.TermKeywords.{term_keyword_of}
@@ -13,11 +13,11 @@ use Rattle.ckpt_term_lines.specs.TermReading.{fence_row, forfeit_row, in_row, na
 
 fence-no_memory : (words : List (List ℕ)) → NoMemory (fence_row words)
 unfolding fence_row
-fence-no_memory words = number_then words _ (λ first. bind (ended first.1) _ (ended-no_memory first.1) (λ _. tt))
+fence-no_memory words = bind (only_number words) _ (only-no_memory words) (λ first. tt)
 
 reserve-no_memory : (words : List (List ℕ)) → NoMemory (reserve_row words)
 unfolding reserve_row
-reserve-no_memory words = number_then words _ (λ term. number_then term.1 _ (λ count. bind (ended count.1) _ (ended-no_memory count.1) (λ _. tt)))
+reserve-no_memory words = number_then words _ (λ term. bind (only_number term.1) _ (only-no_memory term.1) (λ count. tt))
 
 names-no_memory : (words : List (List ℕ)) → NoMemory (name_places words)
 names-no_memory words = bind (each number words) _ (numbers-no_memory words) (λ names. tt)

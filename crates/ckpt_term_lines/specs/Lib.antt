@@ -1,7 +1,6 @@
 -- The definitions that contracts cite.
 pub mod AnswerTexts
 pub mod TermKeywords
-pub mod TermMeanings
 pub mod TermReading
 pub mod TermTexts
 pub mod WorkedTermLines

@@ -5,27 +5,27 @@ use Rattle.ckpt_ids.specs.Ascending.{ascending}
 use Rattle.ckpt_lines.specs.declared.fault.LineFault.{LineFault}
 use Rattle.ckpt_lines.specs.declared.fault.LineFault.TheVariants as fault
 use Rattle.ckpt_lines.specs.declared.line.Line.{Line}
-use Rattle.ckpt_lines.specs.Reading.{◌>>=◌, begins_with_a_list, each, ended, is_too_long, line_of, number_place}
+use Rattle.ckpt_lines.specs.declared.line.Line.TheVariants as script
+use Rattle.ckpt_lines.specs.Reading.{◌>>=◌, begins_with_a_list, each, is_too_long, line_of, number_place, only_number}
 use Rattle.ckpt_lines.specs.Values.{number}
 use Rattle.ckpt_lines.specs.Words.{words_of}
+use Rattle.ckpt_terms.specs.declared.call.FencedCall.TheVariants as call
 use Rattle.ckpt_term_lines.specs.declared.keyword.TermKeyword.{TermKeyword}
 use Rattle.ckpt_term_lines.specs.declared.keyword.TermKeyword.TheVariants as keyword
 use Rattle.ckpt_term_lines.specs.declared.line.TermLine.{TermLine}
-use Rattle.ckpt_term_lines.specs.declared.line.TermLine.TheVariants.{Fence, Reserve, Forfeit, In, Plain}
+use Rattle.ckpt_term_lines.specs.declared.line.TermLine.TheVariants.{Fence, Call, Other, NoCall}
 use Rattle.ckpt_term_lines.specs.TermKeywords.{term_keyword_of}
 
 unfoldable pub fence_row : List (List ℕ) → Result TermLine LineFault
 fence_row words = do
-  first ← number_place words
-  _ ← ended first.1
-  Ok (Fence first.0)
+  first ← only_number words
+  Ok (Fence first)
 
 unfoldable pub reserve_row : List (List ℕ) → Result TermLine LineFault
 reserve_row words = do
   term ← number_place words
-  count ← number_place term.1
-  _ ← ended count.1
-  Ok (Reserve term.0 count.0)
+  count ← only_number term.1
+  Ok (Call (call.Reserve term.0 count))
 
 -- all words that are left, in any order
 abbrev pub name_places : List (List ℕ) → Result (List ℕ) LineFault
@@ -37,23 +37,34 @@ unfoldable pub forfeit_row : List (List ℕ) → Result TermLine LineFault
 forfeit_row words = do
   term ← number_place words
   names ← name_places term.1
-  Ok (Forfeit term.0 names)
+  Ok (Call (call.Forfeit term.0 names))
 
 -- the line of a script that these words are; there must be one
 abbrev pub some_line : List (List ℕ) → Result Line LineFault
 some_line [] = Err fault.Missing
 some_line (word ∷ words) = line_of (word ∷ words)
 
+-- with this term a call, a bad shape, or no call
+abbrev pub in_term : ℕ → Line → TermLine
+in_term term (script.Call made) = Call (call.Make term made)
+in_term term script.BadShape = Other script.BadShape
+in_term term line = NoCall
+
+-- a call of a script has term 0, which belongs to no task
+abbrev pub without_term : Line → TermLine
+without_term (script.Call made) = Call (call.Make 0 made)
+without_term line = Other line
+
 unfoldable pub in_row : List (List ℕ) → Result TermLine LineFault
 in_row words = do
   term ← number_place words
   line ← some_line term.1
-  Ok (In term.0 line)
+  Ok (in_term term.0 line)
 
 unfoldable pub plain_row : List (List ℕ) → Result TermLine LineFault
 plain_row words = do
   line ← line_of words
-  Ok (Plain line)
+  Ok (without_term line)
 
 -- the words after the first
 unfoldable pub term_row : TermKeyword → List (List ℕ) → Result TermLine LineFault

@@ -3,11 +3,10 @@ use Rattle.std.specs.Prelude.{ℕ, ◌≤◌, ◌==◌, List, ◌++◌, flat_map
 use Rattle.ckpt_ids.specs.declared.call.Call.{Call}
 use Rattle.ckpt_lines.specs.declared.limits.TheConstants.{LONGEST_LINE}
 use Rattle.ckpt_texts.specs.Texts.{spaced}
-use Rattle.ckpt_lines.specs.CallTexts.{Fits, FitsCall, FitsFiles, call_text, line_of_call}
+use Rattle.ckpt_lines.specs.CallTexts.{Fits, FitsCall, FitsFiles, call_text}
 use Rattle.ckpt_terms.specs.declared.call.FencedCall.{FencedCall}
 use Rattle.ckpt_terms.specs.declared.call.FencedCall.TheVariants as call
 use Rattle.ckpt_term_lines.specs.declared.line.TermLine.{TermLine}
-use Rattle.ckpt_term_lines.specs.declared.line.TermLine.TheVariants as line
 use Rattle.ckpt_term_lines.specs.TermReading.{term_reading}
 
 -- a call with term 0 is written as in a script
@@ -22,12 +21,6 @@ term_text (call.Make term made) = made_text term made
 
 unfoldable pub fence_text : ℕ → List ℕ
 fence_text first = codes "fence" ++ spaced first
-
--- the line that says the call
-abbrev pub line_of_term_call : FencedCall → TermLine
-line_of_term_call (call.Reserve term count) = line.Reserve term count
-line_of_term_call (call.Forfeit term names) = line.Forfeit term names
-line_of_term_call (call.Make term made) = if term == 0 then line.Plain (line_of_call made) else line.In term (line_of_call made)
 
 -- what the types of the places allow
 abbrev pub FitsTermCall : FencedCall → Type 0

@@ -5,46 +5,42 @@ use Rattle.ckpt_ids.specs.declared.reply.Answer.TheVariants.{Refused}
 use Rattle.ckpt_ids.specs.declared.reply.Refusal.TheVariants as refusal
 use Rattle.ckpt_lines.specs.declared.fault.LineFault.TheVariants as fault
 use Rattle.ckpt_lines.specs.declared.line.Line.TheVariants as script
-use Rattle.ckpt_lines.specs.declared.meaning.Meaning.TheVariants as meant
 use Rattle.ckpt_lines.specs.Keywords.{keyword_of}
-use Rattle.ckpt_lines.specs.Meanings.{meaning}
-use Rattle.ckpt_lines.specs.Reading.{line_of, row, number_line, ack_line, number_place, subtask_place, file_places, each, ended}
-use Rattle.ckpt_lines.specs.Values.{number_of, part_of, subtask_of, file_word}
+use Rattle.ckpt_lines.specs.Reading.{line_of, row, number_line, only_number, start_line, ack_line, restore_line, number_place, subtask_place, target_place, file_places, each, ended}
+use Rattle.ckpt_lines.specs.Values.{number_of, part_of, subtask_of, target_of, file_word}
 use Rattle.ckpt_texts.specs.Texts.{answer_bytes, refusal_bytes}
 use Rattle.ckpt_lines.specs.CallTexts.{call_text}
 use Rattle.ckpt_terms.specs.declared.call.FencedAnswer.TheVariants.{Reserved, Forfeited, Made, Fenced}
 use Rattle.ckpt_terms.specs.declared.call.FencedCall.TheVariants as call
 use Rattle.ckpt_terms.specs.declared.call.FencedRefusal.TheVariants.{OldTerm, Spent, NeverReserved}
-use Rattle.ckpt_term_lines.specs.declared.line.TermLine.TheVariants.{Fence, Reserve, Forfeit, In, Plain}
-use Rattle.ckpt_term_lines.specs.declared.meaning.TermMeaning.TheVariants.{Call, NoCall, Other}
+use Rattle.ckpt_term_lines.specs.declared.line.TermLine.TheVariants.{Fence, Call, Other, NoCall}
 use Rattle.ckpt_term_lines.specs.AnswerTexts.{fence_refusal_bytes, fenced_answer_bytes}
 use Rattle.ckpt_term_lines.specs.TermKeywords.{term_keyword_of}
-use Rattle.ckpt_term_lines.specs.TermMeanings.{term_meaning}
 use Rattle.ckpt_term_lines.specs.TermReading.{fence_row, forfeit_row, in_row, plain_row, reserve_row, term_line_of, term_reading, term_row}
 use Rattle.ckpt_term_lines.specs.TermTexts.{term_text}
 
 pub first_name : term_reading (codes " fence  007" ++ 13 ∷ []) ≡ Ok (Fence 7)
-unfolding term_reading term_line_of term_keyword_of term_row fence_row number_place number_of ended
+unfolding term_reading term_line_of term_keyword_of term_row fence_row only_number number_place number_of ended
 first_name = refl
 
 pub no_name : term_reading (codes "fence") ≡ Err fault.Missing
-unfolding term_reading term_line_of term_keyword_of term_row fence_row number_place
+unfolding term_reading term_line_of term_keyword_of term_row fence_row only_number number_place
 no_name = refl
 
-pub reservation : term_reading (codes "reserve 2 1000") ≡ Ok (Reserve 2 1000)
-unfolding term_reading term_line_of term_keyword_of term_row reserve_row number_place number_of ended
+pub reservation : term_reading (codes "reserve 2 1000") ≡ Ok (Call (call.Reserve 2 1000))
+unfolding term_reading term_line_of term_keyword_of term_row reserve_row only_number number_place number_of ended
 reservation = refl
 
 pub one_word_more : term_reading (codes "reserve 2 1000 5") ≡ Err fault.Extra
-unfolding term_reading term_line_of term_keyword_of term_row reserve_row number_place number_of ended
+unfolding term_reading term_line_of term_keyword_of term_row reserve_row only_number number_place number_of ended
 one_word_more = refl
 
 -- the names may come in any order, and there may be none
-pub names : term_reading (codes "forfeit 1 9 7 8") ≡ Ok (Forfeit 1 (7 ∷ 8 ∷ 9 ∷ []))
+pub names : term_reading (codes "forfeit 1 9 7 8") ≡ Ok (Call (call.Forfeit 1 (7 ∷ 8 ∷ 9 ∷ [])))
 unfolding term_reading term_line_of term_keyword_of term_row forfeit_row number_place number_of each
 names = refl
 
-pub no_names : term_reading (codes "forfeit 1") ≡ Ok (Forfeit 1 [])
+pub no_names : term_reading (codes "forfeit 1") ≡ Ok (Call (call.Forfeit 1 []))
 unfolding term_reading term_line_of term_keyword_of term_row forfeit_row number_place number_of each
 no_names = refl
 
@@ -53,7 +49,7 @@ pub signed_name : term_reading (codes "forfeit 1 +7") ≡ Err fault.Number
 unfolding term_reading term_line_of term_keyword_of term_row forfeit_row number_place number_of each
 signed_name = refl
 
-pub ack_in_term : term_reading (codes "in 3 ack 5 1 0.2 =3 +4") ≡ Ok (In 3 (script.Ack 5 1 (record { vertex = 0; index = 2 }) (4 ∷ []) (3 ∷ [])))
+pub ack_in_term : term_reading (codes "in 3 ack 5 1 0.2 =3 +4") ≡ Ok (Call (call.Make 3 (made.Ack 5 1 (record { vertex = 0; index = 2 }) (4 ∷ []) (3 ∷ []))))
 unfolding term_reading term_line_of term_keyword_of term_row in_row number_place number_of line_of keyword_of row ack_line subtask_place subtask_of part_of file_places each file_word
 ack_in_term = refl
 
@@ -73,30 +69,29 @@ pub no_term : term_reading (codes "in tick 5") ≡ Err fault.Number
 unfolding term_reading term_line_of term_keyword_of term_row in_row number_place number_of
 no_term = refl
 
-pub script_line : term_reading (codes "tick 5") ≡ Ok (Plain (script.Tick 5))
-unfolding term_reading term_line_of term_keyword_of plain_row line_of keyword_of row number_line number_place number_of ended
+pub script_line : term_reading (codes "tick 5") ≡ Ok (Call (call.Make 0 (made.Tick 5)))
+unfolding term_reading term_line_of term_keyword_of plain_row line_of keyword_of row number_line only_number number_place number_of ended
 script_line = refl
 
 pub unknown : term_reading (codes "reserved 5") ≡ Err fault.Word
 unfolding term_reading term_line_of term_keyword_of plain_row line_of keyword_of
 unknown = refl
 
--- what lines say
-pub call_in_term : term_meaning (In 3 (script.Cancel 5)) ≡ Ok (Call (call.Make 3 (made.Cancel 5)))
-unfolding term_meaning meaning
+pub call_in_term : term_reading (codes "in 3 cancel 5") ≡ Ok (Call (call.Make 3 (made.Cancel 5)))
+unfolding term_reading term_line_of term_keyword_of term_row in_row number_place number_of line_of keyword_of row number_line only_number ended
 call_in_term = refl
 
-pub call_of_a_script : term_meaning (Plain (script.Cancel 5)) ≡ Ok (Call (call.Make 0 (made.Cancel 5)))
-unfolding term_meaning meaning
-call_of_a_script = refl
-
-pub start_in_term : term_meaning (In 3 (script.Start 5)) ≡ Ok NoCall
-unfolding term_meaning meaning
+pub start_in_term : term_reading (codes "in 3 start 5") ≡ Ok NoCall
+unfolding term_reading term_line_of term_keyword_of term_row in_row number_place number_of line_of keyword_of row start_line only_number ended
 start_in_term = refl
 
-pub start_of_a_script : term_meaning (Plain (script.Start 5)) ≡ Ok (Other (meant.Start 5))
-unfolding term_meaning meaning
+pub start_of_a_script : term_reading (codes "start 5") ≡ Ok (Other (script.Start 5))
+unfolding term_reading term_line_of term_keyword_of plain_row line_of keyword_of row start_line only_number number_place number_of ended
 start_of_a_script = refl
+
+pub bad_shape_in_term : term_reading (codes "in 3 restore 5 latest 0") ≡ Ok (Other script.BadShape)
+unfolding term_reading term_line_of term_keyword_of term_row in_row number_place number_of line_of keyword_of row restore_line target_place target_of each
+bad_shape_in_term = refl
 
 -- how calls are written
 pub writes_a_reservation : term_text (call.Reserve 2 1000) ≡ codes "reserve " ++ (decimal 2 ++ (codes " " ++ decimal 1000))

@@ -1,8 +1,11 @@
-//! The lines of a log whose job gives out names, as they are read.
-use ckpt_ids::Files;
-use ckpt_lines::Line;
+//! What the lines of a log say whose job gives out names.
+ghost use Rattle.std.specs.Prelude.{◌≡◌};
+ghost use Rattle.ckpt_term_lines.specs.TermReading.{in_term, without_term};
 
-/// A line of a log whose job gives out names.
+use ckpt_lines::Line;
+use ckpt_terms::FencedCall;
+
+/// What a line of a log says whose job gives out names.
 #[derive(Debug, Drop, PartialEq, Eq)]
 pub enum TermLine {
     /// `fence n`: from here on names are given out, from this one on.
@@ -10,27 +13,34 @@ pub enum TermLine {
         /// The first name.
         first: u64,
     },
-    /// `reserve term n`
-    Reserve {
-        /// The term of the task.
-        term: u64,
-        /// How many names.
-        count: u64,
-    },
-    /// `forfeit term f1 f2 ..`, with any number of names.
-    Forfeit {
-        /// The term of the task.
-        term: u64,
-        /// The names.
-        names: Files,
-    },
-    /// `in term`, and then the words of a line of a script: a call with the term of its caller.
-    In {
-        /// The term of the caller.
-        term: u64,
-        /// The line that follows.
-        line: Line,
-    },
-    /// A line of a script.
-    Plain(Line),
+    /// A call: `reserve term n`, `forfeit term f1 f2 ..` with any number of names, or `in term` and
+    /// then a line of a script that says a call. Without `in` that call has term 0, which belongs
+    /// to no task.
+    Call(FencedCall),
+    /// A line of a script that says no call. `in` and a term may stand before a
+    /// [`BadShape`](Line::BadShape).
+    Other(Line),
+    /// `in term`, and then another line of a script that says no call.
+    NoCall,
+}
+
+/// What is said with this term.
+pub(crate) fn in_term(term: u64, said: Line) -> TermLine
+    ensures { result ≡ in_term term said }
+{
+    match said {
+        Line::Call(call) => TermLine::Call(FencedCall::Make { term, call }),
+        Line::BadShape => TermLine::Other(Line::BadShape),
+        _ => TermLine::NoCall,
+    }
+}
+
+/// What is said with no term.
+pub(crate) fn without_term(said: Line) -> TermLine
+    ensures { result ≡ without_term said }
+{
+    match said {
+        Line::Call(call) => TermLine::Call(FencedCall::Make { term: 0, call }),
+        other => TermLine::Other(other),
+    }
 }

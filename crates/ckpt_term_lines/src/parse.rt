@@ -5,7 +5,7 @@ ghost use Rattle.ckpt_lines.specs.Words.{words_of};
 ghost use Rattle.ckpt_term_lines.specs.TermReading.{TermBegins, plain_row, term_line_of, term_may_want_memory, term_reading, term_takes_memory};
 
 use crate::keyword::{TermKeyword, keyword_of};
-use crate::line::TermLine;
+use crate::line::{TermLine, without_term};
 use crate::rows::row;
 use ckpt_lines::{LONGEST_LINE, LineFault, Words, line_of, without_return};
 use std::alloc::Global;
@@ -25,7 +25,7 @@ fn plain(alloc: Global, words: &mut Words<'_>) -> Result<TermLine, LineFault>
     ensures memory { result ≡ Err LineFault.Memory → begins_with_a_list words.old ≡ true }
 {
     let line = line_of(alloc, words)?;
-    Ok(TermLine::Plain(line))
+    Ok(without_term(line))
 }
 
 /// The line of this text.

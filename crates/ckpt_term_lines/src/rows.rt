@@ -4,17 +4,17 @@ ghost use Rattle.ckpt_lines.specs.Reading.{begins_with_a_list, line_of, IsExact,
 ghost use Rattle.ckpt_term_lines.specs.TermReading.{fence_row, forfeit_row, in_row, in_takes_memory, name_places, reserve_row, some_line, term_row, term_row_takes_memory};
 
 use crate::keyword::TermKeyword;
-use crate::line::TermLine;
+use crate::line::{TermLine, in_term};
 use ckpt_ids::{FileId, Files};
-use ckpt_lines::{Line, LineFault, Words, end, line_of, number_of};
+use ckpt_lines::{Line, LineFault, Words, line_of, number_of, only_number};
+use ckpt_terms::FencedCall;
 use std::alloc::Global;
 
 #[tactic(auto, unfolding(crate::specs::TermReading::fence_row))]
 fn fence(words: &mut Words<'_>) -> Result<TermLine, LineFault>
     ensures { IsExact result (fence_row words.old) }
 {
-    let first = words.number()?;
-    end(words)?;
+    let first = only_number(words)?;
     Ok(TermLine::Fence { first })
 }
 
@@ -23,9 +23,8 @@ fn reserve(words: &mut Words<'_>) -> Result<TermLine, LineFault>
     ensures { IsExact result (reserve_row words.old) }
 {
     let term = words.number()?;
-    let count = words.number()?;
-    end(words)?;
-    Ok(TermLine::Reserve { term, count })
+    let count = only_number(words)?;
+    Ok(TermLine::Call(FencedCall::Reserve { term, count }))
 }
 
 /// The names up to the end of the line.
@@ -46,7 +45,7 @@ fn forfeit(alloc: Global, words: &mut Words<'_>) -> Result<TermLine, LineFault>
 {
     let term = words.number()?;
     let names = names(alloc, words)?;
-    Ok(TermLine::Forfeit { term, names })
+    Ok(TermLine::Call(FencedCall::Forfeit { term, names }))
 }
 
 /// The line of a script that these words are. There must be one.
@@ -61,13 +60,13 @@ fn some_line(alloc: Global, words: &mut Words<'_>) -> Result<Line, LineFault>
 }
 
 #[tactic(auto, unfolding(crate::specs::TermReading::in_row))]
-fn in_term(alloc: Global, words: &mut Words<'_>) -> Result<TermLine, LineFault>
+fn in_row(alloc: Global, words: &mut Words<'_>) -> Result<TermLine, LineFault>
     ensures line { Reads result (in_row words.old) }
     ensures memory { result ≡ Err LineFault.Memory → in_takes_memory words.old ≡ true }
 {
     let term = words.number()?;
     let line = some_line(alloc, words)?;
-    Ok(TermLine::In { term, line })
+    Ok(in_term(term, line))
 }
 
 /// The line of this kind, from the words after the first.
@@ -84,6 +83,6 @@ pub(crate) fn row(
         TermKeyword::Fence => fence(words),
         TermKeyword::Reserve => reserve(words),
         TermKeyword::Forfeit => forfeit(alloc, words),
-        TermKeyword::In => in_term(alloc, words),
+        TermKeyword::In => in_row(alloc, words),
     }
 }

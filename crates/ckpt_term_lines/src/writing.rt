@@ -2,8 +2,8 @@
 ghost use Rattle.std.specs.Prelude.{◌≡◌, ◌++◌, flat_map, IfOk, OnOk, string_bytes};
 ghost use Rattle.ckpt_texts.specs.Texts.{spaced};
 ghost use Rattle.ckpt_lines.specs.CallTexts.{Fits, FitsCall, FitsFiles};
-ghost use Rattle.ckpt_term_lines.specs.declared.line.TermLine.TheVariants.{Fence};
-ghost use Rattle.ckpt_term_lines.specs.TermTexts.{FitsTermCall, IsTermReadAs, fence_text, line_of_term_call, made_text, term_text};
+ghost use Rattle.ckpt_term_lines.specs.declared.line.TermLine.TheVariants as line;
+ghost use Rattle.ckpt_term_lines.specs.TermTexts.{FitsTermCall, IsTermReadAs, fence_text, made_text, term_text};
 
 use ckpt_ids::{Call, Files};
 use ckpt_lines::{write_call, write_number};
@@ -20,7 +20,7 @@ const USUAL_LENGTH: usize = 64;
 /// gives up some thousands of names, can have such a line. Fails only if memory runs out.
 pub fn term_line(alloc: Global, call: &FencedCall) -> Result<String, AllocError>
     ensures text { IfOk result (λ text. string_bytes text ≡ term_text call.now) }
-    ensures read { IfOk result (λ text. IsTermReadAs (line_of_term_call call.now) (string_bytes text)) }
+    ensures read { IfOk result (λ text. IsTermReadAs (line.Call call.now) (string_bytes text)) }
 {
     let mut text = String::with_capacity(alloc, USUAL_LENGTH)?;
     write_fenced_call(&mut text, call)?;
@@ -32,7 +32,7 @@ pub fn term_line(alloc: Global, call: &FencedCall) -> Result<String, AllocError>
 #[tactic(auto, unfolding(crate::specs::TermTexts::fence_text))]
 pub fn fence_line(alloc: Global, first: u64) -> Result<String, AllocError>
     ensures text { IfOk result (λ text. string_bytes text ≡ fence_text first) }
-    ensures read { IfOk result (λ text. IsTermReadAs (Fence first) (string_bytes text)) }
+    ensures read { IfOk result (λ text. IsTermReadAs (line.Fence first) (string_bytes text)) }
 {
     let mut text = String::new(alloc);
     write_number(&mut text, "fence ", first)?;

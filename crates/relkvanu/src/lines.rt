@@ -3,7 +3,7 @@
 ghost use Rattle.std.specs.Prelude.{◌≡◌, ◌≢◌, true, Some, IsOk, length};
 ghost use Rattle.ckpt_model.specs.Coordinator.{State};
 ghost use Rattle.ckpt_term_lines.specs.TermReading.{term_may_want_memory, term_reading};
-ghost use Rattle.ckpt_embed.specs.Asking.{reading_wants, said};
+ghost use Rattle.ckpt_embed.specs.Asking.{said};
 ghost use Rattle.ckpt_embed.specs.Buffers.{StandsInFront};
 ghost use Rattle.ckpt_embed.specs.Calls.{HasNoNumbers, StaysAsItWas, StaysClosed};
 ghost use Rattle.ckpt_embed.specs.Fenced.{IsHandled};
@@ -65,7 +65,7 @@ pub extern "C" fn relkvanu_line_call(
     ensures second { BringsCallList second_of line.now result second.old second.new }
     ensures given { GivesBack line.now result call.new first.new second.new }
     ensures kept { result.what ≢ says_call → (call.new ≡ call.old) × (first.new ≡ first.old) × (second.new ≡ second.old) }
-    ensures memory { result.code ≡ no_memory → reading_wants line.now ≡ true }
+    ensures memory { result.code ≡ no_memory → term_may_want_memory line.now ≡ true }
     ensures numbers { HasNoNumbers result }
 {
     ckpt_embed::line_call(alloc, line, call, first, second)

@@ -1,10 +1,10 @@
--- Answers the goals of `in_term`.
+-- Answers the goals of `in_row`.
 use Rattle.std.proofs.Common.{◌≡◌, ◌∙◌}
 use Rattle.std.proofs.lemmas.Result.{err_from_is_err_and}
 use Rattle.ckpt_lines.specs.Reading.{begins_with_a_list}
 use Rattle.ckpt_term_lines.specs.TermReading.{in_takes_memory}
 use Rattle.ckpt_term_lines.proofs.FirstWords.{after_term}
-use Rattle.ckpt_term_lines.proofs.rows.in_term.Goals as goal
+use Rattle.ckpt_term_lines.proofs.rows.in_row.Goals as goal
 
 pub returns-in_err-line-clause-memory : goal.returns-in_err-line-clause-memory
 returns-in_err-line-clause-memory c =
