@@ -132,6 +132,14 @@ garbage_told m (Some names) files places others =
     if nat_lt places (length files) || nat_lt others (length files) then too_short_for (length files) (length files)
     else done 60 (length (garbage_of m names files)) (length (unissued_of names files))
 
+-- the same through an open handle with these names
+abbrev pub IsGarbageTold : Option State → Option Issued → List ℕ → ℕ → ℕ → Answer → Type 0
+IsGarbageTold state names files places others answer = (m : State) → state ≡ Some m → answer ≡ garbage_told m names files places others
+
 -- the list that a handle with names gives is at the start of the buffer
 abbrev pub BringsOf : (Issued → List ℕ) → Option Issued → List ℕ → List ℕ → Answer → Type 0
 BringsOf list names old new answer = (n : Issued) → names ≡ Some n → answer.code ≡ 0 → StandsInFront (list n) old new
+
+-- and those files that may be deleted, of an open handle with these names
+abbrev pub BringsGarbage : Option State → Option Issued → List ℕ → List ℕ → List ℕ → Answer → Type 0
+BringsGarbage state names files old new answer = (m : State) → state ≡ Some m → BringsOf (λ n. garbage_of m n files) names old new answer

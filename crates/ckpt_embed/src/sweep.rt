@@ -1,12 +1,11 @@
 //! Tells which files of a storage may be deleted.
 
 ghost use Rattle.std.specs.Prelude.{◌≡◌, ◌≢◌, ◌≤◌, filter, length, nat_le, Some};
-ghost use Rattle.ckpt_model.specs.State.{State};
 ghost use Rattle.ckpt_terms.specs.Fencing.{is_garbage};
 ghost use Rattle.ckpt_terms.specs.Machines.{core_in, issued_by, names_in};
 ghost use Rattle.ckpt_embed.specs.Buffers.{StandsInFront};
 ghost use Rattle.ckpt_embed.specs.Calls.{StaysClosed};
-ghost use Rattle.ckpt_embed.specs.Fenced.{BringsOf, garbage_of, garbage_told, unissued_of};
+ghost use Rattle.ckpt_embed.specs.Fenced.{BringsGarbage, BringsOf, IsGarbageTold, garbage_of, garbage_told, unissued_of};
 
 use crate::answer::Answer;
 use crate::fenced::GARBAGE;
@@ -33,8 +32,8 @@ pub fn garbage(
     unissued: &mut [u64],
 ) -> Answer
     ensures closed { StaysClosed handle.old.value handle.new.value result }
-    ensures answered { (m : State) → handle.old.value ≡ Some m → result ≡ garbage_told m handle.old.names files.now (length garbage.old) (length unissued.old) }
-    ensures garbage { (m : State) → handle.old.value ≡ Some m → BringsOf (λ n. garbage_of m n files.now) handle.old.names garbage.old garbage.new result }
+    ensures answered { IsGarbageTold handle.old.value handle.old.names files.now (length garbage.old) (length unissued.old) result }
+    ensures garbage { BringsGarbage handle.old.value handle.old.names files.now garbage.old garbage.new result }
     ensures unissued { BringsOf (λ n. unissued_of n files.now) handle.old.names unissued.old unissued.new result }
     ensures kept { result.code ≢ 0 → (garbage.new ≡ garbage.old) × (unissued.new ≡ unissued.old) }
     ensures unchanged { handle.new.value ≡ handle.old.value }

@@ -7,7 +7,7 @@ ghost use Rattle.ckpt_model.specs.Coordinator.{State};
 ghost use Rattle.ckpt_terms.specs.declared.call.FencedCall.TheVariants as fencing;
 ghost use Rattle.ckpt_embed.specs.Buffers.{StandsInFront};
 ghost use Rattle.ckpt_embed.specs.Calls.{HasNoNumbers, StaysAsItWas, StaysClosed, subtask_at};
-ghost use Rattle.ckpt_embed.specs.Fenced.{BringsOf, IsHandled, WantsNames, ack_step, fence_step, garbage_of, garbage_told, term_step, term_told, unissued_of};
+ghost use Rattle.ckpt_embed.specs.Fenced.{BringsGarbage, BringsOf, IsGarbageTold, IsHandled, WantsNames, ack_step, fence_step, term_step, term_told, unissued_of};
 ghost use Rattle.ckpt_embed.specs.Names.{fenced_name};
 ghost use Rattle.ckpt_embed.specs.Naming.{IsNotOpenedNamed, IsOpenedNamed};
 ghost use Rattle.ckpt_embed.specs.Opening.{OpeningWantsMemory, StaysOpen, opening_of};
@@ -156,8 +156,8 @@ pub extern "C" fn relkvanu_garbage(
     unissued: &mut [u64],
 ) -> Answer
     ensures closed { StaysClosed handle.old.value handle.new.value result }
-    ensures answered { (m : State) → handle.old.value ≡ Some m → result ≡ garbage_told m handle.old.names files.now (length garbage.old) (length unissued.old) }
-    ensures garbage { (m : State) → handle.old.value ≡ Some m → BringsOf (λ n. garbage_of m n files.now) handle.old.names garbage.old garbage.new result }
+    ensures answered { IsGarbageTold handle.old.value handle.old.names files.now (length garbage.old) (length unissued.old) result }
+    ensures garbage { BringsGarbage handle.old.value handle.old.names files.now garbage.old garbage.new result }
     ensures unissued { BringsOf (λ n. unissued_of n files.now) handle.old.names unissued.old unissued.new result }
     ensures kept { result.code ≢ 0 → (garbage.new ≡ garbage.old) × (unissued.new ≡ unissued.old) }
     ensures unchanged { handle.new.value ≡ handle.old.value }
