@@ -78,6 +78,10 @@ unfoldable pub called : Scene → Option State → Call → Done
 called scene None c = refused scene NotStarted
 called scene (Some m) c = in_core scene ((step m c).0, Answered (step m c).1)
 
+-- the `all` line with these numbers
+abbrev pub all_at : ℕ → ℕ → ℕ → ℕ → AllLine
+all_at now id threads first = record { moment = now; id = id; threads = threads; first = first }
+
 unfoldable pub all_called : Scene → Option State → AllLine → Done
 all_called scene None all = refused scene NotStarted
 all_called scene (Some m) all = in_core scene (all_obeyed m all)
@@ -91,7 +95,7 @@ obeyed scene (Ok (meaning.Job parallelisms)) = before_start scene (shaped scene 
 obeyed scene (Ok (meaning.Start now)) = started_so_far scene now
 obeyed scene (Ok (meaning.Call c)) = called scene scene.core c
 obeyed scene (Ok (meaning.All now id threads first)) =
-    all_called scene scene.core (record { moment = now; id = id; threads = threads; first = first })
+    all_called scene scene.core (all_at now id threads first)
 obeyed scene (Err why) = after_start scene (refused scene BadShape)
 
 -- what a line does
