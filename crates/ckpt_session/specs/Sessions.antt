@@ -75,6 +75,10 @@ unfoldable pub called : Scene → Option State → Call → Done
 called scene None c = refused scene NotStarted
 called scene (Some m) c = in_core scene ((step m c).0, Answered (step m c).1)
 
+-- the `all` line with these numbers
+abbrev pub all_at : ℕ → ℕ → ℕ → ℕ → AllLine
+all_at now id threads first = record { moment = now; id = id; threads = threads; first = first }
+
 unfoldable pub all_called : Scene → Option State → AllLine → Done
 all_called scene None all = refused scene NotStarted
 all_called scene (Some m) all = in_core scene (all_obeyed m all)
@@ -89,7 +93,7 @@ obeyed scene (line.Start now) = started_so_far scene now
 obeyed scene (line.Call c) = called scene scene.core c
 obeyed scene line.BadShape = after_start scene (refused scene BadShape)
 obeyed scene (line.All now id threads first) =
-    all_called scene scene.core (record { moment = now; id = id; threads = threads; first = first })
+    all_called scene scene.core (all_at now id threads first)
 
 -- what a line leaves, and what it prints
 abbrev pub Said : Type 0

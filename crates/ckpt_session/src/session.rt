@@ -6,7 +6,7 @@ ghost use Rattle.ckpt_lines.specs.Reading.{reading};
 ghost use Rattle.ckpt_session.specs.ScriptTexts.{outcome_bytes};
 ghost use Rattle.ckpt_texts.specs.Fronts.{KeepsFront};
 ghost use Rattle.ckpt_session.specs.Seating.{Enters, EntersAll, EntersFor, entries_after, given_up, opening_stage};
-ghost use Rattle.ckpt_session.specs.Sessions.{before_start, after_start, refused, configured, shaped, started_so_far, called, all_called, obeyed, said};
+ghost use Rattle.ckpt_session.specs.Sessions.{before_start, after_start, refused, configured, shaped, started_so_far, called, all_at, all_called, obeyed, said};
 
 use crate::all::{AllLine, LINE_SEAT};
 use crate::outcome::{Outcome, ScriptRefusal};
@@ -413,8 +413,7 @@ impl Session {
         first: u64,
         team: &mut T,
     ) -> Result<Outcome, AllocError>
-        ensures done { IfOk result (λ outcome. (self.new.scene, outcome)
-            ≡ all_called self.old.scene self.old.scene.core (record { moment = now; id = id; threads = threads; first = first })) }
+        ensures done { IfOk result (λ outcome. (self.new.scene, outcome) ≡ all_called self.old.scene self.old.scene.core (all_at now id threads first)) }
         ensures entered { OnOk result (EntersAll self.old.entries self.new.entries id threads) }
         ensures told { OnErr result ((self.new.scene.config ≡ self.old.scene.config) × (self.new.scene.shape ≡ self.old.scene.shape)) }
     {

@@ -50,6 +50,10 @@ pub record IsFenced (m : Fenced) : Type 0 where
   -- a job that was cancelled holds no name
   pub ended : is_cancelled m.core.mode ≡ true → m.unspent ≡ []
 
+-- and after these calls
+abbrev pub IsFencedAfter : Opening → ℕ → List FencedCall → Type 0
+IsFencedAfter o first calls = IsFenced (fenced_replay (fenced o first) calls)
+
 -- Each number is one of: not given out, held by a task of the running term, in use, waiting for deletion, fetched for it,
 -- garbage; and it is there once.
 abbrev pub Classified : Opening → ℕ → List FencedCall → Type 0

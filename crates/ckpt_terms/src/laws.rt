@@ -3,13 +3,13 @@
 ghost use Rattle.std.specs.Prelude.{ℕ, List};
 ghost use Rattle.ckpt_model.specs.State.{Opening};
 ghost use Rattle.ckpt_terms.specs.declared.call.FencedCall.{FencedCall};
-ghost use Rattle.ckpt_terms.specs.Fencing.{Fenced, fenced, fenced_replay};
-ghost use Rattle.ckpt_terms.specs.FencedLaws.{CanFence, CanGoOn, AreFencedCalls, IsFenced, Classified, GarbageForGood, DeletionsAreSafe, IssuedOnce, ZombiesAreFenced, SweepIsExact, CancelledIsSwept};
+ghost use Rattle.ckpt_terms.specs.Fencing.{Fenced};
+ghost use Rattle.ckpt_terms.specs.FencedLaws.{CanFence, CanGoOn, AreFencedCalls, IsFencedAfter, Classified, GarbageForGood, DeletionsAreSafe, IssuedOnce, ZombiesAreFenced, SweepIsExact, CancelledIsSwept};
 ghost use Rattle.ckpt_terms.specs.TermsImages.{AreFencedAlike, CanHoldFenced, FencedGoesOnAs, IsFencedCut, fenced_settled};
 
 /// What always holds for a fenced coordinator holds after every list of calls.
 pub fn fenced_always()
-    ensures { (o : Opening) (first : ℕ) (calls : List FencedCall) → CanFence o first → AreFencedCalls calls → IsFenced (fenced_replay (fenced o first) calls) }
+    ensures { (o : Opening) (first : ℕ) (calls : List FencedCall) → CanFence o first → AreFencedCalls calls → IsFencedAfter o first calls }
 {}
 
 /// Each number is in exactly one class: not given out, held by a task of the running term, in use,

@@ -1,24 +1,38 @@
-//! The exports for tasks that reserve the names of their files, in a term.
+//! Opens a coordinator with names, gives names to one that has none, and makes the calls of tasks
+//! with their term.
 
-ghost use Rattle.std.specs.Prelude.{◌≡◌, ◌≢◌, ◌<◌, ◌≤◌, None, Some, length};
+ghost use Rattle.std.specs.Prelude.{◌≡◌, ◌≢◌, true, Some, None, IfOk, IfErr};
 ghost use Rattle.ckpt_ids.specs.declared.call.Call.TheVariants as call;
 ghost use Rattle.ckpt_ids.specs.Ascending.{ascending};
-ghost use Rattle.ckpt_model.specs.Coordinator.{State};
+ghost use Rattle.ckpt_model.specs.State.{State};
 ghost use Rattle.ckpt_terms.specs.declared.call.FencedCall.TheVariants as fencing;
-ghost use Rattle.ckpt_embed.specs.Buffers.{StandsInFront};
-ghost use Rattle.ckpt_embed.specs.Calls.{HasNoNumbers, StaysAsItWas, StaysClosed, subtask_at};
-ghost use Rattle.ckpt_embed.specs.Fenced.{BringsOf, IsHandled, WantsNames, ack_step, fence_step, garbage_of, garbage_told, term_step, term_told, unissued_of};
-ghost use Rattle.ckpt_embed.specs.Names.{fenced_name};
-ghost use Rattle.ckpt_embed.specs.Naming.{IsNotOpenedNamed, IsOpenedNamed};
-ghost use Rattle.ckpt_embed.specs.Opening.{OpeningWantsMemory, StaysOpen, opening_of};
-ghost use Rattle.ckpt_embed.specs.Told.{no_memory};
+ghost use Rattle.ckpt_terms.specs.declared.machine.Machine.TheVariants as machine;
+ghost use Rattle.ckpt_terms.specs.Machines.{names_in};
+ghost use Rattle.ckpt_terms.specs.Wants.{wants_memory};
+ghost use Rattle.relkvanu.specs.Calls.{HasNoNumbers, StaysAsItWas, StaysClosed, subtask_at};
+ghost use Rattle.relkvanu.specs.Fenced.{IsHandled, IsTaken, WantsNames, ack_step, count_of, fence_step, term_step, term_told, term_wants};
+ghost use Rattle.relkvanu.specs.Naming.{IsNamedOpening, IsNotOpenedNamed, IsOpenedNamed, IsWhyNotNamed};
+ghost use Rattle.relkvanu.specs.Opening.{OpeningWantsMemory, StaysOpen, opening_of};
+ghost use Rattle.relkvanu.specs.Told.{no_memory};
 
-use ckpt_embed::{Answer, Handle, Settings};
+use crate::answer::Answer;
+use crate::calls::{ack_of, files_of};
+use crate::fenced::{BAD_NAME, NAMED, TERM};
+use crate::handle::Handle;
+use crate::opening::{ALREADY_OPEN, BAD_FIRST, BAD_MOMENT, Settings, config_of, job_of};
+use ckpt_core::OpenFault;
 use ckpt_hash::Secret;
-use ckpt_ids::SubtaskId;
+use ckpt_ids::{Call, CheckpointId, SubtaskId};
+use ckpt_terms::call::NAMES_END;
+use ckpt_terms::{FencedCall, Machine, Terms};
 use std::alloc::Global;
 
-/// Opens a coordinator whose tasks reserve the names of their files.
+/// Opens a coordinator as `relkvanu_open` does, whose tasks reserve the names of their files, in
+/// term 1. The first name that it gives out will be `first_name`, 1 to 2^62: all names that were
+/// used before must be below it.
+///
+/// The first of these that applies is a bad argument: the handle is open, or the settings, the
+/// shape, the first name, the moment or the first number are outside their limits.
 #[unsafe(no_mangle)]
 pub extern "C" fn relkvanu_open_fenced(
     alloc: Global,
@@ -39,13 +53,56 @@ pub extern "C" fn relkvanu_open_fenced(
     ensures unchanged { StaysAsItWas handle.old.value handle.new.value result }
     ensures names { result.code ≢ 0 → handle.new.names ≡ handle.old.names }
 {
+    if let Some(machine) = handle.take(alloc) {
+        handle.put(alloc, machine);
+        return Answer::bad_argument(ALREADY_OPEN);
+    }
     let secret = Secret::of(first_word, second_word);
-    ckpt_embed::open_fenced(
-        alloc, handle, settings, shape, now, first, first_name, secret,
-    )
+    match named_of(alloc, settings, shape, now, first, first_name, secret) {
+        Ok(machine) => {
+            handle.put(alloc, machine);
+            Answer::done(0, 0, 0)
+        }
+        Err(why) => why,
+    }
 }
 
-/// Gives names to a coordinator that has none.
+fn named_of(
+    alloc: Global,
+    settings: &Settings,
+    shape: &[u64],
+    now: u64,
+    first: u64,
+    first_name: u64,
+    secret: Secret,
+) -> Result<Box<Machine>, Answer>
+    ensures value { IfOk result (λ made. IsNamedOpening (opening_of settings.now shape.now now first) first_name made.value) }
+    ensures fault { IfErr result (IsWhyNotNamed (opening_of settings.now shape.now now first) first_name) }
+    ensures memory { IfErr result (OpeningWantsMemory (opening_of settings.now shape.now now first)) }
+    ensures numbers { IfErr result HasNoNumbers }
+    ensures code { IfErr result (λ answer. answer.code ≢ 0) }
+{
+    let config = config_of(settings)?;
+    let shape = job_of(alloc, shape)?;
+    if first_name == 0 || first_name > NAMES_END {
+        return Err(Answer::bad_argument(BAD_NAME));
+    }
+    match Terms::keyed(alloc, config, shape, now, first, first_name, secret) {
+        Ok(terms) => {
+            Box::new(alloc, Machine::Fenced(terms)).map_err(|_| Answer::out_of_memory())
+        }
+        Err(OpenFault::MomentTooLarge) => Err(Answer::bad_argument(BAD_MOMENT)),
+        Err(OpenFault::BadFirst) => Err(Answer::bad_argument(BAD_FIRST)),
+    }
+}
+
+/// Gives the coordinator names, from this one on, in term 1: from now on its tasks reserve the names
+/// of their files. All names that were used before must be below it, those of files that nobody
+/// acknowledged too.
+///
+/// The first of these that applies is the answer: the handle has names, the name is outside 1 to
+/// 2^62, or a known file has this number or a greater one. Then nothing has changed. Takes memory
+/// for an image of the state, and visits all of it.
 #[unsafe(no_mangle)]
 pub extern "C" fn relkvanu_fence(alloc: Global, handle: &mut Handle, first_name: u64) -> Answer
     ensures closed { StaysClosed handle.old.value handle.new.value result }
@@ -55,10 +112,16 @@ pub extern "C" fn relkvanu_fence(alloc: Global, handle: &mut Handle, first_name:
     ensures unchanged { StaysAsItWas handle.old.value handle.new.value result }
     ensures names_unchanged { result.code ≡ no_memory → handle.new.names ≡ handle.old.names }
 {
-    ckpt_embed::fence(alloc, handle, first_name)
+    let Some(mut machine) = handle.take(alloc) else {
+        return Answer::closed();
+    };
+    let answer = fence_machine(alloc, &mut machine, first_name);
+    handle.put(alloc, machine);
+    answer
 }
 
-/// The term that runs, and the next name.
+/// The term that runs, and the next name that will be given out. Whoever restarts tasks tells them
+/// the term: a task must not ask for it.
 #[unsafe(no_mangle)]
 pub extern "C" fn relkvanu_term(alloc: Global, handle: &mut Handle) -> Answer
     ensures closed { StaysClosed handle.old.value handle.new.value result }
@@ -66,10 +129,18 @@ pub extern "C" fn relkvanu_term(alloc: Global, handle: &mut Handle) -> Answer
     ensures unchanged { handle.new.value ≡ handle.old.value }
     ensures names { handle.new.names ≡ handle.old.names }
 {
-    ckpt_embed::term(alloc, handle)
+    let Some(machine) = handle.take(alloc) else {
+        return Answer::closed();
+    };
+    let answer = term_of(&machine);
+    handle.put(alloc, machine);
+    answer
 }
 
-/// A task reserves names.
+/// A task of this term reserves `count` names for files that it will write, 1 to 65536. The answer
+/// has the first: the others follow it.
+///
+/// A caller whose calls are kept in a log keeps this one before it uses a name.
 #[unsafe(no_mangle)]
 pub extern "C" fn relkvanu_reserve(
     alloc: Global,
@@ -84,10 +155,16 @@ pub extern "C" fn relkvanu_reserve(
     ensures unchanged { StaysAsItWas handle.old.value handle.new.value result }
     ensures names_unchanged { result.code ≡ no_memory → handle.new.names ≡ handle.old.names }
 {
-    ckpt_embed::reserve(alloc, handle, term, count)
+    let Some(mut machine) = handle.take(alloc) else {
+        return Answer::closed();
+    };
+    let answer = in_term(&mut machine, &FencedCall::Reserve { term, count });
+    handle.put(alloc, machine);
+    answer
 }
 
-/// A task gives names up.
+/// A task of this term gives up names that it will not acknowledge. Names that the term does not
+/// hold are passed over, so the call can be repeated. Takes memory for a copy of the list.
 #[unsafe(no_mangle)]
 pub extern "C" fn relkvanu_forfeit(
     alloc: Global,
@@ -101,10 +178,18 @@ pub extern "C" fn relkvanu_forfeit(
     ensures unchanged { StaysAsItWas handle.old.value handle.new.value result }
     ensures names_unchanged { result.code ≡ no_memory → handle.new.names ≡ handle.old.names }
 {
-    ckpt_embed::forfeit(alloc, handle, term, names)
+    let Some(mut machine) = handle.take(alloc) else {
+        return Answer::closed();
+    };
+    let answer = match files_of(alloc, names) {
+        Ok(names) => in_term(&mut machine, &FencedCall::Forfeit { term, names }),
+        Err(_) => Answer::out_of_memory(),
+    };
+    handle.put(alloc, machine);
+    answer
 }
 
-/// A subtask of this term has taken its part of a record.
+/// Makes an acknowledgement as `relkvanu_ack` does, of a task of this term.
 #[unsafe(no_mangle)]
 pub extern "C" fn relkvanu_ack_in(
     alloc: Global,
@@ -123,11 +208,19 @@ pub extern "C" fn relkvanu_ack_in(
     ensures unchanged { StaysAsItWas handle.old.value handle.new.value result }
     ensures names_unchanged { result.code ≡ no_memory → handle.new.names ≡ handle.old.names }
 {
+    let Some(mut machine) = handle.take(alloc) else {
+        return Answer::closed();
+    };
     let subtask = SubtaskId { vertex, index };
-    ckpt_embed::ack_in(alloc, handle, term, now, id, subtask, fresh, reused)
+    let answer = match ack_of(alloc, now, id, subtask, fresh, reused) {
+        Ok(call) => in_term(&mut machine, &FencedCall::Make { term, call }),
+        Err(_) => Answer::out_of_memory(),
+    };
+    handle.put(alloc, machine);
+    answer
 }
 
-/// A subtask of this term could not take its part of a record.
+/// A task of this term could not take its part of a record.
 #[unsafe(no_mangle)]
 pub extern "C" fn relkvanu_decline_in(
     alloc: Global,
@@ -142,37 +235,69 @@ pub extern "C" fn relkvanu_decline_in(
     ensures handled { IsHandled (λ k. term_step k (fencing.Make term (call.Decline now id (subtask_at vertex index)))) handle.old handle.new result }
     ensures memory { result.code ≢ no_memory }
 {
+    let Some(mut machine) = handle.take(alloc) else {
+        return Answer::closed();
+    };
+    let id = CheckpointId(id);
     let subtask = SubtaskId { vertex, index };
-    ckpt_embed::decline_in(alloc, handle, term, now, id, subtask)
+    let call = Call::Decline { now, id, subtask };
+    let answer = in_term(&mut machine, &FencedCall::Make { term, call });
+    handle.put(alloc, machine);
+    answer
 }
 
-/// Writes those of these files that may be deleted, and those whose names were not given out.
-#[unsafe(no_mangle)]
-pub extern "C" fn relkvanu_garbage(
-    alloc: Global,
-    handle: &mut Handle,
-    files: &[u64],
-    garbage: &mut [u64],
-    unissued: &mut [u64],
-) -> Answer
-    ensures closed { StaysClosed handle.old.value handle.new.value result }
-    ensures answered { (m : State) → handle.old.value ≡ Some m → result ≡ garbage_told m handle.old.names files.now (length garbage.old) (length unissued.old) }
-    ensures garbage { (m : State) → handle.old.value ≡ Some m → BringsOf (λ n. garbage_of m n files.now) handle.old.names garbage.old garbage.new result }
-    ensures unissued { BringsOf (λ n. unissued_of n files.now) handle.old.names unissued.old unissued.new result }
-    ensures kept { result.code ≢ 0 → (garbage.new ≡ garbage.old) × (unissued.new ≡ unissued.old) }
-    ensures unchanged { handle.new.value ≡ handle.old.value }
-    ensures names { handle.new.names ≡ handle.old.names }
+/// Makes a call with a term, and returns its answer.
+pub(crate) fn in_term(machine: &mut Machine, call: &FencedCall) -> Answer
+    ensures handled { IsTaken (λ k. term_step k call.now) machine.old machine.new result }
+    ensures memory { result.code ≡ no_memory → term_wants machine.old call.now ≡ true }
+    ensures numbers { HasNoNumbers result }
+    ensures unchanged { result.code ≡ no_memory → machine.new ≡ machine.old }
 {
-    ckpt_embed::garbage(alloc, handle, files, garbage, unissued)
+    match machine {
+        Machine::Plain(_) => Answer::no_names(),
+        Machine::Fenced(terms) => make(terms, call),
+    }
 }
 
-/// Writes the name of the refusal by a term or by names with this number if the buffer is long
-/// enough.
-#[unsafe(no_mangle)]
-pub extern "C" fn relkvanu_fenced_text(what: u32, text: &mut [u8]) -> usize
-    ensures length { result ≡ length (fenced_name what) }
-    ensures written { result ≤ length text.old → StandsInFront (fenced_name what) text.old text.new }
-    ensures kept { length text.old < result → text.new ≡ text.old }
+fn make(terms: &mut Terms, call: &FencedCall) -> Answer
+    ensures handled { IsTaken (λ k. term_step k call.now) (machine.Fenced terms.old) (machine.Fenced terms.new) result }
+    ensures memory { result.code ≡ no_memory → wants_memory terms.old call.now ≡ true }
+    ensures numbers { HasNoNumbers result }
+    ensures unchanged { result.code ≡ no_memory → terms.new ≡ terms.old }
 {
-    ckpt_embed::fenced_text(what, text)
+    match terms.apply(call) {
+        Ok(answer) => Answer::of_fenced(count_of(call), &answer),
+        Err(_) => Answer::out_of_memory(),
+    }
+}
+
+/// How many names the call asks for.
+fn count_of(call: &FencedCall) -> u64
+    ensures { result ≡ count_of call.now }
+{
+    match call {
+        FencedCall::Reserve { term: _, count } => *count,
+        _ => 0,
+    }
+}
+
+fn term_of(machine: &Machine) -> Answer
+    ensures { result ≡ term_told (names_in machine.now) }
+{
+    match machine {
+        Machine::Plain(_) => Answer::no_names(),
+        Machine::Fenced(terms) => Answer::done(TERM, terms.term(), terms.next_name()),
+    }
+}
+
+pub(crate) fn fence_machine(alloc: Global, machine: &mut Machine, first_name: u64) -> Answer
+    ensures handled { IsTaken (λ k. fence_step k first_name) machine.old machine.new result }
+    ensures memory { result.code ≡ no_memory → names_in machine.old ≡ None }
+    ensures numbers { HasNoNumbers result }
+    ensures unchanged { result.code ≡ no_memory → machine.new ≡ machine.old }
+{
+    match machine.fence(alloc, first_name) {
+        Ok(()) => Answer::done(NAMED, 0, 0),
+        Err(why) => Answer::of_fence_fault(why),
+    }
 }

@@ -1,17 +1,39 @@
-//! The exports that save a coordinator, and open a handle with an image.
+//! Saves a coordinator into a caller's buffer, and opens a handle with an image.
 
-ghost use Rattle.std.specs.Prelude.{◌≡◌, ◌≢◌, None, Some, length};
+ghost use Rattle.std.specs.Prelude.{◌≡◌, ◌≢◌, None, Some, IfOk, IfErr, OnOk, length, string_bytes};
+ghost use Rattle.core.specs.Str.{IsUtf8};
+ghost use Rattle.ckpt_model.specs.Images.{settled, state_in};
 ghost use Rattle.ckpt_model.specs.State.{State};
-ghost use Rattle.ckpt_embed.specs.Calls.{HasNoNumbers, StaysAsItWas, StaysClosed};
-ghost use Rattle.ckpt_embed.specs.Images.{BringsImage, IsNamedSave, IsNotOpenedSaved, IsOpenedSaved, IsSaveTold, SavedWantsMemory};
-ghost use Rattle.ckpt_embed.specs.Opening.{StaysOpen};
-ghost use Rattle.ckpt_terms.specs.Machines.{Issued};
+ghost use Rattle.ckpt_image.specs.Written.{image_bytes};
+ghost use Rattle.ckpt_names_image.specs.Named.{Fenced, Plain, Saved, named_bytes, named_in, saved_in, saved_read};
+ghost use Rattle.relkvanu.specs.Buffers.{StandsInFront};
+ghost use Rattle.relkvanu.specs.Calls.{HasNoNumbers, StaysAsItWas, StaysClosed};
+ghost use Rattle.relkvanu.specs.Images.{BringsImage, CanBeOpened, IsNamedSave, IsNotOpenedSaved, IsOpenedSaved, IsSaveTold, IsWhyNotOpened};
+ghost use Rattle.relkvanu.specs.Images.{IsWhyNotSaved, SavedWantsMemory, Tells, TellsNothing, opened_with, saved_told};
+ghost use Rattle.relkvanu.specs.Opening.{StaysOpen};
+ghost use Rattle.relkvanu.specs.Told.{bad_argument, bad_image, no_memory, out_of_memory};
+ghost use Rattle.ckpt_core.specs.declared.image.ImageFault.TheVariants as fault;
+ghost use Rattle.ckpt_terms.specs.Machines.{Issued, core_in, issued_by, names_in};
 
-use ckpt_embed::{Answer, Handle};
+use crate::answer::Answer;
+use crate::handle::Handle;
+use crate::opening::ALREADY_OPEN;
+use ckpt_core::{Core, Image, ImageFault};
 use ckpt_hash::Secret;
-use std::alloc::Global;
+use ckpt_image::{TextFault, image_text};
+use ckpt_names_image::{SavedImage, names_image_text, parse_names_image};
+use ckpt_terms::{Machine, Terms, TermsImage};
+use std::alloc::{AllocError, Global};
 
-/// Writes the image of the coordinator as JSON.
+const SAVED: u32 = 45;
+
+const BAD_IMAGE: u32 = 7;
+
+/// Writes the image of the coordinator as JSON to the start of the buffer, with its names if it has
+/// some.
+///
+/// If the buffer is too short, the answer says how many bytes the image has: call again. Takes
+/// memory.
 #[unsafe(no_mangle)]
 pub extern "C" fn relkvanu_save(alloc: Global, handle: &mut Handle, image: &mut [u8]) -> Answer
     ensures closed { StaysClosed handle.old.value handle.new.value result }
@@ -23,11 +45,21 @@ pub extern "C" fn relkvanu_save(alloc: Global, handle: &mut Handle, image: &mut 
     ensures unchanged { handle.new.value ≡ handle.old.value }
     ensures names { handle.new.names ≡ handle.old.names }
 {
-    ckpt_embed::save(alloc, handle, image)
+    let Some(machine) = handle.take(alloc) else {
+        return Answer::closed();
+    };
+    let answer = save_machine(alloc, &machine, image);
+    handle.put(alloc, machine);
+    answer
 }
 
-/// Opens the coordinator that an image describes in a closed handle. The two words are the secret
-/// of its maps.
+/// Opens the coordinator that an image describes in a closed handle, with the names that the image
+/// has, if it has some. It answers every list of calls as the saved one would.
+///
+/// The secret keys the maps of files, so that no choice of numbers makes calls slow. It changes no
+/// answer. An open handle does not change, and the answer says so. One bad argument is returned for
+/// bytes that are not an image, and for an image of a state that is not sound, of an opening that
+/// no coordinator can have, or of names that are no ranges in ascending order.
 #[unsafe(no_mangle)]
 pub extern "C" fn relkvanu_open_saved(
     alloc: Global,
@@ -44,5 +76,176 @@ pub extern "C" fn relkvanu_open_saved(
     ensures unchanged { StaysAsItWas handle.old.value handle.new.value result }
     ensures names { result.code ≢ 0 → handle.new.names ≡ handle.old.names }
 {
-    ckpt_embed::open_saved(alloc, handle, image, Secret::of(first_word, second_word))
+    if let Some(machine) = handle.take(alloc) {
+        handle.put(alloc, machine);
+        return Answer::bad_argument(ALREADY_OPEN);
+    }
+    let secret = Secret::of(first_word, second_word);
+    match machine_of(alloc, image, secret) {
+        Ok(machine) => {
+            handle.put(alloc, machine);
+            Answer::done(0, 0, 0)
+        }
+        Err(why) => why,
+    }
+}
+
+fn save_machine(alloc: Global, machine: &Machine, image: &mut [u8]) -> Answer
+    ensures told { names_in machine.now ≡ None → IsSaveTold (core_in machine.now) (length image.old) result }
+    ensures front { names_in machine.now ≡ None → BringsImage (core_in machine.now) image.old image.new result }
+    ensures named { (n : Issued) → names_in machine.now ≡ Some n → IsNamedSave (core_in machine.now) n image.old image.new result }
+    ensures kept { result.code ≢ 0 → image.new ≡ image.old }
+    ensures numbers { HasNoNumbers result }
+{
+    match machine {
+        Machine::Plain(core) => save_from(alloc, core, image),
+        Machine::Fenced(terms) => save_terms(alloc, terms, image),
+    }
+}
+
+fn save_from(alloc: Global, core: &Core, image: &mut [u8]) -> Answer
+    ensures told { IsSaveTold core.now (length image.old) result }
+    ensures front { BringsImage core.now image.old image.new result }
+    ensures kept { result.code ≢ 0 → image.new ≡ image.old }
+    ensures numbers { HasNoNumbers result }
+{
+    match text_of(alloc, core) {
+        Ok(text) => write_text(&text, image),
+        Err(_) => Answer::out_of_memory(),
+    }
+}
+
+fn text_of(alloc: Global, core: &Core) -> Result<String, AllocError>
+    ensures { IfOk result (λ text. string_bytes text ≡ image_bytes (settled core.now)) }
+{
+    let image = core.image()?;
+    image_text(alloc, &image)
+}
+
+fn save_terms(alloc: Global, terms: &Terms, image: &mut [u8]) -> Answer
+    ensures named { IsNamedSave terms.now.core (issued_by terms.now) image.old image.new result }
+    ensures kept { result.code ≢ 0 → image.new ≡ image.old }
+    ensures numbers { HasNoNumbers result }
+{
+    match terms.image() {
+        Ok(saved) => save_image(alloc, &saved, image),
+        Err(_) => Answer::out_of_memory(),
+    }
+}
+
+fn save_image(alloc: Global, saved: &TermsImage, image: &mut [u8]) -> Answer
+    ensures told { result.code ≢ no_memory → result ≡ saved_told (named_bytes (named_in saved.now)) (length image.old) }
+    ensures front { result.code ≡ 0 → StandsInFront (named_bytes (named_in saved.now)) image.old image.new }
+    ensures kept { result.code ≢ 0 → image.new ≡ image.old }
+    ensures numbers { HasNoNumbers result }
+{
+    match names_image_text(alloc, saved) {
+        Ok(text) => write_text(&text, image),
+        Err(_) => Answer::out_of_memory(),
+    }
+}
+
+/// Writes a text to the start of the buffer, if that is long enough.
+fn write_text(text: &str, image: &mut [u8]) -> Answer
+    ensures told { result ≡ saved_told text.now (length image.old) }
+    ensures front { result.code ≡ 0 → StandsInFront text.now image.old image.new }
+    ensures kept { result.code ≢ 0 → image.new ≡ image.old }
+{
+    let bytes = text.as_bytes();
+    let needed = bytes.len();
+    if image.len() < needed {
+        return Answer::too_short(needed as u64);
+    }
+    image[..needed].copy_from_slice(bytes);
+    Answer::done(SAVED, needed as u64, 0)
+}
+
+fn machine_of(alloc: Global, bytes: &[u8], secret: Secret) -> Result<Box<Machine>, Answer>
+    ensures value { IfOk result (λ machine. (s : Saved) → Tells bytes.now s → machine.value ≡ opened_with s) }
+    ensures told { OnOk result (TellsNothing bytes.now → ⊥) }
+    ensures fault { IfErr result (IsWhyNotSaved bytes.now) }
+    ensures memory { IfErr result (SavedWantsMemory bytes.now) }
+    ensures numbers { IfErr result HasNoNumbers }
+    ensures code { IfErr result (λ answer. answer.code ≢ 0) }
+{
+    let saved = saved_of(alloc, bytes)?;
+    machine_from(alloc, &saved, secret)
+}
+
+fn saved_of(alloc: Global, bytes: &[u8]) -> Result<SavedImage, Answer>
+    ensures utf8 { IfOk result (λ image. IsUtf8 bytes.now) }
+    ensures read { IfOk result (λ image. saved_read bytes.now ≡ Some (saved_in image)) }
+    ensures fault { IfErr result (IsWhyNotSaved bytes.now) }
+    ensures memory { IfErr result (SavedWantsMemory bytes.now) }
+    ensures numbers { IfErr result HasNoNumbers }
+    ensures code { IfErr result (λ answer. answer.code ≢ 0) }
+{
+    let Ok(text) = str::from_utf8(bytes) else {
+        return Err(Answer::bad_argument(BAD_IMAGE));
+    };
+    match parse_names_image(alloc, text) {
+        Ok(image) => Ok(image),
+        Err(TextFault::Memory) => Err(Answer::out_of_memory()),
+        Err(_) => Err(Answer::bad_argument(BAD_IMAGE)),
+    }
+}
+
+fn machine_from(alloc: Global, saved: &SavedImage, secret: Secret) -> Result<Box<Machine>, Answer>
+    ensures value { IfOk result (λ machine. machine.value ≡ opened_with (saved_in saved.now)) }
+    ensures sound { OnOk result (CanBeOpened (saved_in saved.now)) }
+    ensures fault { IfErr result (IsWhyNotOpened (saved_in saved.now)) }
+    ensures numbers { IfErr result HasNoNumbers }
+    ensures code { IfErr result (λ answer. answer.code ≢ 0) }
+{
+    match saved {
+        SavedImage::Plain(image) => plain_from(alloc, image, secret),
+        SavedImage::Fenced(image) => named_from(alloc, image, secret),
+    }
+}
+
+#[tactic(auto, unfolding(crate::specs::Images::CanBeOpened, crate::specs::Images::opened_with))]
+fn plain_from(alloc: Global, image: &Image, secret: Secret) -> Result<Box<Machine>, Answer>
+    ensures value { IfOk result (λ machine. machine.value ≡ opened_with (Plain (state_in image.now))) }
+    ensures sound { OnOk result (CanBeOpened (Plain (state_in image.now))) }
+    ensures fault { IfErr result (IsWhyNotOpened (Plain (state_in image.now))) }
+    ensures numbers { IfErr result HasNoNumbers }
+    ensures code { IfErr result (λ answer. answer.code ≢ 0) }
+{
+    match Core::from_image(alloc, image, secret) {
+        Ok(core) => boxed(alloc, Machine::Plain(core)),
+        Err(why) => Err(fault_of(why)),
+    }
+}
+
+#[tactic(auto, unfolding(crate::specs::Images::CanBeOpened, crate::specs::Images::opened_with))]
+fn named_from(alloc: Global, image: &TermsImage, secret: Secret) -> Result<Box<Machine>, Answer>
+    ensures value { IfOk result (λ machine. machine.value ≡ opened_with (Fenced (named_in image.now))) }
+    ensures sound { OnOk result (CanBeOpened (Fenced (named_in image.now))) }
+    ensures fault { IfErr result (IsWhyNotOpened (Fenced (named_in image.now))) }
+    ensures numbers { IfErr result HasNoNumbers }
+    ensures code { IfErr result (λ answer. answer.code ≢ 0) }
+{
+    match Terms::from_image(alloc, image, secret) {
+        Ok(terms) => boxed(alloc, Machine::Fenced(terms)),
+        Err(why) => Err(fault_of(why)),
+    }
+}
+
+fn boxed(alloc: Global, machine: Machine) -> Result<Box<Machine>, Answer>
+    ensures value { IfOk result (λ boxed. boxed.value ≡ machine) }
+    ensures fault { IfErr result (λ answer. answer ≡ out_of_memory) }
+{
+    Box::new(alloc, machine).map_err(|_| Answer::out_of_memory())
+}
+
+/// The answer if no coordinator is made from an image.
+fn fault_of(why: ImageFault) -> Answer
+    ensures damaged { result.code ≢ no_memory → (why ≡ fault.Damaged) × (result ≡ bad_argument bad_image) }
+    ensures numbers { HasNoNumbers result }
+    ensures code { result.code ≢ 0 }
+{
+    match why {
+        ImageFault::Damaged => Answer::bad_argument(BAD_IMAGE),
+        ImageFault::Memory => Answer::out_of_memory(),
+    }
 }

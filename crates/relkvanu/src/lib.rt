@@ -1,11 +1,26 @@
-//! The C interface of the coordinator: `include/relkvanu.h` declares these functions.
+//! The coordinator for C: `include/relkvanu.h` declares the exported functions.
 //!
-//! Each function calls one of `ckpt_embed`, and promises the same.
+//! A C program holds a [`Handle`](handle::Handle): one pointer, null if the handle is closed.
+//! `relkvanu_open` gives it a coordinator, the calls go through it, and `relkvanu_close` drops the
+//! coordinator. Each call returns an [`Answer`](answer::Answer) by value, and no memory leaves the
+//! handle. [`reads`] return the same, take no memory and change nothing.
 #![tactic(auto)]
 
-mod exports;
+mod answer;
+mod asked;
+mod buffers;
+mod calls;
+mod fenced;
 mod fencing;
+mod handle;
 mod images;
 mod lines;
+mod names;
+mod opening;
+mod plain_calls;
+mod raw_box;
 mod reads;
 mod recovery;
+mod saying;
+mod sweep;
+mod writing;

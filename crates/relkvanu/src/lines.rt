@@ -1,22 +1,62 @@
-//! Lines of a log through C: what a line says, the call of a line, and the line of a call.
+//! Makes the call of a line of a log through a handle, and says which kind of line it is.
 
-ghost use Rattle.std.specs.Prelude.{◌≡◌, ◌≢◌, true, Some, IsOk, length};
-ghost use Rattle.ckpt_model.specs.Coordinator.{State};
+ghost use Rattle.std.specs.Prelude.{◌≡◌, ◌≢◌, ◌||◌, ℕ, true, length, Ok, Some};
+ghost use Rattle.ckpt_ids.specs.declared.call.Call.TheVariants as call;
+ghost use Rattle.ckpt_model.specs.Memory.{may_want_memory};
+ghost use Rattle.ckpt_model.specs.State.{State};
+ghost use Rattle.ckpt_model.specs.Steps.{step};
 ghost use Rattle.ckpt_term_lines.specs.TermReading.{term_may_want_memory, term_reading};
-ghost use Rattle.ckpt_embed.specs.Asking.{said};
-ghost use Rattle.ckpt_embed.specs.Buffers.{StandsInFront};
-ghost use Rattle.ckpt_embed.specs.Calls.{HasNoNumbers, StaysAsItWas, StaysClosed};
-ghost use Rattle.ckpt_embed.specs.Fenced.{IsHandled};
-ghost use Rattle.ckpt_embed.specs.Lines.{BringsLineFiles, IsLineAnswered, LineWantsMemory, is_free_line, line_step, says_numbers, says_told};
-ghost use Rattle.ckpt_embed.specs.Opening.{OpeningWantsMemory, opening_of};
-ghost use Rattle.ckpt_embed.specs.Saying.{BringsCallList, BringsFields, GivesBack, first_of, meant_told, says_call, second_of};
-ghost use Rattle.ckpt_embed.specs.Told.{no_memory};
-ghost use Rattle.ckpt_embed.specs.Writing.{OpeningReadsBack, ReadsBack, SaysBack, call_line_text, call_line_told, given, opening_text, opening_told};
+ghost use Rattle.ckpt_terms.specs.Machines.{core_in, is_free, names_in, passes};
+ghost use Rattle.relkvanu.specs.declared.asked.Asked.TheVariants as ask;
+ghost use Rattle.relkvanu.specs.Asking.{said};
+ghost use Rattle.relkvanu.specs.Buffers.{StandsInFront, files_in};
+ghost use Rattle.relkvanu.specs.Calls.{HasNoNumbers, StaysAsItWas, StaysClosed};
+ghost use Rattle.relkvanu.specs.Fenced.{IsHandled, IsTaken};
+ghost use Rattle.relkvanu.specs.Lines.{BringsLineFiles, IsCallTold, IsLineAnswered, IsLineTold, LineWantsMemory, call_files, call_wants, is_free_line};
+ghost use Rattle.relkvanu.specs.Lines.{line_call_step, line_number, line_numbers, line_step, named_step, named_wants, numbers_told, plain_step};
+ghost use Rattle.relkvanu.specs.Lines.{said_files, said_wants, says_numbers, says_told};
+ghost use Rattle.relkvanu.specs.Told.{no_memory};
 
-use ckpt_embed::{Answer, CallFields, Handle, Settings};
+use crate::answer::Answer;
+use crate::asked::{Asked, of_line_fault, said, usual};
+use crate::buffers::{show_from, take_from};
+use crate::calls::answer;
+use crate::fencing::{fence_machine, in_term};
+use crate::handle::Handle;
+use ckpt_core::Core;
+use ckpt_ids::Call;
+use ckpt_lines::Line;
+use ckpt_term_lines::{TermLine, parse_term_line};
+use ckpt_terms::{FencedCall, Machine};
 use std::alloc::Global;
 
-/// Makes the call of a line.
+// the kind of a line
+const LINE_SKIP: u32 = 38;
+
+const LINE_CONFIG: u32 = 39;
+
+const LINE_JOB: u32 = 40;
+
+const LINE_START: u32 = 41;
+
+pub(crate) const LINE_CALL: u32 = 42;
+
+const LINE_ALL: u32 = 43;
+
+/// Makes the call of a line, and returns the answer of that call.
+///
+/// The line is the bytes before its newline. A take writes its files to the start of the buffer. If
+/// the buffer has too few places for them, the answer says how many it needs, and no file is
+/// fetched. A show says how many bytes its JSON has, as if its buffer were empty. A line without
+/// words or a comment is skipped. A line that can't be read, or makes no call, returns its fault. A
+/// restore in a bad shape returns what `relkvanu_restore` returns.
+///
+/// Takes memory for the lists of a line, even if the call is then refused, and for the call.
+///
+/// `fence`, `reserve` and `forfeit` are `relkvanu_fence`, `relkvanu_reserve` and `relkvanu_forfeit`.
+/// `in` has the term of an acknowledgement or a decline. Other calls have no use for it, but are
+/// refused for it on a handle without names. On a handle with names a line without a term makes its
+/// call without one: an `ack` and a `decline` are refused.
 #[unsafe(no_mangle)]
 pub extern "C" fn relkvanu_line(
     alloc: Global,
@@ -35,10 +75,140 @@ pub extern "C" fn relkvanu_line(
     ensures names { is_free_line (said line.now) ≡ true → handle.new.names ≡ handle.old.names }
     ensures names_unchanged { result.code ≡ no_memory → handle.new.names ≡ handle.old.names }
 {
-    ckpt_embed::line(alloc, handle, line, files)
+    let Some(mut machine) = handle.take(alloc) else {
+        return Answer::closed();
+    };
+    let answer = make_line(alloc, &mut machine, line, files);
+    handle.put(alloc, machine);
+    answer
 }
 
-/// Returns the kind of a line, and the numbers of a line that makes no call.
+fn make_line(alloc: Global, machine: &mut Machine, line: &[u8], files: &mut [u64]) -> Answer
+    ensures answered { IsLineTold machine.old machine.new (said line.now) (length files.old) result }
+    ensures handled { IsTaken (λ k. line_step k (length files.old) line.now) machine.old machine.new result }
+    ensures front { BringsLineFiles (core_in machine.old) line.now files.old files.new result }
+    ensures kept { result.code ≢ 0 → files.new ≡ files.old }
+    ensures memory { result.code ≡ no_memory → (term_may_want_memory line.now || said_wants machine.old (said line.now)) ≡ true }
+    ensures numbers { HasNoNumbers result }
+    ensures names { is_free_line (said line.now) ≡ true → names_in machine.new ≡ names_in machine.old }
+    ensures unchanged { result.code ≡ no_memory → machine.new ≡ machine.old }
+{
+    if let Some(call) = usual(line) {
+        return make_plain(alloc, machine, &call, files);
+    }
+    match said(alloc, line) {
+        Ok(Asked::Fence { first }) => fence_machine(alloc, machine, first),
+        Ok(Asked::Call(call)) => make_call(alloc, machine, &call, files),
+        Err(answer) => answer,
+    }
+}
+
+/// Makes the call of a line. Term 0 is none.
+fn make_call(alloc: Global, machine: &mut Machine, call: &FencedCall, files: &mut [u64]) -> Answer
+    ensures answered { IsLineTold machine.old machine.new (Ok (ask.Call call.now)) (length files.old) result }
+    ensures handled { IsTaken (λ k. line_call_step k (length files.old) call.now) machine.old machine.new result }
+    ensures front { result.code ≡ 0 → StandsInFront (said_files (core_in machine.old) (Ok (ask.Call call.now))) files.old files.new }
+    ensures kept { result.code ≢ 0 → files.new ≡ files.old }
+    ensures memory { result.code ≡ no_memory → call_wants machine.old call.now ≡ true }
+    ensures numbers { HasNoNumbers result }
+    ensures names { is_free_line (Ok (ask.Call call.now)) ≡ true → names_in machine.new ≡ names_in machine.old }
+    ensures unchanged { result.code ≡ no_memory → machine.new ≡ machine.old }
+{
+    match call {
+        FencedCall::Make { term, call: made } => {
+            if *term == 0 {
+                make_plain(alloc, machine, made, files)
+            } else if is_free(made) {
+                make_named(alloc, machine, made, files)
+            } else {
+                in_term(machine, call)
+            }
+        }
+        _ => in_term(machine, call),
+    }
+}
+
+/// Makes a call that has a term, and no use for it. Refused if there are no names.
+///
+/// Condition: it needs no term and ends none.
+fn make_named(alloc: Global, machine: &mut Machine, call: &Call, files: &mut [u64]) -> Answer
+    requires { is_free call.now ≡ true }
+    ensures handled { (term : ℕ) → IsTaken (λ k. named_step k (length files.old) term call.now) machine.old machine.new result }
+    ensures front { result.code ≡ 0 → StandsInFront (call_files (core_in machine.old) call.now) files.old files.new }
+    ensures kept { result.code ≢ 0 → files.new ≡ files.old }
+    ensures memory { (term : ℕ) → result.code ≡ no_memory → named_wants machine.old term call.now ≡ true }
+    ensures numbers { HasNoNumbers result }
+    ensures names { names_in machine.new ≡ names_in machine.old }
+    ensures unchanged { result.code ≡ no_memory → machine.new ≡ machine.old }
+{
+    match machine {
+        Machine::Plain(_) => Answer::no_names(),
+        Machine::Fenced(_) => make_plain(alloc, machine, call, files),
+    }
+}
+
+/// Whether the call needs no term and ends none.
+fn is_free(call: &Call) -> bool
+    ensures { result ≡ is_free call.now }
+{
+    !matches!(
+        call,
+        Call::Ack { .. } | Call::Decline { .. } | Call::Restore { .. } | Call::Cancel { .. }
+    )
+}
+
+/// Makes a call without a term.
+#[tactic(auto, unfolding(crate::specs::Lines::call_made))]
+fn make_plain(alloc: Global, machine: &mut Machine, call: &Call, files: &mut [u64]) -> Answer
+    ensures answered { IsCallTold machine.old machine.new call.now (length files.old) result }
+    ensures handled { IsTaken (λ k. plain_step k (length files.old) call.now) machine.old machine.new result }
+    ensures front { result.code ≡ 0 → StandsInFront (call_files (core_in machine.old) call.now) files.old files.new }
+    ensures kept { result.code ≢ 0 → files.new ≡ files.old }
+    ensures memory { result.code ≡ no_memory → may_want_memory (core_in machine.old) call.now ≡ true }
+    ensures numbers { HasNoNumbers result }
+    ensures names { passes (names_in machine.old) call.now ≡ true → names_in machine.new ≡ names_in machine.old }
+    ensures unchanged { result.code ≡ no_memory → machine.new ≡ machine.old }
+{
+    match call {
+        Call::Take { most } => take_that_fits(machine, *most, files),
+        Call::Show { id } => show_from(alloc, machine, id.0, &mut []),
+        _ => answer(machine, call),
+    }
+}
+
+/// Fetches at most `most` files, or none if the buffer has too few places for them.
+#[tactic(auto, unfolding(crate::specs::Lines::call_made))]
+fn take_that_fits(machine: &mut Machine, most: u64, files: &mut [u64]) -> Answer
+    ensures answered { IsCallTold machine.old machine.new (call.Take most) (length files.old) result }
+    ensures front { result.code ≡ 0 → StandsInFront (files_in (step (core_in machine.old) (call.Take most)).1) files.old files.new }
+    ensures kept { result.code ≢ 0 → files.new ≡ files.old }
+    ensures memory { result.code ≡ no_memory → may_want_memory (core_in machine.old) (call.Take most) ≡ true }
+    ensures numbers { HasNoNumbers result }
+    ensures names { names_in machine.new ≡ names_in machine.old }
+    ensures unchanged { result.code ≡ no_memory → machine.new ≡ machine.old }
+{
+    let needed = fetchable(machine.core(), most);
+    if (files.len() as u64) < needed {
+        return Answer::too_short(needed);
+    }
+    take_from(machine, most, files)
+}
+
+/// How many files a take of at most `most` would fetch.
+fn fetchable(core: &Core, most: u64) -> u64
+    ensures { result ≡ length (files_in (step core.now (call.Take most)).1) }
+{
+    let waiting = core.files_waiting();
+    if most < waiting { most } else { waiting }
+}
+
+/// Returns the kind of a line. Writes the numbers of a line that makes no call to the start of the
+/// buffer, in the line's order.
+///
+/// The last number of a `config` line is 1 for `keep` and 0 for `delete`. If the buffer has too few
+/// places, the answer says how many it needs. A line that scripts do not have is a call, even if
+/// `relkvanu_line` refuses what follows its term. Takes memory for the lists of an `ack`, a `job`, a
+/// `restore` and a `forfeit`.
 #[unsafe(no_mangle)]
 pub extern "C" fn relkvanu_line_says(alloc: Global, line: &[u8], numbers: &mut [u64]) -> Answer
     ensures told { result.code ≢ no_memory → result ≡ says_told (term_reading line.now) (length numbers.old) }
@@ -47,65 +217,56 @@ pub extern "C" fn relkvanu_line_says(alloc: Global, line: &[u8], numbers: &mut [
     ensures memory { result.code ≡ no_memory → term_may_want_memory line.now ≡ true }
     ensures numbers { HasNoNumbers result }
 {
-    ckpt_embed::line_says(alloc, line, numbers)
+    match parse_term_line(alloc, line) {
+        Ok(TermLine::Other(read)) => write_line(&read, numbers),
+        Ok(_) => write_numbers(LINE_CALL, &[], numbers),
+        Err(why) => of_line_fault(why),
+    }
 }
 
-/// Writes the call that a line says.
-#[unsafe(no_mangle)]
-pub extern "C" fn relkvanu_line_call(
-    alloc: Global,
-    line: &[u8],
-    call: &mut CallFields,
-    first: &mut [u64],
-    second: &mut [u64],
-) -> Answer
-    ensures told { result.code ≢ no_memory → result ≡ meant_told (said line.now) (length first.old) (length second.old) }
-    ensures fields { BringsFields line.now result call.new }
-    ensures first { BringsCallList first_of line.now result first.old first.new }
-    ensures second { BringsCallList second_of line.now result second.old second.new }
-    ensures given { GivesBack line.now result call.new first.new second.new }
-    ensures kept { result.what ≢ says_call → (call.new ≡ call.old) × (first.new ≡ first.old) × (second.new ≡ second.old) }
-    ensures memory { result.code ≡ no_memory → term_may_want_memory line.now ≡ true }
-    ensures numbers { HasNoNumbers result }
+fn write_line(line: &Line, numbers: &mut [u64]) -> Answer
+    ensures told { result ≡ numbers_told (line_number line.now) (line_numbers line.now) (length numbers.old) }
+    ensures front { result.code ≡ 0 → StandsInFront (line_numbers line.now) numbers.old numbers.new }
+    ensures kept { result.code ≢ 0 → numbers.new ≡ numbers.old }
 {
-    ckpt_embed::line_call(alloc, line, call, first, second)
+    match line {
+        Line::Skip => write_numbers(LINE_SKIP, &[], numbers),
+        Line::Config {
+            interval,
+            pause,
+            at_once,
+            timeout,
+            tolerable,
+            retained,
+            keep_on_cancel,
+        } => {
+            let keep = u64::from(*keep_on_cancel);
+            let list = [
+                *interval, *pause, *at_once, *timeout, *tolerable, *retained, keep,
+            ];
+            write_numbers(LINE_CONFIG, &list, numbers)
+        }
+        Line::Job { parallelisms } => write_numbers(LINE_JOB, parallelisms.as_slice(), numbers),
+        Line::Start { now } => write_numbers(LINE_START, &[*now], numbers),
+        Line::All {
+            now,
+            id,
+            threads,
+            first,
+        } => write_numbers(LINE_ALL, &[*now, id.0, *threads, *first], numbers),
+        Line::Call(_) | Line::BadShape => write_numbers(LINE_CALL, &[], numbers),
+    }
 }
 
-/// Writes the line of a call.
-#[unsafe(no_mangle)]
-pub extern "C" fn relkvanu_call_line(
-    alloc: Global,
-    call: &CallFields,
-    first: &[u64],
-    second: &[u64],
-    line: &mut [u8],
-) -> Answer
-    ensures told { result.code ≢ no_memory → result ≡ call_line_told (given call.entry.now first.now second.now) (length line.old) }
-    ensures front { result.code ≡ 0 → StandsInFront (call_line_text (given call.entry.now first.now second.now)) line.old line.new }
-    ensures read { ReadsBack (given call.entry.now first.now second.now) line.new result }
-    ensures said { SaysBack (given call.entry.now first.now second.now) line.new result }
-    ensures kept { result.code ≢ 0 → line.new ≡ line.old }
-    ensures memory { result.code ≡ no_memory → IsOk (given call.entry.now first.now second.now) }
-    ensures numbers { HasNoNumbers result }
+/// Writes numbers to the start of the buffer if that is long enough.
+fn write_numbers(what: u32, list: &[u64], numbers: &mut [u64]) -> Answer
+    ensures told { result ≡ numbers_told what list.now (length numbers.old) }
+    ensures front { result.code ≡ 0 → StandsInFront list.now numbers.old numbers.new }
+    ensures kept { result.code ≢ 0 → numbers.new ≡ numbers.old }
 {
-    ckpt_embed::call_line(alloc, call, first, second, line)
-}
-
-/// Writes the lines of an opening.
-#[unsafe(no_mangle)]
-pub extern "C" fn relkvanu_opening_lines(
-    alloc: Global,
-    settings: &Settings,
-    shape: &[u64],
-    now: u64,
-    lines: &mut [u8],
-) -> Answer
-    ensures told { result.code ≢ no_memory → result ≡ opening_told (opening_of settings.now shape.now now 1) (length lines.old) }
-    ensures front { result.code ≡ 0 → StandsInFront (opening_text (opening_of settings.now shape.now now 1)) lines.old lines.new }
-    ensures read { OpeningReadsBack (opening_of settings.now shape.now now 1) result }
-    ensures kept { result.code ≢ 0 → lines.new ≡ lines.old }
-    ensures memory { OpeningWantsMemory (opening_of settings.now shape.now now 1) result }
-    ensures numbers { HasNoNumbers result }
-{
-    ckpt_embed::opening_lines(alloc, settings, shape, now, lines)
+    if numbers.len() < list.len() {
+        return Answer::too_short(list.len() as u64);
+    }
+    numbers[..list.len()].copy_from_slice(list);
+    Answer::done(what, list.len() as u64, 0)
 }

@@ -1,8 +1,0 @@
--- Answers the goals of `take`.
-use Rattle.std.proofs.Common.{length}
-use Rattle.ckpt_terms.specs.Machines.{core_in}
-use Rattle.ckpt_embed.proofs.Given.{take_at_most}
-use Rattle.ckpt_embed.proofs.buffers.take.Goals as goal
-
-pub take_from-answer-requires : goal.take_from-answer-requires
-take_from-answer-requires c = record { fits = take_at_most (core_in c.deref_mut.result.now) (length c.args.files.now) }

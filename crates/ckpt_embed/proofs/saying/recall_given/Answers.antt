@@ -1,6 +1,0 @@
--- Answers the goals of `recall_given`.
-use Rattle.ckpt_embed.proofs.SayingLemmas.{given_back}
-use Rattle.ckpt_embed.proofs.saying.recall_given.Goals as goal
-
-pub returns : goal.returns
-returns c = given_back c.args.asked.now c.recall_lists.ensures

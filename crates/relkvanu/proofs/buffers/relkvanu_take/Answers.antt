@@ -1,0 +1,8 @@
+-- Answers the goals of `relkvanu_take`.
+use Rattle.std.proofs.Common.{length}
+use Rattle.ckpt_terms.specs.Machines.{core_in}
+use Rattle.relkvanu.proofs.Given.{take_at_most}
+use Rattle.relkvanu.proofs.buffers.relkvanu_take.Goals as goal
+
+pub take_from-answer-requires : goal.take_from-answer-requires
+take_from-answer-requires c = record { fits = take_at_most (core_in c.deref_mut.result.now) (length c.args.files.now) }

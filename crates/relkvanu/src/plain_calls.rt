@@ -1,0 +1,123 @@
+//! The calls that have no list and no buffer.
+
+ghost use Rattle.std.specs.Prelude.{◌≡◌, ◌≢◌};
+ghost use Rattle.ckpt_ids.specs.declared.call.Call.TheVariants as call;
+ghost use Rattle.relkvanu.specs.Calls.{HasNoNumbers, IsAnswered, IsMade, IsMadePlainly, StaysAsItWas, StaysClosed, WantsMemory, subtask_at};
+ghost use Rattle.relkvanu.specs.Fenced.{IsHandled, call_step};
+ghost use Rattle.relkvanu.specs.Told.{no_memory};
+
+use crate::answer::Answer;
+use crate::calls;
+use crate::handle::Handle;
+use ckpt_ids::{Call, CheckpointId, FileId, SubtaskId};
+use std::alloc::Global;
+
+/// Time has passed.
+#[unsafe(no_mangle)]
+pub extern "C" fn relkvanu_tick(alloc: Global, handle: &mut Handle, now: u64) -> Answer
+    ensures closed { StaysClosed handle.old.value handle.new.value result }
+    ensures answered { IsAnswered handle.old.value handle.new.value (call.Tick now) result }
+    ensures memory { WantsMemory handle.old.value (call.Tick now) result }
+    ensures numbers { HasNoNumbers result }
+    ensures unchanged { StaysAsItWas handle.old.value handle.new.value result }
+    ensures names { handle.new.names ≡ handle.old.names }
+{
+    calls::call(alloc, handle, &Call::Tick { now })
+}
+
+/// Triggers a savepoint.
+#[unsafe(no_mangle)]
+pub extern "C" fn relkvanu_savepoint(alloc: Global, handle: &mut Handle, now: u64) -> Answer
+    ensures closed { StaysClosed handle.old.value handle.new.value result }
+    ensures answered { IsAnswered handle.old.value handle.new.value (call.Savepoint now) result }
+    ensures memory { WantsMemory handle.old.value (call.Savepoint now) result }
+    ensures numbers { HasNoNumbers result }
+    ensures unchanged { StaysAsItWas handle.old.value handle.new.value result }
+    ensures names { handle.new.names ≡ handle.old.names }
+{
+    calls::call(alloc, handle, &Call::Savepoint { now })
+}
+
+/// A subtask could not take its part of a record.
+#[unsafe(no_mangle)]
+pub extern "C" fn relkvanu_decline(
+    alloc: Global,
+    handle: &mut Handle,
+    now: u64,
+    id: u64,
+    vertex: u16,
+    index: u16,
+) -> Answer
+    ensures closed { StaysClosed handle.old.value handle.new.value result }
+    ensures answered { IsMadePlainly handle.old handle.new (call.Decline now id (subtask_at vertex index)) result }
+    ensures handled { IsHandled (λ k. call_step k (call.Decline now id (subtask_at vertex index))) handle.old handle.new result }
+    ensures memory { result.code ≢ no_memory }
+{
+    let decline = Call::Decline {
+        now,
+        id: CheckpointId(id),
+        subtask: SubtaskId { vertex, index },
+    };
+    calls::call(alloc, handle, &decline)
+}
+
+/// A user disposes of a completed savepoint.
+#[unsafe(no_mangle)]
+pub extern "C" fn relkvanu_dispose(alloc: Global, handle: &mut Handle, id: u64) -> Answer
+    ensures closed { StaysClosed handle.old.value handle.new.value result }
+    ensures answered { IsMade handle.old.value handle.new.value (call.Dispose id) result }
+    ensures memory { result.code ≢ no_memory }
+    ensures names { handle.new.names ≡ handle.old.names }
+{
+    calls::call(
+        alloc,
+        handle,
+        &Call::Dispose {
+            id: CheckpointId(id),
+        },
+    )
+}
+
+/// The job ends for good.
+#[unsafe(no_mangle)]
+pub extern "C" fn relkvanu_cancel(alloc: Global, handle: &mut Handle, now: u64) -> Answer
+    ensures closed { StaysClosed handle.old.value handle.new.value result }
+    ensures answered { IsMadePlainly handle.old handle.new (call.Cancel now) result }
+    ensures handled { IsHandled (λ k. call_step k (call.Cancel now)) handle.old handle.new result }
+    ensures memory { result.code ≢ no_memory }
+{
+    calls::call(alloc, handle, &Call::Cancel { now })
+}
+
+/// A fetched file is deleted.
+#[unsafe(no_mangle)]
+pub extern "C" fn relkvanu_deleted(alloc: Global, handle: &mut Handle, file: u64) -> Answer
+    ensures closed { StaysClosed handle.old.value handle.new.value result }
+    ensures answered { IsMade handle.old.value handle.new.value (call.Deleted file) result }
+    ensures memory { result.code ≢ no_memory }
+    ensures names { handle.new.names ≡ handle.old.names }
+{
+    calls::call(alloc, handle, &Call::Deleted { file: FileId(file) })
+}
+
+/// A fetched file could not be deleted.
+#[unsafe(no_mangle)]
+pub extern "C" fn relkvanu_undeleted(alloc: Global, handle: &mut Handle, file: u64) -> Answer
+    ensures closed { StaysClosed handle.old.value handle.new.value result }
+    ensures answered { IsMade handle.old.value handle.new.value (call.Undeleted file) result }
+    ensures memory { result.code ≢ no_memory }
+    ensures names { handle.new.names ≡ handle.old.names }
+{
+    calls::call(alloc, handle, &Call::Undeleted { file: FileId(file) })
+}
+
+/// The number of uses of a file.
+#[unsafe(no_mangle)]
+pub extern "C" fn relkvanu_count(alloc: Global, handle: &mut Handle, file: u64) -> Answer
+    ensures closed { StaysClosed handle.old.value handle.new.value result }
+    ensures answered { IsMade handle.old.value handle.new.value (call.Count file) result }
+    ensures memory { result.code ≢ no_memory }
+    ensures names { handle.new.names ≡ handle.old.names }
+{
+    calls::call(alloc, handle, &Call::Count { file: FileId(file) })
+}
