@@ -16,7 +16,7 @@ pub use Rattle.ckpt_core.specs.declared.triggers.Expiry.{Expiry}
 pub use Rattle.ckpt_ids.proofs.AscendingLemmas.{ascending-swapped, ascending_already, ascending_at, numbers_in_order, set-from_distinct}
 pub use Rattle.ckpt_ids.proofs.CountLemmas.{IsIn-from_counted, IsIn-from_times, count_by-all, count_by-append, count_by-cons, count_by-in_order, count_by-map, count_by-none, count_by-same}
 pub use Rattle.ckpt_ids.proofs.CountLemmas.{count_by_no, count_by_yes, counted-from_IsIn, times-from_IsIn}
-pub use Rattle.ckpt_ids.proofs.OrderLemmas.{same_subtask-Decides, subtasks_in_order, uses_in_order}
+pub use Rattle.ckpt_ids.proofs.OrderLemmas.{subtasks_in_order, uses_in_order}
 pub use Rattle.ckpt_ids.proofs.OrderedLemmas.{AreDistinct-apart, AreDistinct-append, AreDistinct-filter, AreDistinct-from_order, AreDistinct-left, AreDistinct-right, ComesBefore-at, ComesBefore-from}
 pub use Rattle.ckpt_ids.proofs.OrderedLemmas.{IsIn-append_cases, IsIn-append_left, IsIn-append_right, IsIn-at, IsIn-filter, IsIn-flat_map, IsIn-from_filter, IsIn-from_flat_map, IsIn-from_in_order}
 pub use Rattle.ckpt_ids.proofs.OrderedLemmas.{IsIn-from_in_order_once, IsIn-from_list_any, IsIn-from_map, IsIn-from_test, IsIn-get_or, IsIn-in_order, IsIn-in_order_once, IsIn-map, IsIn-put}
@@ -28,7 +28,6 @@ pub use Rattle.ckpt_ids.proofs.ShapeLemmas.{length-subtasks_from}
 pub use Rattle.ckpt_ids.specs.Acknowledged.{AreInSubtaskOrder, acknowledges_before, put_ack}
 pub use Rattle.ckpt_ids.specs.Ascending.{IsAscending, IsAscendingSet, ascending, ascending_set}
 pub use Rattle.ckpt_ids.specs.Configuration.{Configuration, IsWithinLimits}
-pub use Rattle.ckpt_ids.specs.Counting.{times}
 pub use Rattle.ckpt_ids.specs.Ordered.{AreDistinct, ComesBefore, IsIn, IsInOrder, IsStrictOrder, in_order, in_order_once, put, put_once}
 pub use Rattle.ckpt_ids.specs.Places.{LiesAt}
 pub use Rattle.ckpt_ids.specs.Records.{Holder, Pin, Record, Subtask, Use, acknowledged, count, has_acknowledged, holder_before, is_present, metadata_of, missing, released, same_holder, use_before}
@@ -78,8 +77,8 @@ pub use Rattle.ckpt_model.specs.Reads.{IsNextExpiry, NoneIsEarlyFrom, NoneTrigge
 pub use Rattle.ckpt_model.specs.Refusals.{first_some, has_repeats, is_done_savepoint, is_foreign, is_number, is_repeat, moment_of, named, no_record, pending_of, refuse_if, savepoints, where_pending}
 unfoldable pub use Rattle.ckpt_model.specs.Refusals.{refusal}
 pub use Rattle.ckpt_model.specs.Soundness.{AreSoundRecords, IsCall, IsRecord, IsSound, id_before, is_pending_checkpoint}
-pub use Rattle.ckpt_model.specs.State.{Opening, State, choice_from, chosen, files_of, in_outbox, is_checkpoint, is_done_checkpoint, is_expired, is_pending, is_subsumed, is_surplus, kept}
-pub use Rattle.ckpt_model.specs.State.{last_checkpoint, record_of, released_by, unpinned}
+pub use Rattle.ckpt_model.specs.State.{Opening, State, chosen, files_of, in_outbox, is_checkpoint, is_done_checkpoint, is_expired, is_pending, is_subsumed, is_surplus, kept, last_checkpoint}
+pub use Rattle.ckpt_model.specs.State.{record_of, released_by, unpinned}
 unfoldable pub use Rattle.ckpt_model.specs.State.{choice_of, drop, pins_now}
 pub use Rattle.ckpt_model.specs.Steps.{Stepped, at_moment, cancelled, cleared, dropped_by, fails_the_job, failures_with, pending_checkpoints, replaced, rolled_back, show, step, superseded, with_base}
 pub use Rattle.ckpt_model.specs.Steps.{with_records}
@@ -116,13 +115,14 @@ pub use Rattle.std.proofs.lemmas.Bool.{and_from, and_left, and_parts, and_right,
 pub use Rattle.std.proofs.lemmas.Bool.{le-leb, le-ltb, leb-false, leb-true, lt-leb, lt-ltb, ltb-false, ltb-true, ne_eqb, not-true, not_from_false, not_from_true, or_cases, or_left, or_parts, or_right}
 pub use Rattle.std.proofs.lemmas.Bool.{true_from_ne_false}
 pub use Rattle.std.proofs.lemmas.Bool.Decides.{nat_tests}
+pub use Rattle.std.proofs.lemmas.Grind.{common_steps}
 pub use Rattle.std.proofs.lemmas.List.{append-nil, append_assoc, drop_all, length-append, length-map, map-append, nil_from_length, take-append-drop, take_all, take_more}
 pub use Rattle.std.proofs.lemmas.List.Concat.{flat_map-append}
 pub use Rattle.std.proofs.lemmas.List.Elements.{filter-append}
 pub use Rattle.std.proofs.lemmas.List.Filters.{length-filter_both}
 pub use Rattle.std.proofs.lemmas.List.Folds.{find-append, list_any-append}
 pub use Rattle.std.proofs.lemmas.List.Sorted.{IsPartitionPoint-from_clause, answers_always}
-pub use Rattle.std.proofs.lemmas.List.Sums.{count_by-le-length, length-filter, sum_by-remove}
+pub use Rattle.std.proofs.lemmas.List.Sums.{count_by-le-length, length-filter}
 pub use Rattle.std.proofs.lemmas.Option.{none-some, same_Some, slice_get-get_or, slice_get_past}
 pub use Rattle.std.proofs.lemmas.Result.{IfOk-weaker, err_from_is_err_and, on_err_weaker, on_ok_weaker}
 pub use Rattle.std.proofs.lemmas.Simd.{map-map}
@@ -132,7 +132,7 @@ pub use Rattle.std.specs.List.{filter, flat_map, list_any, remove, slice_set}
 pub use Rattle.std.specs.List.Sorted.{IsBinarySearchResult, IsPartitionPoint}
 pub use Rattle.std.specs.Option.{option_and_then, option_copied, option_map, option_or}
 pub use Rattle.std.specs.Ordering.{nat_cmp}
-pub use Rattle.std.specs.Prelude.{IfErr, IfNone, IfOk, IfSome, IsSome, IsTrue, OnErr, count_by, find, if◌then◌else◌, is_some, slice_get, sum, ◌↔◌}
+pub use Rattle.std.specs.Prelude.{IfErr, IfNone, IfOk, IfSome, IsSome, IsTrue, OnErr, count_by, find, if◌then◌else◌, is_some, slice_get, ◌↔◌}
 pub use Rattle.std.specs.Result.{IsErrAnd, MatchResult, OnOk, is_ok}
 pub use Rattle.std.specs.Vec.{vec_capacity}
 pub use Rattle.std.specs.VecDeque.Iter.{deque_iter_rest}
@@ -142,4 +142,3 @@ pub use denote.Enum.Bare.{sameb}
 pub use denote.Param.Send.{AllSend, IsSend, recorded_send, sendable, struct_send, view_send}
 pub use denote.Struct.Declared.{Declared, fields, row, shape}
 pub use denote.Struct.Struct.{Struct}
-pub use Rattle.std.proofs.lemmas.Grind.{common_steps}

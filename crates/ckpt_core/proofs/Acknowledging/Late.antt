@@ -1,11 +1,10 @@
 -- What an acknowledgement does that comes after its record has ended.
-use Rattle.ckpt_core.proofs.Names.{◌≡◌, ℕ, ◌≤◌, ◌<◌, max, true, false, not, ◌||◌, List, ◌++◌, length, sym, ap, subst, ◌∙◌, arith, None, count_by, filter, not-true, or_parts, lt-ltb, length-filter}
-use Rattle.ckpt_core.proofs.Names.{Ack, Done, SubtaskId, is_present, IsIn-from_filter, filter-same, AreDistinct-left, AreDistinct-filter, IsIn-from_test, Moments, Parts, may_want_memory, answer_wants}
-use Rattle.ckpt_core.proofs.Names.{Answers, AreSound, AreTied, IsAccepted, is_known_in, state_of, present_in, pending_of, State, Stepped, ack, step, IsAcceptedAck, accepted_ack, ack_step}
-use Rattle.ckpt_core.proofs.Names.{distinct-from_test, AreDistinct, common_steps}
+use Rattle.ckpt_core.proofs.Names.{◌≡◌, ℕ, ◌≤◌, ◌<◌, max, true, false, not, ◌||◌, List, ◌++◌, length, sym, ap, ◌∙◌, arith, None, count_by, filter, not-true, or_parts, lt-ltb, length-filter, Ack, Done}
+use Rattle.ckpt_core.proofs.Names.{SubtaskId, is_present, IsIn-from_filter, filter-same, AreDistinct-left, AreDistinct-filter, IsIn-from_test, Moments, Parts, may_want_memory, Answers, AreSound}
+use Rattle.ckpt_core.proofs.Names.{AreTied, IsAccepted, is_known_in, state_of, present_in, pending_of, ack, step, accepted_ack, ack_step, distinct-from_test, AreDistinct, common_steps}
+use Rattle.ckpt_model.specs.State.{is_known}
 use Rattle.ckpt_ids.specs.declared.reply.Reply.TheVariants as reply
 use Rattle.ckpt_outbox.specs.Queues as queues
-use Rattle.ckpt_model.specs.State.{is_known}
 
 -- the unknown files
 abbrev pub unknown_in : Parts → List ℕ → List ℕ
@@ -66,9 +65,5 @@ pub late_answers : (p o : Parts) (now id : ℕ) (subtask : SubtaskId) (fresh reu
 late_answers p o now id subtask fresh reused files n clock sound accepted ended is put room seen counted =
     let spare : ℕ = o.outbox.spare in
     let same : record o { clock = clock } ≡ late p now (unknown_in p fresh) spare =
-    ap (λ c. record o { clock = c }) seen
-    ∙ ap (λ (x : Parts). record x { clock = record x.clock { latest = max now x.clock.latest } }) put
-    ∙ ap (λ fs. late p now fs spare) is in
-    let P : Parts → Type 0 = λ x. Answers p x (Ack now id subtask fresh reused) (reply.AckLate n) in
-    let Q : ℕ → Type 0 = λ k. Answers p (late p now (unknown_in p fresh) spare) (Ack now id subtask fresh reused) (reply.AckLate k) in
-    subst P (sym same) (subst Q (sym (counted ∙ ap length is)) (late_is p now id subtask fresh reused spare sound accepted ended room))
+    rw (seen, put, is) in
+    rw same (rw (counted ∙ ap length is) (late_is p now id subtask fresh reused spare sound accepted ended room))

@@ -1,12 +1,10 @@
 -- What an accepted acknowledgement of a pending record makes of the parts.
-use Rattle.ckpt_core.proofs.Names.{◌≡◌, ℕ, ◌+◌, ◌-◌, ◌≤◌, ◌<◌, max, Bool, true, false, cond, ltb, eqb, List, ◌++◌, map, length, refl, sym, ap, subst, ◌∙◌, ⊎_elim, arith, Some, find, vec_capacity}
-use Rattle.ckpt_core.proofs.Names.{cases_Bool, both_ways, eqb-true, ne_eqb, eq-eqb, length-map, Call, Ack, Done, SubtaskId, ascending, IsIn, IsInOrder, in_order_once, Record, Use, Subtask, is_present}
-use Rattle.ckpt_core.proofs.Names.{missing, use_before, uses, uses_of, acknowledged, IsIn-append_cases, IsIn-append_left, IsIn-map, IsIn-in_order, IsIn-from_in_order, IsInOrder-map}
-use Rattle.ckpt_core.proofs.Names.{IsIn-in_order_once, IsIn-from_in_order_once, uses_in_order, IsPending, missing-with_ack, triples, IsStored, Parts, IsMissing, with_pins, grouped, records_of}
-use Rattle.ckpt_core.proofs.Names.{may_want_memory, answer_wants, Answers, AreSound, AreTied, IsAccepted, Stays, records_in, state_of, present_in, acked, refusal, IsSound, id_before, State, Stepped}
-use Rattle.ckpt_core.proofs.Names.{ack, acknowledged_in, completed_with, replaced, step, with_records, accepted_ack, ack_step, IsAcknowledged, IsIn-from_find, map_same, same_record, IsAcking}
-use Rattle.ckpt_core.proofs.Names.{with_ack, with_ack_is, acking, taken_in, common_steps}
-use Rattle.ckpt_ids.specs.declared.reply.Reply.TheVariants as reply
+use Rattle.ckpt_core.proofs.Names.{◌≡◌, ℕ, ◌+◌, ◌-◌, ◌≤◌, ◌<◌, max, Bool, true, false, cond, ltb, eqb, List, ◌++◌, map, length, refl, sym, ap, subst, ◌∙◌, ⊎_elim, arith, Some, find, cases_Bool}
+use Rattle.ckpt_core.proofs.Names.{both_ways, eqb-true, length-map, Call, Ack, Done, SubtaskId, ascending, IsIn, IsInOrder, in_order_once, Record, Use, Subtask, is_present, missing, use_before, uses}
+use Rattle.ckpt_core.proofs.Names.{uses_of, acknowledged, IsIn-append_cases, IsIn-append_left, IsIn-map, IsIn-in_order, IsIn-from_in_order, IsInOrder-map, IsIn-in_order_once, IsIn-from_in_order_once}
+use Rattle.ckpt_core.proofs.Names.{uses_in_order, IsPending, missing-with_ack, triples, IsStored, Parts, IsMissing, with_pins, grouped, records_of, may_want_memory, answer_wants, Answers, AreSound}
+use Rattle.ckpt_core.proofs.Names.{AreTied, IsAccepted, Stays, records_in, state_of, present_in, acked, refusal, IsSound, id_before, State, Stepped, ack, acknowledged_in, completed_with, replaced}
+use Rattle.ckpt_core.proofs.Names.{step, with_records, accepted_ack, ack_step, IsAcknowledged, IsIn-from_find, map_same, same_record, IsAcking, with_ack, with_ack_is, acking, taken_in, common_steps}
 use Rattle.ckpt_core.proofs.Acknowledging.Moves.{ack_groups, ack_uses, no_pin-holds, with_instead, id-with_instead, replaced_members}
 use Rattle.ckpt_core.proofs.Acknowledging.Takes.{found_record}
 use Rattle.ckpt_core.proofs.Acknowledging.Uses.{present_more}
@@ -16,6 +14,7 @@ use Rattle.ckpt_core.proofs.Ending.HandOut.{present-from_use}
 use Rattle.ckpt_core.proofs.Records.Lookups.{has_number}
 use Rattle.ckpt_core.proofs.Records.Pending.{find-from_IsIn}
 use Rattle.ckpt_core.proofs.Using.Order.{from_holds, all_uses_in_order, record_in_order, record_uses_in_order, uses-in_order}
+use Rattle.ckpt_ids.specs.declared.reply.Reply.TheVariants as reply
 
 -- the parts with other room
 
@@ -93,7 +92,7 @@ acked_replaced id s files r rs order found =
 
 pub registry_in_order : (p : Parts) → AreSound p → IsInOrder use_before p.registry
 unfolding state_of
-registry_in_order p sound = let P : List Use → Type 0 = λ us. IsInOrder use_before us in subst P (sym sound.tied.uses_are) (uses-in_order (records_in p) sound.sound.records.in_order sound.sound.records.each)
+registry_in_order p sound = rw sound.tied.uses_are (uses-in_order (records_in p) sound.sound.records.in_order sound.sound.records.each)
 
 -- the records after it
 pub taken_records : {p : Parts} {now id : ℕ} {s : SubtaskId} {fresh reused : List ℕ} {r : Record} → IsTaking p now id s fresh reused r → records_in (taken_in p now id s fresh reused) ≡ replaced (records_in p) (with_ack (with_pins p.registry r) s fresh reused)
@@ -119,8 +118,7 @@ taken_uses {p} {now} {id} {s} {fresh} {reused} {r} t =
     let is : IsAcknowledged a = with_ack_is t.sound.sound k in
     let own : IsInOrder use_before (uses_of a) = record_uses_in_order a is.acks_in_order is.files (t.sound.sound.records.each q k.there).pins in
     let each : (x : Record) → IsIn x (replaced rs a) → IsInOrder use_before (uses_of x) = λ x h.
-    let P : Record → Type 0 = λ w. IsInOrder use_before (uses_of w) in
-    ⊎_elim (λ (e : x ≡ a). subst P (sym e) own) (λ (o : IsIn x rs × (x.id ≡ a.id → ⊥)). record_in_order x (t.sound.sound.records.each x o.0)) (replaced_members rs a x h) in
+    ⊎_elim (λ (e : x ≡ a). rw e own) (λ (o : IsIn x rs × (x.id ≡ a.id → ⊥)). record_in_order x (t.sound.sound.records.each x o.0)) (replaced_members rs a x h) in
     ap (λ us. in_order_once use_before (us ++ triples id (Subtask s) (fresh ++ reused))) t.sound.tied.uses_are
     ∙ ap (λ i. in_order_once use_before (uses rs ++ triples i (Subtask s) (fresh ++ reused))) (sym (its_number t))
     ∙ ack_uses rs q s (fresh ++ reused) (ascending (fresh ++ reused)) k.there (λ x h e. same_record x q rs t.sound.sound.records.in_order h k.there e)
@@ -135,17 +133,13 @@ taken_new us id s fresh reused present u h absent =
     ⊎_elim
     (λ (k : IsIn u us). absurd (both_ways (is_present us u.file) absent (present-from_use u us k)))
     (λ (k : IsIn u added).
-    ⊎_elim
-    (λ (f : IsIn u.file fresh). f)
-    (λ (f : IsIn u.file reused). absurd (both_ways (is_present us u.file) absent (present u.file f)))
-    (IsIn-append_cases u.file fresh reused (from_holds id (Subtask s) (fresh ++ reused) u k).2))
+    ⊎_elim (λ f. f) (λ f. absurd (both_ways (is_present us u.file) absent (present u.file f))) (IsIn-append_cases u.file fresh reused (from_holds id (Subtask s) (fresh ++ reused) u k).2))
     (IsIn-append_cases u us added (IsIn-from_in_order_once use_before u (us ++ added) h))
 
 pub taken_present : {p : Parts} {now id : ℕ} {s : SubtaskId} {fresh reused : List ℕ} {r : Record} → IsTaking p now id s fresh reused r → present_in (taken_in p now id s fresh reused).registry ≤ present_in p.registry + length fresh
 unfolding state_of
 taken_present {p} {now} {id} {s} {fresh} {reused} {r} t =
-    let k : IsAcking (state_of p) (with_pins p.registry r) s fresh reused = taking t in
-    let present : (f : ℕ) → IsIn f reused → is_present p.registry f ≡ true = λ f h. ap (λ us. is_present us f) t.sound.tied.uses_are ∙ k.present f h in
+    let present : (f : ℕ) → IsIn f reused → is_present p.registry f ≡ true = λ f h. ap (λ us. is_present us f) t.sound.tied.uses_are ∙ (taking t).present f h in
     present_more p.registry (taken_in p now id s fresh reused).registry fresh (taken_kept p.registry (triples id (Subtask s) (fresh ++ reused))) (taken_new p.registry id s fresh reused present)
 
 pub taken_tied : {p : Parts} {now id : ℕ} {s : SubtaskId} {fresh reused : List ℕ} {r : Record} → IsTaking p now id s fresh reused r → present_in p.registry + length fresh ≤ p.outbox.spare → AreTied (taken_in p now id s fresh reused)
@@ -187,14 +181,12 @@ waiting_step {p} {now} {id} {s} {fresh} {reused} {r} n t lacking others =
     let less : missing a + 1 ≡ missing r = one_less t in
     let some : missing a ≡ 0 → ⊥ = λ e. omega arith in
     let count : missing a ≡ n - 1 = omega arith in
-    let after : State = with_records m (replaced m.records a) in
-    taken_step t ∙ still_waiting m a some ∙ ap (λ k. (after, Done (reply.AckPending k))) count ∙ ap (λ x. (x, Done (reply.AckPending (n - 1)))) (sym (taken_state t))
+    taken_step t ∙ still_waiting m a some ∙ ap (λ k. ((with_records m (replaced m.records a)), Done (reply.AckPending k))) count ∙ ap (λ x. (x, Done (reply.AckPending (n - 1)))) (sym (taken_state t))
 
 pub waiting_answers : {p q : Parts} {now id : ℕ} {s : SubtaskId} {fresh reused : List ℕ} {r : Record} (new : Parts) (n : ℕ) → IsRoomier p q → IsTaking q now id s fresh reused r → present_in q.registry + length fresh ≤ q.outbox.spare → missing r ≡ n → 1 < n → new ≡ taken_in q now id s fresh reused →
     Answers p new (Ack now id s fresh reused) (reply.AckPending (n - 1))
 waiting_answers {p} {q} {now} {id} {s} {fresh} {reused} {r} new n roomier t room lacking others is =
-    let P : Parts → Type 0 = λ x. Answers p x (Ack now id s fresh reused) (reply.AckPending (n - 1)) in
-    subst P (sym is) (record {
+    rw is (record {
       step_is = ap (λ m. step m (Ack now id s fresh reused)) (sym (roomier_state roomier)) ∙ waiting_step n t lacking others;
       tied = taken_tied t room;
       none_ended = t.sound.none_ended;
@@ -209,10 +201,7 @@ acked_wants {p} {now} {id} {s} {fresh} {reused} {r} t =
     let a : Record = with_ack (with_pins p.registry r) s fresh reused in
     let P : Bool → Type 0 = λ b. answer_wants call (cond b (completed_with (with_records m (replaced m.records (record a { done = true }))) (record a { done = true })) (with_records m (replaced m.records a), Done (reply.AckPending (missing a)))).1 ≡ true in
     ap (λ (x : Stepped). answer_wants call x.1) (taken_step t)
-    ∙ ⊎_elim
-    (λ (e : eqb (missing a) 0 ≡ true). subst P (sym e) refl)
-    (λ (e : eqb (missing a) 0 ≡ false). subst P (sym e) refl)
-    (cases_Bool (eqb (missing a) 0))
+    ∙ ⊎_elim (λ e. subst P (sym e) refl) (λ e. subst P (sym e) refl) (cases_Bool (eqb (missing a) 0))
 
 -- it waits for a subtask
 pub it_lacks : (p : Parts) (id : ℕ) (r : Record) → IsSound (state_of p) → find (has_number id) p.pending ≡ Some r → ((r : Record) → IsIn r p.pending → IsPending r) → 0 < missing r

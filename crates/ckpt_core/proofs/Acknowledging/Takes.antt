@@ -1,21 +1,27 @@
 -- What an accepted acknowledgement of a pending record may rely on.
-use Rattle.ckpt_core.proofs.Names.{◌≡◌, ℕ, zero, suc, ◌+◌, ◌-◌, ◌*◌, ◌^◌, ◌<◌, ◌≤◌, Bool, true, false, cond, eqb, ltb, List, [], ◌∷◌, ◌++◌, length, refl, sym, ap, subst, ◌∙◌, ⊎_elim, arith, Option}
-use Rattle.ckpt_core.proofs.Names.{Some, None, find, option_map, IsSome, flat_map, cases_Bool, eqb-true, or_parts, Acked, Ack, SubtaskId, IsIn, IsInOrder, LiesAt, Record, Use, Subtask, Pin, count}
-use Rattle.ckpt_core.proofs.Names.{is_present, uses, uses_of, has_acknowledged, acknowledged, is_subtask, IsIn-append_cases, IsIn-from_flat_map, IsInOrder-map, IsPending, IsEachOnce, HasNoUse}
-use Rattle.ckpt_core.proofs.Names.{IsStored, id_of, Parts, with_pins, AreSound, IsAccepted, records_in, state_of, acked, pending_of, IsSound, id_before, in_outbox, IsAcceptedAck, accepted_ack}
-use Rattle.ckpt_core.proofs.Names.{new_subtask, IsIn-from_find, find_agree, same_record, IsAcking, acking, has_its_own, common_steps}
+use Rattle.ckpt_core.proofs.Names.{triples, ◌≡◌, ℕ, zero, suc, ◌+◌, ◌-◌, ◌^◌, ◌<◌, ◌≤◌, true, false, cond, eqb, ltb, List, [], ◌∷◌, ◌++◌, length, refl, sym, ap, subst, ◌∙◌, ⊎_elim, arith, Option}
+use Rattle.ckpt_core.proofs.Names.{Some, None, find, option_map, IsSome, eqb-true, or_parts, Ack, SubtaskId, IsIn, IsInOrder, LiesAt, Record, Use, Subtask, Pin, count, is_present, uses, uses_of}
+use Rattle.ckpt_core.proofs.Names.{has_acknowledged, acknowledged, is_subtask, IsIn-append_cases, IsIn-from_flat_map, IsInOrder-map, IsPending, IsEachOnce, HasNoUse, IsStored, id_of, Parts, with_pins}
+use Rattle.ckpt_core.proofs.Names.{AreSound, IsAccepted, records_in, state_of, acked, pending_of, IsSound, id_before, in_outbox, IsAcceptedAck, accepted_ack, new_subtask, IsIn-from_find, find_agree}
+use Rattle.ckpt_core.proofs.Names.{same_record, IsAcking, acking, has_its_own, common_steps, uses_of_acks}
 use Rattle.ckpt_core.proofs.Ending.Drops.{apart_in, groups_of}
 use Rattle.ckpt_core.proofs.Records.Lookups.{has_number, pending_of-groups, find-map}
 use Rattle.ckpt_core.proofs.Triggering.TriggerParts.{live_records}
-use Rattle.ckpt_core.proofs.Using.Order.{holds, from_holds, use_of_record}
+use Rattle.ckpt_core.proofs.Using.Order.{from_holds, id_of_acks, use_of_record}
 use Rattle.ckpt_core.proofs.Using.CountBound.{count-records}
 
+some_from : {X : Type 0} (o : Option X) → IsSome o → (x : X) × (o ≡ Some x)
+some_from (Some x) h = (x, refl)
+some_from None h = absurd (cc)
+
 -- the record of this number, with its pins
-pub found_pending : (p : Parts) (id : ℕ) → IsSound (state_of p) → ((r : Record) → IsIn r p.pending → IsPending r) → IsStored p.store → pending_of (state_of p).records id ≡ option_map (with_pins p.registry) (find (has_number id) p.pending)
+pub found_pending : (p : Parts) (id : ℕ) → IsSound (state_of p) → ((r : Record) → IsIn r p.pending → IsPending r) → IsStored p.store
+    → pending_of (state_of p).records id ≡ option_map (with_pins p.registry) (find (has_number id) p.pending)
 unfolding state_of
 found_pending p id sound pending stored = pending_of-groups id p.registry p.pending p.store.checkpoints p.store.savepoints (apart_in p sound) (groups_of p pending stored)
 
-pub found_record : (p : Parts) (id : ℕ) (r : Record) → IsSound (state_of p) → ((r : Record) → IsIn r p.pending → IsPending r) → IsStored p.store → find (has_number id) p.pending ≡ Some r → pending_of (state_of p).records id ≡ Some (with_pins p.registry r)
+pub found_record : (p : Parts) (id : ℕ) (r : Record) → IsSound (state_of p) → ((r : Record) → IsIn r p.pending → IsPending r) → IsStored p.store → find (has_number id) p.pending ≡ Some r
+    → pending_of (state_of p).records id ≡ Some (with_pins p.registry r)
 found_record p id r sound pending stored e = found_pending p id sound pending stored ∙ ap (option_map (with_pins p.registry)) e
 
 -- a subtask that has not acknowledged holds nothing
@@ -27,13 +33,8 @@ pin_is_no_subtask s e = cc
 
 not_used : (q : Record) (s : SubtaskId) (u : Use) → has_acknowledged q s ≡ false → IsIn u (uses_of q) → u.holder ≡ Subtask s → ⊥
 not_used q s u new h e =
-    let of_ack : Acked → List Use = λ a. holds q.id (Subtask a.subtask) a.files in
-    ⊎_elim
-    (λ (k : IsIn u (flat_map of_ack q.acks)).
-    let a = IsIn-from_flat_map of_ack u q.acks k in
-    new_subtask q s a.0 new a.1 (subtask_holder s a.0.subtask (sym e ∙ (from_holds q.id (Subtask a.0.subtask) a.0.files u a.2).1)))
-    (λ (k : IsIn u (holds q.id Pin q.pins)). pin_is_no_subtask s (sym (from_holds q.id Pin q.pins u k).1 ∙ e))
-    (IsIn-append_cases u (flat_map of_ack q.acks) (holds q.id Pin q.pins) h)
+    ⊎_elim (λ k. let a = id_of_acks q.id q.acks u k in new_subtask q s a.0 new a.1 (subtask_holder s a.0.subtask (sym e ∙ a.3))) (λ k. pin_is_no_subtask s (sym (from_holds q.id Pin q.pins u k).1 ∙ e))
+    (IsIn-append_cases u (uses_of_acks q.id q.acks) (triples q.id Pin q.pins) h)
 
 -- what is required to take it
 pub record CanTake (p : Parts) (now id : ℕ) (subtask : SubtaskId) (fresh reused : List ℕ) : Type 0 where
@@ -48,30 +49,25 @@ pub record CanTake (p : Parts) (now id : ℕ) (subtask : SubtaskId) (fresh reuse
 
 count_limit : (p : Parts) (f : ℕ) → AreSound p → count p.registry f < 2 ^ 32 - 1
 unfolding state_of
-count_limit p f sound =
-    let bound : count (uses (records_in p)) f ≤ 4097 * length (records_in p) = count-records f (records_in p) sound.sound.records.each in
-    let few : length (records_in p) ≤ 2064 = live_records p sound.sound in
-    let same : count p.registry f ≡ count (uses (records_in p)) f = ap (λ us. count us f) sound.tied.uses_are in
-    omega arith
+count_limit p f sound = omega (arith, ap (λ us. count us f) sound.tied.uses_are, live_records p sound.sound, count-records f (records_in p) sound.sound.records.each)
 
 no_use : (p : Parts) (q : Record) (id : ℕ) (s : SubtaskId) → AreSound p → IsIn q (state_of p).records → q.id ≡ id → has_acknowledged q s ≡ false → HasNoUse p.registry id (Subtask s)
 unfolding state_of
 no_use p q id s sound there its new u h same holder =
-    let P : List Use → Type 0 = λ us. IsIn u us in
-    let x = IsIn-from_flat_map uses_of u (records_in p) (subst P sound.tied.uses_are h) in
-    let of_x : u.id ≡ x.0.id = use_of_record x.0 u x.2 in
-    let is : x.0 ≡ q = same_record x.0 q (records_in p) sound.sound.records.in_order x.1 there (sym of_x ∙ same ∙ sym its) in
-    let Q : Record → Type 0 = λ r. IsIn u (uses_of r) in
-    not_used q s u new (subst Q is x.2) holder
+    let x = IsIn-from_flat_map uses_of u (records_in p) (rw sound.tied.uses_are at h) in
+    not_used q s u new (rw (same_record x.0 q (records_in p) sound.sound.records.in_order x.1 there (sym (use_of_record x.0 u x.2) ∙ same ∙ sym its)) at x.2) holder
 
-pub can_take : (p : Parts) (now id : ℕ) (subtask : SubtaskId) (fresh reused : List ℕ) (r : Record) → AreSound p → IsAccepted p (Ack now id subtask fresh reused) → ((r : Record) → IsIn r p.pending → IsPending r) → IsStored p.store → find (has_number id) p.pending ≡ Some r → CanTake p now id subtask fresh reused
+pub can_take : (p : Parts) (now id : ℕ) (subtask : SubtaskId) (fresh reused : List ℕ) → AreSound p → IsAccepted p (Ack now id subtask fresh reused) → ((r : Record) → IsIn r p.pending → IsPending r)
+    → IsStored p.store → IsSome (find (has_number id) p.pending)
+    → CanTake p now id subtask fresh reused
 unfolding state_of
-can_take p now id subtask fresh reused r sound accepted pending stored e =
+can_take p now id subtask fresh reused sound accepted pending stored there =
+    let at = some_from _ there in
+    let r : Record = at.0 in
+    let e : find (has_number id) p.pending ≡ Some r = at.1 in
     let a : IsAcceptedAck (state_of p) now id subtask fresh reused = accepted_ack (state_of p) now id subtask fresh reused accepted in
     let q : Record = with_pins p.registry r in
-    let found : pending_of (state_of p).records id ≡ Some q = found_record p id r sound.sound pending stored e in
-    let k : IsAcking (state_of p) q subtask fresh reused = acking (state_of p) now id subtask fresh reused q a found in
-    let its : r.id ≡ id = eqb-true r.id id (IsIn-from_find (has_number id) r p.pending e).1 in
+    let k : IsAcking (state_of p) q subtask fresh reused = acking (state_of p) now id subtask fresh reused q a (found_record p id r sound.sound pending stored e) in
     let present : (f : ℕ) → is_present p.registry f ≡ is_present (uses (records_in p)) f = λ f. ap (λ us. is_present us f) sound.tied.uses_are in
     record {
       few = a.few;
@@ -83,7 +79,7 @@ can_take p now id subtask fresh reused r sound accepted pending stored e =
       reused_present = λ f h. present f ∙ k.present f h;
       each_once = k.once;
       below = λ f h. count_limit p f sound;
-      unused = no_use p q id subtask sound k.there its k.first;
+      unused = no_use p q id subtask sound k.there (eqb-true r.id id (IsIn-from_find (has_number id) r p.pending e).1) k.first;
     }
 
 -- the record after it
@@ -91,7 +87,8 @@ can_take p now id subtask fresh reused r sound accepted pending stored e =
 ack_id : (id : ℕ) (s : SubtaskId) (files : List ℕ) (r : Record) → (cond (has_number id r) (acknowledged r s files) r).id ≡ r.id
 ack_id id s files r = grind (arith, common_steps)
 
-pub found_acked : (id : ℕ) (s : SubtaskId) (files : List ℕ) (r : Record) (rs : List Record) → find (has_number id) rs ≡ Some r → find (has_number id) (acked id s files rs) ≡ Some (acknowledged r s files)
+pub found_acked : (id : ℕ) (s : SubtaskId) (files : List ℕ) (r : Record) (rs : List Record) → find (has_number id) rs ≡ Some r
+    → find (has_number id) (acked id s files rs) ≡ Some (acknowledged r s files)
 found_acked id s files r rs e =
     let ack : Record → Record = λ q. cond (has_number id q) (acknowledged q s files) q in
     find-map (has_number id) ack rs
@@ -116,15 +113,12 @@ pub record IsFoundAcked (id : ℕ) (s : SubtaskId) (rs : List Record) : Type 0 w
   pub there : IsSome (find (has_number id) rs)
   pub acknowledged : (r : Record) → find (has_number id) rs ≡ Some r → has_acknowledged r s ≡ true
 
-pub is_found_acked : (id : ℕ) (s : SubtaskId) (files : List ℕ) (r : Record) (rs new : List Record) → find (has_number id) rs ≡ Some r → new ≡ acked id s files rs → IsFoundAcked id s new
-is_found_acked id s files r rs new e is =
-    let found : find (has_number id) new ≡ Some (acknowledged r s files) = ap (find (has_number id)) is ∙ found_acked id s files r rs e in
-    let P : Option Record → Type 0 = λ o. IsSome o in
+pub is_found_acked : (id : ℕ) (s : SubtaskId) (files : List ℕ) (rs new : List Record) → IsSome (find (has_number id) rs) → new ≡ acked id s files rs → IsFoundAcked id s new
+is_found_acked id s files rs new there is =
+    let at = some_from _ there in
+    let r : Record = at.0 in
+    let found : find (has_number id) new ≡ Some (acknowledged r s files) = ap (find (has_number id)) is ∙ found_acked id s files r rs at.1 in
     record {
-      there = subst P (sym found) refl;
+      there = rw found refl;
       acknowledged = λ q h. let same : acknowledged r s files ≡ q = let both : Some (acknowledged r s files) ≡ Some q = sym found ∙ h in cc in ap (λ x. has_acknowledged x s) (sym same) ∙ has_its_own r s files;
     }
-
-pub some_from : {X : Type 0} (o : Option X) → IsSome o → (x : X) × (o ≡ Some x)
-some_from (Some x) h = (x, refl)
-some_from None h = absurd (cc)

@@ -1,8 +1,8 @@
 -- If one of the records has an acknowledgement more, their uses are in order; and how many files they name.
-use Rattle.ckpt_core.proofs.Names.{◌≡◌, ℕ, suc, ◌+◌, ◌≤◌, Bool, true, false, not, ◌&&◌, cond, ltb, eqb, List, [], ◌∷◌, map, length, refl, sym, ap, subst, ◌∙◌, ⊎_elim, arith, filter, cases_Bool}
-use Rattle.ckpt_core.proofs.Names.{ltb-true, eqb-true, not-true, and_from, and_parts, length-filter, count_by-le-length, length-filter_both, ascending_set, IsIn, put_once, Use, count, is_present}
-use Rattle.ckpt_core.proofs.Names.{numbers_in_order, IsIn-map, IsIn-from_map, IsIn-filter, IsIn-from_filter, IsInOrder-filter, IsInOrder-in_order_once, IsIn-in_order_once, IsIn-from_in_order_once}
-use Rattle.ckpt_core.proofs.Names.{same_from_members, present_in, IsIn-from_counted, common_steps}
+use Rattle.ckpt_core.proofs.Names.{◌≡◌, ℕ, suc, ◌+◌, ◌≤◌, Bool, true, false, not, ◌&&◌, ltb, List, [], ◌∷◌, map, length, refl, sym, ap, ◌∙◌, arith, filter, ltb-true, eqb-true, not-true, and_from}
+use Rattle.ckpt_core.proofs.Names.{and_parts, length-filter, count_by-le-length, length-filter_both, ascending_set, IsIn, put_once, Use, is_present, numbers_in_order, IsIn-map, IsIn-from_map}
+use Rattle.ckpt_core.proofs.Names.{IsIn-filter, IsIn-from_filter, IsInOrder-filter, IsInOrder-in_order_once, IsIn-in_order_once, IsIn-from_in_order_once, same_from_members, present_in}
+use Rattle.ckpt_core.proofs.Names.{IsIn-from_counted, common_steps}
 use Rattle.ckpt_core.proofs.Ending.HandOut.{present-from_use}
 
 -- how many files are in use after an acknowledgement
@@ -22,7 +22,7 @@ abbrev files_in : List Use → List ℕ
 files_in us = ascending_set (map file_of us)
 
 file_there : (f : ℕ) (u : Use) (us : List Use) → IsIn u us → f ≡ u.file → IsIn f (files_in us)
-file_there f u us h e = let P : ℕ → Type 0 = λ g. IsIn g (files_in us) in subst P (sym e) (IsIn-in_order_once numbers_in_order u.file (map file_of us) (IsIn-map file_of u us h))
+file_there f u us h e = rw e (IsIn-in_order_once numbers_in_order u.file (map file_of us) (IsIn-map file_of u us h))
 
 use_there : (f : ℕ) (us : List Use) → IsIn f (files_in us) → (u : Use) × IsIn u us × (f ≡ u.file)
 use_there f us h = IsIn-from_map file_of f us (IsIn-from_in_order_once ltb f (map file_of us) h)
@@ -43,8 +43,7 @@ present_more before after fresh kept new =
     (λ f h. let u = use_from_present f before (IsIn-from_filter old f all h).1 in file_there f u.0 before u.1 u.2)
     (λ f h.
     let u = use_there f before h in
-    let there : is_present before f ≡ true = ap (is_present before) u.2 ∙ present-from_use u.0 before u.1 in
-    IsIn-filter old f all (file_there f u.0 after (kept u.0 u.1) u.2) there) in
+    IsIn-filter old f all (file_there f u.0 after (kept u.0 u.1) u.2) (ap (is_present before) u.2 ∙ present-from_use u.0 before u.1)) in
     let second : filter is_new all ≡ filter (λ f. is_new f && is_present after f) (ascending_set fresh) =
     same_from_members numbers_in_order (filter is_new all) (filter (λ f. is_new f && is_present after f) (ascending_set fresh))
     (IsInOrder-filter ltb is_new all (IsInOrder-in_order_once numbers_in_order (map file_of after)))
@@ -52,14 +51,11 @@ present_more before after fresh kept new =
     (λ f h.
     let k = IsIn-from_filter is_new f all h in
     let u = use_there f after k.0 in
-    let absent : is_present before u.0.file ≡ false = ap old (sym u.2) ∙ not-true (old f) k.1 in
-    let P : ℕ → Type 0 = λ g. IsIn g fresh in
     IsIn-filter (λ g. is_new g && is_present after g) f (ascending_set fresh)
-    (IsIn-in_order_once numbers_in_order f fresh (subst P (sym u.2) (new u.0 u.1 absent)))
+    (IsIn-in_order_once numbers_in_order f fresh (rw u.2 (new u.0 u.1 (ap old (sym u.2) ∙ not-true (old f) k.1))))
     (and_from (is_new f) (is_present after f) k.1 (ap (is_present after) u.2 ∙ present-from_use u.0 after u.1)))
     (λ f h.
-    let k = IsIn-from_filter (λ g. is_new g && is_present after g) f (ascending_set fresh) h in
-    let both = and_parts (is_new f) (is_present after f) k.1 in
+    let both = and_parts (is_new f) (is_present after f) (IsIn-from_filter (λ g. is_new g && is_present after g) f (ascending_set fresh) h).1 in
     let u = use_from_present f after both.1 in
     IsIn-filter is_new f all (file_there f u.0 after u.1 u.2) both.0) in
     let few : length (filter is_new all) ≤ length fresh =

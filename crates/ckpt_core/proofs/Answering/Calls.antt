@@ -1,7 +1,7 @@
 -- The parts after an accepted call, and that only calls that may take memory run out of it.
-use Rattle.ckpt_core.proofs.Names.{◌≡◌, ℕ, Bool, true, List, refl, sym, ap, subst, ◌∙◌, Option, Some, None, Result, Ok, Err, IfOk, OnErr, Call, Savepoint, Restore, Take, Show, Target, Reply, Record}
-use Rattle.ckpt_core.proofs.Names.{Parts, answer_wants, may_want_memory, AreSound, Answers, Stays, state_of, moment_of, no_record, refusal, IsCall, IsSound, State, record_of, Stepped, at_moment}
-use Rattle.ckpt_core.proofs.Names.{effect, restore, show, take_files, step_keeps, step_accepted, first_row-none, common_steps, arith}
+use Rattle.ckpt_core.proofs.Names.{◌≡◌, ℕ, true, List, refl, ◌∙◌, Option, Some, None, Result, Ok, Err, IfOk, OnErr, Call, Savepoint, Restore, Take, Show, Target, Reply, Record, Parts, answer_wants}
+use Rattle.ckpt_core.proofs.Names.{may_want_memory, AreSound, Answers, Stays, moment_of, no_record, refusal, IsCall, State, record_of, at_moment, effect, restore, show, take_files, step_keeps}
+use Rattle.ckpt_core.proofs.Names.{step_accepted, first_row-none, common_steps, arith}
 
 -- after a call
 

@@ -2,14 +2,14 @@
 use Rattle.ckpt_core.proofs.Names.{◌≡◌, ℕ, List, [], ◌∷◌, ◌++◌, take, refl, sym, ap, ◌∙◌, arith, Option, Some, None, find, IsSome, option_map, option_or, Metadata, NoSuchRecord, Done, IsInOrder}
 use Rattle.ckpt_core.proofs.Names.{Record, count, metadata_of, Queues, Parts, with_pins, grouped, Answers, AreTied, AreSound, IsAccepted, records_in, state_of, refusal, no_record, id_before, State}
 use Rattle.ckpt_core.proofs.Names.{record_of, Stepped, effect, take_files, show, step_accepted, row_last, common_steps}
-use Rattle.std.specs.Prelude as prelude
-use Rattle.ckpt_ids.specs.declared.call.Call.TheVariants as call
-use Rattle.ckpt_ids.specs.declared.reply.Reply.TheVariants as reply
-use Rattle.ckpt_store.specs.Storing as storing
 use Rattle.ckpt_model.specs.Steps.{without}
 use Rattle.ckpt_core.proofs.Records.Grouped.{apart-from_in_order}
 use Rattle.ckpt_core.proofs.Records.GroupLookups.{record_of-groups}
 use Rattle.ckpt_core.proofs.Records.Lookups.{has_number}
+use Rattle.std.specs.Prelude as prelude
+use Rattle.ckpt_ids.specs.declared.call.Call.TheVariants as call
+use Rattle.ckpt_ids.specs.declared.reply.Reply.TheVariants as reply
+use Rattle.ckpt_store.specs.Storing as storing
 
 -- another outbox with as many places reserved
 tied_with : (p : Parts) (outbox : Queues) → AreTied p → outbox.spare ≡ p.outbox.spare → AreTied (record p { outbox = outbox })

@@ -1,14 +1,14 @@
 -- What the table of refusals looks up in the records, found in the parts.
-use Rattle.ckpt_core.proofs.Names.{◌≡◌, ℕ, ◌+◌, false, not, ◌||◌, eqb, List, [], ◌∷◌, length, sym, ap, ◌∙◌, Option, Some, None, count_by, find, slice_get, IfNone, IfSome, list_any, option_map}
-use Rattle.ckpt_core.proofs.Names.{SubtaskId, Refusal, NameTaken, FileGone, IsIn, IsInOrder, LiesAt, Record, Use, uses, is_present, IsPending, find-none, IsStored, has_id, has_savepoint, id_of}
-use Rattle.ckpt_core.proofs.Names.{find-place, Parts, is_checkpoint, first_some, is_foreign, is_repeat, is_done_savepoint, savepoints, named, pending_of, where_pending, id_before, with_pins, grouped}
-use Rattle.ckpt_core.proofs.Names.{AreSound, AreTied, IsPlaceOf, records_in, state_of, is_known_in, common_steps, arith}
-use Rattle.ckpt_outbox.specs.Queues as queues
+use Rattle.ckpt_core.proofs.Names.{◌≡◌, ℕ, ◌+◌, false, not, eqb, List, [], ◌∷◌, length, sym, ◌∙◌, Option, Some, None, count_by, find, slice_get, IfNone, IfSome, list_any, option_map, SubtaskId}
+use Rattle.ckpt_core.proofs.Names.{Refusal, NameTaken, FileGone, IsIn, IsInOrder, LiesAt, Record, uses, is_present, IsPending, find-none, IsStored, has_id, has_savepoint, id_of, find-place, Parts}
+use Rattle.ckpt_core.proofs.Names.{is_checkpoint, first_some, is_foreign, is_repeat, is_done_savepoint, savepoints, named, pending_of, where_pending, id_before, with_pins, grouped, AreSound, AreTied}
+use Rattle.ckpt_core.proofs.Names.{IsPlaceOf, records_in, state_of, is_known_in, common_steps, arith}
 use Rattle.ckpt_model.specs.State.{is_known}
 use Rattle.ckpt_core.proofs.Records.Grouped.{AreApart, apart-from_in_order}
 use Rattle.ckpt_core.proofs.Records.Lookups.{pending_of-groups}
 use Rattle.ckpt_core.proofs.Records.GroupLookups.{savepoints-groups, done_savepoint-groups}
 use Rattle.ckpt_core.proofs.Ending.Drops.{groups_of}
+use Rattle.ckpt_outbox.specs.Queues as queues
 
 apart_of : (p : Parts) → AreSound p → AreApart (grouped p.registry p.pending p.store.checkpoints p.store.savepoints)
 unfolding state_of

@@ -1,9 +1,9 @@
 -- A file that is named twice, in ascending lists: it is its own neighbour, or is in both lists.
-use Rattle.ckpt_core.proofs.Names.{◌≡◌, ℕ, zero, suc, ◌+◌, ◌<◌, ◌≤◌, Bool, true, false, not, ◌||◌, ltb, eqb, List, [], ◌∷◌, ◌++◌, length, get_or, refl, sym, ap, subst, ◌∙◌, ⊎_elim, arith, MatchBool}
-use Rattle.ckpt_core.proofs.Names.{Result, add-one, IsBinarySearchResult, nat_cmp, is_ok, list_any, both_ways, eq-eqb, ltb-false, or_parts, or_cases, or_left, or_right, true_from_ne_false}
-use Rattle.ckpt_core.proofs.Names.{false_from_ne_true, ltb-true, lt-ltb, IsIn, AreDistinct, IsAscending, IsAscendingSet, times, ComesBefore-at, ComesBefore-from, IsIn-from_list_any}
-use Rattle.ckpt_core.proofs.Names.{list_any-from_IsIn, AreDistinct-append, AreDistinct-left, AreDistinct-right, AreDistinct-apart, AreDistinct-from_order, IsIn-from_test, test-from_IsIn, ascending_at}
-use Rattle.ckpt_core.proofs.Names.{numbers_in_order, times-from_IsIn, IsIn-from_times, has_repeats, distinct-from_test, times-from_search, common_steps}
+use Rattle.ckpt_core.proofs.Names.{◌≡◌, ℕ, zero, suc, ◌+◌, ◌<◌, ◌≤◌, Bool, true, false, not, ◌||◌, ltb, eqb, List, [], ◌∷◌, ◌++◌, length, get_or, refl, sym, subst, arith, MatchBool, Result, add-one}
+use Rattle.ckpt_core.proofs.Names.{IsBinarySearchResult, nat_cmp, is_ok, list_any, both_ways, eq-eqb, ltb-false, or_parts, or_cases, or_left, or_right, true_from_ne_false, false_from_ne_true}
+use Rattle.ckpt_core.proofs.Names.{ltb-true, lt-ltb, AreDistinct, IsAscending, IsAscendingSet, ComesBefore-at, ComesBefore-from, IsIn-from_list_any, list_any-from_IsIn, AreDistinct-append}
+use Rattle.ckpt_core.proofs.Names.{AreDistinct-left, AreDistinct-right, AreDistinct-apart, AreDistinct-from_order, IsIn-from_test, test-from_IsIn, ascending_at, numbers_in_order, times-from_IsIn}
+use Rattle.ckpt_core.proofs.Names.{IsIn-from_times, has_repeats, distinct-from_test, times-from_search, common_steps}
 use Rattle.ckpt_core.proofs.Records.GroupLookups.{same_tests}
 
 -- the test of repeats
@@ -39,8 +39,7 @@ repeats-from_adjacent xs true a h =
 repeats-from_adjacent xs false a h =
     let k : ℕ = h.0 in
     let lt : suc k < length xs = omega (arith, h.1) in
-    let At : ℕ → Type 0 = λ n. false ≡ ltb (get_or xs k 0) (get_or xs n 0) in
-    let not_below : false ≡ ltb (get_or xs k 0) (get_or xs (suc k) 0) = subst At (add-one k) (h.2 0) in
+    let not_below : false ≡ ltb (get_or xs k 0) (get_or xs (suc k) 0) = rw (add-one k) at (h.2 0) in
     let above : get_or xs (suc k) 0 ≤ get_or xs k 0 = ltb-false (get_or xs k 0) (get_or xs (suc k) 0) (sym not_below) in
     let below : get_or xs k 0 ≤ get_or xs (suc k) 0 = ascending_at xs a k (suc k) (omega arith) lt in
     sym (repeat_at xs k lt (omega arith))

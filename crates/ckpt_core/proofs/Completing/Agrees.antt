@@ -1,38 +1,22 @@
 -- What a completed checkpoint supersedes, as the step has it, is what was noted.
-use Rattle.ckpt_core.proofs.Names.{◌≡◌, ℕ, ◌+◌, ◌≤◌, Bool, true, false, not, ◌&&◌, ◌||◌, ltb, leb, eqb, List, [], ◌∷◌, ◌++◌, map, length, refl, sym, ap, subst, ◌∙◌, inl, ⊎_elim, arith, count_by}
-use Rattle.ckpt_core.proofs.Names.{filter, lt-ltb, and_from, and_left, and_right, not_from_false, length-append, length-map, length-filter, or-false, SubtaskId, IsIn, Record, IsIn-append_cases}
-use Rattle.ckpt_core.proofs.Names.{IsIn-append_left, IsIn-append_right, IsIn-map, IsIn-from_map, IsIn-from_filter, IsIn-in_order, IsIn-from_in_order, IsInOrder-append, AreRising, IsAbove, Parts}
-use Rattle.ckpt_core.proofs.Names.{is_before, earlier, surplus, with_pins, grouped, is_noted, records_in, state_of, id_before, State, is_checkpoint, is_done_checkpoint, is_pending, is_subsumed}
-use Rattle.ckpt_core.proofs.Names.{is_surplus, dropped_by, replaced, superseded, with_records, IsIn-from_find, is_checkpoint-kind, is_savepoint-kind, count_by-none, count_by-same, taken_in, completed}
-use Rattle.ckpt_core.proofs.Names.{with_ack, common_steps}
-use Rattle.ckpt_ids.specs.declared.numbers.Kind.TheVariants as kind
-use Rattle.ckpt_core.specs.Inside.Completing as completing
+use Rattle.ckpt_core.proofs.Names.{◌≡◌, ℕ, ◌+◌, ◌≤◌, Bool, true, false, not, ◌&&◌, ltb, leb, eqb, List, [], ◌∷◌, ◌++◌, map, length, refl, sym, ap, subst, ◌∙◌, inl, ⊎_elim, arith, count_by, filter}
+use Rattle.ckpt_core.proofs.Names.{lt-ltb, and_from, and_right, not_from_false, length-append, length-map, length-filter, SubtaskId, IsIn, Record, IsIn-append_cases, IsIn-append_left}
+use Rattle.ckpt_core.proofs.Names.{IsIn-append_right, IsIn-map, IsIn-from_map, IsIn-from_filter, IsIn-in_order, IsIn-from_in_order, IsInOrder-append, AreRising, IsAbove, Parts, is_before, earlier}
+use Rattle.ckpt_core.proofs.Names.{surplus, with_pins, grouped, is_noted, records_in, state_of, id_before, State, is_checkpoint, is_done_checkpoint, is_pending, dropped_by, replaced, superseded}
+use Rattle.ckpt_core.proofs.Names.{with_records, IsIn-from_find, is_checkpoint-kind, is_savepoint-kind, count_by-none, count_by-same, taken_in, completed, with_ack, common_steps}
 use Rattle.ckpt_core.proofs.Acknowledging.Moves.{replaced_members, still_in_replaced}
 use Rattle.ckpt_core.proofs.Acknowledging.States.{IsTaking, moved, taken_records}
 use Rattle.ckpt_core.proofs.Completing.Lists.{IsFinishing, is_past, later_in, noted_pending, noted_row, noted_savepoint, others, past_count, past_is_surplus}
 use Rattle.ckpt_core.proofs.Completing.Moves.{count_completed}
 use Rattle.ckpt_core.proofs.Completing.Taken.{taken_there, taken_apart, taken_groups, checkpoint_ending, ending_completes}
 use Rattle.ckpt_core.proofs.Records.Lookups.{AreGroups, has_number}
+use Rattle.ckpt_ids.specs.declared.numbers.Kind.TheVariants as kind
+use Rattle.ckpt_core.specs.Inside.Completing as completing
 
 -- the tests of the step on one record
 
-superseded_where : (m : State) (c x : Record) → is_checkpoint c ≡ true → superseded m c x ≡ (is_subsumed c.id x || is_surplus m x)
-superseded_where m c x e = ap (λ b. b && (is_subsumed c.id x || is_surplus m x)) e
-
-pending_subsumed : (id : ℕ) (x : Record) → x.done ≡ false → is_subsumed id x ≡ is_before id x
-pending_subsumed id x e = ap (λ b. (not b && is_checkpoint x) && ltb x.id id) e
-
-done_not_subsumed : (id : ℕ) (x : Record) → x.done ≡ true → is_subsumed id x ≡ false
-done_not_subsumed id x e = ap (λ b. (not b && is_checkpoint x) && ltb x.id id) e
-
 abbrev later_done : State → Record → ℕ
 later_done m x = count_by (λ s. is_done_checkpoint s && ltb x.id s.id) m.records
-
-done_surplus : (m : State) (x : Record) → is_done_checkpoint x ≡ true → is_surplus m x ≡ leb m.opening.config.retained (later_done m x)
-done_surplus m x e = ap (λ b. b && leb m.opening.config.retained (later_done m x)) e
-
-no_surplus : (m : State) (x : Record) → is_done_checkpoint x ≡ false → is_surplus m x ≡ false
-no_surplus m x e = ap (λ b. b && leb m.opening.config.retained (later_done m x)) e
 
 superseded_pending : (m : State) (c x : Record) → is_checkpoint c ≡ true → x.done ≡ false → superseded m c x ≡ is_before c.id x
 superseded_pending m c x e pending = grind (arith, common_steps)
@@ -51,17 +35,15 @@ row_of p d = p.store.checkpoints ++ d ∷ []
 pub its_above : {p : Parts} {now id : ℕ} {s : SubtaskId} {fresh reused : List ℕ} {r : Record} → IsTaking p now id s fresh reused r → r.kind ≡ kind.Checkpoint → IsAbove p.store.checkpoints r.id
 unfolding state_of
 its_above {p} {now} {id} {s} {fresh} {reused} {r} t checkpoint c h =
-    let g : AreGroups (taken_in p now id s fresh reused).pending p.store.checkpoints p.store.savepoints = taken_groups t in
     let all : List Record = grouped p.registry p.pending p.store.checkpoints p.store.savepoints in
     let pinned : List Record = map (with_pins p.registry) p.pending in
     let done : List Record = p.store.checkpoints ++ p.store.savepoints in
     let there = (IsIn-from_find (has_number id) r p.pending t.found).0 in
-    let k = g.checkpoints_done c h in
-    let pending : r.done ≡ false = (t.pending r there).not_done in
+    let k = (taken_groups t).checkpoints_done c h in
     t.sound.sound.records.newer (with_pins p.registry r) c
     (IsIn-in_order id_before (with_pins p.registry r) all (IsIn-append_left (with_pins p.registry r) pinned done (IsIn-map (with_pins p.registry) r p.pending there)))
     (IsIn-in_order id_before c all (IsIn-append_right c pinned done (IsIn-append_left c p.store.checkpoints p.store.savepoints h)))
-    (and_from (is_pending r) (is_checkpoint r) (not_from_false r.done pending) (is_checkpoint-kind r checkpoint))
+    (and_from (is_pending r) (is_checkpoint r) (not_from_false r.done ((t.pending r there).not_done)) (is_checkpoint-kind r checkpoint))
     (and_from c.done (is_checkpoint c) k.0 (is_checkpoint-kind c k.1))
 
 pub finishing : {p : Parts} {now id : ℕ} {s : SubtaskId} {fresh reused : List ℕ} {r : Record} → IsTaking p now id s fresh reused r → r.kind ≡ kind.Checkpoint →
@@ -86,8 +68,7 @@ row_is_done : {p : Parts} {now id : ℕ} {s : SubtaskId} {fresh reused : List �
 row_is_done {p} {now} {id} {s} {fresh} {reused} {r} t checkpoint x h =
     let d : Record = completed r s fresh reused in
     let Goal : Type 0 = (x.done ≡ true) × (is_checkpoint x ≡ true) in
-    let g : AreGroups (taken_in p now id s fresh reused).pending p.store.checkpoints p.store.savepoints = taken_groups t in
-    let old : IsIn x p.store.checkpoints → Goal = λ (c : IsIn x p.store.checkpoints). let k = g.checkpoints_done x c in (k.0, is_checkpoint-kind x k.1) in
+    let old : IsIn x p.store.checkpoints → Goal = λ (c : IsIn x p.store.checkpoints). let k = (taken_groups t).checkpoints_done x c in (k.0, is_checkpoint-kind x k.1) in
     let new : x ≡ d → Goal = λ (e : x ≡ d). (ap (λ w. w.done) e, ap is_checkpoint e ∙ is_checkpoint-kind d checkpoint) in
     ⊎_elim old (⊎_elim new (λ (n : ⊥). absurd n)) (IsIn-append_cases x p.store.checkpoints (d ∷ []) h)
 
@@ -136,10 +117,7 @@ superseded_is {p} {now} {id} {s} {fresh} {reused} {r} t checkpoint x h =
     let Agree : Record → Type 0 = λ y. superseded m c y ≡ is_noted gone y in
     let fits : length row ≤ p.store.retained + 1 = omega (arith, length-append p.store.checkpoints (d ∷ []), t.stored.few) in
     let surplus_is : (y : Record) → IsIn y row → leb m.opening.config.retained (later_done m y) ≡ is_noted gone y = λ y k.
-    ap (leb m.opening.config.retained) (later_same t checkpoint y)
-    ∙ ap (λ n. leb n (later_in row y)) (sym t.sound.tied.retained)
-    ∙ past_is_surplus p.store.retained row y (row_rises t checkpoint) fits t.stored.retained_from k
-    ∙ sym (noted_row f y k) in
+    rw (later_same t checkpoint y, ← t.sound.tied.retained, past_is_surplus p.store.retained row y (row_rises t checkpoint) fits t.stored.retained_from k, ← noted_row f y k) in
     let completed : (y : Record) → IsIn y p.store.checkpoints → Agree y = λ y k.
     let q = g.checkpoints_done y k in
     superseded_checkpoint m c y its q.0 (is_checkpoint-kind y q.1) ∙ surplus_is y (IsIn-append_left y p.store.checkpoints (d ∷ []) k) in
@@ -153,8 +131,7 @@ superseded_is {p} {now} {id} {s} {fresh} {reused} {r} t checkpoint x h =
     let q = IsIn-from_map (with_pins after.registry) x after.pending k in subst Agree (sym q.2) (waiting q.0 q.1) in
     let of_done : IsIn x done → Agree x = λ (k : IsIn x done). ⊎_elim (completed x) (saved x) (IsIn-append_cases x p.store.checkpoints p.store.savepoints k) in
     let other : IsIn x (records_in p) × (x.id ≡ c.id → ⊥) → Agree x = λ (k : IsIn x (records_in p) × (x.id ≡ c.id → ⊥)).
-    let P : List Record → Type 0 = λ rs. IsIn x rs in
-    let there : IsIn x (records_in after) = subst P (sym (taken_records t)) (still_in_replaced (records_in p) a x k.0 k.1) in
+    let there : IsIn x (records_in after) = rw (taken_records t) (still_in_replaced (records_in p) a x k.0 k.1) in
     ⊎_elim of_pending of_done (IsIn-append_cases x pinned done (IsIn-from_in_order id_before x (grouped after.registry after.pending p.store.checkpoints p.store.savepoints) there)) in
     ⊎_elim (λ (e : x ≡ c). subst Agree (sym e) itself) other (replaced_members (records_in p) c x h)
 

@@ -1,20 +1,18 @@
 -- The answer of a completion is that of the step.
-use Rattle.ckpt_core.proofs.Names.{◌≡◌, ℕ, ◌+◌, ◌-◌, ◌≤◌, Bool, false, not, ◌&&◌, ◌||◌, List, [], ◌++◌, length, refl, sym, ap, subst, ◌∙◌, arith, vec_capacity, length-map, length-filter}
-use Rattle.ckpt_core.proofs.Names.{count_by-le-length, Ack, Kind, Done, Reply, SubtaskId, IsIn, put, Record, Use, missing, released, uses, IsIn-from_filter, filter-all, filter-same, after_end}
-use Rattle.ckpt_core.proofs.Names.{is_ended, by_id, retained_of, Parts, records_of, Answers, AreTied, is_noted, records_in, state_of, present_in, State, is_checkpoint, is_subsumed, is_surplus}
-use Rattle.ckpt_core.proofs.Names.{cleared, dropped_by, replaced, step, superseded, is_savepoint-kind, count_by-none, with_pins, checkpoint_completed, savepoint_completed, taken_in, completed}
-use Rattle.ckpt_core.proofs.Names.{with_ack}
-use Rattle.ckpt_ids.specs.declared.numbers.Kind.TheVariants as kind
-use Rattle.ckpt_ids.specs.declared.reply.Reply.TheVariants as reply
-use Rattle.ckpt_core.specs.Inside.Completing as completing
+use Rattle.ckpt_core.proofs.{◌≡◌, ℕ, ◌+◌, ◌-◌, ◌≤◌, Bool, false, not, ◌&&◌, ◌||◌, List, [], ◌++◌, length, refl, sym, ap, ◌∙◌, arith, vec_capacity, length-map, length-filter, count_by-le-length, Ack}
+use Rattle.ckpt_core.proofs.{Kind, Done, Reply, SubtaskId, IsIn, put, Record, Use, missing, released, uses, IsIn-from_filter, filter-all, filter-same, after_end, is_ended, by_id, retained_of, Parts}
+use Rattle.ckpt_core.proofs.{records_of, Answers, AreTied, is_noted, records_in, present_in, State, is_checkpoint, is_subsumed, is_surplus, cleared, dropped_by, replaced, step, superseded}
+use Rattle.ckpt_core.proofs.{is_savepoint-kind, count_by-none, with_pins, checkpoint_completed, savepoint_completed, taken_in, completed, with_ack, IsRoomier, IsTaking, moved, now_complete, one_less}
+use Rattle.ckpt_core.proofs.{roomier_state, taken_step, taken_tied, IsLast, taken_out, present_after, stays, staying}
+use Rattle.ckpt_core.proofs.Names.{state_of}
 use Rattle.ckpt_core.proofs.Acknowledging.Moves.{with_instead}
-use Rattle.ckpt_core.proofs.Acknowledging.States.{IsRoomier, IsTaking, moved, now_complete, one_less, roomier_state, taken_step, taken_tied}
 use Rattle.ckpt_core.proofs.Completing.Agrees.{completing_in, finishing, gone_by, row_of, row_rises, superseded_is, superseded_count}
-use Rattle.ckpt_core.proofs.Completing.Calls.{IsLast, taken_out}
 use Rattle.ckpt_core.proofs.Completing.Lists.{IsFinishing, is_past, noted_row, noted_savepoint, others, retained_is}
 use Rattle.ckpt_core.proofs.Completing.Moves.{IsEnding, completed_is, kept_records, left_groups, left_records, left_uses, released_files}
 use Rattle.ckpt_core.proofs.Completing.Taken.{checkpoint_ending, ending_completes, savepoint_ending}
-use Rattle.ckpt_core.proofs.Ending.Drops.{present_after, stays, staying}
+use Rattle.ckpt_ids.specs.declared.numbers.Kind.TheVariants as kind
+use Rattle.ckpt_ids.specs.declared.reply.Reply.TheVariants as reply
+use Rattle.ckpt_core.specs.Inside.Completing as completing
 
 -- the step, if the records of these numbers are dropped
 last_step : {p : Parts} {now id : ℕ} {s : SubtaskId} {fresh reused : List ℕ} {r : Record} {more_checkpoints more_savepoints : List Record} → IsTaking p now id s fresh reused r → missing r ≡ 1 →
@@ -47,10 +45,7 @@ last_room : {p : Parts} {now id : ℕ} {s : SubtaskId} {fresh reused : List ℕ}
     present_in (after_end r.id gone (taken_in p now id s fresh reused).registry) ≤ p.outbox.spare - length (released (taken_in p now id s fresh reused).registry (after_end r.id gone (taken_in p now id s fresh reused).registry))
 last_room {p} {now} {id} {s} {fresh} {reused} {r} t room gone =
     let us : List Use = (taken_in p now id s fresh reused).registry in
-    let tied : AreTied (taken_in p now id s fresh reused) = taken_tied t room in
-    let before : present_in us ≤ p.outbox.spare = tied.spare in
-    let after : present_in (after_end r.id gone us) + length (released us (after_end r.id gone us)) ≤ present_in us = present_after us (after_end r.id gone us) (fewer_uses r.id gone us) in
-    omega arith
+    omega (arith, present_after us (after_end r.id gone us) (fewer_uses r.id gone us), taken_tied t room)
 
 last_places : {p : Parts} {now id : ℕ} {s : SubtaskId} {fresh reused : List ℕ} {r : Record} {more_checkpoints more_savepoints : List Record} → IsTaking p now id s fresh reused r → present_in p.registry + length fresh ≤ p.outbox.spare →
     IsEnding (taken_in p now id s fresh reused).registry (taken_in p now id s fresh reused).pending p.store.checkpoints p.store.savepoints more_checkpoints more_savepoints (with_ack r s fresh reused) (completed r s fresh reused) →
@@ -60,7 +55,6 @@ last_places {p} {now} {id} {s} {fresh} {reused} {r} {more_checkpoints} {more_sav
     let d : Record = completed r s fresh reused in
     let after : Parts = taken_in p now id s fresh reused in
     let tied : AreTied after = taken_tied t room in
-    let before : length (records_in after) ≤ vec_capacity p.ended = tied.room in
     let keeps : Record → Bool = λ x. stays gone x.id in
     let all : List Record = replaced (records_in after) d in
     omega (arith, ap length (is ∙ left_records e gone), length-filter keeps all, count_by-le-length keeps all, length-map (records_in after) (with_instead d))
@@ -121,17 +115,8 @@ pub checkpoint_answers : {p q then : Parts} {now id : ℕ} {s : SubtaskId} {fres
     answer ≡ reply.AckCompleted (length (completing.superseded then.pending then.store done)) (length (released then.registry (after_end done.id (completing.superseded then.pending then.store done) then.registry))) →
     Answers p new (Ack now id s fresh reused) answer
 checkpoint_answers {p} {q} {then} {now} {id} {s} {fresh} {reused} {r} {done} new answer roomier l checkpoint is none capacity answered =
-    let d : Record = completed r s fresh reused in
-    let out : Parts = taken_out q now id s fresh reused r in
-    let made : Parts → Record → Parts = λ x y. checkpoint_completed x y (completing.superseded x.pending x.store y) new in
-    let said : Parts → Record → Reply = λ x y. reply.AckCompleted (length (completing.superseded x.pending x.store y)) (length (released x.registry (after_end y.id (completing.superseded x.pending x.store y) x.registry))) in
-    let whole : new ≡ made out d = is ∙ ap (λ x. made x done) l.is ∙ ap (made out) l.done_is in
-    let answered_so : answer ≡ said out d = answered ∙ ap (λ x. said x done) l.is ∙ ap (said out) l.done_is in
-    let its : r.kind ≡ kind.Checkpoint = sym (ap (λ x. x.kind) l.done_is) ∙ checkpoint in
-    let room : vec_capacity new.ended ≡ vec_capacity q.ended = capacity ∙ ap (λ x. vec_capacity x.ended) l.is in
-    let P : Parts → Type 0 = λ x. Answers p x (Ack now id s fresh reused) answer in
-    let Q : Reply → Type 0 = λ x. Answers p (made out d) (Ack now id s fresh reused) x in
-    subst P (sym whole) (subst Q (sym answered_so) (checkpoint_is new roomier l.taking l.last l.room its none room))
+    rw (is, answered, l.is, l.done_is)
+    (checkpoint_is new roomier l.taking l.last l.room (sym (ap (λ x. x.kind) l.done_is) ∙ checkpoint) none (capacity ∙ ap (λ x. vec_capacity x.ended) l.is))
 
 -- a savepoint
 
@@ -187,14 +172,5 @@ pub savepoint_answers : {p q then : Parts} {now id : ℕ} {s : SubtaskId} {fresh
     answer ≡ reply.AckCompleted 0 (length (released then.registry (after_end done.id [] then.registry))) →
     Answers p new (Ack now id s fresh reused) answer
 savepoint_answers {p} {q} {then} {now} {id} {s} {fresh} {reused} {r} {done} new answer roomier l savepoint is none capacity answered =
-    let d : Record = completed r s fresh reused in
-    let out : Parts = taken_out q now id s fresh reused r in
-    let made : Parts → Record → Parts = λ x y. savepoint_completed x y new in
-    let said : Parts → Record → Reply = λ x y. reply.AckCompleted 0 (length (released x.registry (after_end y.id [] x.registry))) in
-    let whole : new ≡ made out d = is ∙ ap (λ x. made x done) l.is ∙ ap (made out) l.done_is in
-    let answered_so : answer ≡ said out d = answered ∙ ap (λ x. said x done) l.is ∙ ap (said out) l.done_is in
-    let its : r.kind ≡ kind.Savepoint = sym (ap (λ x. x.kind) l.done_is) ∙ savepoint in
-    let room : vec_capacity new.ended ≡ vec_capacity q.ended = capacity ∙ ap (λ x. vec_capacity x.ended) l.is in
-    let P : Parts → Type 0 = λ x. Answers p x (Ack now id s fresh reused) answer in
-    let Q : Reply → Type 0 = λ x. Answers p (made out d) (Ack now id s fresh reused) x in
-    subst P (sym whole) (subst Q (sym answered_so) (savepoint_is new roomier l.taking l.last l.room its none room))
+    rw (is, answered, l.is, l.done_is)
+    (savepoint_is new roomier l.taking l.last l.room (sym (ap (λ x. x.kind) l.done_is) ∙ savepoint) none (capacity ∙ ap (λ x. vec_capacity x.ended) l.is))

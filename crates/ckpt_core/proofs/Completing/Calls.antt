@@ -1,10 +1,9 @@
 -- What the completion of a record may rely on.
-use Rattle.ckpt_core.proofs.Names.{◌≡◌, ℕ, ◌+◌, ◌<◌, ◌≤◌, ◌^◌, max, Bool, true, false, not, eqb, List, [], ◌++◌, length, refl, sym, ap, subst, ◌∙◌, ⊎_elim, arith, Some, find, vec_capacity, eqb-true}
-use Rattle.ckpt_core.proofs.Names.{eq-eqb, ltb-true, or_parts, not_from_true, false_from_ne_true, length-map, length-filter, Ack, SubtaskId, ascending, IsIn, IsInOrder, Record, Use, Subtask, count}
-use Rattle.ckpt_core.proofs.Names.{is_present, missing, uses, IsIn-append_cases, IsIn-append_right, IsIn-from_list_any, IsIn-from_in_order_once, is_known, IsPending, triples, Stored, IsAbove}
-use Rattle.ckpt_core.proofs.Names.{IsStored, has_id, has_savepoint, LiesAt, id_of, Parts, IsMissing, with_pins, AreSound, AreTied, IsAccepted, records_in, state_of, present_in, id_before, in_outbox}
-use Rattle.ckpt_core.proofs.Names.{IsAcking, with_ack, IsIn-from_counted, taken_in, completed, common_steps}
-use Rattle.ckpt_ids.specs.declared.numbers.Kind.TheVariants as kind
+use Rattle.ckpt_core.proofs.Names.{◌≡◌, ℕ, ◌+◌, ◌<◌, ◌≤◌, ◌^◌, max, true, false, eqb, List, [], ◌++◌, length, sym, ap, subst, ◌∙◌, ⊎_elim, arith, Some, find, vec_capacity, eqb-true, eq-eqb, ltb-true}
+use Rattle.ckpt_core.proofs.Names.{or_parts, not_from_true, false_from_ne_true, length-map, length-filter, Ack, SubtaskId, ascending, IsIn, IsInOrder, Record, Use, Subtask, count, is_present, missing}
+use Rattle.ckpt_core.proofs.Names.{uses, IsIn-append_cases, IsIn-append_right, IsIn-from_list_any, IsIn-from_in_order_once, is_known, IsPending, triples, Stored, IsAbove, IsStored, has_id}
+use Rattle.ckpt_core.proofs.Names.{has_savepoint, LiesAt, id_of, Parts, IsMissing, with_pins, AreSound, AreTied, IsAccepted, records_in, state_of, present_in, id_before, in_outbox, IsAcking, with_ack}
+use Rattle.ckpt_core.proofs.Names.{IsIn-from_counted, taken_in, completed, common_steps}
 use Rattle.ckpt_core.proofs.Acknowledging.Moves.{with_instead}
 use Rattle.ckpt_core.proofs.Acknowledging.States.{IsRoomier, IsTaking, its_number, room_made, taking_from, one_less, taken_records, taken_tied, taking}
 use Rattle.ckpt_core.proofs.Acknowledging.Takes.{acked_in_order, lies_acked, found_acked}
@@ -16,6 +15,7 @@ use Rattle.ckpt_core.proofs.Ending.HandOut.{present-from_use}
 use Rattle.ckpt_core.proofs.Records.Lookups.{has_number, length-records_of}
 use Rattle.ckpt_core.proofs.Triggering.TriggerParts.{live_records}
 use Rattle.ckpt_core.proofs.Using.Order.{from_holds}
+use Rattle.ckpt_ids.specs.declared.numbers.Kind.TheVariants as kind
 
 -- the parts without the pending record
 abbrev pub taken_out : Parts → ℕ → ℕ → SubtaskId → List ℕ → List ℕ → Record → Parts
@@ -40,8 +40,7 @@ order_taken id p then now s fresh reused order is = subst (λ (x : Parts). IsInO
 
 pub none_missing : {p : Parts} {now id : ℕ} {s : SubtaskId} {fresh reused : List ℕ} {r : Record} (then : Parts) → IsTaking p now id s fresh reused r → missing r ≡ 1 → then ≡ taken_in p now id s fresh reused → IsMissing then.pending id 0
 none_missing {p} {now} {id} {s} {fresh} {reused} {r} then t last is =
-    let P : Parts → Type 0 = λ x. IsMissing x.pending id 0 in
-    subst P (sym is) (record {
+    rw is (record {
       lacking = with_ack r s fresh reused;
       found = found_acked id s (ascending (fresh ++ reused)) r p.pending t.found;
       counted = omega (arith, one_less t);
@@ -59,18 +58,16 @@ taken_unknown {p} {now} {id} {s} {fresh} {reused} {r} t f h =
     let us : List Use = (taken_in p now id s fresh reused).registry in
     let added : List Use = triples id (Subtask s) (fresh ++ reused) in
     let q = IsIn-from_counted (λ (u : Use). eqb u.file f) us (ltb-true 0 (count us f) h) in
-    let same : q.0.file ≡ f = eqb-true q.0.file f q.2 in
     let none : (g : ℕ) → is_present p.registry g ≡ true → is_known p.outbox g ≡ false = none_known p t.sound.tied t.sound.sound in
     let its : is_known p.outbox q.0.file ≡ false =
     ⊎_elim
     (λ (a : IsIn q.0 p.registry). none q.0.file (present-from_use q.0 p.registry a))
     (λ (b : IsIn q.0 added).
-    ⊎_elim
-    (λ (c : IsIn q.0.file fresh). (or_parts (is_present (uses (records_in p)) q.0.file) (in_outbox (state_of p) q.0.file) (k.unknown q.0.file c)).1)
-    (λ (c : IsIn q.0.file reused). none q.0.file (ap (λ vs. is_present vs q.0.file) t.sound.tied.uses_are ∙ k.present q.0.file c))
+    ⊎_elim (λ c. (or_parts (is_present (uses (records_in p)) q.0.file) (in_outbox (state_of p) q.0.file) (k.unknown q.0.file c)).1)
+    (λ c. none q.0.file (ap (λ vs. is_present vs q.0.file) t.sound.tied.uses_are ∙ k.present q.0.file c))
     (IsIn-append_cases q.0.file fresh reused (from_holds id (Subtask s) (fresh ++ reused) q.0 b).2))
     (IsIn-append_cases q.0 p.registry added (IsIn-from_in_order_once _ q.0 (p.registry ++ added) q.1)) in
-    ap (is_known p.outbox) (sym same) ∙ its
+    ap (is_known p.outbox) (sym (eqb-true q.0.file f q.2)) ∙ its
 
 -- there are few records
 taken_few : {p : Parts} {now id : ℕ} {s : SubtaskId} {fresh reused : List ℕ} {r : Record} → IsTaking p now id s fresh reused r → length (records_in (taken_in p now id s fresh reused)) ≤ 2064
@@ -94,9 +91,8 @@ can_complete {p} {then} {now} {id} {s} {fresh} {reused} {r} {done} l =
     let t : IsTaking p now id s fresh reused r = l.taking in
     let after : Parts = taken_in p now id s fresh reused in
     let tied : AreTied after = taken_tied t l.room in
-    let P : Parts → Type 0 = λ x. CanComplete x in
     let all : length (records_in after) ≡ length after.pending + (length p.store.checkpoints + length p.store.savepoints) = length-records_of after.registry after.pending p.store.checkpoints p.store.savepoints in
-    subst P (sym l.is) (record {
+    rw l.is (record {
       room = l.place;
       unknown = taken_unknown t;
       spare = tied.spare;
@@ -108,11 +104,7 @@ can_complete {p} {then} {now} {id} {s} {fresh} {reused} {r} {done} l =
 
 -- of a checkpoint
 pub last_above : {p then : Parts} {now id : ℕ} {s : SubtaskId} {fresh reused : List ℕ} {r done : Record} → IsLast p then now id s fresh reused r done → done.kind ≡ kind.Checkpoint → IsAbove then.store.checkpoints done.id
-last_above {p} {then} {now} {id} {s} {fresh} {reused} {r} {done} l checkpoint =
-    let its : r.kind ≡ kind.Checkpoint = sym (ap (λ x. x.kind) l.done_is) ∙ checkpoint in
-    let P : Parts → Type 0 = λ x. IsAbove x.store.checkpoints done.id in
-    let Q : Record → Type 0 = λ x. IsAbove p.store.checkpoints x.id in
-    subst P (sym l.is) (subst Q (sym l.done_is) (its_above l.taking its))
+last_above {p} {then} {now} {id} {s} {fresh} {reused} {r} {done} l checkpoint = rw l.is (rw l.done_is (its_above l.taking (sym (ap (λ x. x.kind) l.done_is) ∙ checkpoint)))
 
 -- of a savepoint
 pub last_new : {p then : Parts} {now id : ℕ} {s : SubtaskId} {fresh reused : List ℕ} {r done : Record} → IsLast p then now id s fresh reused r done → has_savepoint then.store done.id ≡ false

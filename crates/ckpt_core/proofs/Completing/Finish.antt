@@ -1,14 +1,14 @@
 -- What a completion does to the records in rising number, and to their uses: the record goes from the pending
 -- ones to the done ones, its pins end, and some others go.
-use Rattle.ckpt_core.proofs.Names.{◌≡◌, ℕ, Bool, true, false, not, ◌&&◌, cond, eqb, List, [], ◌∷◌, ◌++◌, map, refl, sym, ap, subst, ◌∙◌, ◌⊎◌, inl, inr, ⊎_elim, Some, filter, flat_map, filter-append}
-use Rattle.ckpt_core.proofs.Names.{cases_Bool, eqb-true, eqb-false, eq-eqb, ne_eqb, and_parts, and_from, and_left, and_right, not-true, not_from_false, not_from_true, Acked, IsIn, in_order, Record}
-use Rattle.ckpt_core.proofs.Names.{Use, Subtask, Pin, uses, uses_of, IsIn-append_cases, IsIn-append_left, IsIn-append_right, IsIn-map, IsIn-from_map, IsIn-from_flat_map, IsIn-filter, IsIn-from_filter}
-use Rattle.ckpt_core.proofs.Names.{filter-all, filter-same, filter-none, filter-filter, id_before, unpinned, replaced, is_pin, pins, with_pins, grouped, records_of, map_same, map-map, common_steps}
-use Rattle.ckpt_core.proofs.Names.{arith}
+use Rattle.ckpt_core.proofs.Names.{triples, ◌≡◌, ℕ, Bool, true, false, not, ◌&&◌, cond, eqb, List, [], ◌∷◌, ◌++◌, map, refl, sym, ap, subst, ◌∙◌, ◌⊎◌, inl, inr, ⊎_elim, Some, filter, flat_map}
+use Rattle.ckpt_core.proofs.Names.{filter-append, cases_Bool, eqb-true, eqb-false, eq-eqb, ne_eqb, and_parts, and_from, and_left, and_right, not-true, not_from_false, not_from_true, Acked, IsIn}
+use Rattle.ckpt_core.proofs.Names.{in_order, Record, Use, Subtask, Pin, uses, uses_of, IsIn-append_cases, IsIn-append_left, IsIn-append_right, IsIn-map, IsIn-from_map, IsIn-from_flat_map, IsIn-filter}
+use Rattle.ckpt_core.proofs.Names.{IsIn-from_filter, filter-all, filter-same, filter-none, filter-filter, id_before, unpinned, replaced, is_pin, pins, with_pins, grouped, records_of, map_same}
+use Rattle.ckpt_core.proofs.Names.{map-map, common_steps, arith}
 use Rattle.ckpt_core.proofs.Records.Grouped.{AreApart, in_order-filter, in_order-map, in_order_same, apart-filter, apart-map, apart-append, apart_left, apart_between}
 use Rattle.ckpt_core.proofs.Records.GroupMoves.{filter-map, with_pins_kept}
 use Rattle.ckpt_core.proofs.Acknowledging.Moves.{with_instead, id-with_instead, with_instead-other, with_instead-same, replaced_members, in_replaced, still_in_replaced}
-use Rattle.ckpt_core.proofs.Using.Order.{holds, from_holds, use_of_record, uses-filter}
+use Rattle.ckpt_core.proofs.Using.Order.{from_holds, use_of_record, uses-filter}
 
 abbrev is_other : ℕ → Record → Bool
 is_other id r = not (eqb r.id id)
@@ -40,8 +40,7 @@ finish_groups keep us pending checkpoints savepoints more_checkpoints more_savep
     let k = IsIn-from_filter keeps s others h in
     let o : s.id ≡ d.id → ⊥ = other-from_test d.id s (IsIn-from_filter (is_other d.id) s pending k.0).1 in
     with_pins_kept (still_used keep d.id) us s (λ u i p.
-    let parts = and_parts (eqb u.id s.id) (is_pin u.holder) p in
-    let same : u.id ≡ s.id = eqb-true u.id s.id parts.0 in
+    let same : u.id ≡ s.id = eqb-true u.id s.id (and_parts (eqb u.id s.id) (is_pin u.holder) p).0 in
     and_from (keep u.id) (not (pins d.id u)) (ap keep same ∙ k.1)
     (not_from_false (pins d.id u) (and_left (eqb u.id d.id) (is_pin u.holder) (ne_eqb u.id d.id (λ e. o (sym same ∙ e)))))) in
     let whole : grouped us' (filter keeps others) (filter keeps more_checkpoints) (filter keeps more_savepoints) ≡ filter keeps l =
@@ -55,11 +54,8 @@ finish_groups keep us pending checkpoints savepoints more_checkpoints more_savep
     let q = IsIn-from_map (with_pins us) x others h in
     let f = IsIn-from_filter (is_other d.id) q.0 pending q.1 in
     let id_x : x.id ≡ q.0.id = ap (λ w. w.id) q.2 in
-    ⊎_elim
-    (λ (a : y ≡ d). other-from_test d.id q.0 f.1 (sym id_x ∙ e ∙ ap (λ w. w.id) a))
-    (λ (b : IsIn y done). apart_between (map (with_pins us) pending) done apart (with_pins us q.0) y (pinned q.0 f.0) b (sym id_x ∙ e))
+    ⊎_elim (λ a. other-from_test d.id q.0 f.1 (sym id_x ∙ e ∙ ap (λ w. w.id) a)) (λ b. apart_between (map (with_pins us) pending) done apart (with_pins us q.0) y (pinned q.0 f.0) b (sym id_x ∙ e))
     (forth y k) in
-    let l_apart : AreApart l = apart-append (map (with_pins us) others) more pending_apart done_apart cross in
     let g' : List Record = replaced g d in
     let g'_apart : AreApart g' = apart-map (with_instead d) (id-with_instead d) g apart in
     let d_in : IsIn d g' = in_replaced g d (with_pins us r) (IsIn-append_left (with_pins us r) (map (with_pins us) pending) done (pinned r there)) (sym same_id) in
@@ -83,13 +79,12 @@ finish_groups keep us pending checkpoints savepoints more_checkpoints more_savep
     (λ (a : IsIn z (map (with_pins us) pending)).
     let q = IsIn-from_map (with_pins us) z pending a in
     let o : is_other d.id q.0 ≡ true = not_from_false (eqb q.0.id d.id) (ne_eqb q.0.id d.id (λ e. k.1 (ap (λ w. w.id) q.2 ∙ e))) in
-    let P : Record → Type 0 = λ w. IsIn w (map (with_pins us) others) in
-    IsIn-append_left z (map (with_pins us) others) more (subst P (sym q.2) (IsIn-map (with_pins us) q.0 others (IsIn-filter (is_other d.id) q.0 pending q.1 o))))
+    IsIn-append_left z (map (with_pins us) others) more (rw q.2 (IsIn-map (with_pins us) q.0 others (IsIn-filter (is_other d.id) q.0 pending q.1 o))))
     (λ (b : IsIn z done). in_more (inr b))
     (IsIn-append_cases z (map (with_pins us) pending) done k.0) in
     ⊎_elim (λ (a : z ≡ d). in_more (inl a)) old (replaced_members g d z h) in
     let middle : in_order id_before (filter keeps l) ≡ in_order id_before (filter keeps g') =
-    in_order_same (filter keeps l) (filter keeps g') (apart-filter keeps l l_apart) (apart-filter keeps g' g'_apart)
+    in_order_same (filter keeps l) (filter keeps g') (apart-filter keeps l (apart-append (map (with_pins us) others) more pending_apart done_apart cross)) (apart-filter keeps g' g'_apart)
     (λ z h. let k = IsIn-from_filter keeps z l h in IsIn-filter keeps z g' (to z k.0) k.1)
     (λ z h. let k = IsIn-from_filter keeps z g' h in IsIn-filter keeps z l (from z k.0) k.1) in
     ap (in_order id_before) whole ∙ middle ∙ in_order-filter keeps g' g'_apart ∙ ap (filter keeps) (in_order-map (with_instead d) (id-with_instead d) g)
@@ -103,30 +98,25 @@ no_pins_of_others id q ne =
 
 unpinned_uses : (q d : Record) → q.id ≡ d.id → q.acks ≡ d.acks → d.pins ≡ [] → uses_of d ≡ filter (λ u. not (pins d.id u)) (uses_of q)
 unpinned_uses q d e acks none =
-    let of_ack : Acked → List Use = λ a. holds q.id (Subtask a.subtask) a.files in
+    let of_ack : Acked → List Use = λ a. triples q.id (Subtask a.subtask) a.files in
     let np : Use → Bool = λ u. not (pins d.id u) in
     let held : filter np (flat_map of_ack q.acks) ≡ flat_map of_ack q.acks =
     filter-all np (flat_map of_ack q.acks) (λ u h.
     let k = IsIn-from_flat_map of_ack u q.acks h in
-    let no_pin : is_pin u.holder ≡ false = ap is_pin (from_holds q.id (Subtask k.0.subtask) k.0.files u k.2).1 in
-    not_from_false (pins d.id u) (and_right (eqb u.id d.id) (is_pin u.holder) no_pin)) in
-    let gone : filter np (holds q.id Pin q.pins) ≡ [] =
-    filter-none np (holds q.id Pin q.pins) (λ u h.
+    not_from_false (pins d.id u) (and_right (eqb u.id d.id) (is_pin u.holder) (ap is_pin (from_holds q.id (Subtask k.0.subtask) k.0.files u k.2).1))) in
+    let gone : filter np (triples q.id Pin q.pins) ≡ [] =
+    filter-none np (triples q.id Pin q.pins) (λ u h.
     let k = from_holds q.id Pin q.pins u h in
     not_from_true (pins d.id u) (and_from (eqb u.id d.id) (is_pin u.holder) (eq-eqb u.id d.id (k.0 ∙ e)) (ap is_pin k.1))) in
-    let left : filter np (uses_of q) ≡ flat_map of_ack q.acks ++ [] = filter-append np (flat_map of_ack q.acks) (holds q.id Pin q.pins) ∙ ap (λ a. a ++ filter np (holds q.id Pin q.pins)) held ∙ ap (λ b. flat_map of_ack q.acks ++ b) gone in
+    let left : filter np (uses_of q) ≡ flat_map of_ack q.acks ++ [] = filter-append np (flat_map of_ack q.acks) (triples q.id Pin q.pins) ∙ ap (λ a. a ++ filter np (triples q.id Pin q.pins)) held ∙ ap (λ b. flat_map of_ack q.acks ++ b) gone in
     let right : uses_of d ≡ flat_map of_ack q.acks ++ [] =
-    ap (λ ps. flat_map (λ a. holds d.id (Subtask a.subtask) a.files) d.acks ++ holds d.id Pin ps) none
-    ∙ ap (λ bs. flat_map (λ a. holds d.id (Subtask a.subtask) a.files) bs ++ []) (sym acks)
-    ∙ ap (λ i. flat_map (λ a. holds i (Subtask a.subtask) a.files) q.acks ++ []) (sym e) in
+    rw (none, ← acks, ← e) in
     right ∙ sym left
 
 unpinned_record : (d q : Record) → (q.id ≡ d.id → q.acks ≡ d.acks) → d.pins ≡ [] → uses_of (with_instead d q) ≡ filter (λ u. not (pins d.id u)) (uses_of q)
 unpinned_record d q acks none =
-    ⊎_elim
-    (λ (e : eqb q.id d.id ≡ true). let same : q.id ≡ d.id = eqb-true q.id d.id e in ap uses_of (with_instead-same d q same) ∙ unpinned_uses q d same (acks same) none)
-    (λ (e : eqb q.id d.id ≡ false). let ne : q.id ≡ d.id → ⊥ = eqb-false q.id d.id e in ap uses_of (with_instead-other d q ne) ∙ sym (no_pins_of_others d.id q ne))
-    (cases_Bool (eqb q.id d.id))
+    ⊎_elim (λ e. let same : q.id ≡ d.id = eqb-true q.id d.id e in ap uses_of (with_instead-same d q same) ∙ unpinned_uses q d same (acks same) none)
+    (λ e. let ne : q.id ≡ d.id → ⊥ = eqb-false q.id d.id e in ap uses_of (with_instead-other d q ne) ∙ sym (no_pins_of_others d.id q ne)) (cases_Bool (eqb q.id d.id))
 
 pub replaced_uses : (rs : List Record) (d : Record) → ((q : Record) → IsIn q rs → q.id ≡ d.id → q.acks ≡ d.acks) → d.pins ≡ [] → uses (replaced rs d) ≡ filter (λ u. not (pins d.id u)) (uses rs)
 replaced_uses [] d acks none = refl

@@ -1,10 +1,10 @@
 -- Which numbers the completion of a checkpoint notes: those of the pending checkpoints before it, and that of the first
 -- completed one if there are now too many.
 use Rattle.ckpt_core.proofs.Names.{◌≡◌, ℕ, ◌+◌, ◌<◌, ◌≤◌, Bool, true, false, not, ◌||◌, cond, ltb, leb, eqb, List, [], ◌∷◌, ◌++◌, map, length, refl, sym, ap, ◌∙◌, inl, inr, ⊎_elim, arith, Some, None}
-use Rattle.ckpt_core.proofs.Names.{count_by, filter, cases_Bool, both_ways, ltb-true, lt-ltb, le-ltb, ltb-false, lt-leb, le-leb, eqb-true, eq-eqb, ne_eqb, and_parts, or_left, not_from_false}
-use Rattle.ckpt_core.proofs.Names.{false_from_ne_true, list_any-append, count_by-le-length, or-false, IsIn, ComesBefore, Record, Use, IsIn-append_cases, IsIn-append_left, IsIn-append_right, IsIn-map}
-use Rattle.ckpt_core.proofs.Names.{IsIn-filter, IsIn-from_filter, ComesBefore-at, filter-all, Stored, AreRising, IsAbove, lowest, past_retained, retained_of, number_in, surplus, earlier, is_before}
-use Rattle.ckpt_core.proofs.Names.{with_pins, grouped, is_noted, id_before, is_checkpoint, count_by_at_most_more, count_by_yes, count_by_no, count_by-none, count_by-all, common_steps}
+use Rattle.ckpt_core.proofs.Names.{count_by, filter, cases_Bool, both_ways, ltb-true, lt-ltb, le-ltb, ltb-false, lt-leb, le-leb, eq-eqb, ne_eqb, and_parts, or_left, not_from_false, false_from_ne_true}
+use Rattle.ckpt_core.proofs.Names.{list_any-append, count_by-le-length, or-false, IsIn, ComesBefore, Record, Use, IsIn-append_cases, IsIn-append_left, IsIn-append_right, IsIn-map, IsIn-filter}
+use Rattle.ckpt_core.proofs.Names.{IsIn-from_filter, ComesBefore-at, filter-all, Stored, AreRising, IsAbove, lowest, past_retained, retained_of, number_in, surplus, earlier, is_before, with_pins}
+use Rattle.ckpt_core.proofs.Names.{grouped, is_noted, id_before, is_checkpoint, count_by_at_most_more, count_by_yes, count_by_no, count_by-none, count_by-all, common_steps}
 use Rattle.std.proofs.Common.{drop}
 use Rattle.ckpt_core.specs.Inside.Completing.{superseded}
 use Rattle.ckpt_core.proofs.Ending.Drops.{noted-from_IsIn, IsIn-from_noted}
@@ -75,11 +75,7 @@ past_is_surplus n (y ∷ row) x order few some (inr h) =
     let itself : later x ≡ false = le-ltb x.id x.id (omega arith) in
     let less : count_by later row < length row = fewer later x row h itself in
     let left : leb n (later_in (y ∷ row) x) ≡ false = lt-leb n (later_in (y ∷ row) x) (omega (arith, count_by_no later y row none)) in
-    let ne : eqb x.id y.id ≡ false = ne_eqb x.id y.id (λ k. omega arith) in
-    left ∙ sym (⊎_elim
-    (λ (e : ltb n (length (y ∷ row)) ≡ true). past_where n y row x e ∙ ap (λ b. b || false) ne)
-    (λ (e : ltb n (length (y ∷ row)) ≡ false). none_past n (y ∷ row) x e)
-    (cases_Bool (ltb n (length (y ∷ row)))))
+    left ∙ sym (⊎_elim (λ e. past_where n y row x e ∙ ap (λ b. b || false) (ne_eqb x.id y.id (λ k. omega arith))) (λ e. none_past n (y ∷ row) x e) (cases_Bool (ltb n (length (y ∷ row)))))
 
 -- it is one of those that were there before the last
 pub past_in_front : (n : ℕ) (row : List Record) (d x : Record) → 1 ≤ n → is_past n (row ++ d ∷ []) x ≡ true → (y : Record) × IsIn y row × (x.id ≡ y.id)
@@ -98,11 +94,9 @@ past_count n (y ∷ row) order =
     let rest : count_by past row ≡ 0 = count_by-none past row (λ x h.
     let ne : eqb x.id y.id ≡ false = ne_eqb x.id y.id (λ k. let lt : y.id < x.id = rises y x row order.0 h in absurd (omega arith)) in
     past_where n y row x e ∙ ap (λ b. b || false) ne) in
-    let one : length (number_in (past_retained n (y ∷ row))) ≡ 1 = ap (λ b. length (number_in (cond b (Some y.id) None))) e in
-    omega (arith, count_by_yes past y row first) in
+    omega (arith, count_by_yes past y row first, ap (λ b. length (number_in (cond b (Some y.id) None))) e) in
     let few : long ≡ false → Goal = λ (e : long ≡ false).
-    let none : length (number_in (past_retained n (y ∷ row))) ≡ 0 = ap (λ b. length (number_in (cond b (Some y.id) None))) e in
-    count_by-none past (y ∷ row) (λ x h. none_past n (y ∷ row) x e) ∙ sym none in
+    count_by-none past (y ∷ row) (λ x h. none_past n (y ∷ row) x e) ∙ sym (ap (λ b. length (number_in (cond b (Some y.id) None))) e) in
     ⊎_elim more few (cases_Bool long)
 
 -- the numbers that are noted
@@ -135,8 +129,7 @@ earlier_is us id pending done x apart h =
     let pinned : List Record = map (with_pins us) pending in
     ⊎_elim
     (λ (e : is_before id x ≡ true).
-    let lt : x.id < id = before_number id x e in
-    let o : not (eqb x.id id) ≡ true = not_from_false (eqb x.id id) (ne_eqb x.id id (λ k. omega arith)) in
+    let o : not (eqb x.id id) ≡ true = not_from_false (eqb x.id id) (ne_eqb x.id id (λ k. omega (arith, before_number id x e))) in
     noted-from_IsIn x x (filter (is_before id) (others id pending)) (IsIn-filter (is_before id) x (others id pending) (IsIn-filter (λ r. not (eqb r.id id)) x pending h o) e) refl ∙ sym e)
     (λ (e : is_before id x ≡ false).
     false_from_ne_true (is_noted (earlier id (others id pending)) x) (λ (k : is_noted (earlier id (others id pending)) x ≡ true).

@@ -3,13 +3,12 @@ use Rattle.ckpt_core.proofs.Names.{◌≡◌, ℕ, ◌+◌, Bool, true, false, n
 use Rattle.ckpt_core.proofs.Names.{cases_Bool, Done, IsIn, Record, Use, released, uses, uses_of, IsIn-append_left, IsIn-map, IsIn-from_in_order, filter-all, filter-same, after_end, is_ended, is_owned}
 use Rattle.ckpt_core.proofs.Names.{pins, with_pins, grouped, records_of, is_noted, id_before, State, drop, kept, released_by, unpinned, cleared, completed_with, dropped_by, replaced, superseded}
 use Rattle.ckpt_core.proofs.Names.{count_by-map, count_by-same, common_steps, arith}
-use Rattle.ckpt_ids.specs.declared.reply.Reply.TheVariants as reply
-use Rattle.ckpt_core.proofs.Acknowledging.Moves.{with_instead}
 use Rattle.ckpt_core.proofs.Completing.Lists.{others}
 use Rattle.ckpt_core.proofs.Ending.Drops.{stays, staying}
 use Rattle.ckpt_core.proofs.Completing.Finish.{finish_groups, finish_uses, ended_records, still_used}
 use Rattle.ckpt_core.proofs.Records.Grouped.{AreApart}
 use Rattle.ckpt_core.proofs.Records.Lookups.{count_by-records_of, one_of_number}
+use Rattle.ckpt_ids.specs.declared.reply.Reply.TheVariants as reply
 
 -- the record d is the pending record with its number, done and without pins; it is among the done ones after
 pub record IsEnding (us : List Use) (pending checkpoints savepoints more_checkpoints more_savepoints : List Record) (r d : Record) : Type 0 where
@@ -38,8 +37,7 @@ left_groups us pending more_checkpoints more_savepoints d gone = records_of (aft
 pub left_records : {us : List Use} {pending checkpoints savepoints more_checkpoints more_savepoints : List Record} {r d : Record} → IsEnding us pending checkpoints savepoints more_checkpoints more_savepoints r d → (gone : List ℕ) →
     left_groups us pending more_checkpoints more_savepoints d gone ≡ staying gone (replaced (records_of us pending checkpoints savepoints) d)
 left_records {us} {pending} {checkpoints} {savepoints} {more_checkpoints} {more_savepoints} {r} {d} e gone =
-    ap (λ vs. records_of vs (staying gone (others d.id pending)) (staying gone more_checkpoints) (staying gone more_savepoints)) (after_end_is d.id gone us)
-    ∙ finish_groups (stays gone) us pending checkpoints savepoints more_checkpoints more_savepoints r d e.apart e.more_apart e.there e.same e.forth e.back
+    rw (after_end_is d.id gone us, finish_groups (stays gone) us pending checkpoints savepoints more_checkpoints more_savepoints r d e.apart e.more_apart e.there e.same e.forth e.back)
 
 same_acks : {us : List Use} {pending checkpoints savepoints more_checkpoints more_savepoints : List Record} {r d : Record} → IsEnding us pending checkpoints savepoints more_checkpoints more_savepoints r d →
     (q : Record) → IsIn q (records_of us pending checkpoints savepoints) → q.id ≡ d.id → q.acks ≡ d.acks
@@ -52,10 +50,9 @@ same_acks {us} {pending} {checkpoints} {savepoints} {more_checkpoints} {more_sav
 pub left_uses : {us : List Use} {pending checkpoints savepoints more_checkpoints more_savepoints : List Record} {r d : Record} → IsEnding us pending checkpoints savepoints more_checkpoints more_savepoints r d → (gone : List ℕ) →
     after_end d.id gone us ≡ uses (left_groups us pending more_checkpoints more_savepoints d gone)
 left_uses {us} {pending} {checkpoints} {savepoints} {more_checkpoints} {more_savepoints} {r} {d} e gone =
-    let rs : List Record = records_of us pending checkpoints savepoints in
     after_end_is d.id gone us
     ∙ ap (filter (still_used (stays gone) d.id)) e.uses_are
-    ∙ finish_uses (stays gone) rs d (same_acks e) e.no_pins
+    ∙ finish_uses (stays gone) (records_of us pending checkpoints savepoints) d (same_acks e) e.no_pins
     ∙ ap uses (sym (left_records e gone))
 
 -- as the step has it: rd is d with its pins, a the same before it is done, and rs the records before a was put in
@@ -91,9 +88,8 @@ pub released_files : {us : List Use} {pending checkpoints savepoints more_checkp
     (dropped : Record → Bool) (gone : List ℕ) → ((s : Record) → IsIn s (replaced rs rd) → dropped s ≡ is_noted gone s) →
     released (uses (replaced rs rd)) (uses (kept dropped (Some rd.id) (replaced rs rd))) ≡ released us (after_end d.id gone us)
 released_files {us} {pending} {checkpoints} {savepoints} {more_checkpoints} {more_savepoints} {rs} {r} {d} {a} {rd} c dropped gone agree =
-    let before : uses (replaced rs rd) ≡ us = uses_instead rs a rd c.same c.same_uses ∙ ap uses (sym c.records_are) ∙ sym c.ending.uses_are in
     let after : uses (kept dropped (Some rd.id) (replaced rs rd)) ≡ after_end d.id gone us = ap uses (kept_records c dropped gone agree) ∙ sym (left_uses c.ending gone) in
-    ap (λ vs. released vs (uses (kept dropped (Some rd.id) (replaced rs rd)))) before ∙ ap (released us) after
+    ap (λ vs. released vs (uses (kept dropped (Some rd.id) (replaced rs rd)))) (uses_instead rs a rd c.same c.same_uses ∙ ap uses (sym c.records_are) ∙ sym c.ending.uses_are) ∙ ap (released us) after
 
 -- how many pass a test that does not look at pins
 pub count_completed : {us : List Use} {pending checkpoints savepoints more_checkpoints more_savepoints rs : List Record} {r d a rd : Record} → IsCompleting us pending checkpoints savepoints more_checkpoints more_savepoints rs r d a rd →

@@ -1,7 +1,6 @@
 -- What the completion of a checkpoint makes of the parts, step by step.
-use Rattle.ckpt_core.proofs.Names.{◌≡◌, ℕ, ◌+◌, ◌≤◌, Bool, List, [], ◌∷◌, ◌++◌, length, sym, ap, ◌∙◌, arith, Some, None, filter, length-append, length-map, length-filter, count_by-le-length, Record}
-use Rattle.ckpt_core.proofs.Names.{FailureCount, Moments, Stored, past_retained, Parts, number_in, surplus, earlier, is_before, with_checkpoint, handed_after, paused, left_pending}
-use Rattle.ckpt_core.proofs.Names.{checkpoint_completed, common_steps}
+use Rattle.ckpt_core.proofs.Names.{◌≡◌, ℕ, ◌+◌, ◌≤◌, List, [], ◌∷◌, ◌++◌, length, sym, ap, ◌∙◌, arith, Some, None, length-append, length-map, length-filter, count_by-le-length, Record, FailureCount}
+use Rattle.ckpt_core.proofs.Names.{Moments, Stored, past_retained, Parts, number_in, surplus, earlier, with_checkpoint, handed_after, paused, left_pending, checkpoint_completed, common_steps}
 use Rattle.ckpt_core.specs.Inside.Completing.{superseded}
 
 pub checkpoint_parts : (p k h : Parts) (done : Record) (gone : List ℕ) (pending : List Record) (failures : FailureCount) (clock : Moments) →
@@ -16,11 +15,10 @@ checkpoint_parts p k h done gone pending failures clock is_k noted is_pending is
     ∙ ap (λ ids. handed_after k done ids pending h) noted
     ∙ ap (λ x. handed_after x done gone pending h) is_k
     ∙ ap (λ ps. handed_after l done gone ps h) (is_pending ∙ ap (λ ids. left_pending ids p.pending) noted) in
-    let same_spare : k.store.spare ≡ h.store.spare = sym (ap (λ x. x.store.spare) all) in
     ap (λ f. record h { failures = f; clock = clock }) is_failures
     ∙ ap (λ m. record h { failures = record h.failures { number = 0 }; clock = m }) is_clock
     ∙ ap paused all
-    ∙ ap (λ n. paused (handed_after (record l { store = record l.store { spare = n } }) done gone (left_pending gone p.pending) h)) same_spare
+    ∙ ap (λ n. paused (handed_after (record l { store = record l.store { spare = n } }) done gone (left_pending gone p.pending) h)) (sym (ap (λ x. x.store.spare) all))
 
 -- how many numbers are noted
 

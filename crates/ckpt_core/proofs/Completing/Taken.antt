@@ -1,7 +1,7 @@
 -- A pending record that was given its last acknowledgement completes.
-use Rattle.ckpt_core.proofs.Names.{◌≡◌, ℕ, Bool, true, false, cond, List, [], ◌∷◌, ◌++◌, map, refl, sym, ap, subst, ◌∙◌, inl, inr, ⊎_elim, cases_Bool, SubtaskId, ascending, IsIn, IsInOrder, put}
-use Rattle.ckpt_core.proofs.Names.{Record, uses, IsIn-append_cases, IsIn-append_left, IsIn-append_right, IsIn-map, IsIn-put, IsIn-put_itself, IsIn-put_cases, by_id, Parts, with_pins, grouped}
-use Rattle.ckpt_core.proofs.Names.{records_in, state_of, id_before, IsIn-from_find, with_ack, taken_in, completed, common_steps, arith}
+use Rattle.ckpt_core.proofs.Names.{◌≡◌, ℕ, Bool, cond, List, [], ◌∷◌, ◌++◌, map, refl, sym, ap, subst, ◌∙◌, inl, inr, ⊎_elim, cases_Bool, SubtaskId, ascending, IsIn, put, Record, uses}
+use Rattle.ckpt_core.proofs.Names.{IsIn-append_cases, IsIn-append_left, IsIn-append_right, IsIn-map, IsIn-put, IsIn-put_itself, IsIn-put_cases, by_id, Parts, with_pins, grouped, records_in, state_of}
+use Rattle.ckpt_core.proofs.Names.{IsIn-from_find, with_ack, taken_in, completed, common_steps, arith}
 use Rattle.ckpt_core.proofs.Acknowledging.Moves.{replaced_members}
 use Rattle.ckpt_core.proofs.Acknowledging.States.{IsTaking, acked_replaced, replaced_in_order, taken_records, taken_uses}
 use Rattle.ckpt_core.proofs.Acknowledging.Takes.{found_acked}
@@ -22,15 +22,10 @@ taken_apart {p} {now} {id} {s} {fresh} {reused} {r} t = grind (arith, common_ste
 pub taken_groups : {p : Parts} {now id : ℕ} {s : SubtaskId} {fresh reused : List ℕ} {r : Record} → IsTaking p now id s fresh reused r → AreGroups (taken_in p now id s fresh reused).pending p.store.checkpoints p.store.savepoints
 taken_groups {p} {now} {id} {s} {fresh} {reused} {r} t =
     let g : AreGroups p.pending p.store.checkpoints p.store.savepoints = groups_of p t.pending t.stored in
-    let a : Record = with_ack r s fresh reused in
-    let there = (IsIn-from_find (has_number id) r p.pending t.found).0 in
     record {
       not_done = λ q h.
-          let P : List Record → Type 0 = λ rs. IsIn q rs in
-          ⊎_elim
-          (λ (e : q ≡ a). ap (λ x. x.done) e ∙ g.not_done r there)
-          (λ (o : IsIn q p.pending × (q.id ≡ a.id → ⊥)). g.not_done q o.0)
-          (replaced_members p.pending a q (subst P (acked_replaced id s (ascending (fresh ++ reused)) r p.pending t.in_order t.found) h));
+          ⊎_elim (λ e. ap (λ x. x.done) e ∙ g.not_done r ((IsIn-from_find (has_number id) r p.pending t.found).0)) (λ o. g.not_done q o.0)
+          (replaced_members p.pending (with_ack r s fresh reused) q (rw (acked_replaced id s (ascending (fresh ++ reused)) r p.pending t.in_order t.found) at h));
       checkpoints_done = g.checkpoints_done;
       savepoints_done = g.savepoints_done;
     }
@@ -67,10 +62,7 @@ apart-put d [] new a = ((λ y h. absurd h), tt)
 apart-put d (y ∷ xs) new a =
     let P : Bool → Type 0 = λ b. AreApart (cond b (y ∷ put by_id d xs) (d ∷ y ∷ xs)) in
     let later : IsNew y (put by_id d xs) = λ z h e. ⊎_elim (λ (i : z ≡ d). new y (inl refl) (sym (e ∙ ap (λ w. w.id) i))) (λ (k : IsIn z xs). a.0 z k e) (IsIn-put_cases by_id d z xs h) in
-    ⊎_elim
-    (λ (e : by_id y d ≡ true). subst P (sym e) (later, apart-put d xs (λ z h. new z (inr h)) a.1))
-    (λ (e : by_id y d ≡ false). subst P (sym e) (new, a))
-    (cases_Bool (by_id y d))
+    ⊎_elim (λ e. subst P (sym e) (later, apart-put d xs (λ z h. new z (inr h)) a.1)) (λ e. subst P (sym e) (new, a)) (cases_Bool (by_id y d))
 
 pub checkpoint_ending : {p : Parts} {now id : ℕ} {s : SubtaskId} {fresh reused : List ℕ} {r : Record} → IsTaking p now id s fresh reused r →
     IsEnding (taken_in p now id s fresh reused).registry (taken_in p now id s fresh reused).pending p.store.checkpoints p.store.savepoints (p.store.checkpoints ++ completed r s fresh reused ∷ []) p.store.savepoints (with_ack r s fresh reused) (completed r s fresh reused)
@@ -86,10 +78,8 @@ checkpoint_ending {p} {now} {id} {s} {fresh} {reused} {r} t =
       acks = refl;
       no_pins = its_no_pins t;
       forth = λ z h.
-          ⊎_elim
-          (λ (k : IsIn z (cs ++ d ∷ [])). ⊎_elim (λ (c : IsIn z cs). inr (IsIn-append_left z cs ss c)) (⊎_elim (λ (e : z ≡ d). inl e) (λ (n : ⊥). absurd n)) (IsIn-append_cases z cs (d ∷ []) k))
-          (λ (k : IsIn z ss). inr (IsIn-append_right z cs ss k))
-          (IsIn-append_cases z (cs ++ d ∷ []) ss h);
+          ⊎_elim (λ k. ⊎_elim (λ (c : IsIn z cs). inr (IsIn-append_left z cs ss c)) (⊎_elim (λ (e : z ≡ d). inl e) (λ (n : ⊥). absurd n)) (IsIn-append_cases z cs (d ∷ []) k))
+          (λ k. inr (IsIn-append_right z cs ss k)) (IsIn-append_cases z (cs ++ d ∷ []) ss h);
       back = λ z h.
           ⊎_elim
           (λ (e : z ≡ d). IsIn-append_left z (cs ++ d ∷ []) ss (IsIn-append_right z cs (d ∷ []) (inl e)))
@@ -109,23 +99,17 @@ savepoint_ending {p} {now} {id} {s} {fresh} {reused} {r} t =
     record {
       apart = taken_apart t;
       more_apart = apart-append cs (put by_id d ss) (apart_left cs ss apart) (apart-put d ss (λ y h. new y (IsIn-append_right y cs ss h)) (apart_right cs ss apart)) (λ x y h k e.
-          ⊎_elim
-          (λ (i : y ≡ d). new x (IsIn-append_left x cs ss h) (sym (e ∙ ap (λ w. w.id) i)))
-          (λ (l : IsIn y ss). apart_between cs ss apart x y h l e)
-          (IsIn-put_cases by_id d y ss k));
+          ⊎_elim (λ i. new x (IsIn-append_left x cs ss h) (sym (e ∙ ap (λ w. w.id) i))) (λ l. apart_between cs ss apart x y h l e) (IsIn-put_cases by_id d y ss k));
       there = taken_there t;
       same = refl;
       acks = refl;
       no_pins = its_no_pins t;
       forth = λ z h.
-          ⊎_elim
-          (λ (k : IsIn z cs). inr (IsIn-append_left z cs ss k))
-          (λ (k : IsIn z (put by_id d ss)). ⊎_elim (λ (e : z ≡ d). inl e) (λ (l : IsIn z ss). inr (IsIn-append_right z cs ss l)) (IsIn-put_cases by_id d z ss k))
+          ⊎_elim (λ k. inr (IsIn-append_left z cs ss k)) (λ k. ⊎_elim (λ (e : z ≡ d). inl e) (λ (l : IsIn z ss). inr (IsIn-append_right z cs ss l)) (IsIn-put_cases by_id d z ss k))
           (IsIn-append_cases z cs (put by_id d ss) h);
       back = λ z h.
-          let P : Record → Type 0 = λ w. IsIn w (cs ++ put by_id d ss) in
           ⊎_elim
-          (λ (e : z ≡ d). subst P (sym e) (IsIn-append_right d cs (put by_id d ss) (IsIn-put_itself by_id d ss)))
+          (λ (e : z ≡ d). rw e (IsIn-append_right d cs (put by_id d ss) (IsIn-put_itself by_id d ss)))
           (λ (k : IsIn z (cs ++ ss)). ⊎_elim (λ (c : IsIn z cs). IsIn-append_left z cs (put by_id d ss) c) (λ (c : IsIn z ss). IsIn-append_right z cs (put by_id d ss) (IsIn-put by_id d z ss c)) (IsIn-append_cases z cs ss k))
           h;
       uses_are = taken_uses t ∙ ap uses (sym (taken_records t));

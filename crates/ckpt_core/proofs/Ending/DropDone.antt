@@ -24,9 +24,8 @@ savepoint_not_noted p sound r h =
     false_from_ne_true (is_noted (numbers (others p)) r) (λ (k : is_noted (numbers (others p)) r ≡ true).
     let q = IsIn-from_noted r (others p) k in
     ⊎_elim
-    (λ (a : IsIn q.0 p.pending). apart_between of_pending of_done apart (with_pins p.registry q.0) r (IsIn-map (with_pins p.registry) q.0 p.pending a) (IsIn-append_right r p.store.checkpoints p.store.savepoints h) (sym q.2))
-    (λ (b : IsIn q.0 p.store.checkpoints). apart_between p.store.checkpoints p.store.savepoints (apart_right of_pending of_done apart) q.0 r b h (sym q.2))
-    (IsIn-append_cases q.0 p.pending p.store.checkpoints q.1))
+    (λ a. apart_between of_pending of_done apart (with_pins p.registry q.0) r (IsIn-map (with_pins p.registry) q.0 p.pending a) (IsIn-append_right r p.store.checkpoints p.store.savepoints h) (sym q.2))
+    (λ b. apart_between p.store.checkpoints p.store.savepoints (apart_right of_pending of_done apart) q.0 r b h (sym q.2)) (IsIn-append_cases q.0 p.pending p.store.checkpoints q.1))
 
 noted_are_others : (p : Parts) → IsSound (state_of p) → AreGroups p.pending p.store.checkpoints p.store.savepoints → (r : Record) → IsIn r (records_in p) → is_noted (numbers (others p)) r ≡ (is_pending r || is_done_checkpoint r)
 noted_are_others p sound groups r h =
@@ -63,11 +62,11 @@ handed a ended = record a {
 }
 
 -- the parts before, with all numbers noted, without the pending records and the checkpoints
-abbrev pub emptied : Parts → List ℕ → ℕ → Vec ℕ Global → Parts
-emptied p noted spare ended = record p { pending = staying noted p.pending; store = record p.store { checkpoints = []; spare = spare }; ended = ended }
+abbrev pub down_to_savepoints : Parts → List ℕ → ℕ → Vec ℕ Global → Parts
+down_to_savepoints p noted spare ended = record p { pending = staying noted p.pending; store = record p.store { checkpoints = []; spare = spare }; ended = ended }
 
 pub others_dropped : (p a q : Parts) (noted : List ℕ) (n : ℕ) → AreTied p → IsSound (state_of p) → AreGroups p.pending p.store.checkpoints p.store.savepoints → noted ≡ numbers p.pending →
-    a ≡ emptied p noted a.store.spare a.ended → a.ended.items ≡ noted ++ numbers p.store.checkpoints →
+    a ≡ down_to_savepoints p noted a.store.spare a.ended → a.ended.items ≡ noted ++ numbers p.store.checkpoints →
     q ≡ handed a q.ended → q.ended.items ≡ [] → vec_capacity q.ended ≡ vec_capacity p.ended → n ≡ length (released a.registry (without a.ended.items a.registry)) →
     Drops p q (λ r. is_pending r || is_done_checkpoint r) n
 others_dropped p a q noted n tied sound groups noted_is a_is items q_is none capacity count =
@@ -81,14 +80,13 @@ others_dropped p a q noted n tied sound groups noted_is a_is items q_is none cap
     let second : [] ≡ staying ids p.store.checkpoints = sym (none_stays ids p.store.checkpoints (λ r h. is_other r (IsIn-append_right r p.pending p.store.checkpoints h))) in
     let third : p.store.savepoints ≡ staying ids p.store.savepoints =
     sym (filter-all (λ r. stays ids r.id) p.store.savepoints (λ r h. ap not (ap (λ xs. is_noted xs r) ids_are ∙ savepoint_not_noted p sound r h))) in
-    let same : handed (emptied p noted spare a.ended) q.ended ≡ left p ids spare q.ended =
-    ap (λ rs. record (handed (emptied p noted spare a.ended) q.ended) { pending = rs }) first
+    let same : handed (down_to_savepoints p noted spare a.ended) q.ended ≡ left p ids spare q.ended =
+    ap (λ rs. record (handed (down_to_savepoints p noted spare a.ended) q.ended) { pending = rs }) first
     ∙ ap (λ rs. record (left p ids spare q.ended) { store = record p.store { checkpoints = rs; spare = spare } }) second
     ∙ ap (λ rs. record (left p ids spare q.ended) { store = record p.store { checkpoints = staying ids p.store.checkpoints; savepoints = rs; spare = spare } }) third in
     let is : q ≡ left p ids spare q.ended = q_is ∙ ap (λ w. handed w q.ended) a_is ∙ same in
-    let counted : n ≡ length (released p.registry (without ids p.registry)) = count ∙ ap (λ us. length (released us (without ids us))) (ap (λ w. w.registry) a_is) in
     drops_same p q (is_noted ids) (λ r. is_pending r || is_done_checkpoint r) n (λ r h. ap (λ xs. is_noted xs r) ids_are ∙ noted_are_others p sound groups r h)
-    (drops_from p q ids spare n tied (apart_in p sound) is none capacity counted)
+    (drops_from p q ids spare n tied (apart_in p sound) is none capacity (count ∙ ap (λ us. length (released us (without ids us))) (ap (λ w. w.registry) a_is)))
 
 -- one savepoint
 
@@ -124,9 +122,8 @@ savepoint_dropped p a q id spare n tied sound there a_is items q_is none capacit
     ∙ ap (λ rs. record (left p a.ended.items spare q.ended) { store = record b.store { checkpoints = rs } }) (second ∙ ap (λ xs. staying xs p.store.checkpoints) (sym items))
     ∙ ap (λ rs. record (left p a.ended.items spare q.ended) { store = record b.store { checkpoints = staying a.ended.items p.store.checkpoints; savepoints = rs } }) (third ∙ ap (λ xs. staying xs p.store.savepoints) (sym items)) in
     let is : q ≡ left p a.ended.items spare q.ended = q_is ∙ ap (λ w. handed w q.ended) a_is ∙ same in
-    let counted : n ≡ length (released p.registry (without a.ended.items p.registry)) = count ∙ ap (λ us. length (released us (without a.ended.items us))) (ap (λ w. w.registry) a_is) in
     drops_same p q (is_noted a.ended.items) (λ r. eqb r.id id) n (λ r h. ap (λ xs. is_noted xs r) items ∙ one_noted id r)
-    (drops_from p q a.ended.items spare n tied apart is none capacity counted)
+    (drops_from p q a.ended.items spare n tied apart is none capacity (count ∙ ap (λ us. length (released us (without a.ended.items us))) (ap (λ w. w.registry) a_is)))
 
 at_least_one : (rs : List Record) (r : Record) → IsIn r rs → 1 ≤ length rs
 at_least_one [] r h = absurd h
@@ -156,22 +153,21 @@ done_is_other p ids id sound are there r h =
     ∙ ne_eqb r.id id (λ e. apart_between (map (with_pins p.registry) p.pending) (p.store.checkpoints ++ p.store.savepoints) (apart_in p sound) (with_pins p.registry s.0) r (IsIn-map (with_pins p.registry) s.0 p.pending s.1) h (s.2 ∙ sym e))
 
 -- the parts once a pending record is taken out
-abbrev pub taken_out : Parts → ℕ → Vec ℕ Global → Parts
-taken_out p id ended = record p { pending = filter (λ r. not (eqb r.id id)) p.pending; ended = ended }
+abbrev pub one_taken_out : Parts → ℕ → Vec ℕ Global → Parts
+one_taken_out p id ended = record p { pending = filter (λ r. not (eqb r.id id)) p.pending; ended = ended }
 
-pub pending_dropped : (p a q : Parts) (id n : ℕ) → AreTied p → IsSound (state_of p) → IsSome (find (λ r. eqb r.id id) p.pending) →
-    a ≡ taken_out p id a.ended → a.ended.items ≡ id ∷ [] →
+pub one_dropped : (p a q : Parts) (id n : ℕ) → AreTied p → IsSound (state_of p) → IsSome (find (λ r. eqb r.id id) p.pending) →
+    a ≡ one_taken_out p id a.ended → a.ended.items ≡ id ∷ [] →
     q ≡ handed a q.ended → q.ended.items ≡ [] → vec_capacity q.ended ≡ vec_capacity p.ended → n ≡ length (released a.registry (without a.ended.items a.registry)) →
     Drops p q (λ r. eqb r.id id) n
-pending_dropped p a q id n tied sound there a_is items q_is none capacity count =
+one_dropped p a q id n tied sound there a_is items q_is none capacity count =
     let ids : List ℕ = a.ended.items in
-    let b : Parts = taken_out p id a.ended in
+    let b : Parts = one_taken_out p id a.ended in
     let first : filter (λ r. not (eqb r.id id)) p.pending ≡ staying ids p.pending =
     filter-same (λ r. not (eqb r.id id)) (λ r. stays ids r.id) p.pending (λ r h. ap not (sym (ap (λ xs. is_noted xs r) items ∙ one_noted id r))) in
     let same : handed b q.ended ≡ left p ids p.store.spare q.ended =
     ap (λ rs. record (handed b q.ended) { pending = rs }) first
     ∙ ap (λ s. record (left p ids p.store.spare q.ended) { store = s }) (sym (staying_done p ids (done_is_other p ids id sound items there))) in
     let is : q ≡ left p ids p.store.spare q.ended = q_is ∙ ap (λ w. handed w q.ended) a_is ∙ same in
-    let counted : n ≡ length (released p.registry (without ids p.registry)) = count ∙ ap (λ us. length (released us (without ids us))) (ap (λ w. w.registry) a_is) in
     drops_same p q (is_noted ids) (λ r. eqb r.id id) n (λ r h. ap (λ xs. is_noted xs r) items ∙ one_noted id r)
-    (drops_from p q ids p.store.spare n tied (apart_in p sound) is none capacity counted)
+    (drops_from p q ids p.store.spare n tied (apart_in p sound) is none capacity (count ∙ ap (λ us. length (released us (without ids us))) (ap (λ w. w.registry) a_is)))

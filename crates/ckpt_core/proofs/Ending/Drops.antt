@@ -1,8 +1,8 @@
 -- What a drop by number does to the parts, and to the state that they stand for.
 use Rattle.ckpt_core.proofs.Names.{◌≡◌, ℕ, ◌+◌, ◌-◌, ◌≤◌, Bool, true, false, not, ltb, eqb, List, [], ◌++◌, map, length, refl, sym, ap, subst, ◌∙◌, ⊎_elim, arith, None, filter, list_any, vec_capacity}
-use Rattle.ckpt_core.proofs.Names.{Vec, Global, cases_Bool, both_ways, eqb-true, eq-eqb, lt-ltb, ltb-true, not_from_true, not_from_false, false_from_ne_true, length-filter_both, ascending_set, IsIn}
-use Rattle.ckpt_core.proofs.Names.{Record, Use, uses, count, is_present, released, numbers_in_order, IsIn-append_left, IsIn-append_right, IsIn-append_cases, IsIn-map, IsIn-from_map, IsIn-filter}
-use Rattle.ckpt_core.proofs.Names.{IsIn-from_filter, IsInOrder-filter, IsInOrder-in_order_once, IsIn-in_order_once, IsIn-from_in_order_once, IsIn-from_in_order, same_from_members, list_any-from_IsIn}
+use Rattle.ckpt_core.proofs.Names.{Vec, Global, eqb-true, eq-eqb, lt-ltb, ltb-true, not_from_true, not_from_false, false_from_ne_true, length-filter_both, ascending_set, IsIn, Record, Use, uses}
+use Rattle.ckpt_core.proofs.Names.{count, is_present, released, numbers_in_order, IsIn-append_left, IsIn-append_right, IsIn-append_cases, IsIn-map, IsIn-from_map, IsIn-filter, IsIn-from_filter}
+use Rattle.ckpt_core.proofs.Names.{IsInOrder-filter, IsInOrder-in_order_once, IsIn-in_order_once, IsIn-from_in_order_once, IsIn-from_in_order, same_from_members, list_any-from_IsIn}
 use Rattle.ckpt_core.proofs.Names.{IsIn-from_list_any, filter-all, filter-same, is_known, IsPending, without, IsStored, Parts, with_pins, grouped, AreTied, AreSound, Drops, is_noted, records_in}
 use Rattle.ckpt_core.proofs.Names.{state_of, present_in, IsSound, id_before, State, drop, kept, released_by, unpinned, is_pending, map_itself, counted-from_IsIn, IsIn-from_counted, common_steps}
 use Rattle.ckpt_core.proofs.Records.Grouped.{AreApart, apart-from_in_order, apart_between}
@@ -26,13 +26,11 @@ present_after before after fewer =
     let back : (f : ℕ) → IsIn f (filter (is_present after) all) → IsIn f (ascending_set (map file after)) = λ f h.
     let k = IsIn-from_filter (is_present after) f all h in
     let q = IsIn-from_counted (of_file f) after (ltb-true 0 (count after f) k.1) in
-    let P : ℕ → Type 0 = λ g. IsIn g (ascending_set (map file after)) in
-    subst P (eqb-true q.0.file f q.2) (IsIn-in_order_once numbers_in_order q.0.file (map file after) (IsIn-map file q.0 after q.1)) in
+    rw (eqb-true q.0.file f q.2) at (IsIn-in_order_once numbers_in_order q.0.file (map file after) (IsIn-map file q.0 after q.1)) in
     let same : ascending_set (map file after) ≡ filter (is_present after) all =
     same_from_members numbers_in_order (ascending_set (map file after)) (filter (is_present after) all)
     (IsInOrder-in_order_once numbers_in_order (map file after)) (IsInOrder-filter ltb (is_present after) all (IsInOrder-in_order_once numbers_in_order (map file before))) there back in
-    let both : length (filter (is_present after) all) + length (released before after) ≡ length all = length-filter_both (is_present after) (λ f. not (is_present after f)) (λ f. refl) all in
-    omega (arith, ap length same, both)
+    omega (arith, ap length same, length-filter_both (is_present after) (λ f. not (is_present after f)) (λ f. refl) all)
 
 -- a drop by number
 
@@ -75,11 +73,7 @@ left_released p ids e = ap (λ us. released us (without ids p.registry)) e ∙ a
 
 pub left_state : (p : Parts) (ids : List ℕ) (spare : ℕ) (ended : Vec ℕ Global) → AreTied p → AreApart (grouped p.registry p.pending p.store.checkpoints p.store.savepoints) → state_of (left p ids spare ended) ≡ drop (state_of p) (is_noted ids) None
 unfolding state_of drop
-left_state p ids spare ended tied apart =
-    let a : records_in (left p ids spare ended) ≡ kept (is_noted ids) None (records_in p) = left_records p ids spare ended apart in
-    let b : released p.registry (without ids p.registry) ≡ released (uses (records_in p)) (uses (kept (is_noted ids) None (records_in p))) = left_released p ids tied.uses_are in
-    ap (λ rs. record (state_of (left p ids spare ended)) { records = rs }) a
-    ∙ ap (λ fs. record (state_of p) { records = kept (is_noted ids) None (records_in p); waiting = p.outbox.waiting ++ fs }) b
+left_state p ids spare ended tied apart = rw (left_records p ids spare ended apart, left_released p ids tied.uses_are)
 
 pub left_tied : (p : Parts) (ids : List ℕ) (spare : ℕ) (ended : Vec ℕ Global) → AreTied p → AreApart (grouped p.registry p.pending p.store.checkpoints p.store.savepoints) → length (records_in p) ≤ vec_capacity ended → AreTied (left p ids spare ended)
 left_tied p ids spare ended tied apart room =
@@ -136,20 +130,15 @@ none_known p tied sound f h = grind (arith, common_steps)
 -- the parts after: by name
 pub drops_from : (p q : Parts) (ids : List ℕ) (spare n : ℕ) → AreTied p → AreApart (grouped p.registry p.pending p.store.checkpoints p.store.savepoints) → q ≡ left p ids spare q.ended → q.ended.items ≡ [] → vec_capacity q.ended ≡ vec_capacity p.ended →
     n ≡ length (released p.registry (without ids p.registry)) → Drops p q (is_noted ids) n
-drops_from p q ids spare n tied apart is none capacity count =
-    let room : length (records_in p) ≤ vec_capacity q.ended = omega (arith, tied.room, capacity) in
-    let P : Parts → Type 0 = λ x. Drops p x (is_noted ids) (length (released p.registry (without ids p.registry))) in
-    let Q : ℕ → Type 0 = λ k. Drops p q (is_noted ids) k in
-    subst Q (sym count) (subst P (sym is) (left_drops p ids spare q.ended tied apart none room))
+drops_from p q ids spare n tied apart is none capacity count = rw count (rw is (left_drops p ids spare q.ended tied apart none (omega (arith, tied.room, capacity))))
 
 -- if no done record is noted, those stay as they are
 pub staying_done : (p : Parts) (ids : List ℕ) → ((r : Record) → IsIn r (p.store.checkpoints ++ p.store.savepoints) → is_noted ids r ≡ false) →
     record p.store { checkpoints = staying ids p.store.checkpoints; savepoints = staying ids p.store.savepoints } ≡ p.store
 staying_done p ids none =
     let a : staying ids p.store.checkpoints ≡ p.store.checkpoints = filter-all (λ r. stays ids r.id) p.store.checkpoints (λ r h. ap not (none r (IsIn-append_left r p.store.checkpoints p.store.savepoints h))) in
-    let b : staying ids p.store.savepoints ≡ p.store.savepoints = filter-all (λ r. stays ids r.id) p.store.savepoints (λ r h. ap not (none r (IsIn-append_right r p.store.checkpoints p.store.savepoints h))) in
     ap (λ rs. record p.store { checkpoints = rs; savepoints = staying ids p.store.savepoints }) a
-    ∙ ap (λ rs. record p.store { savepoints = rs }) b
+    ∙ ap (λ rs. record p.store { savepoints = rs }) (filter-all (λ r. stays ids r.id) p.store.savepoints (λ r h. ap not (none r (IsIn-append_right r p.store.checkpoints p.store.savepoints h))))
 
 -- the numbers of some of the records
 

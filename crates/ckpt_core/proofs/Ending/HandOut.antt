@@ -1,6 +1,6 @@
 -- Released files can be put into the outbox. It has reserved room for all files in use. No file is there twice, and the outbox knows none.
-use Rattle.ckpt_core.proofs.Names.{◌≡◌, ℕ, ◌≤◌, Bool, true, false, not, eqb, List, [], map, length, ltb, refl, sym, ap, subst, ◌∙◌, arith, lt-ltb, eq-eqb, length-filter, count_by-le-length, IsIn}
-use Rattle.ckpt_core.proofs.Names.{AreDistinct, ascending_set, Use, count, is_present, released, Queues, is_in, is_known, present_in, ascending-released, before-from_released, counted-from_IsIn}
+use Rattle.ckpt_core.proofs.Names.{◌≡◌, ℕ, ◌≤◌, true, false, not, eqb, List, [], map, length, ltb, refl, ap, ◌∙◌, arith, lt-ltb, eq-eqb, length-filter, count_by-le-length, IsIn, AreDistinct}
+use Rattle.ckpt_core.proofs.Names.{ascending_set, Use, count, is_present, released, Queues, is_in, is_known, present_in, ascending-released, before-from_released, counted-from_IsIn}
 use Rattle.ckpt_core.proofs.Names.{AreDistinct-from_order, IsIn-from_in_order_once, IsIn-from_map, filter-none, IsIn-from_test, numbers_in_order, common_steps}
 
 -- there are at most as many released files as files that were present

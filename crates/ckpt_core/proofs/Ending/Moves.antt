@@ -1,19 +1,19 @@
 -- What the parts become when records end by a call, and the step of the state that this is.
-use Rattle.ckpt_core.proofs.Names.{◌≡◌, ℕ, ◌+◌, ◌<◌, ◌≤◌, max, Bool, true, false, not, ltb, eqb, List, [], ◌++◌, map, length, refl, sym, ap, subst, ◌∙◌, ⊎_elim, arith, Some, None, find, IsTrue, ◌↔◌}
-use Rattle.ckpt_core.proofs.Names.{sameb, option_map, cases_Bool, both_ways, cond-true, cond-false, false_from_ne_true, lt-ltb, ltb-true, SubtaskId, the_type, Kind, Call, Target, Choice, Reply, Done}
-use Rattle.ckpt_core.proofs.Names.{IsIn, IsInOrder, Record, IsIn-append_left, IsIn-map, IsIn-in_order, FailureCount, Moments, gap, IsStored, Stored, Mode, Running, Failed, Cancelled, Parts, with_pins}
-use Rattle.ckpt_core.proofs.Names.{grouped, Answers, AreTied, AreSound, Drops, IsAccepted, records_in, state_of, refusal, pending_of, is_done_savepoint, IsSound, id_before, State, choice_of}
-use Rattle.ckpt_core.proofs.Names.{choice_from, last_checkpoint, drop, kept, released_by, unpinned, is_pending, Stepped, effect, failures_with, fails_the_job, decline, decline_pending, dispose}
-use Rattle.ckpt_core.proofs.Names.{dropping, failed_over, restarted, restore, rolled_back, with_base, cancel, cancelled, dropped_by, IsIn-from_find, in_order-changed, step_accepted, common_steps}
+use Rattle.ckpt_core.proofs.Names.{◌≡◌, ℕ, ◌+◌, ◌<◌, ◌≤◌, max, Bool, true, false, ltb, eqb, List, [], ◌++◌, map, length, refl, sym, ap, subst, ◌∙◌, arith, Some, None, find, IsTrue, ◌↔◌, sameb}
+use Rattle.ckpt_core.proofs.Names.{both_ways, cond-true, cond-false, SubtaskId, the_type, Kind, Call, Target, Choice, Reply, Done, IsIn, IsInOrder, Record, IsIn-append_left, IsIn-map, IsIn-in_order}
+use Rattle.ckpt_core.proofs.Names.{FailureCount, Moments, gap, IsStored, Stored, Mode, Running, Failed, Cancelled, Parts, with_pins, grouped, Answers, AreTied, AreSound, Drops, IsAccepted, records_in}
+use Rattle.ckpt_core.proofs.Names.{state_of, refusal, pending_of, is_done_savepoint, IsSound, id_before, State, choice_of, drop, released_by, is_pending, Stepped, effect, failures_with, fails_the_job}
+use Rattle.ckpt_core.proofs.Names.{decline, decline_pending, dispose, dropping, failed_over, restarted, restore, rolled_back, with_base, cancel, cancelled, dropped_by, IsIn-from_find}
+use Rattle.ckpt_core.proofs.Names.{in_order-changed, step_accepted, common_steps}
+use Rattle.ckpt_core.proofs.Ending.Drops.{apart_in}
+use Rattle.ckpt_core.proofs.Records.Grouped.{apart-from_in_order}
+use Rattle.ckpt_core.proofs.Records.GroupLookups.{last_id-greatest, last_checkpoint-groups}
+use Rattle.ckpt_core.proofs.Records.Lookups.{AreGroups, has_number, pending_of-groups}
 use Rattle.ckpt_ids.specs.declared.numbers.Kind.TheVariants as kind
 use Rattle.ckpt_ids.specs.declared.call.Call.TheVariants as call
 use Rattle.ckpt_ids.specs.declared.call.Target.TheVariants as target
 use Rattle.ckpt_ids.specs.declared.reply.Reply.TheVariants as reply
 use Rattle.ckpt_store.specs.Storing as storing
-use Rattle.ckpt_core.proofs.Ending.Drops.{apart_in}
-use Rattle.ckpt_core.proofs.Records.Grouped.{apart-from_in_order}
-use Rattle.ckpt_core.proofs.Records.GroupLookups.{last_id-greatest, last_checkpoint-groups}
-use Rattle.ckpt_core.proofs.Records.Lookups.{AreGroups, has_number, pending_of-groups}
 
 -- a state and a number, by what they are equal to
 pub answered : (say : ℕ → Reply) (s t : State) (k n : ℕ) → t ≡ s → n ≡ k → (let x : Stepped = (s, Done (say k)) in x) ≡ (t, Done (say n))
@@ -27,10 +27,10 @@ disposed_answers p q id n accepted d = grind (arith, common_steps, answered, ste
 
 -- a subtask declines
 
-pub late_answers : (p : Parts) (now id : ℕ) (subtask : SubtaskId) → AreSound p → IsAccepted p (call.Decline now id subtask) → pending_of (records_in p) id ≡ None →
+pub late_declined : (p : Parts) (now id : ℕ) (subtask : SubtaskId) → AreSound p → IsAccepted p (call.Decline now id subtask) → pending_of (records_in p) id ≡ None →
     Answers p (record p { clock = record p.clock { latest = max now p.clock.latest } }) (call.Decline now id subtask) reply.DeclineLate
 unfolding state_of effect decline
-late_answers p now id subtask sound accepted none = record {
+late_declined p now id subtask sound accepted none = record {
   step_is = step_accepted (state_of p) (call.Decline now id subtask) accepted ∙ ap (decline (record (state_of p) { latest = max now p.clock.latest })) none;
   tied = record { uses_are = sound.tied.uses_are; retained = sound.tied.retained; tolerable = sound.tied.tolerable; spare = sound.tied.spare; room = sound.tied.room };
   none_ended = sound.none_ended;
@@ -244,8 +244,7 @@ pub based_sound : (p : Parts) (id : ℕ) (store : Stored) → AreSound p → is_
 unfolding state_of
 based_sound p id store sound there is =
     let t = sound.tied in
-    let P : Stored → Type 0 = λ s. AreSound (record p { store = s }) in
-    subst P (sym is) (record {
+    rw is (record {
       tied = record { uses_are = t.uses_are; retained = t.retained; tolerable = t.tolerable; spare = t.spare; room = t.room };
       sound = based_is_sound (state_of p) id sound.sound there;
       none_ended = sound.none_ended;
@@ -276,5 +275,4 @@ pub cancelled_answers : (p q : Parts) (now k n : ℕ) (clock : Moments) (store :
 cancelled_answers p q now k n clock store accepted d count ticks freed =
     let same : record q { clock = clock; store = store; mode = Cancelled } ≡ ceased q now =
     ap (λ c. record q { clock = c; store = store; mode = Cancelled }) ticks ∙ ap (λ s. record (ceased q now) { store = s }) freed in
-    let P : Parts → Type 0 = λ x. Answers p x (call.Cancel now) (reply.Cancelled k n) in
-    subst P (sym same) (ceased_answers p q now k n accepted d count)
+    rw same (ceased_answers p q now k n accepted d count)

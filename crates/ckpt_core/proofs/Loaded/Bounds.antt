@@ -1,5 +1,5 @@
 -- What a list of sound records bounds: how many they are, and how often they use a file.
-use Rattle.ckpt_core.proofs.Names.{ℕ, ◌*◌, ◌<◌, ◌≤◌, List, length, arith, IsWithinLimits, Record, uses, count, limit, Opening, AreSoundRecords, common_steps}
+use Rattle.ckpt_core.proofs.Names.{ℕ, ◌<◌, ◌≤◌, List, length, arith, IsWithinLimits, Record, uses, count, Opening, AreSoundRecords, common_steps}
 use Rattle.ckpt_core.proofs.Triggering.TriggerParts.{three_kinds, limit_bound}
 use Rattle.ckpt_core.proofs.Using.CountBound.{count-records}
 
@@ -7,7 +7,4 @@ pub few_records : {o : Opening} {next : ℕ} (rs : List Record) → IsWithinLimi
 few_records {o} {next} rs config s = grind (arith, common_steps, limit_bound, three_kinds)
 
 pub few_uses : {o : Opening} {next : ℕ} (rs : List Record) → IsWithinLimits o.config → AreSoundRecords o next rs → (f : ℕ) → count (uses rs) f < 4294967295
-few_uses rs config s f =
-    let few : length rs ≤ 2064 = few_records rs config s in
-    let le : count (uses rs) f ≤ 4097 * length rs = count-records f rs s.each in
-    omega arith
+few_uses rs config s f = omega (arith, count-records f rs s.each, few_records rs config s)

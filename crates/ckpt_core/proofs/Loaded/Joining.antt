@@ -1,8 +1,8 @@
 -- When a list of sound records stays sound with one more, and that a prefix of sound records is sound.
-use Rattle.ckpt_core.proofs.Names.{◌≡◌, ℕ, ◌<◌, ◌≤◌, ◌^◌, Bool, true, false, not, List, [], ◌∷◌, ◌++◌, refl, sym, subst, inl, inr, ⊎_elim, arith, count_by, cases_Bool, cases_lt, both_ways, and_parts}
-use Rattle.ckpt_core.proofs.Names.{not-true, ltb-true, lt-ltb, IsIn, ComesBefore, IsInOrder, Record, count_by-append, count_by_no, count_by_yes, counted-from_IsIn, IsIn-from_counted, ComesBefore-at}
-use Rattle.ckpt_core.proofs.Names.{IsIn-append_left, IsIn-append_right, IsIn-append_cases, IsInOrder-append, only_one, limit, Opening, is_checkpoint, is_pending, is_done_checkpoint, IsRecord}
-use Rattle.ckpt_core.proofs.Names.{id_before, AreSoundRecords, is_pending_checkpoint, Joins, common_steps}
+use Rattle.ckpt_core.proofs.Names.{◌≡◌, ℕ, ◌<◌, ◌≤◌, ◌^◌, Bool, true, not, List, [], ◌∷◌, ◌++◌, refl, sym, subst, inl, inr, ⊎_elim, arith, count_by, cases_lt, both_ways, and_parts, not-true, ltb-true}
+use Rattle.ckpt_core.proofs.Names.{lt-ltb, IsIn, ComesBefore, IsInOrder, Record, count_by-append, count_by_yes, counted-from_IsIn, IsIn-from_counted, ComesBefore-at, IsIn-append_left}
+use Rattle.ckpt_core.proofs.Names.{IsIn-append_right, IsIn-append_cases, IsInOrder-append, only_one, limit, Opening, is_checkpoint, is_pending, is_done_checkpoint, IsRecord, id_before}
+use Rattle.ckpt_core.proofs.Names.{AreSoundRecords, is_pending_checkpoint, Joins, common_steps}
 
 with_last : (P : Record → Type 0) (rs : List Record) (r : Record) → ((x : Record) → IsIn x rs → P x) → P r → (x : Record) → IsIn x (rs ++ r ∷ []) → P x
 with_last P rs r old last x h =
@@ -27,16 +27,10 @@ joined_records {o} {next} {rs} {r} s j = record {
   savepoints_to = at_most (λ x. not (is_checkpoint x)) rs r 1000 s.savepoints_to j.savepoints;
   newer = λ x y h k p d.
       let old_done : IsIn y rs → y.id < x.id = λ (i : IsIn y rs).
-      ⊎_elim
-      (λ (a : IsIn x rs). s.newer x y a i p d)
-      (λ (a : IsIn x (r ∷ [])). let P : Record → Type 0 = λ z. y.id < z.id in subst P (sym (only_one x r a)) (j.above y i))
-      (IsIn-append_cases x rs (r ∷ []) h) in
+      ⊎_elim (λ a. s.newer x y a i p d) (λ a. rw (only_one x r a) (j.above y i)) (IsIn-append_cases x rs (r ∷ []) h) in
       let new_done : IsIn y (r ∷ []) → y.id < x.id = λ (i : IsIn y (r ∷ [])).
-      let D : Record → Type 0 = λ z. is_done_checkpoint z ≡ true in
-      let its : is_done_checkpoint r ≡ true = subst D (only_one y r i) d in
-      ⊎_elim
-      (λ (a : IsIn x rs). absurd (omega (arith, j.newer its, counted-from_IsIn is_pending_checkpoint x rs a p)))
-      (λ (a : IsIn x (r ∷ [])). let Q : Record → Type 0 = λ z. is_pending_checkpoint z ≡ true in absurd (not_both r (subst Q (only_one x r a) p) its))
+      let its : is_done_checkpoint r ≡ true = rw (only_one y r i) at d in
+      ⊎_elim (λ a. absurd (omega (arith, j.newer its, counted-from_IsIn is_pending_checkpoint x rs a p))) (λ a. absurd (not_both r (rw (only_one x r a) at p) its))
       (IsIn-append_cases x rs (r ∷ []) h) in
       ⊎_elim old_done new_done (IsIn-append_cases y rs (r ∷ []) k);
 }
@@ -44,8 +38,7 @@ joined_records {o} {next} {rs} {r} s j = record {
 before_last : (rs : List Record) (r x : Record) → IsInOrder id_before (rs ++ r ∷ []) → IsIn x rs → id_before x r ≡ true
 before_last [] r x order h = absurd h
 before_last (y ∷ rs) r x order (inl e) =
-    let P : Record → Type 0 = λ z. id_before z r ≡ true in
-    subst P (sym e) (ComesBefore-at id_before y r (rs ++ r ∷ []) order.0 (IsIn-append_right r rs (r ∷ []) (inl refl)))
+    rw e (ComesBefore-at id_before y r (rs ++ r ∷ []) order.0 (IsIn-append_right r rs (r ∷ []) (inl refl)))
 before_last (y ∷ rs) r x order (inr h) = before_last rs r x order.1 h
 
 fewer : (p : Record → Bool) (rs : List Record) (r : Record) (n : ℕ) → count_by p (rs ++ r ∷ []) ≤ n → p r ≡ true → count_by p rs < n

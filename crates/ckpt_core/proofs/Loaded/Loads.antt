@@ -2,7 +2,7 @@
 use Rattle.ckpt_core.proofs.Names.{◌≡◌, ℕ, ◌<◌, Bool, true, false, not, ◌&&◌, leb, List, length, refl, sym, ap, subst, ◌∙◌, arith, Option, Some, None, count_by, find, is_some, option_map, both_ways}
 use Rattle.ckpt_core.proofs.Names.{and_left, and_right, leb-false, IsIn, Record, Use, missing, count_by-none, count_by-all, missing_from_full, IsPending, pending_record, limit, Saved, Parts, Live}
 use Rattle.ckpt_core.proofs.Names.{record_in, records_of, IsMade, with_done, records_in, state_of, HasRoom, NamesEachOnce, is_pending_checkpoint, IsRecord, live_of, Opening, is_checkpoint}
-use Rattle.ckpt_core.proofs.Names.{is_done_checkpoint, is_pending, IsIn-from_find, fails-from_find, is_checkpoint-kind, is_savepoint-kind, common_steps}
+use Rattle.ckpt_core.proofs.Names.{is_done_checkpoint, IsIn-from_find, fails-from_find, is_checkpoint-kind, is_savepoint-kind, common_steps}
 use Rattle.ckpt_core.proofs.Reading.Live.{is_from}
 use Rattle.ckpt_core.proofs.Records.Lookups.{AreGroups, count_by-records_of}
 
@@ -48,15 +48,13 @@ pub pending_is_record : (s : Saved) (made : Record) → IsMade made s → IsPend
 pending_is_record s made e pending lacks once not_done =
     let m = s.metadata in
     let p = made_pending s made e pending in
-    let L : Record → Type 0 = λ r. 0 < missing r in
-    let lacking : 0 < missing (pending_record m.id m.kind m.shape m.started m.acks) = subst L e lacks in
     record {
       shape = p.has_shape;
       acks_in_order = p.in_order;
       acks_of_subtasks = p.expected;
       files = once.files;
       pins = once.pins;
-      pending = λ yes. lacking;
+      pending = λ yes. (rw e at lacks);
       full = λ is_done. absurd (both_ways m.done not_done is_done);
       unpinned = λ is_done. absurd (both_ways m.done not_done is_done);
     }

@@ -1,10 +1,9 @@
 -- A coordinator that is made from an image, step by step: what the state says about the parts, and which states are possible.
 use Rattle.ckpt_core.proofs.Names.{◌≡◌, ◌≢◌, ℕ, ◌+◌, ◌-◌, ◌<◌, Bool, true, ◌||◌, List, [], ◌∷◌, ◌++◌, length, map, take, get_or, refl, sym, ap, subst, ◌∙◌, inl, ⊎_elim, Option, Some, arith, both_ways}
-use Rattle.ckpt_core.proofs.Names.{append_assoc, length-append, take-append-drop, take_more, IsWithinLimits, AreDistinct, IsIn, Record, Use, is_present, uses, IsShape, AreDistinct-apart}
-use Rattle.ckpt_core.proofs.Names.{AreDistinct-left, AreDistinct-right, IsIn-append_cases, IsIn-append_left, IsIn-append_right, IsIn-from_in_order, IsIn-in_order, IsIn-map, IsIn-from_test, Queues}
-use Rattle.ckpt_core.proofs.Names.{is_in, IsPending, IsStored, Stored, Running, Parts, Saved, CanHold, HasSoundNumbers, record_in, state_in, grouped, with_pins, AreFilesApart, emptied}
-use Rattle.ckpt_core.proofs.Names.{with_more_waiting, opening_of, records_in, state_of, Joins, AreSoundRecords, id_before, is_done_savepoint, Opening, State, Image, outbox_of, sound_from}
-use Rattle.ckpt_core.proofs.Names.{common_steps}
+use Rattle.ckpt_core.proofs.Names.{append_assoc, take-append-drop, take_more, IsWithinLimits, AreDistinct, IsIn, Record, Use, is_present, uses, IsShape, AreDistinct-apart, AreDistinct-left}
+use Rattle.ckpt_core.proofs.Names.{AreDistinct-right, IsIn-append_cases, IsIn-append_left, IsIn-append_right, IsIn-from_in_order, IsIn-in_order, IsIn-map, IsIn-from_test, Queues, is_in, IsPending}
+use Rattle.ckpt_core.proofs.Names.{IsStored, Stored, Running, Parts, Saved, CanHold, HasSoundNumbers, record_in, state_in, grouped, with_pins, AreFilesApart, emptied, with_more_waiting, opening_of}
+use Rattle.ckpt_core.proofs.Names.{records_in, state_of, Joins, AreSoundRecords, id_before, is_done_savepoint, Opening, State, Image, outbox_of, sound_from, common_steps}
 use Rattle.std.proofs.Common.{drop}
 use Rattle.ckpt_core.proofs.Ending.Drops.{groups_of}
 use Rattle.ckpt_core.proofs.Loaded.Joining.{joins_from_sound, sound_front}
@@ -50,15 +49,12 @@ joins_before {p} {q} {rs} r b j = grind (arith, common_steps)
 
 -- one record more
 pub more_beside : (p q n : Parts) (rs : List Record) (r : Record) → state_of q ≡ record (state_of p) { records = rs } → state_of n ≡ record (state_of q) { records = records_in q ++ r ∷ [] } → state_of n ≡ record (state_of p) { records = rs ++ r ∷ [] }
-more_beside p q n rs r e f =
-    let b : IsBeside p q rs = beside p q rs e in
-    f ∙ ap (λ (s : State). record s { records = records_in q ++ r ∷ [] }) e ∙ ap (λ xs. record (state_of p) { records = xs ++ r ∷ [] }) b.records
+more_beside p q n rs r e f = f ∙ ap (λ (s : State). record s { records = records_in q ++ r ∷ [] }) e ∙ ap (λ xs. record (state_of p) { records = xs ++ r ∷ [] }) (beside p q rs e).records
 
 -- each of a list's sound records joins those before it
 pub joins_in_list : {o : Opening} {next : ℕ} (xs ys : List Record) (r : Record) → AreSoundRecords o next (xs ++ r ∷ ys) → Joins o next xs r
 joins_in_list {o} {next} xs ys r s =
-    let S : List Record → Type 0 = AreSoundRecords o next in
-    joins_from_sound (sound_front (xs ++ r ∷ []) ys (subst S (split xs) s))
+    joins_from_sound (sound_front (xs ++ r ∷ []) ys (subst (AreSoundRecords o next) (split xs) s))
   where
     split : (zs : List Record) → zs ++ r ∷ ys ≡ (zs ++ r ∷ []) ++ ys
     split [] = refl
@@ -89,24 +85,13 @@ files_held h = let o = outbox_of h.sound in record { unused = o.unused; apart = 
 -- two states with the same parts
 pub state_same : (a b : State) → a.opening ≡ b.opening → a.shape ≡ b.shape → a.mode ≡ b.mode → a.latest ≡ b.latest → a.due ≡ b.due → a.completed ≡ b.completed → a.failures ≡ b.failures → a.next ≡ b.next → a.base ≡ b.base → a.records ≡ b.records → a.waiting ≡ b.waiting → a.taken ≡ b.taken → a ≡ b
 state_same a b e_opening e_shape e_mode e_latest e_due e_completed e_failures e_next e_base e_records e_waiting e_taken =
-    ap (λ x. record a { opening = x }) e_opening
-    ∙ ap (λ x. record a { opening = b.opening; shape = x }) e_shape
-    ∙ ap (λ x. record a { opening = b.opening; shape = b.shape; mode = x }) e_mode
-    ∙ ap (λ x. record a { opening = b.opening; shape = b.shape; mode = b.mode; latest = x }) e_latest
-    ∙ ap (λ x. record a { opening = b.opening; shape = b.shape; mode = b.mode; latest = b.latest; due = x }) e_due
-    ∙ ap (λ x. record a { opening = b.opening; shape = b.shape; mode = b.mode; latest = b.latest; due = b.due; completed = x }) e_completed
-    ∙ ap (λ x. record a { opening = b.opening; shape = b.shape; mode = b.mode; latest = b.latest; due = b.due; completed = b.completed; failures = x }) e_failures
-    ∙ ap (λ x. record a { opening = b.opening; shape = b.shape; mode = b.mode; latest = b.latest; due = b.due; completed = b.completed; failures = b.failures; next = x }) e_next
-    ∙ ap (λ x. record a { opening = b.opening; shape = b.shape; mode = b.mode; latest = b.latest; due = b.due; completed = b.completed; failures = b.failures; next = b.next; base = x }) e_base
-    ∙ ap (λ x. record a { opening = b.opening; shape = b.shape; mode = b.mode; latest = b.latest; due = b.due; completed = b.completed; failures = b.failures; next = b.next; base = b.base; records = x }) e_records
-    ∙ ap (λ x. record a { opening = b.opening; shape = b.shape; mode = b.mode; latest = b.latest; due = b.due; completed = b.completed; failures = b.failures; next = b.next; base = b.base; records = b.records; waiting = x }) e_waiting
-    ∙ ap (λ x. record a { opening = b.opening; shape = b.shape; mode = b.mode; latest = b.latest; due = b.due; completed = b.completed; failures = b.failures; next = b.next; base = b.base; records = b.records; waiting = b.waiting; taken = x }) e_taken
+    rw (e_opening, e_shape, e_mode, e_latest, e_due, e_completed, e_failures, e_next, e_base, e_records, e_waiting, e_taken)
 
 -- the base
 
-pub with_base : (p : Parts) (b : Option ℕ) → p.store.base ≡ b → state_of p ≡ record (state_of p) { base = b }
+pub base_state : (p : Parts) (b : Option ℕ) → p.store.base ≡ b → state_of p ≡ record (state_of p) { base = b }
 unfolding state_of
-with_base p b e = ap (λ x. record (state_of p) { base = x }) e
+base_state p b e = ap (λ x. record (state_of p) { base = x }) e
 
 pub set_state : (p : Parts) (s : Stored) (b : Option ℕ) → s ≡ record p.store { base = b } → state_of (record p { store = s }) ≡ record (state_of p) { base = b }
 unfolding state_of
@@ -119,8 +104,7 @@ all_done p r pending stored none h =
     let us = p.registry in
     let rest : List Record = p.store.checkpoints ++ p.store.savepoints in
     let empty : p.pending ≡ [] = no_items p.pending none in
-    let P : List Record → Type 0 = λ xs. IsIn r (map (with_pins us) xs ++ rest) in
-    done_in (groups_of p pending stored) r (subst P empty (IsIn-from_in_order id_before r (grouped us p.pending p.store.checkpoints p.store.savepoints) h))
+    done_in (groups_of p pending stored) r (rw empty at (IsIn-from_in_order id_before r (grouped us p.pending p.store.checkpoints p.store.savepoints) h))
   where
     no_items : (xs : List Record) → length xs ≡ 0 → xs ≡ []
     no_items [] e = refl
@@ -148,16 +132,12 @@ pub known_twice : (us : List Use) (waiting files taken : List ℕ) (i f : ℕ) �
 known_twice us waiting files taken i f within at known a =
     let rest : List ℕ = drop (i + 1) files in
     let split : files ≡ take i files ++ f ∷ rest = sym (take-append-drop (i + 1) files) ∙ ap (λ ys. ys ++ rest) (take_more files i f within ∙ ap (λ z. take i files ++ z ∷ []) (sym at)) ∙ append_assoc (take i files) (f ∷ []) rest in
-    let P : List ℕ → Type 0 = λ xs. IsIn f xs in
-    let here : IsIn f files = subst P (sym split) (IsIn-append_right f (take i files) (f ∷ rest) (inl refl)) in
+    let here : IsIn f files = rw split (IsIn-append_right f (take i files) (f ∷ rest) (inl refl)) in
     let there : IsIn f ((waiting ++ files) ++ taken) = IsIn-append_left f (waiting ++ files) taken (IsIn-append_right f waiting files here) in
     let distinct : AreDistinct (waiting ++ files) = AreDistinct-left (waiting ++ files) taken a.apart in
-    let D : List ℕ → Type 0 = λ xs. AreDistinct xs in
-    let seam : AreDistinct ((waiting ++ take i files) ++ f ∷ rest) = subst D (ap (λ xs. waiting ++ xs) split ∙ sym (append_assoc waiting (take i files) (f ∷ rest))) distinct in
+    let seam : AreDistinct ((waiting ++ take i files) ++ f ∷ rest) = rw (ap (λ xs. waiting ++ xs) split ∙ sym (append_assoc waiting (take i files) (f ∷ rest))) at distinct in
     let unknown : is_in f ((waiting ++ take i files) ++ taken) ≡ true = subst (λ (b : Bool). (b || is_in f ((waiting ++ take i files) ++ taken)) ≡ true) (a.unused f there) known in
-    ⊎_elim
-    (λ (k : IsIn f (waiting ++ take i files)). AreDistinct-apart (waiting ++ take i files) (f ∷ rest) seam f k (inl refl))
-    (λ (k : IsIn f taken). AreDistinct-apart (waiting ++ files) taken a.apart f (IsIn-append_right f waiting files here) k)
+    ⊎_elim (λ k. AreDistinct-apart (waiting ++ take i files) (f ∷ rest) seam f k (inl refl)) (λ k. AreDistinct-apart (waiting ++ files) taken a.apart f (IsIn-append_right f waiting files here) k)
     (IsIn-append_cases f (waiting ++ take i files) taken (IsIn-from_test f ((waiting ++ take i files) ++ taken) unknown))
 
 -- one file more waits
@@ -189,21 +169,15 @@ after_files m p2 p3 e2 e3 = e3 ∙ ap (λ (s : State). record s { waiting = m.wa
 pub records_held : (m : State) (p0 : Parts) (rs : List Record) → state_of p0 ≡ emptied m → rs ≡ m.records → AreSoundRecords m.opening m.next m.records → AreSoundRecords (opening_of p0.opened) p0.next rs
 records_held m p0 rs e0 same s =
     let t : IsTold p0 (emptied m) = told p0 (emptied m) e0 in
-    let A : Opening → Type 0 = λ o. AreSoundRecords o m.next m.records in
-    let B : ℕ → Type 0 = λ n. AreSoundRecords (opening_of p0.opened) n m.records in
-    let D : List Record → Type 0 = λ xs. AreSoundRecords (opening_of p0.opened) p0.next xs in
-    subst D (sym same) (subst B (sym t.next) (subst A (sym t.opening) s))
+    rw same (rw t.next (rw t.opening s))
 
 pub records_loaded : (m : State) (p0 : Parts) (rs : List Record) → state_of p0 ≡ emptied m → rs ≡ m.records → AreSoundRecords (opening_of p0.opened) p0.next rs → AreSoundRecords m.opening m.next m.records
 records_loaded m p0 rs e0 same s =
     let t : IsTold p0 (emptied m) = told p0 (emptied m) e0 in
-    let A : Opening → Type 0 = λ o. AreSoundRecords o m.next m.records in
-    let B : ℕ → Type 0 = λ n. AreSoundRecords (opening_of p0.opened) n m.records in
-    let D : List Record → Type 0 = λ xs. AreSoundRecords (opening_of p0.opened) p0.next xs in
-    subst A t.opening (subst B t.next (subst D same s))
+    rw t.opening at (rw t.next at (rw same at s))
 
 pub idle_held : (m : State) (p : Parts) → IsTold p (record m { waiting = []; taken = [] }) → (m.mode ≢ Running → (r : Record) → IsIn r m.records → r.done ≡ true) → p.mode ≢ Running → (r : Record) → IsIn r (records_in p) → r.done ≡ true
-idle_held m p t idle other r h = let P : List Record → Type 0 = λ xs. IsIn r xs in idle (λ e. other (t.mode ∙ e)) r (subst P t.records h)
+idle_held m p t idle other r h = idle (λ e. other (t.mode ∙ e)) r (rw t.records at h)
 
 pub idle_loaded : (m : State) (p : Parts) → IsTold p (record m { waiting = []; taken = [] }) → (p.mode ≢ Running → (r : Record) → IsIn r (records_in p) → r.done ≡ true) → m.mode ≢ Running → (r : Record) → IsIn r m.records → r.done ≡ true
-idle_loaded m p t idle other r h = let P : List Record → Type 0 = λ xs. IsIn r xs in idle (λ e. other (sym t.mode ∙ e)) r (subst P (sym t.records) h)
+idle_loaded m p t idle other r h = idle (λ e. other (sym t.mode ∙ e)) r (rw t.records h)

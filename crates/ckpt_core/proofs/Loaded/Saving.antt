@@ -4,16 +4,13 @@ use Rattle.ckpt_core.proofs.Names.{slice_get, IsSome, option_map, both_ways, eq-
 use Rattle.ckpt_core.proofs.Names.{IsIn-from_map, IsPending, pins_by, IsStored, Parts, Live, grouped, with_pins, AreSound, records_in, state_of, live_of, id_before, record_of, IsIn-from_find}
 use Rattle.ckpt_core.proofs.Names.{common_steps}
 use Rattle.ckpt_core.proofs.Ending.Drops.{groups_of}
-use Rattle.ckpt_core.proofs.Reading.Live.{found_at, is_below, is_from, none_of, one_more, past, some_of}
+use Rattle.ckpt_core.proofs.Reading.Live.{found_by_count, is_below, is_from, none_of, one_more, past, some_of}
 use Rattle.ckpt_core.proofs.Records.Pending.{find-from_IsIn}
 use Rattle.ckpt_core.proofs.Records.Lookups.{done_in}
 
-some_metadata : (r : Record) (m : Metadata) (o : Option Record) → o ≡ Some r → option_map metadata_of o ≡ Some m → m ≡ metadata_of r
-some_metadata r m o e f = grind (arith, common_steps)
-
 -- the pins of a pending record are what the registry has for it
-pub pins_registered : (p : Parts) (r : Record) → ((q : Record) → IsIn q p.pending → IsPending q) → IsStored p.store → IsIn r (records_in p) → r.done ≡ false → pins_by r.id p.registry ≡ r.pins
-pins_registered p r pending stored h not_done =
+pub pending_pins : (p : Parts) (r : Record) → ((q : Record) → IsIn q p.pending → IsPending q) → IsStored p.store → IsIn r (records_in p) → r.done ≡ false → pins_by r.id p.registry ≡ r.pins
+pending_pins p r pending stored h not_done =
     let us = p.registry in
     let rest : List Record = p.store.checkpoints ++ p.store.savepoints in
     ⊎_elim
@@ -32,9 +29,9 @@ looked_up p r id e = let k = IsIn-from_find (λ (q : Record). eqb q.id id) r (re
     eqb_same a b h = grind arith
 
 -- done records pin nothing
-pub none_pinned : (p : Parts) (r : Record) → AreSound p → IsIn r (records_in p) → r.done ≡ true → r.pins ≡ []
+pub done_pins_none : (p : Parts) (r : Record) → AreSound p → IsIn r (records_in p) → r.done ≡ true → r.pins ≡ []
 unfolding state_of
-none_pinned p r sound h is_done = (sound.sound.records.each r h).unpinned is_done
+done_pins_none p r sound h is_done = (sound.sound.records.each r h).unpinned is_done
 
 -- what is saved so is the record
 pub saved_record : (r : Record) (m : Metadata) (o : Option Record) (pins : List ℕ) → o ≡ Some r → option_map metadata_of o ≡ Some m → pins ≡ r.pins → record { id = m.id; kind = m.kind; done = m.done; shape = m.shape; started = m.started; acks = m.acks; pins = pins } ≡ r
@@ -55,20 +52,19 @@ found_next p n live sound is =
     let q = some_of live (find (is_from n) rs) is in
     let r : Record = q.0 in
     let its : live.id ≡ r.id = ap (λ (l : Live). l.id) q.2 in
-    let k = IsIn-from_find (is_from n) r rs q.1 in
-    (r, find-from_IsIn live.id r rs sound.sound.records.in_order k.0 (eq-eqb r.id live.id (sym its)), ap (λ (l : Live). l.done) q.2, q.1, its)
+    (r, find-from_IsIn live.id r rs sound.sound.records.in_order (IsIn-from_find (is_from n) r rs q.1).0 (eq-eqb r.id live.id (sym its)), ap (λ (l : Live). l.done) q.2, q.1, its)
 
 -- with it, one more is saved
 pub saved_next : (rs : List Record) (n : ℕ) (r : Record) → IsInOrder id_before rs → find (is_from n) rs ≡ Some r → take (count_by (is_below (r.id + 1)) rs) rs ≡ take (count_by (is_below n) rs) rs ++ r ∷ []
 saved_next rs n r order e =
     let k : ℕ = count_by (is_below n) rs in
-    ap (λ (j : ℕ). take j rs) (one_more n r rs order e) ∙ ap (λ (j : ℕ). take j rs) (add-one k) ∙ take_found rs k r (sym (found_at n rs order) ∙ e)
+    ap (λ (j : ℕ). take j rs) (one_more n r rs order e) ∙ ap (λ (j : ℕ). take j rs) (add-one k) ∙ take_found rs k r (sym (found_by_count n rs order) ∙ e)
 
 -- if none is found, all are saved
 pub saved_all : (rs : List Record) (n : ℕ) → IsInOrder id_before rs → None ≡ option_map live_of (find (is_from n) rs) → take (count_by (is_below n) rs) rs ≡ rs
 saved_all rs n order e =
     let k : ℕ = count_by (is_below n) rs in
-    let none : slice_get rs k ≡ None = sym (found_at n rs order) ∙ none_of (find (is_from n) rs) e in
+    let none : slice_get rs k ≡ None = sym (found_by_count n rs order) ∙ none_of (find (is_from n) rs) e in
     take_all k rs (past rs k none k (omega arith))
 
 pub some_there : (o : Option Record) (r : Record) → o ≡ Some r → IsSome o

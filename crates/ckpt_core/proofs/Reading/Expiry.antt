@@ -31,9 +31,7 @@ pub started_bound : (p : Parts) (s : ℕ) → IsSound (state_of p) → TellsLeas
 unfolding state_of
 started_bound p s sound told =
     let x = least_in p.pending s told in
-    let low : s ≤ x.0.started = least_is p.pending s told x.0 x.1 in
-    let high : x.0.started < 2 ^ 62 = sound.records.started (with_pins p.registry x.0) (pending_there p x.0 x.1) in
-    omega arith
+    omega (arith, sound.records.started (with_pins p.registry x.0) (pending_there p x.0 x.1), least_is p.pending s told x.0 x.1)
 
 -- a live record that is pending and too old is one of the pending ones
 expired_from : (p : Parts) → AreGroups p.pending p.store.checkpoints p.store.savepoints → (timeout now : ℕ) (r : Record) → IsIn r (records_in p) → (is_pending r && leb (r.started + timeout) now) ≡ true → (x : Record) × IsIn x p.pending × (x.started + timeout ≤ now)
@@ -44,9 +42,7 @@ expired_from p groups timeout now r h e =
     let Found : Type 0 = (x : Record) × IsIn x p.pending × (x.started + timeout ≤ now) in
     let waits : IsIn r (map (with_pins us) p.pending) → Found = λ (k : IsIn r (map (with_pins us) p.pending)).
     let q = IsIn-from_map (with_pins us) r p.pending k in
-    let old : r.started + timeout ≤ now = leb-true (r.started + timeout) now parts.1 in
-    let same : r.started ≡ q.0.started = ap (λ x. x.started) q.2 in
-    (q.0, q.1, omega arith) in
+    (q.0, q.1, omega (arith, ap (λ x. x.started) q.2, leb-true (r.started + timeout) now parts.1)) in
     let ended : IsIn r done → Found = λ (k : IsIn r done). absurd (both_ways (is_pending r) (not_from_true r.done (done_in groups r k)) parts.0) in
     ⊎_elim waits ended (IsIn-append_cases r (map (with_pins us) p.pending) done (IsIn-from_in_order id_before r (grouped us p.pending p.store.checkpoints p.store.savepoints) h))
 
@@ -65,12 +61,9 @@ next_expiry p (Some s) pending stored told = λ now.
     let forth : list_any expired (records_in p) ≡ true → leb (s + timeout) now ≡ true = λ e.
     let q = IsIn-from_list_any expired (records_in p) e in
     let x = expired_from p groups timeout now q.0 q.1 q.2 in
-    let low : s ≤ x.0.started = least_is p.pending s told x.0 x.1 in
-    let old : x.0.started + timeout ≤ now = x.2 in
-    le-leb (s + timeout) now (omega arith) in
+    le-leb (s + timeout) now (omega (arith, least_is p.pending s told x.0 x.1)) in
     let back : leb (s + timeout) now ≡ true → list_any expired (records_in p) ≡ true = λ e.
     let x = least_in p.pending s told in
-    let low : x.0.started ≤ s = x.2 in
     let come : s + timeout ≤ now = leb-true (s + timeout) now e in
     list_any-from_IsIn expired (with_pins p.registry x.0) (records_in p) (pending_there p x.0 x.1)
     (and_from (is_pending x.0) (leb (x.0.started + timeout) now) (not_from_false x.0.done (groups.not_done x.0 x.1)) (le-leb (x.0.started + timeout) now (omega arith))) in

@@ -29,10 +29,9 @@ least_found n r (x ∷ xs) order e s h t =
     (λ (j : IsIn s xs). let below : x.id < s.id = ltb-true x.id s.id (ComesBefore-at id_before x s xs order.0 j) in let g : Goal = omega arith in g)
     h in
     let later : is_from n x ≡ false → Goal = λ (k : is_from n x ≡ false).
-    let rest : find (is_from n) xs ≡ Some r = subst P k e in
     ⊎_elim
     (λ (j : s ≡ x). absurd (both_ways (is_from n x) k (ap (is_from n) (sym j) ∙ t)))
-    (λ (j : IsIn s xs). least_found n r xs order.1 rest s j t)
+    (λ (j : IsIn s xs). least_found n r xs order.1 (subst P k e) s j t)
     h in
     ⊎_elim here later (cases_Bool (is_from n x))
 
@@ -50,10 +49,7 @@ found_is_first n xs (Some live) order first =
     let some : (q : Record) → find (is_from n) xs ≡ Some q → Goal = λ q e.
     let k = IsIn-from_find (is_from n) q xs e in
     let low : q.id ≤ r.id = least_found n q xs order e r first.0.1 first.0.2 in
-    let high : live.id ≤ q.id = first.1 q k.0 k.1 in
-    let its : live.id ≡ r.id = ap (λ l. l.id) first.0.3 in
-    let same : r ≡ q = same_record r q xs order first.0.1 k.0 (omega arith) in
-    ap (λ l. Some l) (first.0.3 ∙ ap live_of same) ∙ sym (ap (option_map live_of) e) in
+    ap (λ l. Some l) (first.0.3 ∙ ap live_of (same_record r q xs order first.0.1 k.0 (omega (arith, ap (λ l. l.id) first.0.3, first.1 q k.0 k.1)))) ∙ sym (ap (option_map live_of) e) in
     elim (find (is_from n) xs) as (λ o. (find (is_from n) xs ≡ o → Goal)) [ None ↦ none | Some q ↦ some q ] refl
 
 -- of two lists it is the sooner one
@@ -99,9 +95,8 @@ first_live p n a b c order pending checkpoints savepoints is_a is_b is_c =
     let ss : List Record = p.store.savepoints in
     let F : List Record → Option Live → Type 0 = IsFirst n in
     let first_a : F p.pending a = subst (F p.pending) (sym is_a) (first_found_in n p.pending (find (is_from n) p.pending) pending refl) in
-    let first_b : F cs b = subst (F cs) (sym is_b) (first_found_in n cs (find (is_from n) cs) checkpoints refl) in
     let first_c : F ss c = subst (F ss) (sym is_c) (first_found_in n ss (find (is_from n) ss) savepoints refl) in
-    let done : F (cs ++ ss) (sooner b c) = first_append n cs ss b c first_b first_c in
+    let done : F (cs ++ ss) (sooner b c) = first_append n cs ss b c (subst (F cs) (sym is_b) (first_found_in n cs (find (is_from n) cs) checkpoints refl)) first_c in
     let all : F (grouped us p.pending cs ss) (sooner a (sooner b c)) = first_append n (map (with_pins us) p.pending) (cs ++ ss) a (sooner b c) (first_pinned n us p.pending a first_a) done in
     found_is_first n (records_in p) (sooner a (sooner b c)) order (first_in_order n (grouped us p.pending cs ss) (sooner a (sooner b c)) all)
 
@@ -114,9 +109,9 @@ all_from : (n : ℕ) (x : Record) (xs : List Record) → IsInOrder id_before (x 
 all_from n x xs order low y h = let above : x.id < y.id = ltb-true x.id y.id (ComesBefore-at id_before x y xs order.0 h) in omega arith
 
 -- the first record from a number on comes right after those below it
-pub found_at : (n : ℕ) (xs : List Record) → IsInOrder id_before xs → find (is_from n) xs ≡ slice_get xs (count_by (is_below n) xs)
-found_at n [] order = refl
-found_at n (x ∷ xs) order = grind (arith, common_steps, all_from, cases_Bool, count_by-none, count_by_yes, le-ltb, leb-false, leb-true, lt-ltb, found_at n xs order.1)
+pub found_by_count : (n : ℕ) (xs : List Record) → IsInOrder id_before xs → find (is_from n) xs ≡ slice_get xs (count_by (is_below n) xs)
+found_by_count n [] order = refl
+found_by_count n (x ∷ xs) order = grind (arith, common_steps, all_from, cases_Bool, count_by-none, count_by_yes, le-ltb, leb-false, leb-true, lt-ltb, found_by_count n xs order.1)
 
 -- one more is below the number after it
 pub one_more : (n : ℕ) (r : Record) (xs : List Record) → IsInOrder id_before xs → find (is_from n) xs ≡ Some r → count_by (is_below (r.id + 1)) xs ≡ count_by (is_below n) xs + 1
@@ -156,7 +151,7 @@ none_above n xs order e place h = slice_get_past xs place (past xs (count_by (is
 -- the walk over the places
 
 pub walk_ended : (n place : ℕ) (xs : List Record) (o : Option Live) → IsInOrder id_before xs → count_by (is_below n) xs ≡ place → o ≡ option_map live_of (find (is_from n) xs) → o ≡ option_map live_of (slice_get xs place)
-walk_ended n place xs o order at is = is ∙ ap (option_map live_of) (found_at n xs order ∙ ap (slice_get xs) at)
+walk_ended n place xs o order at is = is ∙ ap (option_map live_of) (found_by_count n xs order ∙ ap (slice_get xs) at)
 
 pub none_of : (o : Option Record) → None ≡ option_map live_of o → o ≡ None
 none_of None e = refl
@@ -164,7 +159,7 @@ none_of (Some r) e = absurd (cc)
 
 pub walk_stopped : (n turn place : ℕ) (xs : List Record) → IsInOrder id_before xs → count_by (is_below n) xs ≡ turn → turn < place → None ≡ option_map live_of (find (is_from n) xs) → None ≡ option_map live_of (slice_get xs place)
 walk_stopped n turn place xs order at further is =
-    let none : slice_get xs (count_by (is_below n) xs) ≡ None = sym (found_at n xs order) ∙ none_of (find (is_from n) xs) is in
+    let none : slice_get xs (count_by (is_below n) xs) ≡ None = sym (found_by_count n xs order) ∙ none_of (find (is_from n) xs) is in
     sym (ap (option_map live_of) (none_above n xs order none place (omega arith)))
 
 pub some_of : (live : Live) (o : Option Record) → Some live ≡ option_map live_of o → (r : Record) × (o ≡ Some r) × (live ≡ live_of r)
@@ -179,10 +174,7 @@ pub live_bound : (p : Parts) (n : ℕ) (live : Live) → IsSound (state_of p) �
 unfolding state_of
 live_bound p n live sound is =
     let q = some_of live (find (is_from n) (records_in p)) is in
-    let its : live.id ≡ q.0.id = ap (λ l. l.id) q.2 in
-    let below : q.0.id < p.next = sound.records.below_next q.0 (IsIn-from_find (is_from n) q.0 (records_in p) q.1).0 in
-    let end : p.next ≤ 2 ^ 62 = sound.next_to in
-    omega arith
+    omega (arith, sound.records.below_next q.0 (IsIn-from_find (is_from n) q.0 (records_in p) q.1).0, ap (λ l. l.id) q.2)
 
 -- at first none is below
 pub none_below_zero : (xs : List Record) → count_by (is_below 0) xs ≡ 0

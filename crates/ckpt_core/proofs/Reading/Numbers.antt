@@ -2,10 +2,10 @@
 use Rattle.ckpt_core.proofs.Names.{◌≡◌, ℕ, Bool, true, false, ◌&&◌, cond, eqb, refl, sym, ap, ◌∙◌, Option, Some, None, Bor, find, is_some, IsSome, option_copied, option_map, and_parts, eqb-true, IsIn}
 use Rattle.ckpt_core.proofs.Names.{IsInOrder, Record, IsPending, pins_by, IsStored, Stored, Parts, Standing, with_pins, records_in, state_of, pins_in, standing, standing_of, standing_without}
 use Rattle.ckpt_core.proofs.Names.{pending_of, id_before, State, is_pending, record_of, IsIn-from_find, common_steps, arith}
-use Rattle.ckpt_store.specs.Storing as storing
-use Rattle.ckpt_model.specs.declared.reads.Standing.TheVariants as stands
 use Rattle.ckpt_core.proofs.Answering.Reads.{pending_live, stored_record}
 use Rattle.ckpt_core.proofs.Records.Lookups.{has_number}
+use Rattle.ckpt_store.specs.Storing as storing
+use Rattle.ckpt_model.specs.declared.reads.Standing.TheVariants as stands
 
 -- the standing, by what is found
 abbrev found_standing : State → ℕ → Option Record → Standing

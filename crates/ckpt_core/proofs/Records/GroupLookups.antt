@@ -1,12 +1,12 @@
 -- What is found in the records in rising number is found in the groups: done records, savepoints, the choice.
-use Rattle.ckpt_core.proofs.Names.{◌≡◌, ℕ, suc, ◌+◌, ◌-◌, Bool, true, false, not, ◌&&◌, cond, eqb, List, [], ◌∷◌, ◌++◌, map, length, refl, sym, ap, subst, ◌∙◌, ⊎_elim, arith, Option, Some, None}
-use Rattle.ckpt_core.proofs.Names.{count_by, find, slice_get, option_map, option_or, filter, list_any, append-nil, find-append, filter-append, cases_Bool, both_ways, eqb-true, and_parts, and_from}
-use Rattle.ckpt_core.proofs.Names.{and_left, and_right, not_from_false, not_from_true, IsIn, IsInOrder, in_order, Record, Use, IsIn-append_cases, IsIn-append_right, IsIn-from_map, IsIn-in_order}
-use Rattle.ckpt_core.proofs.Names.{IsIn-from_in_order, list_any-from_IsIn, IsIn-from_list_any, filter-all, filter-none, id_before, is_pending, is_checkpoint, is_done_checkpoint, last_checkpoint}
-use Rattle.ckpt_core.proofs.Names.{with_pins, grouped, records_of, is_checkpoint-kind, is_savepoint-kind, count_by-none, count_by-same, count_by-all, common_steps}
-use Rattle.ckpt_ids.specs.declared.numbers.Kind.TheVariants as kind
+use Rattle.ckpt_core.proofs.Names.{◌≡◌, ℕ, ◌+◌, ◌-◌, Bool, true, false, not, ◌&&◌, eqb, List, [], ◌∷◌, ◌++◌, map, length, refl, sym, ap, ◌∙◌, ⊎_elim, arith, Option, Some, None, count_by, find}
+use Rattle.ckpt_core.proofs.Names.{slice_get, option_map, option_or, filter, list_any, append-nil, find-append, filter-append, both_ways, eqb-true, and_parts, and_from, and_left, and_right}
+use Rattle.ckpt_core.proofs.Names.{not_from_false, not_from_true, IsIn, IsInOrder, in_order, Record, Use, IsIn-append_cases, IsIn-append_right, IsIn-from_map, IsIn-in_order, IsIn-from_in_order}
+use Rattle.ckpt_core.proofs.Names.{list_any-from_IsIn, IsIn-from_list_any, filter-all, filter-none, id_before, is_pending, is_checkpoint, is_done_checkpoint, last_checkpoint, with_pins, grouped}
+use Rattle.ckpt_core.proofs.Names.{records_of, is_checkpoint-kind, is_savepoint-kind, count_by-none, count_by-same, count_by-all, common_steps}
 use Rattle.ckpt_core.proofs.Records.Grouped.{AreApart, in_order-from_apart, apart_left, apart_right, same_records, in_order-filter}
 use Rattle.ckpt_core.proofs.Records.Lookups.{AreGroups, has_number, find-records_of, find-map, count_by-records_of}
+use Rattle.ckpt_ids.specs.declared.numbers.Kind.TheVariants as kind
 
 -- the record of a number: pending, or a checkpoint, or a savepoint
 pub record_of-groups : (id : ℕ) (us : List Use) (pending checkpoints savepoints : List Record) → AreApart (grouped us pending checkpoints savepoints) →
@@ -56,10 +56,8 @@ done_savepoint-groups id us pending checkpoints savepoints groups =
     let r = IsIn-from_map (with_pins us) q.0 pending k in
     absurd (both_ways q.0.done (ap (λ w. w.done) r.2 ∙ groups.not_done r.0 r.1) more.0) in
     let in_done : IsIn q.0 (checkpoints ++ savepoints) → Goal = λ (k : IsIn q.0 (checkpoints ++ savepoints)).
-    ⊎_elim
-    (λ (a : IsIn q.0 checkpoints). absurd (both_ways (not (is_checkpoint q.0)) (not_from_true (is_checkpoint q.0) (is_checkpoint-kind q.0 (groups.checkpoints_done q.0 a).1)) more.1))
-    (λ (b : IsIn q.0 savepoints). list_any-from_IsIn (has_number id) q.0 savepoints b parts.1)
-    (IsIn-append_cases q.0 checkpoints savepoints k) in
+    ⊎_elim (λ a. absurd (both_ways (not (is_checkpoint q.0)) (not_from_true (is_checkpoint q.0) (is_checkpoint-kind q.0 (groups.checkpoints_done q.0 a).1)) more.1))
+    (λ b. list_any-from_IsIn (has_number id) q.0 savepoints b parts.1) (IsIn-append_cases q.0 checkpoints savepoints k) in
     ⊎_elim in_pending in_done (IsIn-append_cases q.0 (map (with_pins us) pending) (checkpoints ++ savepoints) (IsIn-from_in_order id_before q.0 g q.1)) in
     let back : list_any (has_number id) savepoints ≡ true → list_any p (in_order id_before g) ≡ true = λ h.
     let q = IsIn-from_list_any (has_number id) savepoints h in
@@ -95,16 +93,14 @@ last_checkpoint-groups us pending checkpoints savepoints apart groups order =
     let q = IsIn-from_map (with_pins us) r pending h in
     and_left r.done (is_checkpoint r) (ap (λ w. w.done) q.2 ∙ groups.not_done q.0 q.1)) in
     let second : filter p checkpoints ≡ checkpoints = filter-all p checkpoints (λ r h. and_from r.done (is_checkpoint r) (groups.checkpoints_done r h).0 (is_checkpoint-kind r (groups.checkpoints_done r h).1)) in
-    let third : filter p savepoints ≡ [] = filter-none p savepoints (λ r h. and_right r.done (is_checkpoint r) (is_savepoint-kind r (groups.savepoints_done r h).1)) in
     let whole : filter p g ≡ checkpoints =
     filter-append p (map (with_pins us) pending) (checkpoints ++ savepoints)
     ∙ ap (λ a. a ++ filter p (checkpoints ++ savepoints)) first
     ∙ filter-append p checkpoints savepoints
     ∙ ap (λ a. a ++ filter p savepoints) second
-    ∙ ap (λ b. checkpoints ++ b) third
+    ∙ ap (λ b. checkpoints ++ b) (filter-none p savepoints (λ r h. and_right r.done (is_checkpoint r) (is_savepoint-kind r (groups.savepoints_done r h).1)))
     ∙ append-nil checkpoints in
     let sorted : in_order id_before checkpoints ≡ checkpoints =
     same_records (in_order id_before checkpoints) checkpoints (in_order-from_apart checkpoints (apart_left checkpoints savepoints (apart_right (map (with_pins us) pending) (checkpoints ++ savepoints) apart))) order
     (λ z h. IsIn-from_in_order id_before z checkpoints h) (λ z h. IsIn-in_order id_before z checkpoints h) in
-    last_checkpoint-filter (in_order id_before g)
-    ∙ ap last_id (sym (in_order-filter p g apart) ∙ ap (in_order id_before) whole ∙ sorted)
+    rw (last_checkpoint-filter (in_order id_before g), ← in_order-filter p g apart, whole, sorted)

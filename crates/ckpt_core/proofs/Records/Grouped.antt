@@ -1,7 +1,7 @@
 -- Records put in rising number: what a change of the groups does to them.
-use Rattle.ckpt_core.proofs.Names.{◌≡◌, ◌<◌, Bool, true, false, cond, ltb, List, [], ◌∷◌, ◌++◌, map, refl, sym, ap, subst, ◌∙◌, inl, inr, ⊎_elim, arith, filter, cases_Bool, lt-ltb, ltb-true}
-use Rattle.ckpt_core.proofs.Names.{ltb-false, le-ltb, IsIn, ComesBefore, IsInOrder, put, in_order, Record, IsIn-append_left, IsIn-append_right, IsIn-append_cases, IsIn-from_map, IsIn-filter}
-use Rattle.ckpt_core.proofs.Names.{IsIn-from_filter, ComesBefore-at, ComesBefore-from, IsInOrder-filter, IsIn-put, IsIn-put_cases, IsIn-in_order, IsIn-from_in_order, id_before, common_steps}
+use Rattle.ckpt_core.proofs.Names.{◌≡◌, ◌<◌, Bool, true, false, cond, List, [], ◌∷◌, ◌++◌, map, refl, sym, ap, subst, ◌∙◌, inl, inr, ⊎_elim, arith, filter, cases_Bool, lt-ltb, ltb-true, ltb-false}
+use Rattle.ckpt_core.proofs.Names.{le-ltb, IsIn, ComesBefore, IsInOrder, put, in_order, Record, IsIn-append_left, IsIn-append_right, IsIn-append_cases, IsIn-from_map, IsIn-filter, IsIn-from_filter}
+use Rattle.ckpt_core.proofs.Names.{ComesBefore-at, ComesBefore-from, IsInOrder-filter, IsIn-put, IsIn-put_cases, IsIn-in_order, IsIn-from_in_order, id_before, common_steps}
 
 -- no record has the number of x
 abbrev pub IsNew : Record → List Record → Type 0
@@ -92,9 +92,8 @@ apart-filter p (x ∷ xs) a =
 
 pub in_order-filter : (p : Record → Bool) (xs : List Record) → AreApart xs → in_order id_before (filter p xs) ≡ filter p (in_order id_before xs)
 in_order-filter p xs a =
-    let before : IsInOrder id_before (in_order id_before xs) = in_order-from_apart xs a in
     same_records (in_order id_before (filter p xs)) (filter p (in_order id_before xs))
-    (in_order-from_apart (filter p xs) (apart-filter p xs a)) (IsInOrder-filter id_before p (in_order id_before xs) before)
+    (in_order-from_apart (filter p xs) (apart-filter p xs a)) (IsInOrder-filter id_before p (in_order id_before xs) (in_order-from_apart xs a))
     (λ z h. let k = IsIn-from_filter p z xs (IsIn-from_in_order id_before z (filter p xs) h) in IsIn-filter p z (in_order id_before xs) (IsIn-in_order id_before z xs k.0) k.1)
     (λ z h. let k = IsIn-from_filter p z (in_order id_before xs) h in IsIn-in_order id_before z (filter p xs) (IsIn-filter p z xs (IsIn-from_in_order id_before z xs k.0) k.1))
 

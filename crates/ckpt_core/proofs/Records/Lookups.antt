@@ -1,10 +1,10 @@
 -- What is found in the records in rising number is found in the groups.
-use Rattle.ckpt_core.proofs.Names.{◌≡◌, ℕ, suc, ◌+◌, Bool, true, false, ◌&&◌, cond, eqb, List, [], ◌∷◌, ◌++◌, map, length, refl, sym, ap, subst, ◌∙◌, inl, inr, ⊎_elim, Some, None, count_by, find}
-use Rattle.ckpt_core.proofs.Names.{option_map, cases_Bool, both_ways, eqb-true, and_parts, and_left, not_from_false, not_from_true, length-append, length-map, IsIn, put, in_order, Record, Use}
-use Rattle.ckpt_core.proofs.Names.{IsIn-append_cases, IsIn-in_order, IsIn-from_in_order, list_any-none, find-none, id_before, is_pending, pending_of, with_pins, grouped, records_of, count_by-append}
-use Rattle.ckpt_core.proofs.Names.{count_by-map, count_by-in_order, count_by-same, IsIn-from_find, fails-from_find, find_agree, common_steps, arith}
-use Rattle.ckpt_ids.specs.declared.numbers.Kind.TheVariants as kind
+use Rattle.ckpt_core.proofs.Names.{◌≡◌, ℕ, suc, ◌+◌, Bool, true, false, ◌&&◌, cond, eqb, List, [], ◌∷◌, ◌++◌, map, length, refl, sym, ap, ◌∙◌, inl, inr, ⊎_elim, Some, None, count_by, find, option_map}
+use Rattle.ckpt_core.proofs.Names.{both_ways, eqb-true, and_parts, and_left, not_from_false, not_from_true, length-append, length-map, IsIn, put, in_order, Record, Use, IsIn-append_cases}
+use Rattle.ckpt_core.proofs.Names.{IsIn-in_order, IsIn-from_in_order, list_any-none, find-none, id_before, is_pending, pending_of, with_pins, grouped, records_of, count_by-append, count_by-map}
+use Rattle.ckpt_core.proofs.Names.{count_by-in_order, count_by-same, IsIn-from_find, fails-from_find, find_agree, common_steps, arith}
 use Rattle.ckpt_core.proofs.Records.Grouped.{AreApart}
+use Rattle.ckpt_ids.specs.declared.numbers.Kind.TheVariants as kind
 
 -- counts
 

@@ -1,10 +1,10 @@
 -- The pending records in rising number: what is found, added, changed and taken out.
-use Rattle.ckpt_core.proofs.Names.{◌≡◌, ℕ, zero, suc, ◌+◌, ◌<◌, Bool, true, false, not, cond, ltb, eqb, ◌&&◌, ◌||◌, List, [], ◌∷◌, ◌++◌, map, length, get_or, Some, refl, sym, ap, subst, ◌∙◌, inl, inr}
-use Rattle.ckpt_core.proofs.Names.{⊎_elim, arith, count_by, find, filter, list_any, remove, slice_set, from_bool, cases_Bool, both_ways, lt-ltb, ltb-true, eqb-true, eq-eqb, ne_eqb, nat_tests}
-use Rattle.ckpt_core.proofs.Names.{list_any-append, sum_by-remove, slice_get-get_or, SubtaskId, IsIn, IsInOrder, LiesAt, Record, has_acknowledged, acknowledged, count_by-cons, count_by-append}
-use Rattle.ckpt_core.proofs.Names.{count_by-map, count_by-same, IsIn-from_map, IsIn-from_filter, IsIn-append_cases, IsInOrder-append, IsInOrder-filter, IsInOrder-map, ComesBefore-at, filter-same}
-use Rattle.ckpt_core.proofs.Names.{filter-filter, numbers_in_order, first_differs, get_or_any, IsPending, without_ack, without-with_ack, has_id, id_of, find-place, remove-place, is_checkpoint}
-use Rattle.ckpt_core.proofs.Names.{id_before, acked, retracted, AreKept, map_itself, map-map, common_steps}
+use Rattle.ckpt_core.proofs.Names.{◌≡◌, ℕ, zero, suc, ◌+◌, ◌<◌, Bool, true, false, not, cond, ltb, eqb, List, [], ◌∷◌, ◌++◌, map, length, get_or, Some, refl, sym, ap, subst, ◌∙◌, inl, inr, ⊎_elim}
+use Rattle.ckpt_core.proofs.Names.{arith, count_by, find, filter, list_any, remove, slice_set, from_bool, cases_Bool, both_ways, lt-ltb, ltb-true, eqb-true, eq-eqb, ne_eqb, nat_tests, list_any-append}
+use Rattle.ckpt_core.proofs.Names.{slice_get-get_or, SubtaskId, IsIn, IsInOrder, LiesAt, Record, has_acknowledged, acknowledged, count_by-cons, count_by-append, count_by-map, count_by-same}
+use Rattle.ckpt_core.proofs.Names.{IsIn-from_map, IsIn-from_filter, IsIn-append_cases, IsInOrder-append, IsInOrder-filter, IsInOrder-map, ComesBefore-at, filter-same, filter-filter, numbers_in_order}
+use Rattle.ckpt_core.proofs.Names.{first_differs, get_or_any, IsPending, without_ack, without-with_ack, has_id, id_of, find-place, remove-place, is_checkpoint, id_before, acked, retracted, AreKept}
+use Rattle.ckpt_core.proofs.Names.{map_itself, map-map, common_steps}
 
 -- the record of this number changed
 abbrev pub changed : ℕ → (Record → Record) → List Record → List Record
@@ -41,7 +41,6 @@ AreKept-added p rs n kept pending newest =
     ⊎_elim (λ (k : IsIn r rs). kept.pending r k) (λ (k : IsIn r (p ∷ [])). ⊎_elim (λ (same : r ≡ p). subst IsPending (sym same) pending) (λ k. absurd k) k) (IsIn-append_cases r rs (p ∷ []) h) in
     let before : (q s : Record) → IsIn q rs → IsIn s (p ∷ []) → id_before q s ≡ true = λ q s h k.
     ⊎_elim (λ (same : s ≡ p). ap (id_before q) same ∙ lt-ltb q.id p.id (newest q h)) (λ k. absurd k) k in
-    let none : count_by is_checkpoint [] ≡ 0 = refl in
     record {
       in_order = IsInOrder-append id_before rs (p ∷ []) kept.in_order (tt, tt) before;
       pending = each;
@@ -57,7 +56,6 @@ set-place id f r w (s ∷ rs) zero order at is new =
     let kept : changed id f rs ≡ rs = map_itself (λ q. cond (has_id id q) (f q) q) rs (λ q h. ap (λ b. cond b (f q) q) (others id s rs order here q h)) in
     ap (λ q. q ∷ rs) (new ∙ ap f is) ∙ ap (λ qs. f s ∷ qs) (sym kept) ∙ ap (λ b. cond b (f s) s ∷ changed id f rs) (sym here)
 set-place id f r w (s ∷ rs) (suc place) order at is new =
-    let within : suc place < length (s ∷ rs) = at.0 in
     let later : LiesAt id_of id rs place = (omega arith, λ d. at.1 d) in
     let other : has_id id s ≡ false = ne_eqb s.id id (first_differs id_of numbers_in_order id s rs place order.0 later) in
     ap (λ qs. s ∷ qs) (set-place id f r w rs place order.1 later is new) ∙ ap (λ b. cond b (f s) s ∷ changed id f rs) (sym other)
@@ -74,13 +72,10 @@ AreKept-changed id place f r w rs n kept at is new same kind pending =
     let each : (s : Record) → IsIn s (changed id f rs) → IsPending s = λ s h.
     let q = IsIn-from_map one s rs h in
     let P : Bool → Type 0 = λ b. IsPending (cond b (f q.0) q.0) in
-    let it : IsPending (one q.0) = ⊎_elim
-    (λ (t : has_id id q.0 ≡ true). subst P (sym t) (pending q.0 (find-from_IsIn id q.0 rs kept.in_order q.1 t)))
-    (λ (t : has_id id q.0 ≡ false). subst P (sym t) (kept.pending q.0 q.1))
+    let it : IsPending (one q.0) = ⊎_elim (λ t. subst P (sym t) (pending q.0 (find-from_IsIn id q.0 rs kept.in_order q.1 t))) (λ t. subst P (sym t) (kept.pending q.0 q.1))
     (cases_Bool (has_id id q.0)) in
     subst IsPending (sym q.2) it in
-    let P : List Record → Type 0 = λ qs. AreKept qs n in
-    subst P (sym (set-place id f r w rs place kept.in_order at is new)) (record {
+    rw (set-place id f r w rs place kept.in_order at is new) (record {
       in_order = IsInOrder-map id_before id_before one rs (λ q s h. ap (λ k. ltb k (one s).id) (number q) ∙ ap (ltb q.id) (number s) ∙ h) kept.in_order;
       pending = each;
       counted = kept.counted ∙ sym (count_by-map is_checkpoint one rs ∙ count_by-same (λ s. is_checkpoint (one s)) is_checkpoint rs (λ s h. sort s));
@@ -95,10 +90,9 @@ pub AreKept-removed : (id place m : ℕ) (r : Record) (rs : List Record) (n : �
 AreKept-removed id place m r rs n kept at is count =
     let keep : Record → Bool = λ s. not (has_id id s) in
     let left : remove rs place ≡ filter keep rs = remove-place id rs place kept.in_order at in
-    let Each : List Record → Type 0 = λ qs. (s : Record) → IsIn s qs → IsPending s in
     record {
       in_order = subst (IsInOrder id_before) (sym left) (IsInOrder-filter id_before keep rs kept.in_order);
-      pending = subst Each (sym left) (λ s h. kept.pending s (IsIn-from_filter keep s rs h).0);
+      pending = rw left (λ s h. kept.pending s (IsIn-from_filter keep s rs h).0);
       counted = omega (arith, kept.counted, count-removed place r rs at.0 is);
     }
 
@@ -117,9 +111,7 @@ retracted-acked id s files rs order new =
     let back : Record → Record = λ r. cond (has_id id r) (without_ack s r) r in
     let each : (r : Record) → IsIn r rs → back (ack r) ≡ r = λ r h.
     let P : Bool → Type 0 = λ b. back (cond b (acknowledged r s files) r) ≡ r in
-    let Q : Bool → Type 0 = λ b. cond b (without_ack s (acknowledged r s files)) (acknowledged r s files) ≡ r in
-    let R : Bool → Type 0 = λ b. cond b (without_ack s r) r ≡ r in
-    let here : has_id id r ≡ true → P (has_id id r) = λ (t : has_id id r ≡ true). subst P (sym t) (subst Q (sym t) (without-with_ack r s files (new r (find-from_IsIn id r rs order h t)))) in
-    let else : has_id id r ≡ false → P (has_id id r) = λ (t : has_id id r ≡ false). subst P (sym t) (subst R (sym t) refl) in
+    let here : has_id id r ≡ true → P (has_id id r) = λ (t : has_id id r ≡ true). subst P (sym t) (rw t (without-with_ack r s files (new r (find-from_IsIn id r rs order h t)))) in
+    let else : has_id id r ≡ false → P (has_id id r) = λ (t : has_id id r ≡ false). subst P (sym t) (rw t refl) in
     ⊎_elim here else (cases_Bool (has_id id r)) in
     map-map back ack rs ∙ map_itself (λ r. back (ack r)) rs each

@@ -3,8 +3,8 @@ use Rattle.ckpt_core.proofs.Names.{◌≡◌, ℕ, ◌<◌, Bool, true, false, n
 use Rattle.ckpt_core.proofs.Names.{eqb-true, ltb-true, ne_eqb, none-some, same_Some, Acked, Choice, ascending_set, IsIn, IsInOrder, Record, Use, Pin, Subtask, same_holder, uses, uses_of}
 use Rattle.ckpt_core.proofs.Names.{ComesBefore-at, IsIn-append_cases, IsIn-from_flat_map, IsIn-from_map, filter-all, filter-none, filter-filter, files_by, Parts, AreTied, state_of, files_chosen}
 use Rattle.ckpt_core.proofs.Names.{names, IsSound, id_before, State, choice_of, chosen, files_of, pins_now, record_of, chosen_is_done}
-use Rattle.ckpt_ids.specs.declared.reply.Choice.TheVariants as choice
 use Rattle.ckpt_core.proofs.Using.Order.{uses-filter}
+use Rattle.ckpt_ids.specs.declared.reply.Choice.TheVariants as choice
 
 -- no other record has the number
 filter-found : (id : ℕ) (rs : List Record) (r : Record) → IsInOrder id_before rs → find (λ q. eqb q.id id) rs ≡ Some r → filter (λ q. eqb q.id id) rs ≡ r ∷ []
@@ -52,8 +52,7 @@ unfolding state_of
 files_by-choice p tied sound id e =
     let m : State = state_of p in
     let q = chosen_is_done m id sound e in
-    let none : q.0.pins ≡ [] = (sound.records.each q.0 q.1).unpinned q.3 in
-    ap (files_by id) tied.uses_are ∙ files_by-uses id m.records q.0 sound.records.in_order q.2 none ∙ ap files_of (sym q.2)
+    ap (files_by id) tied.uses_are ∙ files_by-uses id m.records q.0 sound.records.in_order q.2 ((sound.records.each q.0 q.1).unpinned q.3) ∙ ap files_of (sym q.2)
 
 pub files_chosen-pins : (p : Parts) → AreTied p → IsSound (state_of p) → (c : Choice) → c ≡ choice_of (state_of p) → files_chosen c p.registry ≡ pins_now (state_of p)
 unfolding pins_now

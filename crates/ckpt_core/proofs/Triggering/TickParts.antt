@@ -5,13 +5,7 @@ use Rattle.ckpt_core.proofs.Names.{is_present, IsIn-append_left, IsIn-append_rig
 use Rattle.ckpt_core.proofs.Names.{is_known, Hold, FailureCount, Moments, gap, Parts, Expiry, with_pins, grouped, answer_wants, may_want_memory, Answers, AreSound, AreTied, IsAccepted, is_noted}
 use Rattle.ckpt_core.proofs.Names.{records_in, state_of, IsSound, id_before, IsExpiry, is_late, late_in, Starts, held_at, State, drop, is_checkpoint, is_expired, Stepped, effect, start_or_hold, tick}
 use Rattle.ckpt_core.proofs.Names.{triggered, failed_over, dropped_by, count_by-le, Running, new_record, count_by-none, count_by-same, step_accepted, common_steps}
-use Rattle.ckpt_ids.specs.declared.numbers.Kind.TheVariants as kind
-use Rattle.ckpt_ids.specs.declared.call.Call.TheVariants as call
-use Rattle.ckpt_ids.specs.declared.reply.Reply.TheVariants as reply
-use Rattle.ckpt_ids.specs.declared.reply.TickEnd.TheVariants as ends
 use Rattle.ckpt_ids.specs.declared.reply.Answer.TheVariants.{Refused}
-use Rattle.ckpt_rules.specs.declared.hold.Hold.TheVariants as hold
-use Rattle.ckpt_rules.specs.Trigger as trigger
 use Rattle.ckpt_core.proofs.Ending.Counts.{few_pending}
 use Rattle.ckpt_core.proofs.Triggering.TriggerParts.{limit_bound}
 use Rattle.ckpt_core.proofs.Records.Grouped.{AreApart, apart_left, apart_between}
@@ -19,6 +13,12 @@ use Rattle.ckpt_core.proofs.Records.Lookups.{AreGroups, count_by-records_of, one
 use Rattle.ckpt_core.proofs.Records.GroupLookups.{pending_checkpoints-groups}
 use Rattle.ckpt_core.proofs.Ending.Drops.{apart_in, numbers, noted-from_IsIn, IsIn-from_noted}
 use Rattle.ckpt_core.proofs.Triggering.TickStates.{started, starts_as, starts_done, starts_unused, stepped, tick_fails, tick_goes, tick_starts, ticked}
+use Rattle.ckpt_ids.specs.declared.numbers.Kind.TheVariants as kind
+use Rattle.ckpt_ids.specs.declared.call.Call.TheVariants as call
+use Rattle.ckpt_ids.specs.declared.reply.Reply.TheVariants as reply
+use Rattle.ckpt_ids.specs.declared.reply.TickEnd.TheVariants as ends
+use Rattle.ckpt_rules.specs.declared.hold.Hold.TheVariants as hold
+use Rattle.ckpt_rules.specs.Trigger as trigger
 
 -- the clock
 
@@ -57,9 +57,7 @@ pub starts_now : (p q : Parts) (k : Moments) (pending moment id : ℕ) → held_
     Starts (state_of p) pending (state_of (record q { clock = k })) (ends.Triggered id)
 unfolding state_of start_or_hold
 starts_now p q k pending moment id go after new m e = λ expired.
-    ap (start_or_hold (state_of p) expired) go
-    ∙ ap (λ s. stepped s (ticked expired (ends.Triggered p.next))) (sym (started_state p q k moment after m e))
-    ∙ ap (λ i. stepped (state_of (record q { clock = k })) (ticked expired (ends.Triggered i))) (sym new)
+    rw (go, ← started_state p q k moment after m e, ← new)
 
 -- what expires
 
@@ -76,9 +74,7 @@ pub counted_in_pending : (p : Parts) (t u : Record → Bool) → AreGroups p.pen
 counted_in_pending p t u groups same none agree =
     let all : count_by t (records_in p) ≡ count_by t p.pending + (count_by t p.store.checkpoints + count_by t p.store.savepoints) = count_by-records_of t p.registry p.pending p.store.checkpoints p.store.savepoints same in
     let a : count_by t p.store.checkpoints ≡ 0 = count_by-none t p.store.checkpoints (λ r h. none r (groups.checkpoints_done r h).0) in
-    let b : count_by t p.store.savepoints ≡ 0 = count_by-none t p.store.savepoints (λ r h. none r (groups.savepoints_done r h).0) in
-    let c : count_by t p.pending ≡ count_by u p.pending = count_by-same t u p.pending (λ r h. agree r (groups.not_done r h)) in
-    omega (arith, all, a, b, c)
+    omega (arith, all, a, count_by-none t p.store.savepoints (λ r h. none r (groups.savepoints_done r h).0), count_by-same t u p.pending (λ r h. agree r (groups.not_done r h)))
 
 pub expired_counted : (p : Parts) (timeout moment : ℕ) → AreGroups p.pending p.store.checkpoints p.store.savepoints → timeout ≡ p.opened.config.timeout → moment ≡ max 0 p.clock.latest →
     dropped_by (state_of p) (is_expired (state_of p) p.clock.latest) ≡ length (filter (is_old timeout moment) p.pending)
@@ -120,14 +116,12 @@ noted_are p q t sound groups same none agree r h =
     (λ (e : q s.0 ≡ false). as_s ∙ e ∙ sym (false_from_ne_true (is_noted noted r) (λ n.
     let w = IsIn-from_noted r (filter q p.pending) n in
     let v = IsIn-from_filter q w.0 p.pending w.1 in
-    let twins : t s.0 ≡ t w.0 = one_pending p sound t same s.0 w.0 s.1 v.0 (sym (ap (λ x. x.id) s.2) ∙ w.2) in
-    both_ways (q s.0) e (sym (agree s.0 (groups.not_done s.0 s.1)) ∙ twins ∙ agree w.0 (groups.not_done w.0 v.0) ∙ v.1))))
+    both_ways (q s.0) e (sym (agree s.0 (groups.not_done s.0 s.1)) ∙ (one_pending p sound t same s.0 w.0 s.1 v.0 (sym (ap (λ x. x.id) s.2) ∙ w.2)) ∙ agree w.0 (groups.not_done w.0 v.0) ∙ v.1))))
     (cases_Bool (q s.0)) in
     let done : IsIn r of_done → Goal = λ k.
     none r (done_in groups r k) ∙ sym (false_from_ne_true (is_noted noted r) (λ n.
     let w = IsIn-from_noted r (filter q p.pending) n in
-    let v = IsIn-from_filter q w.0 p.pending w.1 in
-    apart_between of_pending of_done (apart_in p sound) (with_pins p.registry w.0) r (IsIn-map (with_pins p.registry) w.0 p.pending v.0) k (sym w.2))) in
+    apart_between of_pending of_done (apart_in p sound) (with_pins p.registry w.0) r (IsIn-map (with_pins p.registry) w.0 p.pending (IsIn-from_filter q w.0 p.pending w.1).0) k (sym w.2))) in
     ⊎_elim pending done (IsIn-append_cases r of_pending of_done (IsIn-from_in_order id_before r (grouped p.registry p.pending p.store.checkpoints p.store.savepoints) h))
 
 pub noted_are_expired : (p : Parts) (timeout moment : ℕ) → IsSound (state_of p) → AreGroups p.pending p.store.checkpoints p.store.savepoints → timeout ≡ p.opened.config.timeout → moment ≡ max 0 p.clock.latest →
@@ -145,8 +139,7 @@ next_not_noted p q sound r next = false_from_ne_true (is_noted (numbers (filter 
     let v = IsIn-from_filter q w.0 p.pending w.1 in
     let here : IsIn (with_pins p.registry w.0) (grouped p.registry p.pending p.store.checkpoints p.store.savepoints) = IsIn-append_left (with_pins p.registry w.0) (map (with_pins p.registry) p.pending) (p.store.checkpoints ++ p.store.savepoints) (IsIn-map (with_pins p.registry) w.0 p.pending v.0) in
     let lt : w.0.id < p.next = sound.records.below_next (with_pins p.registry w.0) (IsIn-in_order id_before (with_pins p.registry w.0) (grouped p.registry p.pending p.store.checkpoints p.store.savepoints) here) in
-    let same : p.next ≡ w.0.id = sym next ∙ w.2 in
-    omega (arith, same, lt))
+    omega (arith, sym next ∙ w.2, lt))
 
 -- after the start
 
@@ -162,8 +155,7 @@ unfolding state_of
 done_not_dropped p q ids pending end agree groups starts r h =
     let done : r.done ≡ true = done_in groups r h in
     let there : IsIn r (records_in q) = IsIn-in_order id_before r (grouped q.registry q.pending q.store.checkpoints q.store.savepoints) (IsIn-append_right r (map (with_pins q.registry) q.pending) (q.store.checkpoints ++ q.store.savepoints) h) in
-    let before : IsIn r (records_in p) = starts_done (state_of p) pending (state_of q) end starts r there done in
-    sym (agree r before) ∙ ap (λ b. not b && leb (r.started + p.opened.config.timeout) p.clock.latest) done
+    sym (agree r (starts_done (state_of p) pending (state_of q) end starts r there done)) ∙ ap (λ b. not b && leb (r.started + p.opened.config.timeout) p.clock.latest) done
 
 -- the tick
 

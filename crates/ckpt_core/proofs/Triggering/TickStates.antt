@@ -1,15 +1,15 @@
 -- What a tick does to a state: a checkpoint is started first, and what has expired is dropped after.
-use Rattle.ckpt_core.proofs.Names.{◌≡◌, ℕ, ◌+◌, ◌<◌, Bool, true, false, not, ◌&&◌, cond, ltb, leb, List, [], ◌∷◌, ◌++◌, map, refl, sym, ap, subst, ◌∙◌, ◌⊎◌, inl, inr, ⊎_elim, arith, None, count_by}
-use Rattle.ckpt_core.proofs.Names.{filter, cases_Bool, both_ways, and_parts, and_right, not_from_false, lt-ltb, false_from_ne_true, and_from, map-append, filter-append, Ticked, TickEnd, Answer, Done}
-use Rattle.ckpt_core.proofs.Names.{IsIn, IsInOrder, Record, Use, uses, uses_of, is_present, released, numbers_in_order, IsIn-append_left, IsIn-append_right, IsIn-append_cases, IsIn-flat_map}
-use Rattle.ckpt_core.proofs.Names.{IsIn-from_flat_map, IsInOrder-append, same_from_members, filter-all, IsIn-from_test, Hold, gap, State, is_checkpoint, is_pending, is_expired, drop, kept, unpinned}
-use Rattle.ckpt_core.proofs.Names.{pins_now, in_outbox, IsSound, id_before, is_late, late_in, Starts, held_at, Stepped, triggered, start_or_hold, after_expiry, tick, failed_over, pending_checkpoints}
-use Rattle.ckpt_core.proofs.Names.{dropped_by, count_by-filter, count_by-cons, count_by-same, map_itself, IsHeld, Holds, IsHeld-from_present, present-from_IsHeld, Holds-from_use, ascending-released}
-use Rattle.ckpt_core.proofs.Names.{before-from_released, after-from_released, IsIn-released, IsSoundOutbox, new_record, outbox_triggered, held-from_pins, pins_stay, pins_same, common_steps}
+use Rattle.ckpt_core.proofs.Names.{◌≡◌, ℕ, ◌+◌, ◌<◌, Bool, true, false, not, ◌&&◌, cond, ltb, leb, List, [], ◌∷◌, ◌++◌, refl, sym, ap, subst, ◌∙◌, ◌⊎◌, inl, inr, ⊎_elim, arith, None, count_by, filter}
+use Rattle.ckpt_core.proofs.Names.{cases_Bool, both_ways, and_parts, and_right, not_from_false, lt-ltb, false_from_ne_true, and_from, Ticked, TickEnd, Answer, Done, IsIn, IsInOrder, Record, Use, uses}
+use Rattle.ckpt_core.proofs.Names.{uses_of, is_present, released, numbers_in_order, IsIn-append_left, IsIn-append_right, IsIn-append_cases, IsIn-flat_map, IsIn-from_flat_map, IsInOrder-append}
+use Rattle.ckpt_core.proofs.Names.{same_from_members, IsIn-from_test, Hold, gap, State, is_checkpoint, is_pending, is_expired, drop, kept, unpinned, pins_now, in_outbox, IsSound, id_before, is_late}
+use Rattle.ckpt_core.proofs.Names.{late_in, Starts, held_at, Stepped, triggered, start_or_hold, after_expiry, tick, failed_over, pending_checkpoints, dropped_by, count_by-filter, count_by-cons}
+use Rattle.ckpt_core.proofs.Names.{count_by-same, map_itself, IsHeld, Holds, IsHeld-from_present, present-from_IsHeld, Holds-from_use, ascending-released, before-from_released, after-from_released}
+use Rattle.ckpt_core.proofs.Names.{IsIn-released, IsSoundOutbox, new_record, outbox_triggered, held-from_pins, pins_stay, pins_same, common_steps}
+use Rattle.ckpt_core.proofs.Ending.Drops.{drop_same}
 use Rattle.ckpt_ids.specs.declared.numbers.Kind.TheVariants as kind
 use Rattle.ckpt_ids.specs.declared.reply.TickEnd.TheVariants as ends
 use Rattle.ckpt_rules.specs.declared.hold.Hold.TheVariants as hold
-use Rattle.ckpt_core.proofs.Ending.Drops.{drop_same}
 
 -- the records after a trigger and a drop
 
@@ -22,16 +22,11 @@ kept-append b rs x e = grind (arith, common_steps)
 -- a file that the new record pins is held by what is kept
 pin_kept : (m : State) (b : Record → Bool) (f : ℕ) → IsSound m → ((r : Record) → IsIn r m.records → r.done ≡ true → b r ≡ false) → IsIn f (pins_now m) → IsHeld f (kept b None m.records)
 unfolding drop
-pin_kept m b f s spared h =
-    let same : pins_now (drop m b None) ≡ pins_now m = pins_stay m (drop m b None) (keeps b) s refl refl (λ r k d. not_from_false (b r) (spared r k d)) in
-    let P : List ℕ → Type 0 = λ fs. IsIn f fs in
-    held-from_pins (drop m b None) f (subst P (sym same) h)
+pin_kept m b f s spared h = held-from_pins (drop m b None) f (rw (pins_stay m (drop m b None) (keeps b) s refl refl (λ r k d. not_from_false (b r) (spared r k d))) h)
 
 pinned : (m : State) (f : ℕ) (r x : Record) → IsIn r (x ∷ []) → x ≡ new_record m kind.Checkpoint → Holds f r → IsIn f (pins_now m)
 pinned m f r x h is held =
-    let same : r ≡ new_record m kind.Checkpoint = ⊎_elim (λ (e : r ≡ x). e ∙ is) (λ k. absurd k) h in
-    let P : Record → Type 0 = λ w. Holds f w in
-    of_new (subst P same held)
+    of_new (rw (⊎_elim (λ (e : r ≡ x). e ∙ is) (λ k. absurd k) h) at held)
   where
     of_new : Holds f (new_record m kind.Checkpoint) → IsIn f (pins_now m)
     of_new (inl h) = absurd h.1
@@ -55,8 +50,7 @@ released_with_pins m b x s spared is =
     ⊎_elim
     (λ (k : IsIn r.0 m.records). IsIn-released f u.0 before after (IsIn-flat_map uses_of r.0 u.0 m.records k r.2) (sym u.2) gone_too)
     (λ (k : IsIn r.0 (x ∷ [])).
-    let P : ℕ → Type 0 = λ g. Holds g r.0 in
-    let held : Holds f r.0 = subst P (sym u.2) (Holds-from_use u.0 r.0 r.2) in
+    let held : Holds f r.0 = rw (sym u.2) at (Holds-from_use u.0 r.0 r.2) in
     absurd (both_ways (is_present after' f) gone (present-from_IsHeld f (kept b None m.records ++ x ∷ []) (r.0, IsIn-append_right r.0 (kept b None m.records) (x ∷ []) k, held))))
     (IsIn-append_cases r.0 m.records (x ∷ []) r.1) in
     let back : (f : ℕ) → IsIn f (released before after) → IsIn f (released before' after') = λ f h.
@@ -78,13 +72,9 @@ pub drop_triggered : (m : State) (b : Record → Bool) (due : ℕ) → IsSound m
 unfolding drop triggered
 drop_triggered m b due s spared stays =
     let x : Record = new_record m kind.Checkpoint in
-    let before : List Use = uses (m.records ++ x ∷ []) in
     let left : List Record = kept b None m.records in
-    let out : List ℕ = released (uses m.records) (uses left) in
     let same : pins_now (drop m b None) ≡ pins_now m = pins_stay m (drop m b None) (keeps b) s refl refl (λ r k d. not_from_false (b r) (spared r k d)) in
-    ap (λ rs. record m { due = due; next = m.next + 1; records = rs; waiting = m.waiting ++ released before (uses rs) }) (kept-append b m.records x stays)
-    ∙ ap (λ fs. record m { due = due; next = m.next + 1; records = left ++ x ∷ []; waiting = m.waiting ++ fs }) (released_with_pins m b x s spared refl)
-    ∙ ap (λ pins. record m { due = due; next = m.next + 1; records = left ++ record x { pins = pins } ∷ []; waiting = m.waiting ++ out }) (sym same)
+    rw (kept-append b m.records x stays, released_with_pins m b x s spared refl, ← same)
 
 -- the state after a start
 
@@ -180,9 +170,7 @@ unfolding start_or_hold drop
 start_then_drop m hold.Interval failures expired a b after end s agree spared stays e = held_then_drop m after failures expired a b ends.HeldInterval end agree e
 start_then_drop m hold.AtOnce failures expired a b after end s agree spared stays e = held_then_drop m after failures expired a b ends.HeldAtOnce end agree e
 start_then_drop m hold.Pause failures expired a b after end s agree spared stays e = held_then_drop m after failures expired a b ends.HeldPause end agree e
-start_then_drop m hold.Go failures expired a b after end s agree spared stays e =
-    ap (λ k. stepped k (ticked expired (ends.Triggered m.next))) (started_counted m failures a)
-    ∙ started_then_drop m after failures expired a b end s agree spared stays e
+start_then_drop m hold.Go failures expired a b after end s agree spared stays e = rw (started_counted m failures a, started_then_drop m after failures expired a b end s agree spared stays e)
 
 -- the count of what is left pending
 

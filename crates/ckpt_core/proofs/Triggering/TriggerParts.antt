@@ -1,23 +1,20 @@
 -- What a trigger does to the parts is what it does to the state.
-use Rattle.ckpt_core.proofs.Names.{◌≡◌, ℕ, ◌+◌, ◌<◌, ◌≤◌, Bool, true, false, not, ◌&&◌, cond, ltb, eqb, List, [], ◌∷◌, ◌++◌, map, length, refl, sym, ap, subst, ◌∙◌, ⊎_elim, arith, Option, Some, None}
-use Rattle.ckpt_core.proofs.Names.{unwrap_or, max, count_by, filter, vec_capacity, CheckpointId, append-nil, length-append, filter-append, cases_Bool, ne_eqb, eq-eqb, not_from_false, not_from_true}
-use Rattle.ckpt_core.proofs.Names.{Kind, ascending_set, IsIn, IsInOrder, in_order_once, Record, Use, Pin, use_before, uses, uses_of, IsIn-append_cases, IsIn-append_left, IsIn-map, IsIn-from_map}
-use Rattle.ckpt_core.proofs.Names.{IsIn-flat_map, IsIn-from_flat_map, IsIn-in_order, IsIn-in_order_once, IsIn-from_in_order_once, IsInOrder-in_order_once, same_from_members, filter-all, filter-none}
+use Rattle.ckpt_core.proofs.Names.{triples, ◌≡◌, ℕ, ◌+◌, ◌<◌, ◌≤◌, Bool, false, not, ◌&&◌, ltb, eqb, List, [], ◌∷◌, ◌++◌, map, length, refl, sym, ap, subst, ◌∙◌, ⊎_elim, arith, Option, Some, None}
+use Rattle.ckpt_core.proofs.Names.{unwrap_or, max, count_by, filter, vec_capacity, CheckpointId, append-nil, length-append, filter-append, ne_eqb, eq-eqb, not_from_false, not_from_true, Kind, IsIn}
+use Rattle.ckpt_core.proofs.Names.{IsInOrder, in_order_once, Record, Use, Pin, use_before, uses, uses_of, IsIn-append_cases, IsIn-append_left, IsIn-map, IsIn-from_map, IsIn-flat_map}
+use Rattle.ckpt_core.proofs.Names.{IsIn-from_flat_map, IsIn-in_order, IsIn-in_order_once, IsIn-from_in_order_once, IsInOrder-in_order_once, same_from_members, filter-all, filter-none}
 use Rattle.ckpt_core.proofs.Names.{numbers_in_order, Parts, Configuration, IsWithinLimits, limit, State, is_pending, is_checkpoint, is_done_checkpoint, pins_now, files_of, chosen, choice_of, IsSound}
-use Rattle.ckpt_core.proofs.Names.{id_before, triggered, with_pins, grouped, records_of, state_of, records_in, AreTied, present_in, count_by-cons, ascending-pins, chosen_in, common_steps}
+use Rattle.ckpt_core.proofs.Names.{id_before, triggered, with_pins, grouped, records_of, state_of, records_in, AreTied, present_in, ascending-pins, chosen_in, common_steps}
 use Rattle.std.specs.Global.{Vec}
-use Rattle.ckpt_core.proofs.Using.Order.{holds, from_holds, use_of_record}
-use Rattle.ckpt_core.proofs.Records.GroupMoves.{trigger_groups, trigger_uses, uses_of-triggered}
+use Rattle.ckpt_core.proofs.Using.Order.{from_holds, use_of_record}
+use Rattle.ckpt_core.proofs.Records.GroupMoves.{pending_groups, trigger_uses, uses-more}
 
 -- every use is of a record with an earlier number
 pub older_uses : (p : Parts) → AreTied p → IsSound (state_of p) → (u : Use) → IsIn u p.registry → u.id < p.next
 unfolding state_of
 older_uses p tied sound u h =
-    let P : List Use → Type 0 = λ us. IsIn u us in
-    let q = IsIn-from_flat_map uses_of u (records_in p) (subst P tied.uses_are h) in
-    let e : u.id ≡ q.0.id = use_of_record q.0 u q.2 in
-    let lt : q.0.id < p.next = sound.records.below_next q.0 q.1 in
-    omega arith
+    let q = IsIn-from_flat_map uses_of u (records_in p) (rw tied.uses_are at h) in
+    omega (arith, sound.records.below_next q.0 q.1, use_of_record q.0 u q.2)
 
 pub older_records : (p : Parts) → IsSound (state_of p) → (r : Record) → IsIn r (grouped p.registry p.pending p.store.checkpoints p.store.savepoints) → r.id < p.next
 unfolding state_of
@@ -39,7 +36,7 @@ pin_used m f h =
     let own : IsIn q.0 (uses_of r) = ⊎_elim (λ (k : IsIn q.0 (uses_of r)). k) (λ (k : IsIn q.0 []). absurd k) (IsIn-append_cases q.0 (uses_of r) [] q.1) in
     (q.0, IsIn-flat_map uses_of r q.0 m.records (chosen_in m (choice_of m) r e) own, sym q.2) in
     let none : chosen (choice_of m) m ≡ None → Goal = λ e.
-    let P : Option Record → Type 0 = λ o. IsIn f (files_of o) in absurd (subst P e h) in
+    absurd (rw e at h) in
     elim (chosen (choice_of m) m) as (λ o. (chosen (choice_of m) m ≡ o → Goal)) [ None ↦ none | Some r ↦ some r ] refl
 
 pub pins_used : (p : Parts) → AreTied p → (f : ℕ) → IsIn f (pins_now (state_of p)) → (u : Use) × IsIn u p.registry × (u.file ≡ f)
@@ -54,50 +51,49 @@ present_same us vs forth back = grind (arith, common_steps, IsIn-from_in_order_o
 abbrev pub with_record : Parts → List Use → Record → Parts
 with_record p us r = record p { pending = p.pending ++ r ∷ []; registry = us; next = p.next + 1 }
 
-abbrev pub new_record : Parts → Kind → Record
-new_record p kind = record { id = p.next; kind = kind; done = false; shape = unwrap_or p.reshaped p.opened.shape; started = p.clock.latest; acks = []; pins = [] }
+abbrev pub triggered_record : Parts → Kind → Record
+triggered_record p kind = record { id = p.next; kind = kind; done = false; shape = unwrap_or p.reshaped p.opened.shape; started = p.clock.latest; acks = []; pins = [] }
 
 abbrev pub after_pin : Parts → List ℕ → List Use
-after_pin p files = in_order_once use_before (p.registry ++ holds p.next Pin files)
+after_pin p files = in_order_once use_before (p.registry ++ triples p.next Pin files)
 
-trigger_registry : (p : Parts) → AreTied p → IsSound (state_of p) → IsInOrder use_before p.registry → after_pin p (pins_now (state_of p)) ≡ p.registry ++ holds p.next Pin (pins_now (state_of p))
+trigger_registry : (p : Parts) → AreTied p → IsSound (state_of p) → IsInOrder use_before p.registry → after_pin p (pins_now (state_of p)) ≡ p.registry ++ triples p.next Pin (pins_now (state_of p))
 trigger_registry p tied sound order = trigger_uses p.registry p.next (pins_now (state_of p)) order (older_uses p tied sound) (ascending-pins (state_of p))
 
 trigger_records : (p : Parts) (kind : Kind) → AreTied p → IsSound (state_of p) → IsInOrder use_before p.registry →
-    records_in (with_record p (after_pin p (pins_now (state_of p))) (new_record p kind)) ≡ records_in p ++ record (new_record p kind) { pins = pins_now (state_of p) } ∷ []
+    records_in (with_record p (after_pin p (pins_now (state_of p))) (triggered_record p kind)) ≡ records_in p ++ record (triggered_record p kind) { pins = pins_now (state_of p) } ∷ []
 trigger_records p kind tied sound order =
-    ap (λ us. records_of us (p.pending ++ new_record p kind ∷ []) p.store.checkpoints p.store.savepoints) (trigger_registry p tied sound order)
-    ∙ trigger_groups p.registry p.pending p.store.checkpoints p.store.savepoints (new_record p kind) (pins_now (state_of p)) (older_uses p tied sound) (older_records p sound)
+    ap (λ us. records_of us (p.pending ++ triggered_record p kind ∷ []) p.store.checkpoints p.store.savepoints) (trigger_registry p tied sound order)
+    ∙ pending_groups p.registry p.pending p.store.checkpoints p.store.savepoints (triggered_record p kind) (pins_now (state_of p)) (older_uses p tied sound) (older_records p sound)
 
 pub trigger_state : (p : Parts) (kind : Kind) → AreTied p → IsSound (state_of p) → IsInOrder use_before p.registry →
-    state_of (with_record p (after_pin p (pins_now (state_of p))) (new_record p kind)) ≡ triggered (state_of p) kind
+    state_of (with_record p (after_pin p (pins_now (state_of p))) (triggered_record p kind)) ≡ triggered (state_of p) kind
 unfolding state_of triggered
 trigger_state p kind tied sound order = ap (λ rs. record (state_of p) { records = rs; next = p.next + 1 }) (trigger_records p kind tied sound order)
 
 pub trigger_tied : (p : Parts) (kind : Kind) → AreTied p → IsSound (state_of p) → IsInOrder use_before p.registry → length (records_in p) + 1 ≤ vec_capacity p.ended →
-    AreTied (with_record p (after_pin p (pins_now (state_of p))) (new_record p kind))
+    AreTied (with_record p (after_pin p (pins_now (state_of p))) (triggered_record p kind))
 trigger_tied p kind tied sound order room =
     let pins : List ℕ = pins_now (state_of p) in
     let us' : List Use = after_pin p pins in
-    let x : Record = record (new_record p kind) { pins = pins } in
-    let records : records_in (with_record p us' (new_record p kind)) ≡ records_in p ++ x ∷ [] = trigger_records p kind tied sound order in
-    let added : us' ≡ p.registry ++ holds p.next Pin pins = trigger_registry p tied sound order in
-    let same : present_in (p.registry ++ holds p.next Pin pins) ≡ present_in p.registry =
-    present_same (p.registry ++ holds p.next Pin pins) p.registry
+    let x : Record = record (triggered_record p kind) { pins = pins } in
+    let records : records_in (with_record p us' (triggered_record p kind)) ≡ records_in p ++ x ∷ [] = trigger_records p kind tied sound order in
+    let added : us' ≡ p.registry ++ triples p.next Pin pins = trigger_registry p tied sound order in
+    let same : present_in (p.registry ++ triples p.next Pin pins) ≡ present_in p.registry =
+    present_same (p.registry ++ triples p.next Pin pins) p.registry
     (λ u h. ⊎_elim
     (λ (k : IsIn u p.registry). IsIn-map (λ (v : Use). v.file) u p.registry k)
-    (λ (k : IsIn u (holds p.next Pin pins)).
+    (λ (k : IsIn u (triples p.next Pin pins)).
     let q = pins_used p tied u.file (from_holds p.next Pin pins u k).2 in
-    let P : ℕ → Type 0 = λ g. IsIn g (map (λ v. v.file) p.registry) in
-    subst P q.2 (IsIn-map (λ (v : Use). v.file) q.0 p.registry q.1))
-    (IsIn-append_cases u p.registry (holds p.next Pin pins) h))
-    (λ u h. IsIn-map (λ (v : Use). v.file) u (p.registry ++ holds p.next Pin pins) (IsIn-append_left u p.registry (holds p.next Pin pins) h)) in
+    rw q.2 at (IsIn-map (λ (v : Use). v.file) q.0 p.registry q.1))
+    (IsIn-append_cases u p.registry (triples p.next Pin pins) h))
+    (λ u h. IsIn-map (λ (v : Use). v.file) u (p.registry ++ triples p.next Pin pins) (IsIn-append_left u p.registry (triples p.next Pin pins) h)) in
     record {
-      uses_are = added ∙ ap (λ us. us ++ holds p.next Pin pins) tied.uses_are ∙ sym (uses_of-triggered (records_in p) x refl) ∙ ap uses (sym records);
+      uses_are = added ∙ ap (λ us. us ++ triples p.next Pin pins) tied.uses_are ∙ sym (uses-more (records_in p) x) ∙ ap uses (sym records);
       retained = tied.retained;
       tolerable = tied.tolerable;
       spare = let e : present_in us' ≡ present_in p.registry = ap present_in added ∙ same in let s : present_in p.registry ≤ p.outbox.spare = tied.spare in omega arith;
-      room = let e : length (records_in (with_record p us' (new_record p kind))) ≡ length (records_in p) + 1 = ap length records ∙ length-append (records_in p) (x ∷ []) in omega arith;
+      room = let e : length (records_in (with_record p us' (triggered_record p kind))) ≡ length (records_in p) + 1 = ap length records ∙ length-append (records_in p) (x ∷ []) in omega arith;
     }
 
 -- the record is taken back
@@ -111,12 +107,6 @@ trigger_undone p sound x e =
 
 -- how many records live
 
-one_kind : (d c : Bool) → cond (not d && c) 1 0 + (cond (d && c) 1 0 + cond (not c) 1 0) ≡ 1
-one_kind true true = refl
-one_kind true false = refl
-one_kind false true = refl
-one_kind false false = refl
-
 pub three_kinds : (rs : List Record) → count_by (λ r. is_pending r && is_checkpoint r) rs + (count_by is_done_checkpoint rs + count_by (λ r. not (is_checkpoint r)) rs) ≡ length rs
 three_kinds [] = refl
 three_kinds (r ∷ rs) = grind (arith, common_steps, three_kinds rs)
@@ -124,21 +114,21 @@ three_kinds (r ∷ rs) = grind (arith, common_steps, three_kinds rs)
 pub limit_bound : (c : Configuration) → IsWithinLimits c → limit c ≤ 64
 limit_bound c within = grind (arith, common_steps)
 
-pub live_bound : (m : State) → IsSound m → length m.records ≤ 2064
-live_bound m sound = omega (arith, three_kinds m.records, sound.records.at_once, sound.records.retained, sound.records.savepoints_to, limit_bound m.opening.config sound.config)
+pub few_live : (m : State) → IsSound m → length m.records ≤ 2064
+few_live m sound = omega (arith, three_kinds m.records, sound.records.at_once, sound.records.retained, sound.records.savepoints_to, limit_bound m.opening.config sound.config)
 
 -- the same, from what the calls left
 
-pub triggered_state : (p : Parts) (kind : Kind) (pins : List ℕ) (x : Record) (pending : List Record) (us : List Use) → AreTied p → IsSound (state_of p) → IsInOrder use_before p.registry → pins ≡ pins_now (state_of p) → x ≡ new_record p kind →
-    pending ≡ p.pending ++ x ∷ [] → us ≡ in_order_once use_before (p.registry ++ holds p.next Pin pins) → state_of (record p { pending = pending; registry = us; next = p.next + 1 }) ≡ triggered (state_of p) kind
+pub triggered_state : (p : Parts) (kind : Kind) (pins : List ℕ) (x : Record) (pending : List Record) (us : List Use) → AreTied p → IsSound (state_of p) → IsInOrder use_before p.registry
+    → pins ≡ pins_now (state_of p) → x ≡ triggered_record p kind →
+    pending ≡ p.pending ++ x ∷ [] → us ≡ in_order_once use_before (p.registry ++ triples p.next Pin pins) → state_of (record p { pending = pending; registry = us; next = p.next + 1 }) ≡ triggered (state_of p) kind
 triggered_state p kind pins x pending us tied sound order pinned new added uses_are = grind (arith, common_steps, trigger_state)
 
-pub triggered_tied : (p : Parts) (kind : Kind) (pins : List ℕ) (x : Record) (pending : List Record) (us : List Use) → AreTied p → IsSound (state_of p) → IsInOrder use_before p.registry → pins ≡ pins_now (state_of p) → x ≡ new_record p kind →
-    pending ≡ p.pending ++ x ∷ [] → us ≡ in_order_once use_before (p.registry ++ holds p.next Pin pins) → length (records_in p) + 1 ≤ vec_capacity p.ended → AreTied (record p { pending = pending; registry = us; next = p.next + 1 })
+pub triggered_tied : (p : Parts) (kind : Kind) (pins : List ℕ) (x : Record) (pending : List Record) (us : List Use) → AreTied p → IsSound (state_of p) → IsInOrder use_before p.registry
+    → pins ≡ pins_now (state_of p) → x ≡ triggered_record p kind →
+    pending ≡ p.pending ++ x ∷ [] → us ≡ in_order_once use_before (p.registry ++ triples p.next Pin pins) → length (records_in p) + 1 ≤ vec_capacity p.ended → AreTied (record p { pending = pending; registry = us; next = p.next + 1 })
 triggered_tied p kind pins x pending us tied sound order pinned new added uses_are room =
-    let P : List Record → Type 0 = λ ps. AreTied (record p { pending = ps; registry = us; next = p.next + 1 }) in
-    let Q : List Use → Type 0 = λ vs. AreTied (record p { pending = p.pending ++ new_record p kind ∷ []; registry = vs; next = p.next + 1 }) in
-    subst P (sym (added ∙ ap (λ y. p.pending ++ y ∷ []) new)) (subst Q (sym (uses_are ∙ ap (after_pin p) pinned)) (trigger_tied p kind tied sound order room))
+    rw (added ∙ ap (λ y. p.pending ++ y ∷ []) new) (rw (uses_are ∙ ap (after_pin p) pinned) (trigger_tied p kind tied sound order room))
 
 -- the parts with other room for numbers
 pub state-ended : (p : Parts) (ended : Vec CheckpointId) → state_of (record p { ended = ended }) ≡ state_of p
@@ -146,13 +136,15 @@ unfolding state_of
 state-ended p ended = refl
 
 -- a record was added and taken out again
-pub undone_state : (p : Parts) (x : Record) (added pending : List Record) (us : List Use) → IsSound (state_of p) → x.id ≡ p.next → added ≡ p.pending ++ x ∷ [] → pending ≡ filter (λ r. not (eqb r.id p.next)) added → us ≡ p.registry → record p { pending = pending; registry = us } ≡ p
+pub undone_state : (p : Parts) (x : Record) (added pending : List Record) (us : List Use) → IsSound (state_of p) → x.id ≡ p.next → added ≡ p.pending ++ x ∷ []
+    → pending ≡ filter (λ r. not (eqb r.id p.next)) added → us ≡ p.registry → record p { pending = pending; registry = us } ≡ p
 undone_state p x added pending us sound new after removed same = grind (arith, common_steps, trigger_undone)
 
 -- the record that a trigger makes
-pub made_record : (p : Parts) (kind : Kind) (shape : List ℕ) (started : ℕ) (x : Record) → x ≡ record { id = p.next; kind = kind; done = false; shape = shape; started = started; acks = []; pins = [] } → shape ≡ unwrap_or p.reshaped p.opened.shape → started ≡ max 0 p.clock.latest → x ≡ new_record p kind
+pub made_record : (p : Parts) (kind : Kind) (shape : List ℕ) (started : ℕ) (x : Record) → x ≡ record { id = p.next; kind = kind; done = false; shape = shape; started = started; acks = []; pins = [] }
+    → shape ≡ unwrap_or p.reshaped p.opened.shape → started ≡ max 0 p.clock.latest → x ≡ triggered_record p kind
 made_record p kind shape started x e s t = grind (arith, common_steps)
 
 pub live_records : (p : Parts) → IsSound (state_of p) → length (records_in p) ≤ 2064
 unfolding state_of
-live_records p sound = live_bound (state_of p) sound
+live_records p sound = few_live (state_of p) sound

@@ -1,9 +1,8 @@
 -- The uses of sound records are in strict order, and what a change of the records does to them.
-use Rattle.ckpt_core.proofs.Names.{◌≡◌, ℕ, ◌<◌, Bool, true, false, ◌&&◌, ◌||◌, cond, ltb, eqb, List, [], ◌∷◌, ◌++◌, map, refl, sym, ap, subst, ◌∙◌, inl, inr, ⊎_elim, arith, filter, flat_map}
-use Rattle.ckpt_core.proofs.Names.{filter-append, cases_Bool, lt-ltb, ltb-true, eq-eqb, or_left, or_right, and_from, Acked, acknowledges_before, AreInSubtaskOrder, IsAscendingSet, IsIn, IsInOrder}
-use Rattle.ckpt_core.proofs.Names.{in_order_once, Record, Use, Holder, Subtask, Pin, use_before, holder_before, same_holder, uses, uses_of, IsIn-append_cases, IsIn-from_map, IsIn-from_flat_map}
-use Rattle.ckpt_core.proofs.Names.{ComesBefore-at, IsInOrder-append, IsInOrder-map, same_from_members, IsInOrder-in_order_once, IsIn-in_order_once, IsIn-from_in_order_once, uses_in_order}
-use Rattle.ckpt_core.proofs.Names.{same_subtask-Decides, id_before, IsRecord, common_steps}
+use Rattle.ckpt_core.proofs.Names.{◌≡◌, ℕ, ◌<◌, Bool, true, false, ◌&&◌, ◌||◌, cond, ltb, eqb, List, [], ◌∷◌, ◌++◌, refl, sym, ap, subst, ◌∙◌, inl, inr, ⊎_elim, arith, filter, filter-append}
+use Rattle.ckpt_core.proofs.Names.{cases_Bool, lt-ltb, ltb-true, or_left, Acked, acknowledges_before, AreInSubtaskOrder, IsAscendingSet, IsIn, IsInOrder, in_order_once, Record, Use, Holder, Subtask}
+use Rattle.ckpt_core.proofs.Names.{Pin, use_before, holder_before, same_holder, uses, uses_of, IsIn-append_cases, IsIn-from_map, IsIn-from_flat_map, ComesBefore-at, IsInOrder-append, IsInOrder-map}
+use Rattle.ckpt_core.proofs.Names.{same_from_members, IsInOrder-in_order_once, IsIn-in_order_once, IsIn-from_in_order_once, uses_in_order, id_before, IsRecord, common_steps, triples, uses_of_acks}
 
 -- an earlier record's uses come first
 pub earlier_record : (u v : Use) → u.id < v.id → use_before u v ≡ true
@@ -12,56 +11,45 @@ earlier_record u v h = or_left (ltb u.id v.id) (eqb u.id v.id && (holder_before 
 earlier_holder : (u v : Use) → u.id ≡ v.id → holder_before u.holder v.holder ≡ true → use_before u v ≡ true
 earlier_holder u v e h = grind (arith, common_steps)
 
-same_holder_itself : (h : Holder) → same_holder h h ≡ true
-same_holder_itself (Subtask s) = (same_subtask-Decides s s).1 refl
-same_holder_itself Pin = refl
-
 earlier_file : (id : ℕ) (h : Holder) (f g : ℕ) → ltb f g ≡ true → use_before (record { id = id; holder = h; file = f }) (record { id = id; holder = h; file = g }) ≡ true
 earlier_file id h f g lt = grind (arith, common_steps)
 
 -- the uses that one holder has of these files
-abbrev pub holds : ℕ → Holder → List ℕ → List Use
-holds id h files = map (λ f. record { id = id; holder = h; file = f }) files
-
-pub holds_in_order : (id : ℕ) (h : Holder) (files : List ℕ) → IsAscendingSet files → IsInOrder use_before (holds id h files)
+pub holds_in_order : (id : ℕ) (h : Holder) (files : List ℕ) → IsAscendingSet files → IsInOrder use_before (triples id h files)
 holds_in_order id h files a = IsInOrder-map ltb use_before (λ f. record { id = id; holder = h; file = f }) files (λ f g lt. earlier_file id h f g lt) a
 
-pub from_holds : (id : ℕ) (h : Holder) (files : List ℕ) (u : Use) → IsIn u (holds id h files) → (u.id ≡ id) × (u.holder ≡ h) × IsIn u.file files
+pub from_holds : (id : ℕ) (h : Holder) (files : List ℕ) (u : Use) → IsIn u (triples id h files) → (u.id ≡ id) × (u.holder ≡ h) × IsIn u.file files
 from_holds id h files u k = grind (arith, common_steps, IsIn-from_map)
 
-abbrev held_by_acks : ℕ → List Acked → List Use
-held_by_acks id acks = flat_map (λ a. holds id (Subtask a.subtask) a.files) acks
+-- a use by an acknowledgement
+pub id_of_acks : (id : ℕ) (acks : List Acked) (u : Use) → IsIn u (uses_of_acks id acks) → (a : Acked) × IsIn a acks × (u.id ≡ id) × (u.holder ≡ Subtask a.subtask)
+id_of_acks id acks u h = grind (arith, common_steps, IsIn-from_flat_map, from_holds, triples)
 
-acks_in_order : (id : ℕ) (acks : List Acked) → AreInSubtaskOrder acks → ((a : Acked) → IsIn a acks → IsAscendingSet a.files) → IsInOrder use_before (held_by_acks id acks)
+acks_in_order : (id : ℕ) (acks : List Acked) → AreInSubtaskOrder acks → ((a : Acked) → IsIn a acks → IsAscendingSet a.files) → IsInOrder use_before (uses_of_acks id acks)
 acks_in_order id [] order files = tt
 acks_in_order id (a ∷ acks) order files =
-    IsInOrder-append use_before (holds id (Subtask a.subtask) a.files) (held_by_acks id acks)
+    IsInOrder-append use_before (triples id (Subtask a.subtask) a.files) (uses_of_acks id acks)
     (holds_in_order id (Subtask a.subtask) a.files (files a (inl refl)))
     (acks_in_order id acks order.1 (λ b h. files b (inr h)))
     (λ u v h k.
     let p = from_holds id (Subtask a.subtask) a.files u h in
-    let q = IsIn-from_flat_map (λ b. holds id (Subtask b.subtask) b.files) v acks k in
-    let later = from_holds id (Subtask q.0.subtask) q.0.files v q.2 in
-    earlier_holder u v (p.0 ∙ sym later.0) (ap (λ w. holder_before w v.holder) p.1 ∙ ap (holder_before (Subtask a.subtask)) later.1 ∙ ComesBefore-at acknowledges_before a q.0 acks order.0 q.1))
+    let q = id_of_acks id acks v k in
+    earlier_holder u v (p.0 ∙ sym q.2) (ap (λ w. holder_before w v.holder) p.1 ∙ ap (holder_before (Subtask a.subtask)) q.3 ∙ ComesBefore-at acknowledges_before a q.0 acks order.0 q.1))
 
 pub use_of_record : (r : Record) (u : Use) → IsIn u (uses_of r) → u.id ≡ r.id
 use_of_record r u h =
-    ⊎_elim
-    (λ (k : IsIn u (held_by_acks r.id r.acks)). let q = IsIn-from_flat_map (λ b. holds r.id (Subtask b.subtask) b.files) u r.acks k in (from_holds r.id (Subtask q.0.subtask) q.0.files u q.2).0)
-    (λ (k : IsIn u (holds r.id Pin r.pins)). (from_holds r.id Pin r.pins u k).0)
-    (IsIn-append_cases u (held_by_acks r.id r.acks) (holds r.id Pin r.pins) h)
+    ⊎_elim (λ k. (id_of_acks r.id r.acks u k).2) (λ k. (from_holds r.id Pin r.pins u k).0) (IsIn-append_cases u (uses_of_acks r.id r.acks) (triples r.id Pin r.pins) h)
 
 -- whether the record lacks acknowledgements or not
 pub record_uses_in_order : (r : Record) → AreInSubtaskOrder r.acks → ((a : Acked) → IsIn a r.acks → IsAscendingSet a.files) → IsAscendingSet r.pins → IsInOrder use_before (uses_of r)
 record_uses_in_order r order files pins =
-    IsInOrder-append use_before (held_by_acks r.id r.acks) (holds r.id Pin r.pins)
+    IsInOrder-append use_before (uses_of_acks r.id r.acks) (triples r.id Pin r.pins)
     (acks_in_order r.id r.acks order files)
     (holds_in_order r.id Pin r.pins pins)
     (λ u v h k.
-    let q = IsIn-from_flat_map (λ b. holds r.id (Subtask b.subtask) b.files) u r.acks h in
-    let a = from_holds r.id (Subtask q.0.subtask) q.0.files u q.2 in
+    let q = id_of_acks r.id r.acks u h in
     let p = from_holds r.id Pin r.pins v k in
-    earlier_holder u v (a.0 ∙ sym p.0) (ap (λ w. holder_before w v.holder) a.1 ∙ ap (holder_before (Subtask q.0.subtask)) p.1))
+    earlier_holder u v (q.2 ∙ sym p.0) (ap (λ w. holder_before w v.holder) q.3 ∙ ap (holder_before (Subtask q.0.subtask)) p.1))
 
 pub record_in_order : (r : Record) → IsRecord r → IsInOrder use_before (uses_of r)
 record_in_order r sound = record_uses_in_order r sound.acks_in_order sound.files sound.pins
@@ -73,9 +61,7 @@ all_uses_in_order (r ∷ rs) order each =
     IsInOrder-append use_before (uses_of r) (uses rs) (each r (inl refl)) (all_uses_in_order rs order.1 (λ s h. each s (inr h)))
     (λ u v h k.
     let q = IsIn-from_flat_map uses_of v rs k in
-    let a : u.id ≡ r.id = use_of_record r u h in
-    let b : v.id ≡ q.0.id = use_of_record q.0 v q.2 in
-    earlier_record u v (omega (arith, ltb-true r.id q.0.id (ComesBefore-at id_before r q.0 rs order.0 q.1))))
+    earlier_record u v (omega (arith, ltb-true r.id q.0.id (ComesBefore-at id_before r q.0 rs order.0 q.1), use_of_record q.0 v q.2, use_of_record r u h)))
 
 pub uses-in_order : (rs : List Record) → IsInOrder id_before rs → ((r : Record) → IsIn r rs → IsRecord r) → IsInOrder use_before (uses rs)
 uses-in_order rs order each = all_uses_in_order rs order (λ r h. record_in_order r (each r h))
@@ -90,8 +76,7 @@ kept_or_none : (keep : ℕ → Bool) (r : Record) (us : List Use) → ((u : Use)
 kept_or_none keep r [] same = elim (cases_Bool (keep r.id)) [ inl e ↦ rw e refl | inr e ↦ rw e refl ]
 kept_or_none keep r (u ∷ us) same =
     let rest = kept_or_none keep r us (λ v h. same v (inr h)) in
-    let e : keep u.id ≡ keep r.id = ap keep (same u (inl refl)) in
-    ap (λ b. cond b (u ∷ filter (λ v. keep v.id) us) (filter (λ v. keep v.id) us)) e
+    ap (λ b. cond b (u ∷ filter (λ v. keep v.id) us) (filter (λ v. keep v.id) us)) (ap keep (same u (inl refl)))
     ∙ ap (λ ws. cond (keep r.id) (u ∷ ws) ws) rest
     ∙ ⊎_elim (λ (t : keep r.id ≡ true). rw t refl) (λ (t : keep r.id ≡ false). rw t refl) (cases_Bool (keep r.id))
 
@@ -99,7 +84,6 @@ pub uses-filter : (keep : ℕ → Bool) (rs : List Record) → uses (filter (λ 
 uses-filter keep [] = refl
 uses-filter keep (r ∷ rs) =
     let rest : uses (filter (λ s. keep s.id) rs) ≡ filter (λ u. keep u.id) (uses rs) = uses-filter keep rs in
-    let first : filter (λ u. keep u.id) (uses_of r) ≡ cond (keep r.id) (uses_of r) [] = kept_or_none keep r (uses_of r) (use_of_record r) in
     let P : Bool → Type 0 = λ b. uses (cond b (r ∷ filter (λ s. keep s.id) rs) (filter (λ s. keep s.id) rs)) ≡ cond b (uses_of r) [] ++ filter (λ u. keep u.id) (uses rs) in
     let both : P (keep r.id) = ⊎_elim (λ (t : keep r.id ≡ true). subst P (sym t) (ap (λ ws. uses_of r ++ ws) rest)) (λ (t : keep r.id ≡ false). subst P (sym t) rest) (cases_Bool (keep r.id)) in
-    both ∙ ap (λ ws. ws ++ filter (λ u. keep u.id) (uses rs)) (sym first) ∙ sym (filter-append (λ u. keep u.id) (uses_of r) (uses rs))
+    both ∙ ap (λ ws. ws ++ filter (λ u. keep u.id) (uses rs)) (sym (kept_or_none keep r (uses_of r) (use_of_record r))) ∙ sym (filter-append (λ u. keep u.id) (uses_of r) (uses rs))

@@ -1,5 +1,5 @@
 -- Answers the goals of `joined`.
-use Rattle.ckpt_core.proofs.Names.{◌≡◌, ◌++◌, ◌∙◌, [], ℕ, List, ap, sym, Result, Ok, Err, IfOk, append-nil, IsAscending, ascending, ascending-swapped, ascending_already}
+use Rattle.ckpt_core.proofs.{◌≡◌, ◌++◌, ◌∙◌, [], ℕ, List, ap, sym, Result, Ok, Err, IfOk, append-nil, IsAscending, ascending, ascending-swapped, ascending_already}
 use Rattle.ckpt_core.proofs.acks.joined.Goals as goal
 
 -- with no reused file the fresh ones are all

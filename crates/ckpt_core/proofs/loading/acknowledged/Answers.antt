@@ -1,7 +1,6 @@
 -- Answers the goals of `acknowledged`.
-use Rattle.ckpt_core.proofs.Names.{◌≡◌, ℕ, ◌+◌, [], ◌∷◌, ◌++◌, List, true, false, cond, take, refl, sym, ap, subst, ◌∙◌, inl, inr, Err, take_more, both_ways, Acked, AreInSubtaskOrder}
-use Rattle.ckpt_core.proofs.Names.{acknowledges_before, put_ack, IsIn, Record, acknowledged, is_subtask, IsIn-get_or, pending_record}
-use Rattle.ckpt_core.proofs.Loaded.Uses.{before_in, take_in_order}
+use Rattle.ckpt_core.proofs.{◌≡◌, ℕ, ◌+◌, [], ◌∷◌, ◌++◌, List, true, false, cond, take, refl, sym, ap, subst, ◌∙◌, inl, inr, Err, take_more, both_ways, Acked, AreInSubtaskOrder, acknowledges_before}
+use Rattle.ckpt_core.proofs.{put_ack, IsIn, Record, acknowledged, is_subtask, IsIn-get_or, pending_record, before_in, take_in_order}
 use Rattle.ckpt_core.proofs.loading.acknowledged.Goals as goal
 
 -- one that is later than all goes last
@@ -13,9 +12,7 @@ pub returns-in-Err-UnknownSubtask-clause-damaged : goal.returns-in-Err-UnknownSu
 returns-in-Err-UnknownSubtask-clause-damaged c = λ e all.
     let items : List Acked = c.as_slice-acked-items.result.now in
     let a : Acked = c.acked-item.result in
-    let P : Acked → Type 0 = λ b. IsIn b items in
-    let Q : List Acked → Type 0 = λ xs. IsIn a xs in
-    let there : IsIn a c.args.metadata.now.acks = subst Q c.as_slice-acked-items.ensures.acks (subst P (sym c.acked-item.is) (IsIn-get_or items c.loop-acked.acked-index a c.loop-acked-test.true)) in
+    let there : IsIn a c.args.metadata.now.acks = rw (← c.as_slice-acked-items.ensures.acks) (rw (sym c.acked-item.is) at (IsIn-get_or items c.loop-acked.acked-index a c.loop-acked-test.true)) in
     let foreign : is_subtask c.loop-acked.pending.shape a.subtask ≡ false = c.ack.ensures.unknown.0 (c.in-Err-UnknownSubtask.is ∙ ap Err c.in-Err-UnknownSubtask.field-0-is) in
     both_ways (is_subtask c.args.metadata.now.shape a.subtask) (ap (λ (r : Record). is_subtask r.shape a.subtask) (sym c.loop-acked.invariant) ∙ foreign) (all a there)
 
@@ -28,8 +25,7 @@ loop-acked-preserved c =
     let make : List Acked → Record = pending_record m.id m.kind m.shape m.started in
     let next : take (i + 1) items ≡ take i items ++ a ∷ [] = take_more items i a c.loop-acked-test.true ∙ ap (λ z. take i items ++ z ∷ []) (sym c.acked-item.is) in
     let order : AreInSubtaskOrder items = subst AreInSubtaskOrder (sym c.as_slice-acked-items.ensures.acks) c.as_slice-acked-items.ensures.order in
-    let front : AreInSubtaskOrder (take i items ++ a ∷ []) = subst AreInSubtaskOrder next (take_in_order items (i + 1) order) in
     c.in-Ok.ensures.ok
     ∙ ap (λ (r : Record). acknowledged r a.subtask c.in_ok-files.files) c.loop-acked.invariant
     ∙ ap (λ (fs : List ℕ). make (put_ack (record { subtask = a.subtask; files = fs }) (take i items))) c.in_ok-files.ensures
-    ∙ ap make (put_last (take i items) a (λ b h. before_in (take i items) a b front h) ∙ sym next)
+    ∙ ap make (put_last (take i items) a (λ b h. before_in (take i items) a b (subst AreInSubtaskOrder next (take_in_order items (i + 1) order)) h) ∙ sym next)

@@ -1,5 +1,5 @@
 -- The loop invariants of `acknowledged`.
-use Rattle.ckpt_core.proofs.Names.{◌≡◌, take, pending_record}
+use Rattle.ckpt_core.proofs.{◌≡◌, take, pending_record}
 use Rattle.ckpt_core.proofs.loading.acknowledged.Given as goal
 
 abbrev pub invariant-loop-acked : goal.invariant-loop-acked

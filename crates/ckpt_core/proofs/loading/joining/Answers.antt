@@ -1,5 +1,5 @@
 -- Answers the goals of `joining`.
-use Rattle.ckpt_core.proofs.Loaded.Joining.{joined_records, joins_from_sound, sound_front}
+use Rattle.ckpt_core.proofs.{joined_records, joins_from_sound, sound_front}
 use Rattle.ckpt_core.proofs.loading.joining.Goals as goal
 
 pub returns-clause-joined : goal.returns-clause-joined

@@ -1,5 +1,5 @@
 -- The loop invariants of `register`.
-use Rattle.ckpt_core.proofs.Names.{◌≡◌, ◌++◌, take, uses_of_acks}
+use Rattle.ckpt_core.proofs.{◌≡◌, ◌++◌, take, uses_of_acks}
 use Rattle.ckpt_core.proofs.loading.register.Given as goal
 
 abbrev pub invariant-loop-acked : goal.invariant-loop-acked

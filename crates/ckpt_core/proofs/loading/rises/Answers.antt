@@ -1,7 +1,6 @@
 -- Answers the goals of `rises`.
-use Rattle.ckpt_core.proofs.Names.{◌≡◌, ℕ, Bool, true, false, not, List, sym, ap, subst, ◌∙◌, IsAscending, IsAscendingSet, numbers_in_order, set-from_distinct, AreDistinct-from_order}
-use Rattle.ckpt_core.proofs.Names.{distinct-from_test}
-use Rattle.ckpt_core.proofs.Answering.RefusalRepeats.{test-from_distinct}
+use Rattle.ckpt_core.proofs.{◌≡◌, ℕ, Bool, true, false, not, List, sym, ap, subst, ◌∙◌, IsAscending, IsAscendingSet, numbers_in_order, set-from_distinct, AreDistinct-from_order, distinct-from_test}
+use Rattle.ckpt_core.proofs.{test-from_distinct}
 use Rattle.ckpt_core.proofs.loading.rises.Goals as goal
 
 fails : (b r : Bool) → r ≡ b → not r ≡ true → b ≡ false

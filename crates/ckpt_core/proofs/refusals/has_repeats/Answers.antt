@@ -1,6 +1,5 @@
 -- Answers the goals of `has_repeats`.
-use Rattle.ckpt_core.proofs.Names.{◌≡◌, ◌||◌, ◌∙◌, ◌++◌, sym, has_repeats}
-use Rattle.ckpt_core.proofs.Answering.RefusalRepeats.{repeats_within, repeats_across, or_first, or_second}
+use Rattle.ckpt_core.proofs.{◌≡◌, ◌||◌, ◌∙◌, ◌++◌, sym, has_repeats, repeats_within, repeats_across, or_first, or_second}
 use Rattle.ckpt_core.proofs.refusals.has_repeats.Goals as goal
 use Rattle.ckpt_core.proofs.refusals.has_repeats.Goals.{then-repeats, else-repeats}
 

@@ -1,6 +1,5 @@
 -- Answers the goals of `is_among`.
-use Rattle.std.proofs.Common.{◌∙◌}
-use Rattle.ckpt_core.proofs.Answering.RefusalRepeats.{among-from_search}
+use Rattle.ckpt_core.proofs.{◌∙◌, among-from_search}
 use Rattle.ckpt_core.proofs.refusals.is_among.Goals as goal
 
 pub returns : goal.returns

@@ -1,6 +1,5 @@
 -- Answers the goals of `repeats`.
-use Rattle.ckpt_core.proofs.Names.{rules, nat_lt, answers_always}
-use Rattle.ckpt_core.proofs.Answering.RefusalRepeats.{repeats-from_adjacent}
+use Rattle.ckpt_core.proofs.{rules, nat_lt, answers_always, repeats-from_adjacent}
 use Rattle.ckpt_core.proofs.refusals.repeats.Goals as goal
 
 pub returns : goal.returns

@@ -1,8 +1,6 @@
 -- The parts are sound again after a call, and a call that was not tested first names a refusal exactly if it is refused.
-use Rattle.ckpt_core.proofs.Names.{◌≡◌, sym, ap, subst, ◌∙◌, Some, Result, Ok, Err, IfOk, IfErr, MatchResult, IsErrAnd, err_from_is_err_and, Call, Deleted, Dispose, Undeleted, Reply, Refusal}
-use Rattle.ckpt_core.proofs.Names.{CoreFault, Refused, Parts, Answers, state_of, refusal, State}
-use Rattle.ckpt_core.proofs.Answering.Calls.{sound_after}
-use Rattle.ckpt_core.proofs.Answering.Reports.{NamesRefusal, accepted_done, names_it, names_none}
+use Rattle.ckpt_core.proofs.{◌≡◌, sym, ap, subst, ◌∙◌, Some, Result, Ok, Err, IfOk, IfErr, MatchResult, IsErrAnd, err_from_is_err_and, Call, Deleted, Dispose, Undeleted, Reply, Refusal, CoreFault}
+use Rattle.ckpt_core.proofs.{Refused, Parts, Answers, state_of, refusal, State, sound_after, NamesRefusal, accepted_done, names_it, names_none}
 use Rattle.ckpt_core.proofs.coordinator.Core.apply.Goals as goal
 
 report_names : (made : Result Reply Refusal) (result : Result Reply CoreFault) (p q : Parts) (call same : Call) → call ≡ same
@@ -13,8 +11,7 @@ report_names (Ok reply) result p q call same e is ok err =
     subst (NamesRefusal result (state_of p)) (sym e) (subst Named (sym is) (names_none (state_of p) same (Ok reply) tt (accepted_done (state_of p) (state_of q) same reply ok.step_is)))
 report_names (Err refused) result p q call same e is ok err =
     let told = err_from_is_err_and result is in
-    let Named : Result Reply CoreFault → Type 0 = λ r. NamesRefusal r (state_of p) same in
-    subst (NamesRefusal result (state_of p)) (sym e) (subst Named (sym (told.1 ∙ ap Err told.2)) (names_it (state_of p) same refused err))
+    subst (NamesRefusal result (state_of p)) (sym e) (rw (told.1 ∙ ap Err told.2) (names_it (state_of p) same refused err))
 
 pub returns-in-Deleted-clause-refused : goal.returns-in-Deleted-clause-refused
 returns-in-Deleted-clause-refused c =

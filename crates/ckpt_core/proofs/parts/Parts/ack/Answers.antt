@@ -1,6 +1,5 @@
 -- The record at the place is that of the number, and it lacks an acknowledgement.
-use Rattle.ckpt_core.proofs.Names.{◌≡◌, ◌<◌, ◌≤◌, ◌∙◌, Some, sym, arith, find, missing, on_each_error, has_id, find-place}
-use Rattle.ckpt_core.proofs.Acknowledging.States.{IsTaking, acked_wants, it_lacks}
+use Rattle.ckpt_core.proofs.{◌≡◌, ◌<◌, ◌∙◌, Some, sym, arith, find, missing, on_each_error, has_id, find-place, IsTaking, acked_wants, it_lacks}
 use Rattle.ckpt_core.proofs.parts.Parts.ack.Goals as goal
 use Rattle.ckpt_core.proofs.parts.Parts.ack.Goals.{After-missing-missing}
 
@@ -20,8 +19,7 @@ pub ack_last-requires-clause-last : goal.ack_last-requires-clause-last
 ack_last-requires-clause-last c =
     let there = found (goal.at.ack_last-requires-clause-last c).After-missing-missing in
     let some : 0 < missing c.at.result.now = it_lacks c.args.self.now c.args.id c.at.result.now c.requires.sound.sound there c.recall.ensures.pending in
-    let few : c.missing-missing.result ≤ 1 = c.if-missing-gt1.false in
-    record { lacking = c.at.result.now; found = there; counted = omega (arith, some, few, c.missing-missing.ensures.value) }
+    record { lacking = c.at.result.now; found = there; counted = omega (arith, some, c.if-missing-gt1.false, c.missing-missing.ensures.value) }
 
 pub returns-else-missing-gt1-clause-memory : goal.returns-else-missing-gt1-clause-memory
 returns-else-missing-gt1-clause-memory c = on_each_error c.ack_last.result _ (acked_wants (taking (goal.at.returns-else-missing-gt1-clause-memory c).After-missing-missing))

@@ -1,9 +1,8 @@
 -- The parts after each call are those of the lemmas.
-use Rattle.ckpt_core.proofs.Names.{◌≡◌, ◌∙◌, ap, sym, subst, same_Some, find, slice_get, IsInOrder, LiesAt, missing, has_id, id_of, find-place, IsMissing, id_before, AckCompleted, Parts, Stays}
-use Rattle.ckpt_core.proofs.Names.{on_each_error}
-use Rattle.ckpt_core.proofs.Acknowledging.States.{IsRoomier, roomier_accepted, roomier_sound, roomier_stays, taking_from}
+use Rattle.ckpt_core.proofs.{◌≡◌, ◌∙◌, ap, sym, subst, same_Some, find, slice_get, IsInOrder, LiesAt, missing, has_id, id_of, find-place, IsMissing, id_before, AckCompleted, Parts, Stays}
+use Rattle.ckpt_core.proofs.{on_each_error, IsRoomier, roomier_accepted, roomier_sound, roomier_stays, taking_from, IsLast, CanComplete, can_complete, last_above, last_made, last_new, lies_taken}
+use Rattle.ckpt_core.proofs.{made_place, none_missing, order_taken}
 use Rattle.ckpt_core.proofs.Completing.Answers.{checkpoint_answers, savepoint_answers}
-use Rattle.ckpt_core.proofs.Completing.Calls.{IsLast, CanComplete, can_complete, last_above, last_made, last_new, lies_taken, made_place, none_missing, order_taken}
 use Rattle.ckpt_core.proofs.parts.Parts.ack_last.Goals as goal
 use Rattle.ckpt_core.proofs.parts.Parts.ack_last.Goals.{After-finish-arg-1, After-kind}
 
@@ -28,9 +27,8 @@ take_ack-requires-clause-accepted c =
 
 pub returns-in_err-take_ack-clause-err : goal.returns-in_err-take_ack-clause-err
 returns-in_err-take_ack-clause-err c =
-    let P : Parts → Type 0 = λ x. Stays c.args.self.now x in
     on_each_error c.from_residual-in_err-take_ack.result (Stays c.args.self.now c.take_ack.new.self)
-    (subst P (sym c.in_err-take_ack.ensures.err) (roomier_stays (made_place c.args.self.now c.make_room_for_files.new.self c.len.result c.reserve.new.self c.in_ok-make_room_for_files.ensures.ok c.in_ok-reserve.ensures.kept) c.requires.sound))
+    (rw c.in_err-take_ack.ensures.err (roomier_stays (made_place c.args.self.now c.make_room_for_files.new.self c.len.result c.reserve.new.self c.in_ok-make_room_for_files.ensures.ok c.in_ok-reserve.ensures.kept) c.requires.sound))
 
 -- and is there once the acknowledgement is taken
 roomier : (c : After-finish-arg-1) → IsRoomier c.args.self.now (record c.make_room_for_files.new.self { store = c.reserve.new.self })
@@ -60,8 +58,7 @@ finish-done-requires-clause-full c = λ r e.
     (taking_from c.args.now c.args.subtask c.args.fresh.now c.args.reused.now (roomier at) c.requires.sound c.requires.accepted
     c.in_ok-take_ack.ensures.pending c.in_ok-take_ack.ensures.in_order c.in_ok-take_ack.ensures.stored c.requires.last)
     c.requires.last.counted c.in_ok-take_ack.ensures.ok in
-    let same : none.lacking ≡ r = same_Some none.lacking r (sym none.found ∙ sym (found at) ∙ e) in
-    ap missing (sym same) ∙ none.counted
+    ap missing (sym (same_Some none.lacking r (sym none.found ∙ sym (found at) ∙ e))) ∙ none.counted
 
 -- the record is complete once its last acknowledgement is taken and it is taken out
 last : (c : After-kind) → LiesAt id_of c.args.id c.take_ack.new.self.pending c.args.place → slice_get c.take_ack.new.self.pending c.args.place ≡ find (has_id c.args.id) c.take_ack.new.self.pending → IsLast (record c.make_room_for_files.new.self { store = c.reserve.new.self }) c.finish-done.new.self c.args.now c.args.id c.args.subtask c.args.fresh.now c.args.reused.now c.requires.last.lacking c.finish-done.result

@@ -1,5 +1,5 @@
 -- The unknown files are those of the step, and memory is wanted only if there are any.
-use Rattle.ckpt_core.proofs.Names.{◌∙◌, ap, sym, length, arith, accepted_ack, state_of, on_each_error}
+use Rattle.ckpt_core.proofs.{◌∙◌, ap, sym, length, arith, accepted_ack, state_of, on_each_error}
 use Rattle.ckpt_core.proofs.Acknowledging.Late.{late_wants, unknown_counted, unknown_distinct, unknown_new, late_answers}
 use Rattle.ckpt_core.proofs.parts.Parts.ack_late.Goals as goal
 

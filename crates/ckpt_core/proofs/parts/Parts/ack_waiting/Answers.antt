@@ -1,6 +1,6 @@
 -- Making room leaves the state as it is, and so does what fails; what was taken is the step.
-use Rattle.ckpt_core.proofs.Names.{◌+◌, ◌≤◌, sym, subst, length, arith, LiesAt, id_of, Parts, Stays, present_in, on_each_error}
-use Rattle.ckpt_core.proofs.Acknowledging.States.{made_room, room_made, roomier_accepted, roomier_sound, roomier_stays, taking_from, waiting_answers}
+use Rattle.ckpt_core.proofs.{◌+◌, ◌≤◌, sym, subst, length, arith, LiesAt, id_of, Parts, Stays, present_in, on_each_error, made_room, room_made, roomier_accepted, roomier_sound, roomier_stays}
+use Rattle.ckpt_core.proofs.{taking_from, waiting_answers}
 use Rattle.ckpt_core.proofs.parts.Parts.ack_waiting.Goals as goal
 
 pub take_ack-requires-clause-sound : goal.take_ack-requires-clause-sound
@@ -14,9 +14,8 @@ take_ack-requires-clause-accepted c = roomier_accepted c.args.now c.args.id c.ar
 
 pub returns-in_err-take_ack-clause-err : goal.returns-in_err-take_ack-clause-err
 returns-in_err-take_ack-clause-err c =
-    let P : Parts → Type 0 = λ x. Stays c.args.self.now x in
     on_each_error c.from_residual-in_err-take_ack.result (Stays c.args.self.now c.take_ack.new.self)
-    (subst P (sym c.in_err-take_ack.ensures.err) (roomier_stays (made_room c.args.self.now c.make_room_for_files.new.self c.len.result c.in_ok-make_room_for_files.ensures.ok) c.requires.sound))
+    (rw c.in_err-take_ack.ensures.err (roomier_stays (made_room c.args.self.now c.make_room_for_files.new.self c.len.result c.in_ok-make_room_for_files.ensures.ok) c.requires.sound))
 
 pub returns-clause-ok : goal.returns-clause-ok
 returns-clause-ok c =

@@ -1,8 +1,9 @@
 -- Answers the goals of `Parts::add`.
-use Rattle.ckpt_core.proofs.Names.{◌≡◌, ℕ, ◌+◌, ◌<◌, not, eqb, List, [], ◌∷◌, ◌++◌, refl, sym, ap, subst, ◌∙◌, arith, filter, Record, Parts, state_of, AreTied, files_chosen, pinned, IsSound}
+use Rattle.ckpt_core.proofs.{◌≡◌, ℕ, ◌+◌, ◌<◌, not, eqb, List, [], ◌∷◌, ◌++◌, refl, ap, ◌∙◌, arith, filter, Record, Parts, files_chosen, pinned, IsSound, made_record, older_pending, older_uses}
+use Rattle.ckpt_core.proofs.{triggered_state, triggered_tied, undone_state}
+use Rattle.ckpt_core.proofs.Names.{state_of}
 use Rattle.ckpt_core.proofs.Using.CountBound.{registry_bound}
 use Rattle.ckpt_core.proofs.Triggering.Chosen.{files_chosen-pins}
-use Rattle.ckpt_core.proofs.Triggering.TriggerParts.{made_record, older_pending, older_uses, triggered_state, triggered_tied, undone_state}
 use Rattle.ckpt_core.proofs.parts.Parts.add.Goals as goal
 
 pub choice-choice-requires : goal.choice-choice-requires
@@ -30,8 +31,7 @@ returns-in-Err-clause-err c =
 
 pub returns-in-Err-clause-tied : goal.returns-in-Err-clause-tied
 returns-in-Err-clause-tied c =
-    let P : Parts → Type 0 = λ p. AreTied p in
-    subst P (sym (undone c.args.self.now c.new.result c.pin.new.self c.add.new.self c.remove.new.self c.requires.sound (ap (λ q. q.id) c.new.ensures) c.in_ok-add.ensures.ok c.in-Err.ensures.err c.remove.ensures.rest)) c.requires.tied
+    rw (undone c.args.self.now c.new.result c.pin.new.self c.add.new.self c.remove.new.self c.requires.sound (ap (λ q. q.id) c.new.ensures) c.in_ok-add.ensures.ok c.in-Err.ensures.err c.remove.ensures.rest) c.requires.tied
 
 pub returns-clause-ok : goal.returns-clause-ok
 returns-clause-ok c =
@@ -46,8 +46,6 @@ pub returns-clause-tied : goal.returns-clause-tied
 returns-clause-tied c =
     let p = c.args.self.now in
     let files : List ℕ = files_chosen c.choice-choice.result p.registry in
-    let P : Parts → Type 0 = λ q. AreTied q in
-    subst P (sym (ap (λ (q : Parts). record q { next = q.next + 1 }) c.in_default.ensures.ok))
-    (triggered_tied p c.args.kind files c.new.result c.add.new.self (pinned p p.next files).registry c.requires.tied c.requires.sound c.recall_uses.ensures (files_chosen-pins p c.requires.tied c.requires.sound c.choice-choice.result c.choice-choice.ensures)
+    rw (ap (λ (q : Parts). record q { next = q.next + 1 }) c.in_default.ensures.ok) (triggered_tied p c.args.kind files c.new.result c.add.new.self (pinned p p.next files).registry c.requires.tied c.requires.sound c.recall_uses.ensures (files_chosen-pins p c.requires.tied c.requires.sound c.choice-choice.result c.choice-choice.ensures)
     (made_record p c.args.kind c.args.shape c.read-started.result c.new.result c.new.ensures c.requires.shape c.read-started.ensures.value)
     c.in_ok-add.ensures.ok refl c.requires.room)

@@ -1,16 +1,13 @@
 -- The calls that always take memory may take it.
-use Rattle.ckpt_core.proofs.Names.{ℕ, Option, Some, rules, subst, Call, Ack, Savepoint, Restore, Take, IsPlaceIn, state_of}
-use Rattle.ckpt_core.proofs.Answering.Calls.{wants_here, savepoint_wants, restore_wants, take_wants}
+use Rattle.ckpt_core.proofs.{Some, rules, subst, Ack, Savepoint, Restore, Take, IsPlaceIn, wants_here, savepoint_wants, restore_wants, take_wants}
+use Rattle.ckpt_core.proofs.Names.{state_of}
 use Rattle.ckpt_core.proofs.parts.Parts.answer.Goals as goal
 
 pub ack_late-requires-clause-ended : goal.ack_late-requires-clause-ended
 unfolding state_of
 ack_late-requires-clause-ended c =
-    let p = c.args.self.now in
     let arm = c.in-Ack in
-    let Named : Option ℕ → Type 0 = IsPlaceIn p (Ack arm.now arm.id arm.subtask arm.fresh arm.reused) in
-    let Called : Call → Type 0 = λ call. IsPlaceIn p call c.args.place in
-    subst Named c.in-None.is (subst Called arm.is c.requires.place)
+    subst (IsPlaceIn c.args.self.now (Ack arm.now arm.id arm.subtask arm.fresh arm.reused)) c.in-None.is (rw arm.is at c.requires.place)
 
 pub returns-in-Savepoint-clause-memory : goal.returns-in-Savepoint-clause-memory
 returns-in-Savepoint-clause-memory c =

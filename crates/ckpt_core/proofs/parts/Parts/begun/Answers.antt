@@ -1,19 +1,13 @@
 -- Answers the goals of `Parts::begun`.
-use Rattle.ckpt_core.proofs.Names.{◌≡◌, ℕ, ◌+◌, List, [], refl, ap, ◌∙◌, arith, Record, Queues, FailureCount, Moments, Stored, records_of, state_of}
-use Rattle.ckpt_core.proofs.Loaded.Reopened.{state_same}
+use Rattle.ckpt_core.proofs.{◌≡◌, ℕ, ◌+◌, List, [], refl, ap, arith, Record, Queues, FailureCount, Moments, Stored, records_of, state_same}
+use Rattle.ckpt_core.proofs.Names.{state_of}
 use Rattle.ckpt_core.proofs.parts.Parts.begun.Goals as goal
 
 no_records : (us : _) (pending : List Record) (s : Stored) → pending ≡ [] → s.checkpoints ≡ [] → s.savepoints ≡ [] → records_of us pending s.checkpoints s.savepoints ≡ []
-no_records us pending s a b c =
-    ap (λ (rs : List Record). records_of us rs s.checkpoints s.savepoints) a
-    ∙ ap (λ (rs : List Record). records_of us [] rs s.savepoints) b
-    ∙ ap (λ (rs : List Record). records_of us [] [] rs) c
+no_records us pending s a b c = rw (a, b, c)
 
 counted : (before after : FailureCount) (tolerable failures : ℕ) → before ≡ record { tolerable = tolerable; number = 0 } → after ≡ record before { number = before.number + failures } → after.number ≡ failures
-counted before after tolerable failures new add =
-    let zero : before.number ≡ 0 = ap (λ (f : FailureCount). f.number) new in
-    let sum : after.number ≡ before.number + failures = ap (λ (f : FailureCount). f.number) add in
-    omega arith
+counted before after tolerable failures new add = omega (arith, ap (λ (f : FailureCount). f.number) add, ap (λ (f : FailureCount). f.number) new)
 
 pub returns-clause-state : goal.returns-clause-state
 unfolding state_of

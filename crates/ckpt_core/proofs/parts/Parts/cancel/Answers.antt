@@ -1,6 +1,5 @@
 -- After the drop the job has no base, and ends.
-use Rattle.ckpt_core.proofs.Names.{state_of, accepted_cancel}
-use Rattle.ckpt_core.proofs.Ending.Moves.{cancelled_answers}
+use Rattle.ckpt_core.proofs.{state_of, accepted_cancel, cancelled_answers}
 use Rattle.ckpt_core.proofs.parts.Parts.cancel.Goals as goal
 
 pub see-requires : goal.see-requires

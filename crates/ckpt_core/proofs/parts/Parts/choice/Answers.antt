@@ -1,7 +1,5 @@
 -- Answers the goals of `Parts::choice`.
-use Rattle.std.proofs.Common.{◌∙◌}
-use Rattle.ckpt_core.proofs.Ending.Drops.{groups_of}
-use Rattle.ckpt_core.proofs.Ending.Moves.{choice_is}
+use Rattle.ckpt_core.proofs.{◌∙◌, groups_of, choice_is}
 use Rattle.ckpt_core.proofs.parts.Parts.choice.Goals as goal
 
 pub returns : goal.returns

@@ -1,5 +1,5 @@
 -- The numbers that were noted are those of what is superseded.
-use Rattle.ckpt_core.proofs.Names.{◌≡◌, ◌∙◌, ◌++◌, [], ap, sym, List, ℕ, length, Some, arith, AckCompleted, Record, Use, released, after_end, surplus, earlier, handed_after, left_pending}
+use Rattle.ckpt_core.proofs.{◌≡◌, ◌∙◌, ◌++◌, [], ap, sym, List, ℕ, length, Some, arith, AckCompleted, Record, Use, released, after_end, surplus, earlier, handed_after, left_pending}
 use Rattle.ckpt_core.specs.Inside.Completing.{superseded}
 use Rattle.ckpt_core.proofs.Completing.Parts.{checkpoint_parts, few_earlier, few_superseded}
 use Rattle.ckpt_core.proofs.parts.Parts.complete_checkpoint.Goals as goal
@@ -51,8 +51,5 @@ returns-clause-reply c =
     let dropped : c.len-dropped.result ≡ length (superseded p.pending p.store c.args.done) =
     c.len-dropped.ensures ∙ sym c.deref.ensures.len ∙ ap length (c.deref.ensures.value ∙ gone c) in
     let handed : c.hand_out_after-released.result ≡ files c.args.done.id (superseded p.pending p.store c.args.done) p.registry =
-    c.hand_out_after-released.ensures.count
-    ∙ ap (λ i. files i k.ended.items k.registry) c.id-id.ensures.value
-    ∙ ap (λ ids. files c.args.done.id ids k.registry) (gone c)
-    ∙ ap (λ x. files c.args.done.id (superseded p.pending p.store c.args.done) x.registry) c.keep.ensures.parts in
+    rw (c.hand_out_after-released.ensures.count, c.id-id.ensures.value, gone c, c.keep.ensures.parts) in
     ap (λ n. AckCompleted n c.hand_out_after-released.result) dropped ∙ ap (AckCompleted (length (superseded p.pending p.store c.args.done))) handed

@@ -1,5 +1,5 @@
 -- The registry has the uses of all live records.
-use Rattle.ckpt_core.proofs.Answering.Reads.{counted_answers}
+use Rattle.ckpt_core.proofs.{counted_answers}
 use Rattle.ckpt_core.proofs.parts.Parts.count.Goals as goal
 
 pub returns : goal.returns

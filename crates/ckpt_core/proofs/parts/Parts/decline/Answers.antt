@@ -1,12 +1,11 @@
 -- A late decline changes only the moment; a decline of a pending record is a step of the state, whether the job fails over or not.
-use Rattle.ckpt_core.proofs.Names.{◌≡◌, ◌+◌, Bool, true, false, ◌&&◌, cond, ltb, Some, None, refl, ap, sym, subst, ◌∙◌, arith, find, eqb-true, sameb, the_type, LiesAt, Record, Moments, id_of}
-use Rattle.ckpt_core.proofs.Names.{find-place, Parts, with_pins, IsPlaceOf, records_in, state_of, Answers, pending_of, is_checkpoint, failures_with, fails_the_job, accepted_decline, IsIn-from_find}
+use Rattle.ckpt_core.proofs.{◌≡◌, ◌+◌, Bool, true, false, ◌&&◌, cond, ltb, Some, refl, ap, sym, subst, ◌∙◌, arith, find, eqb-true, sameb, the_type, LiesAt, Record, id_of, find-place, Parts, with_pins}
+use Rattle.ckpt_core.proofs.{IsPlaceOf, is_checkpoint, failures_with, fails_the_job, accepted_decline, IsIn-from_find, has_number, groups_of, late_declined, pending_there, few_failed, failed_answers}
+use Rattle.ckpt_core.proofs.{aborted_answers, declined_as, kind_test, are_too_many}
+use Rattle.ckpt_core.proofs.Names.{state_of}
 use Rattle.ckpt_ids.specs.declared.numbers.Kind.TheVariants as kind
 use Rattle.ckpt_ids.specs.declared.call.Call.TheVariants as call
 use Rattle.ckpt_ids.specs.declared.reply.Reply.TheVariants as reply
-use Rattle.ckpt_core.proofs.Records.Lookups.{has_number}
-use Rattle.ckpt_core.proofs.Ending.Drops.{groups_of}
-use Rattle.ckpt_core.proofs.Ending.Moves.{late_answers, pending_there, few_failed, failed_answers, aborted_answers, declined_as, kind_test, are_too_many}
 use Rattle.ckpt_core.proofs.parts.Parts.decline.Goals as goal
 use Rattle.ckpt_core.proofs.parts.Parts.decline.Goals.{then-is_checkpoint, else-is_checkpoint, then-failed, else-failed}
 
@@ -16,9 +15,7 @@ see-requires c = accepted_decline (state_of c.args.self.now) c.args.now c.args.i
 pub returns-in_default : goal.returns-in_default
 returns-in_default c =
     let p = c.args.self.now in
-    let absent : pending_of (records_in p) c.args.id ≡ None = subst (IsPlaceOf p c.args.id) c.in_default.is c.requires.place in
-    let P : Moments → Type 0 = λ clock. Answers p (record p { clock = clock }) (call.Decline c.args.now c.args.id c.args.subtask) reply.DeclineLate in
-    subst P (sym c.see.ensures) (late_answers p c.args.now c.args.id c.args.subtask c.requires.sound c.requires.accepted absent)
+    rw c.see.ensures (late_declined p c.args.now c.args.id c.args.subtask c.requires.sound c.requires.accepted (subst (IsPlaceOf p c.args.id) c.in_default.is c.requires.place))
 
 pub add-failed-requires : goal.add-failed-requires
 add-failed-requires c =
@@ -48,7 +45,6 @@ returns c =
     let lies : LiesAt id_of id p.pending c.in-Some.place = subst (IsPlaceOf p id) c.in-Some.is c.requires.place in
     let found : find (has_number id) p.pending ≡ Some c.at.result.now = sym (find-place id p.pending c.in-Some.place c.recall.ensures.in_order lies) ∙ c.at.ensures in
     let there = pending_there p id c.at.result.now c.requires.sound.sound (groups_of p c.recall_groups.ensures.pending c.recall_groups.ensures.stored) found in
-    let its : r.id ≡ id = eqb-true r.id id (IsIn-from_find (has_number id) c.at.result.now p.pending found).1 in
     let tests : is_checkpoint r ≡ c.eq-is_checkpoint.result = sym (c.eq-is_checkpoint.ensures ∙ ap (λ k. sameb the_type k kind.Checkpoint) c.kind.ensures ∙ kind_test r.kind) in
     let counted : c.if-is_checkpoint.failures ≡ record p.failures { number = failures_with (state_of p) r } = elim c.if-is_checkpoint.branch [
       | then-is_checkpoint v ↦ v.failures-is ∙ v.add-failed.ensures.number ∙ ap (λ n. record p.failures { number = n }) (sym (number_is p r true (tests ∙ v.if-is_checkpoint.true)))
@@ -70,5 +66,5 @@ returns c =
       | else-failed w ↦ declined_as p c.if-failed.self w.drop_pending.new.self now c.see-2.new.self c.if-is_checkpoint.failures c.if-is_checkpoint.failures (call.Decline now id c.args.subtask) c.if-failed.reply (reply.DeclineAborted w.drop_pending.result)
           w.self-is c.see-2.ensures refl w.reply-is
           (aborted_answers p w.drop_pending.new.self now id c.args.subtask r c.if-is_checkpoint.failures w.drop_pending.result c.requires.sound.tied c.requires.accepted
-          there its counted (sym fails ∙ w.if-failed.false) w.drop_pending.ensures)
+          there (eqb-true r.id id (IsIn-from_find (has_number id) c.at.result.now p.pending found).1) counted (sym fails ∙ w.if-failed.false) w.drop_pending.ensures)
     ]

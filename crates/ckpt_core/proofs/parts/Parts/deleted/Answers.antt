@@ -1,7 +1,6 @@
 -- The outbox itself finds whether the file was fetched.
-use Rattle.ckpt_core.proofs.Names.{true, false, refl, is_taken, state_of}
-use Rattle.ckpt_core.proofs.Answering.Reads.{deleted_answers}
-use Rattle.ckpt_core.proofs.Answering.Reports.{refusal_deleted, taken_if}
+use Rattle.ckpt_core.proofs.{true, false, refl, is_taken, deleted_answers, refusal_deleted, taken_if}
+use Rattle.ckpt_core.proofs.Names.{state_of}
 use Rattle.ckpt_core.proofs.parts.Parts.deleted.Goals as goal
 
 pub returns-in-Ok-clause-ok : goal.returns-in-Ok-clause-ok
@@ -9,8 +8,7 @@ unfolding state_of
 returns-in-Ok-clause-ok c =
     let p = c.args.self.now in
     let file = c.args.file in
-    let taken = taken_if (is_taken p.outbox file) _ (λ e. cc) c.in-Ok.ensures.refused.1 in
-    deleted_answers p file c.deleted.new.self c.requires (refusal_deleted (state_of p) file true taken) c.in-Ok.ensures.ok
+    deleted_answers p file c.deleted.new.self c.requires (refusal_deleted (state_of p) file true (taken_if (is_taken p.outbox file) _ (λ e. cc) c.in-Ok.ensures.refused.1)) c.in-Ok.ensures.ok
 
 pub returns-in-Err-clause-refused : goal.returns-in-Err-clause-refused
 unfolding state_of

@@ -1,13 +1,10 @@
 -- A savepoint that is there and not the base is let go; the table refuses the other disposals.
-use Rattle.ckpt_core.proofs.Names.{◌≡◌, ℕ, ◌++◌, ◌∷◌, [], true, false, eqb, refl, ap, ◌∙◌, arith, Option, Some, None, Result, Ok, Err, eqb-true, eq-eqb, true_from_ne_false, false_from_ne_true}
-use Rattle.ckpt_core.proofs.Names.{Dispose, Disposed, DisposeFault, has_savepoint, Drops, state_of, is_number, refusal}
-use Rattle.ckpt_ids.specs.declared.reply.Refusal.TheVariants as refusals
+use Rattle.ckpt_core.proofs.{◌≡◌, ℕ, ◌++◌, ◌∷◌, [], true, false, eqb, refl, ap, ◌∙◌, arith, Option, Some, None, Result, Ok, Err, eqb-true, eq-eqb, true_from_ne_false, false_from_ne_true, Dispose}
+use Rattle.ckpt_core.proofs.{Disposed, DisposeFault, has_savepoint, Drops, is_number, refusal, done_savepoint-parts, names_it, names_none, refusal_dispose, none_known, room_to_note, savepoint_dropped}
+use Rattle.ckpt_core.proofs.{one_there, disposed_answers}
+use Rattle.ckpt_core.proofs.Names.{state_of}
 use Rattle.ckpt_store.specs.declared.store.DisposeFault.TheVariants.{NoSuchSavepoint, InUse}
-use Rattle.ckpt_core.proofs.Answering.RefusalLookups.{done_savepoint-parts}
-use Rattle.ckpt_core.proofs.Answering.Reports.{names_it, names_none, refusal_dispose}
-use Rattle.ckpt_core.proofs.Ending.Drops.{none_known, room_to_note}
-use Rattle.ckpt_core.proofs.Ending.DropDone.{savepoint_dropped, one_there}
-use Rattle.ckpt_core.proofs.Ending.Moves.{disposed_answers}
+use Rattle.ckpt_ids.specs.declared.reply.Refusal.TheVariants as refusals
 use Rattle.ckpt_core.proofs.parts.Parts.dispose.Goals as goal
 use Rattle.ckpt_core.proofs.parts.Parts.dispose.Goals.{In-Ok, After-hand_out}
 
@@ -40,8 +37,7 @@ unfolding state_of
 accepted c =
     let p = c.args.self.now in
     let at = (goal.at.returns-in-Ok-clause-ok c).In-Ok in
-    let done = done_savepoint-parts p c.args.id c.recall_groups.ensures.pending c.recall_groups.ensures.stored ∙ there at in
-    refusal_dispose (state_of p) c.args.id true false done (free at)
+    refusal_dispose (state_of p) c.args.id true false (done_savepoint-parts p c.args.id c.recall_groups.ensures.pending c.recall_groups.ensures.stored ∙ there at) (free at)
 
 pub returns-in-Ok-clause-ok : goal.returns-in-Ok-clause-ok
 returns-in-Ok-clause-ok c =
@@ -75,5 +71,4 @@ returns-in-Err-InUse-clause-refused c =
     let p = c.args.self.now in
     let used = c.dispose.ensures.in_use.0 (c.in-Err-InUse.is ∙ ap Err c.in-Err-InUse.field-0-is) in
     let done = done_savepoint-parts p c.args.id c.recall_groups.ensures.pending c.recall_groups.ensures.stored ∙ used.0 in
-    let row = refusal_dispose (state_of p) c.args.id true true done (ap (λ base. is_number base c.args.id) used.1 ∙ eq-eqb c.args.id c.args.id refl) in
-    names_it (state_of p) (Dispose c.args.id) refusals.InUse row
+    names_it (state_of p) (Dispose c.args.id) refusals.InUse (refusal_dispose (state_of p) c.args.id true true done (ap (λ base. is_number base c.args.id) used.1 ∙ eq-eqb c.args.id c.args.id refl))

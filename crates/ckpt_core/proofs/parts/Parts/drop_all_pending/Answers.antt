@@ -1,6 +1,6 @@
 -- The numbers that are noted are those of the pending records, and no done record has one of them.
-use Rattle.ckpt_core.proofs.Names.{◌++◌, length, ap, ◌∙◌, arith, state_of, is_noted}
-use Rattle.ckpt_core.proofs.Ending.Drops.{numbers, groups_of, none_known, noted_tied, done_not_noted, room_to_note, pending_dropped}
+use Rattle.ckpt_core.proofs.{◌++◌, length, ap, ◌∙◌, arith, is_noted, numbers, groups_of, none_known, noted_tied, done_not_noted, room_to_note, pending_dropped}
+use Rattle.ckpt_core.proofs.Names.{state_of}
 use Rattle.ckpt_core.proofs.parts.Parts.drop_all_pending.Goals as goal
 
 pub note_all-requires : goal.note_all-requires

@@ -1,6 +1,5 @@
 -- What a cancelled job drops, by its configuration, is counted in the groups.
-use Rattle.ckpt_core.proofs.Names.{◌+◌, ◌||◌, length, ap, sym, ◌∙◌, arith, state_of, is_pending, is_done_checkpoint, cancelled}
-use Rattle.ckpt_core.proofs.Ending.Drops.{groups_of, drops_same}
+use Rattle.ckpt_core.proofs.{◌+◌, ◌||◌, length, ap, sym, ◌∙◌, arith, state_of, is_pending, is_done_checkpoint, cancelled, groups_of, drops_same}
 use Rattle.ckpt_core.proofs.Ending.Counts.{few_pending, few_done, kept_tests, all_tests, pending_counted, all_counted}
 use Rattle.ckpt_core.proofs.parts.Parts.drop_cancelled.Goals as goal
 
@@ -23,8 +22,7 @@ returns-then-keep_on_cancel-clause-drops c =
 pub returns-then-keep_on_cancel-clause-dropped : goal.returns-then-keep_on_cancel-clause-dropped
 returns-then-keep_on_cancel-clause-dropped c =
     let p = c.args.self.now in
-    c.len-pending.ensures
-    ∙ pending_counted p (groups_of p c.recall_groups.ensures.pending c.recall_groups.ensures.stored) (sym c.keep_on_cancel.ensures ∙ c.if-keep_on_cancel.true)
+    rw (c.len-pending.ensures, pending_counted p (groups_of p c.recall_groups.ensures.pending c.recall_groups.ensures.stored) (sym c.keep_on_cancel.ensures ∙ c.if-keep_on_cancel.true))
 
 pub returns-else-keep_on_cancel-clause-drops : goal.returns-else-keep_on_cancel-clause-drops
 returns-else-keep_on_cancel-clause-drops c =

@@ -1,8 +1,7 @@
 -- Dropping the noted records is a drop by number; the done ones stay, since none of them is noted.
-use Rattle.ckpt_core.proofs.Names.{◌≡◌, ℕ, not, List, [], ◌++◌, length, refl, sym, ap, subst, ◌∙◌, None, filter, vec_len, eqb-true, append-nil, nil_from_length, Record, released, uses, filter-all}
-use Rattle.ckpt_core.proofs.Names.{Parts, AreTied, Drops, is_noted, state_of, State, drop, kept, unpinned, map_itself, grouped}
-use Rattle.ckpt_core.proofs.Ending.HandOut.{nothing_released}
-use Rattle.ckpt_core.proofs.Ending.Drops.{left, staying, drops_from, staying_done}
+use Rattle.ckpt_core.proofs.{◌≡◌, ℕ, not, List, [], ◌++◌, length, refl, sym, ap, ◌∙◌, None, filter, vec_len, eqb-true, append-nil, nil_from_length, Record, released, uses, filter-all, Parts, AreTied}
+use Rattle.ckpt_core.proofs.{Drops, is_noted, state_of, State, kept, unpinned, map_itself, grouped, nothing_released, left, staying, drops_from, staying_done}
+use Rattle.ckpt_core.proofs.Names.{drop}
 use Rattle.ckpt_core.proofs.Records.Grouped.{apart-from_in_order}
 use Rattle.ckpt_core.proofs.parts.Parts.drop_noted.Goals as goal
 
@@ -14,14 +13,11 @@ drop_none : (m : State) → drop m (is_noted []) None ≡ m
 unfolding drop
 drop_none m =
     let same : List Record → State = λ rs. record m { records = rs; waiting = m.waiting ++ released (uses m.records) (uses rs) } in
-    ap same (kept_all m.records)
-    ∙ ap (λ fs. record m { waiting = m.waiting ++ fs }) (nothing_released (uses m.records))
-    ∙ ap (λ fs. record m { waiting = fs }) (append-nil m.waiting)
+    rw (kept_all m.records, nothing_released (uses m.records), append-nil m.waiting)
 
 drops_none : (p : Parts) (ids : List ℕ) → AreTied p → p.ended.items ≡ ids → ids ≡ [] → Drops p p (is_noted ids) 0
 drops_none p ids tied noted none =
-    let P : List ℕ → Type 0 = λ xs. Drops p p (is_noted xs) 0 in
-    subst P (sym none) (record {
+    rw none (record {
       state_is = sym (drop_none (state_of p));
       count_is = sym (ap length (ap (λ rs. released (uses (state_of p).records) (uses rs)) (kept_all (state_of p).records) ∙ nothing_released (uses (state_of p).records)));
       tied = tied;
@@ -31,8 +27,7 @@ drops_none p ids tied noted none =
 pub returns-then-is_empty : goal.returns-then-is_empty
 returns-then-is_empty c =
     let ended = c.args.self.now.ended in
-    let none : length ended.items ≡ 0 = sym ended.ok.0 ∙ eqb-true (vec_len ended) 0 (sym c.if-is_empty.ensures) in
-    drops_none c.args.self.now ended.items c.requires.tied refl (nil_from_length ended.items none)
+    drops_none c.args.self.now ended.items c.requires.tied refl (nil_from_length ended.items (sym ended.ok.0 ∙ eqb-true (vec_len ended) 0 (sym c.if-is_empty.ensures)))
 
 pub returns : goal.returns
 returns c =

@@ -1,8 +1,5 @@
 -- The record of the number is taken out, and no done record has its number.
-use Rattle.std.proofs.Common.{◌++◌, ◌∷◌, [], ap, ◌∙◌, arith}
-use Rattle.ckpt_core.proofs.Ending.Drops.{none_known, room_to_note}
-use Rattle.ckpt_core.proofs.Ending.DropDone.{one_pending, pending_dropped}
-use Rattle.ckpt_core.proofs.Loaded.Saving.{some_there}
+use Rattle.ckpt_core.proofs.{◌++◌, ◌∷◌, [], ap, ◌∙◌, arith, none_known, room_to_note, one_pending, one_dropped, some_there}
 use Rattle.ckpt_core.proofs.parts.Parts.drop_pending.Goals as goal
 
 pub push_reserved-requires : goal.push_reserved-requires
@@ -18,7 +15,7 @@ returns c =
     let p = c.args.self.now in
     let id = c.args.id in
     let ended = c.push_reserved.new.self in
-    pending_dropped p (record p { pending = c.take_out.new.self; ended = ended }) c.hand_out.new.self id c.hand_out.result c.requires.sound.tied c.requires.sound.sound (some_there _ _ (c.take_out.ensures.found id c.requires.place))
+    one_dropped p (record p { pending = c.take_out.new.self; ended = ended }) c.hand_out.new.self id c.hand_out.result c.requires.sound.tied c.requires.sound.sound (some_there _ _ (c.take_out.ensures.found id c.requires.place))
     (ap (λ rs. record p { pending = rs; ended = ended }) (c.take_out.ensures.rest id c.requires.place))
     (c.push_reserved.ensures.items ∙ ap (λ ids. ids ++ id ∷ []) c.requires.sound.none_ended)
     c.hand_out.ensures.parts c.hand_out.ensures.cleared

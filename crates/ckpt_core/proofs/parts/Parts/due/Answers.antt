@@ -1,5 +1,6 @@
 -- Answers the goals of `Parts::due`.
-use Rattle.ckpt_core.proofs.Names.{◌≡◌, sym, subst, state_of, NoneIsEarlyFrom, NoneTriggersBefore, next_due, none_before, none_early}
+use Rattle.ckpt_core.proofs.{◌≡◌, sym, subst, NoneIsEarlyFrom, NoneTriggersBefore, next_due, none_before, none_early}
+use Rattle.ckpt_core.proofs.Names.{state_of}
 use Rattle.ckpt_core.proofs.parts.Parts.due.Goals as goal
 
 is_due : (c : goal.After-due) → c.due.result ≡ next_due (state_of c.args.self.now)

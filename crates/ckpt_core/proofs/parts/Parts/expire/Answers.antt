@@ -1,9 +1,8 @@
 -- Answers the goals of `Parts::expire`.
-use Rattle.ckpt_core.proofs.Names.{◌≡◌, true, sym, ap, subst, ◌∙◌, IfOk, OnErr, state_of, answer_wants, IsSound, State, tick}
+use Rattle.ckpt_core.proofs.{sym, ap, subst, ◌∙◌, IsSound, tick}
 use Rattle.ckpt_ids.specs.declared.call.Call.TheVariants as call
 use Rattle.ckpt_ids.specs.declared.reply.Answer.TheVariants as answer
 use Rattle.ckpt_ids.specs.declared.reply.Reply.TheVariants as reply
-use Rattle.ckpt_core.specs.declared.triggers.Ticked.{Ticked}
 use Rattle.ckpt_core.proofs.parts.Parts.expire.Goals as goal
 
 pub fail_expired-requires-clause-sound : goal.fail_expired-requires-clause-sound
@@ -16,16 +15,10 @@ pub start_and_drop-requires-clause-sound : goal.start_and_drop-requires-clause-s
 start_and_drop-requires-clause-sound c = subst IsSound (sym c.note_expired-expiry.ensures.state) c.requires.sound.sound
 
 pub returns-clause-ok : goal.returns-clause-ok
-returns-clause-ok c =
-    let P : State → Type 0 = λ m. IfOk c.start_and_drop.result (λ (ticked : Ticked). tick m ≡ (state_of c.start_and_drop.new.self, answer.Done (reply.Ticked ticked.expired ticked.end))) in
-    subst P c.note_expired-expiry.ensures.state c.start_and_drop.ensures.ok
+returns-clause-ok c = rw c.note_expired-expiry.ensures.state at c.start_and_drop.ensures.ok
 
 pub returns-clause-err : goal.returns-clause-err
-returns-clause-err c =
-    let P : State → Type 0 = λ m. OnErr c.start_and_drop.result (state_of c.start_and_drop.new.self ≡ m) in
-    subst P c.note_expired-expiry.ensures.state c.start_and_drop.ensures.err
+returns-clause-err c = rw c.note_expired-expiry.ensures.state at c.start_and_drop.ensures.err
 
 pub returns-clause-memory : goal.returns-clause-memory
-returns-clause-memory c =
-    let P : State → Type 0 = λ m. OnErr c.start_and_drop.result (answer_wants (call.Tick 0) (tick m).1 ≡ true) in
-    subst P c.note_expired-expiry.ensures.state c.start_and_drop.ensures.memory
+returns-clause-memory c = rw c.note_expired-expiry.ensures.state at c.start_and_drop.ensures.memory

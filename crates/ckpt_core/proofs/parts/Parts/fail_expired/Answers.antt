@@ -1,7 +1,6 @@
 -- Answers the goals of `Parts::fail_expired`.
+use Rattle.ckpt_core.proofs.{noted_tied, expiry_fails, failed_tolerable, tied_failures}
 use Rattle.ckpt_core.specs.Inside.Parts.{state_of}
-use Rattle.ckpt_core.proofs.Ending.Drops.{noted_tied}
-use Rattle.ckpt_core.proofs.Triggering.TickParts.{expiry_fails, failed_tolerable, tied_failures}
 use Rattle.ckpt_core.proofs.parts.Parts.fail_expired.Goals as goal
 
 pub fail_over-requires : goal.fail_over-requires

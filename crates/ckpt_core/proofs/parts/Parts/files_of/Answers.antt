@@ -1,8 +1,5 @@
 -- The files of a pending record, of a stored one, or of none.
-use Rattle.ckpt_core.proofs.Names.{◌≡◌, ◌∙◌, Some, None, sym, ap, find, option_and_then, option_copied, Record, files_from, state_of, record_of}
-use Rattle.ckpt_core.proofs.Answering.Reads.{pending_live, stored_record}
-use Rattle.ckpt_core.proofs.Reading.Live.{live_in_order}
-use Rattle.ckpt_core.proofs.Records.Lookups.{has_number}
+use Rattle.ckpt_core.proofs.{◌≡◌, ◌∙◌, Some, None, sym, ap, find, option_and_then, option_copied, Record, files_from, state_of, record_of, pending_live, stored_record, live_in_order, has_number}
 use Rattle.ckpt_core.proofs.parts.Parts.files_of.Goals as goal
 
 pub returns-in-Some : goal.returns-in-Some

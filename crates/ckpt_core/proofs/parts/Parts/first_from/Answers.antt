@@ -1,6 +1,5 @@
 -- The first of the pending ones, of the checkpoints or of the savepoints.
-use Rattle.ckpt_core.proofs.Names.{◌∙◌, ap, sooner}
-use Rattle.ckpt_core.proofs.Reading.Live.{first_live}
+use Rattle.ckpt_core.proofs.{◌∙◌, ap, sooner, first_live}
 use Rattle.ckpt_core.proofs.parts.Parts.first_from.Goals as goal
 
 pub returns : goal.returns

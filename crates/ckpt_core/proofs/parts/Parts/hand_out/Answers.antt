@@ -1,6 +1,5 @@
 -- What is released can be put into the outbox.
-use Rattle.ckpt_registry.specs.Uses.{without}
-use Rattle.ckpt_core.proofs.Ending.HandOut.{released_room, released_once, released_unknown}
+use Rattle.ckpt_core.proofs.{without, released_room, released_once, released_unknown}
 use Rattle.ckpt_core.proofs.parts.Parts.hand_out.Goals as goal
 
 pub put-requires-clause-room : goal.put-requires-clause-room

@@ -1,6 +1,5 @@
 -- What is released can be put: it was in use, so it has room and is unknown, and it is ascending.
-use Rattle.ckpt_core.proofs.Names.{◌≡◌, ◌∙◌, List, ap, Use, released, after_end}
-use Rattle.ckpt_core.proofs.Ending.HandOut.{CanBePut, can_be_put}
+use Rattle.ckpt_core.proofs.{◌≡◌, ◌∙◌, List, ap, Use, released, after_end, CanBePut, can_be_put}
 use Rattle.ckpt_core.proofs.parts.Parts.hand_out_after.Goals as goal
 
 can_put : (c : goal.After-put-arg-1) → CanBePut c.end-files.result.now c.args.self.now.outbox

@@ -1,9 +1,6 @@
 -- Answers the goals of `Parts::has_room_for`.
-use Rattle.ckpt_core.proofs.Names.{rules, ◌≡◌, ◌+◌, ◌<◌, not, eqb, sym, ap, ◌∙◌, arith, both_ways, ltb-true, ltb-false, and_from, Record, Parts, record_in, opening_of, records_in, is_checkpoint}
-use Rattle.ckpt_core.proofs.Names.{is_pending, is_checkpoint-kind, is_savepoint-kind}
-use Rattle.ckpt_core.proofs.Ending.Drops.{groups_of}
-use Rattle.ckpt_core.proofs.Loaded.Loads.{done_checkpoints-groups, room_done, room_pending, room_savepoint}
-use Rattle.ckpt_core.proofs.Records.GroupLookups.{pending_checkpoints-groups, savepoints-groups}
+use Rattle.ckpt_core.proofs.{rules, ◌+◌, ◌<◌, not, eqb, sym, ap, ◌∙◌, arith, both_ways, ltb-true, ltb-false, and_from, Record, Parts, record_in, opening_of, records_in, is_checkpoint, is_pending}
+use Rattle.ckpt_core.proofs.{is_checkpoint-kind, is_savepoint-kind, groups_of, done_checkpoints-groups, room_done, room_pending, room_savepoint, pending_checkpoints-groups, savepoints-groups}
 use Rattle.ckpt_core.proofs.parts.Parts.has_room_for.Goals as goal
 
 pub overflow_add-savepoints : goal.overflow_add-savepoints
@@ -54,11 +51,9 @@ pub returns-else-pending-eq0-clause-no : goal.returns-else-pending-eq0-clause-no
 returns-else-pending-eq0-clause-no c = λ no room.
     let p : Parts = c.args.self.now in
     let r : Record = record_in c.args.saved.now in
-    let groups = groups_of p c.recall_groups.ensures.pending c.savepoints-2.ensures.stored in
-    let waits = pending_checkpoints-groups p.registry p.pending p.store.checkpoints p.store.savepoints groups in
+    let waits = pending_checkpoints-groups p.registry p.pending p.store.checkpoints p.store.savepoints (groups_of p c.recall_groups.ensures.pending c.savepoints-2.ensures.stored) in
     let none = room.newer (and_from r.done (is_checkpoint r) c.if-saved.true (is_checkpoint-kind r c.in-Checkpoint.is)) in
-    let zero : c.checkpoints-pending.result ≡ 0 = c.checkpoints-pending.ensures ∙ sym waits ∙ none in
-    both_ways (eqb c.checkpoints-pending.result 0) no (ap (λ n. eqb n 0) zero)
+    both_ways (eqb c.checkpoints-pending.result 0) no (ap (λ n. eqb n 0) (c.checkpoints-pending.ensures ∙ sym waits ∙ none))
 
 pub returns-else-saved-clause-yes : goal.returns-else-saved-clause-yes
 returns-else-saved-clause-yes c = λ yes.

@@ -1,6 +1,5 @@
 -- Answers the goals of `Parts::has_savepoint`.
-use Rattle.std.proofs.Common.{◌∙◌, sym}
-use Rattle.ckpt_core.proofs.Answering.RefusalLookups.{done_savepoint-parts}
+use Rattle.ckpt_core.proofs.{◌∙◌, sym, done_savepoint-parts}
 use Rattle.ckpt_core.proofs.parts.Parts.has_savepoint.Goals as goal
 
 pub returns : goal.returns

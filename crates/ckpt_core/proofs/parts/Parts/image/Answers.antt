@@ -1,6 +1,6 @@
 -- Answers the goals of `Parts::image`.
-use Rattle.ckpt_core.proofs.Names.{ℕ, List, refl, sym, ap, subst, ◌∙◌, CanHold, state_of, State, settled_can_hold}
-use Rattle.ckpt_core.proofs.Loaded.Reopened.{state_same}
+use Rattle.ckpt_core.proofs.{ℕ, List, refl, sym, ap, subst, ◌∙◌, CanHold, State, settled_can_hold, state_same}
+use Rattle.ckpt_core.proofs.Names.{state_of}
 use Rattle.ckpt_core.proofs.parts.Parts.image.Goals as goal
 
 pub returns-clause-value : goal.returns-clause-value

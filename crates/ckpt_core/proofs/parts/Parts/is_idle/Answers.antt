@@ -1,6 +1,5 @@
 -- Answers the goals of `Parts::is_idle`.
-use Rattle.ckpt_core.proofs.Names.{◌≡◌, eqb, length, sym, ap, ◌∙◌, both_ways, eqb-true, Parts}
-use Rattle.ckpt_core.proofs.Loaded.Reopened.{all_done, not_all_done}
+use Rattle.ckpt_core.proofs.{◌≡◌, eqb, length, sym, ap, ◌∙◌, both_ways, eqb-true, Parts, all_done, not_all_done}
 use Rattle.ckpt_core.proofs.parts.Parts.is_idle.Goals as goal
 
 pub returns-in_default-clause-yes : goal.returns-in_default-clause-yes

@@ -1,6 +1,6 @@
 -- At each turn as many records are below the number as turns were made.
-use Rattle.ckpt_core.proofs.Names.{rules, ◌≡◌, ◌∙◌, ◌+◌, ◌<◌, ◌^◌, Some, None, sym, ap, arith, count_by, find, option_map, Live, records_in, live_of}
-use Rattle.ckpt_core.proofs.Reading.Live.{is_below, is_from, live_bound, live_in_order, none_below_zero, walk_ended, walk_goes_on, walk_stopped}
+use Rattle.ckpt_core.proofs.{rules, ◌≡◌, ◌∙◌, ◌+◌, ◌<◌, ◌^◌, Some, sym, ap, arith, find, option_map, Live, records_in, live_of, is_from, live_bound, live_in_order, none_below_zero, walk_ended}
+use Rattle.ckpt_core.proofs.{walk_goes_on, walk_stopped}
 use Rattle.ckpt_core.proofs.parts.Parts.live.Goals as goal
 
 pub loop-init : goal.loop-init
@@ -10,8 +10,7 @@ pub returns-in_err-live : goal.returns-in_err-live
 returns-in_err-live c =
     let p = c.args.self.now in
     let turn : c.loop.counter < c.args.place = search rules in
-    let none : None ≡ option_map live_of (find (is_from c.loop.lowest) (records_in p)) = sym c.in_err-live.was ∙ c.first_from.ensures in
-    c.from_residual.ensures ∙ walk_stopped c.loop.lowest c.loop.counter c.args.place (records_in p) (live_in_order p c.requires) c.loop.invariant turn none
+    c.from_residual.ensures ∙ walk_stopped c.loop.lowest c.loop.counter c.args.place (records_in p) (live_in_order p c.requires) c.loop.invariant turn (sym c.in_err-live.was ∙ c.first_from.ensures)
 
 found : (c : goal.After-struct_known-1) → Some c.in_ok-live.live ≡ option_map live_of (find (is_from c.loop.lowest) (records_in c.args.self.now))
 found c = sym c.in_ok-live.was ∙ c.first_from.ensures
@@ -29,8 +28,7 @@ overflow_add-lowest c =
 pub loop-preserved : goal.loop-preserved
 loop-preserved c =
     let p = c.args.self.now in
-    ap (λ n. count_by (is_below (n + 1)) (records_in p)) (its_number c)
-    ∙ walk_goes_on c.loop.lowest c.loop.counter c.in_ok-live.live (records_in p) (live_in_order p c.requires) c.loop.invariant (found c)
+    rw (its_number c, walk_goes_on c.loop.lowest c.loop.counter c.in_ok-live.live (records_in p) (live_in_order p c.requires) c.loop.invariant (found c))
 
 pub returns : goal.returns
 returns c =

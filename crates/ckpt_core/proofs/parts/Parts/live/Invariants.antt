@@ -1,5 +1,5 @@
 -- The loop invariants of `Parts::live`.
-use Rattle.ckpt_core.proofs.Names.{◌≡◌, nat_lt, count_by, records_in}
+use Rattle.ckpt_core.proofs.{◌≡◌, nat_lt, count_by, records_in}
 use Rattle.ckpt_core.proofs.parts.Parts.live.Given as goal
 
 abbrev pub invariant-loop : goal.invariant-loop

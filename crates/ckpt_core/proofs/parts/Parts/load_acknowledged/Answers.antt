@@ -1,8 +1,6 @@
 -- Answers the goals of `Parts::load_acknowledged`.
-use Rattle.ckpt_core.proofs.Names.{◌≡◌, ◌<◌, List, [], ◌∷◌, ◌++◌, refl, sym, ap, subst, ◌∙◌, arith, Record, count, uses, Saved, record_in, opening_of, records_in, Joins}
-use Rattle.ckpt_core.proofs.Loaded.Bounds.{few_records, few_uses}
-use Rattle.ckpt_core.proofs.Loaded.Joining.{joined_records}
-use Rattle.ckpt_core.proofs.Loaded.Loads.{not_full, pending_is_record, pending_same, state_pending}
+use Rattle.ckpt_core.proofs.{◌≡◌, List, [], ◌∷◌, ◌++◌, refl, ap, ◌∙◌, arith, Record, Saved, record_in, opening_of, records_in, Joins, few_records, few_uses, joined_records, not_full}
+use Rattle.ckpt_core.proofs.{pending_is_record, pending_same, state_pending}
 use Rattle.ckpt_core.proofs.parts.Parts.load_acknowledged.Goals as goal
 
 pub returns-then-saved-clause-damaged : goal.returns-then-saved-clause-damaged
@@ -13,14 +11,10 @@ load_pending-requires-clause-newest c = λ r h.
     let s : Saved = c.args.saved.now in
     let j : Joins (opening_of c.args.self.now.opened) c.args.self.now.next (records_in c.args.self.now) (record_in s) =
     c.requires.place (pending_is_record s c.args.pending c.requires.made c.recall_pending.ensures (c.in-Err.ensures.missing.0 refl) c.requires.once c.if-saved.false) in
-    let its : c.in-Err.pending.id ≡ s.metadata.id = ap (λ (x : Record). x.id) (c.in-Err.ensures.pending ∙ c.requires.made) in
-    let lt : r.id < s.metadata.id = j.above r h in
-    omega (arith, its, lt)
+    omega (arith, ap (λ (x : Record). x.id) (c.in-Err.ensures.pending ∙ c.requires.made), j.above r h)
 
 pub load_pending-requires-clause-few : goal.load_pending-requires-clause-few
-load_pending-requires-clause-few c =
-    let few = few_records (records_in c.args.self.now) c.recall_limits.ensures c.requires.sound in
-    omega (arith, few)
+load_pending-requires-clause-few c = omega (arith, few_records (records_in c.args.self.now) c.recall_limits.ensures c.requires.sound)
 
 pub load_pending-requires-clause-below : goal.load_pending-requires-clause-below
 load_pending-requires-clause-below c = λ f.
@@ -29,8 +23,7 @@ load_pending-requires-clause-below c = λ f.
     let j : Joins (opening_of c.args.self.now.opened) c.args.self.now.next rs (record_in s) =
     c.requires.place (pending_is_record s c.args.pending c.requires.made c.recall_pending.ensures (c.in-Err.ensures.missing.0 refl) c.requires.once c.if-saved.false) in
     let same : record c.in-Err.pending { pins = s.pins } ≡ record_in s = pending_same s c.in-Err.pending (c.in-Err.ensures.pending ∙ c.requires.made) c.if-saved.false in
-    let P : Record → Type 0 = λ x. count (uses (rs ++ x ∷ [])) f < 4294967295 in
-    subst P (sym same) (few_uses (rs ++ record_in s ∷ []) c.recall_limits.ensures (joined_records c.requires.sound j) f)
+    rw same (few_uses (rs ++ record_in s ∷ []) c.recall_limits.ensures (joined_records c.requires.sound j) f)
 
 pub returns-in_ok-load_pending-in-Err-clause-state : goal.returns-in_ok-load_pending-in-Err-clause-state
 returns-in_ok-load_pending-in-Err-clause-state c =

@@ -1,9 +1,8 @@
 -- Answers the goals of `Parts::load_all`.
-use Rattle.ckpt_core.proofs.Names.{rules, ◌≡◌, ℕ, ◌+◌, ◌<◌, Err, List, [], ◌∷◌, ◌++◌, length, map, take, get_or, refl, sym, ap, subst, ◌∙◌, append_assoc, map-append, take-append-drop, take_all}
-use Rattle.ckpt_core.proofs.Names.{take_more, Record, Damaged, Saved, Parts, record_in, opening_of, state_of, AreSoundRecords}
+use Rattle.ckpt_core.proofs.{rules, ◌≡◌, ℕ, ◌+◌, ◌<◌, Err, List, [], ◌∷◌, ◌++◌, length, map, take, get_or, refl, sym, ap, subst, ◌∙◌, append_assoc, map-append, take-append-drop, take_all, take_more}
+use Rattle.ckpt_core.proofs.{Record, Damaged, Saved, Parts, record_in, opening_of, state_of, AreSoundRecords, joined_records, beside, beside_itself, joins_before, joins_beside, joins_in_list}
+use Rattle.ckpt_core.proofs.{more_beside, no_records_sound, sound_beside}
 use Rattle.std.proofs.Common.{drop}
-use Rattle.ckpt_core.proofs.Loaded.Joining.{joined_records}
-use Rattle.ckpt_core.proofs.Loaded.Reopened.{beside, beside_itself, joins_before, joins_beside, joins_in_list, more_beside, no_records_sound, sound_beside}
 use Rattle.ckpt_core.proofs.parts.Parts.load_all.Goals as goal
 
 next_of : (xs : List Saved) (i : ℕ) (s : Saved) → i < length xs → s ≡ get_or xs i s → map record_in (take (i + 1) xs) ≡ map record_in (take i xs) ++ record_in s ∷ []
@@ -64,6 +63,4 @@ pub returns-clause-state : goal.returns-clause-state
 returns-clause-state c = c.loop-saved.invariant.state ∙ ap (λ xs. record (state_of c.args.self.now) { records = map record_in xs }) (take_all c.loop-saved.saved-index c.args.records.now c.loop-saved-test.false)
 
 pub returns-clause-sound : goal.returns-clause-sound
-returns-clause-sound c =
-    let S : List Saved → Type 0 = λ xs. AreSoundRecords (opening_of c.args.self.now.opened) c.args.self.now.next (map record_in xs) in
-    subst S (take_all c.loop-saved.saved-index c.args.records.now c.loop-saved-test.false) c.loop-saved.invariant.sound
+returns-clause-sound c = rw (take_all c.loop-saved.saved-index c.args.records.now c.loop-saved-test.false) at c.loop-saved.invariant.sound

@@ -1,5 +1,5 @@
 -- The loop invariants of `Parts::load_all`.
-use Rattle.ckpt_core.proofs.Names.{◌≡◌, map, take, record_in, AreTied, opening_of, state_of, AreSoundRecords}
+use Rattle.ckpt_core.proofs.{◌≡◌, map, take, record_in, AreTied, opening_of, state_of, AreSoundRecords}
 use Rattle.ckpt_core.proofs.parts.Parts.load_all.Given as goal
 
 abbrev pub invariant-loop-saved : goal.invariant-loop-saved

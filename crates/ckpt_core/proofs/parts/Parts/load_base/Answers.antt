@@ -1,13 +1,11 @@
 -- Answers the goals of `Parts::load_base`.
-use Rattle.ckpt_core.proofs.Names.{rules, ◌≡◌, ℕ, true, sym, ap, subst, ◌∙◌, Option, Some, None, both_ways, has_savepoint, Parts, state_of, is_done_savepoint}
-use Rattle.ckpt_core.proofs.Answering.RefusalLookups.{done_savepoint-parts}
-use Rattle.ckpt_core.proofs.Loaded.Reopened.{set_state, with_base}
+use Rattle.ckpt_core.proofs.{rules, ◌≡◌, ℕ, true, sym, ap, ◌∙◌, Option, Some, None, both_ways, has_savepoint, Parts, state_of, done_savepoint-parts, set_state, base_state}
 use Rattle.ckpt_core.proofs.parts.Parts.load_base.Goals as goal
 
 pub returns-in_default-clause-state : goal.returns-in_default-clause-state
 returns-in_default-clause-state c =
     let none : c.args.base ≡ None = search rules in
-    with_base c.args.self.now c.args.base (c.requires.none ∙ sym none)
+    base_state c.args.self.now c.args.base (c.requires.none ∙ sym none)
 
 pub returns-then-not-has_savepoint-clause-damaged : goal.returns-then-not-has_savepoint-clause-damaged
 returns-then-not-has_savepoint-clause-damaged c = λ e there.
@@ -25,5 +23,4 @@ returns-clause-there c = λ id e.
     let p : Parts = c.args.self.now in
     let both : ◌≡◌ {A = Option ℕ} (Some c.in-Some.id) (Some id) = sym c.in-Some.is ∙ e in
     let same : c.in-Some.id ≡ id = cc in
-    let P : ℕ → Type 0 = λ n. is_done_savepoint (state_of p) n ≡ true in
-    subst P same (done_savepoint-parts p c.in-Some.id c.recall_groups.ensures.pending c.recall_groups.ensures.stored ∙ sym c.has_savepoint.ensures ∙ c.if-not-has_savepoint.false)
+    rw same at (done_savepoint-parts p c.in-Some.id c.recall_groups.ensures.pending c.recall_groups.ensures.stored ∙ sym c.has_savepoint.ensures ∙ c.if-not-has_savepoint.false)

@@ -1,7 +1,6 @@
 -- Answers the goals of `Parts::load_checkpoint`.
-use Rattle.ckpt_core.proofs.Names.{◌≡◌, ℕ, ◌+◌, ◌<◌, ◌≤◌, max, [], ◌∷◌, ◌++◌, List, length, map, refl, ap, subst, ◌∙◌, arith, OnOk, on_ok_weaker, vec_capacity, Acked, IsIn, Record, IsIn-append_left}
-use Rattle.ckpt_core.proofs.Names.{IsIn-append_right, IsIn-in_order, Stored, completing, retained_of, Parts, grouped, with_pins, uses_held, with_room, records_in, present_in, id_before}
-use Rattle.ckpt_core.proofs.Loaded.Groups.{HasCheckpoint, none_surplus, records-checkpoint, tied-checkpoint, few_registered, held_is, none_pinned, older_registered}
+use Rattle.ckpt_core.proofs.{◌++◌, map, refl, OnOk, on_ok_weaker, Parts, with_pins, IsIn-append_left, IsIn-append_right, HasLoaded, above_groups, checkpoint_loaded, few_registered, has_loaded}
+use Rattle.ckpt_core.proofs.{none_pinned, older_registered, tied-loaded}
 use Rattle.ckpt_core.proofs.parts.Parts.load_checkpoint.Goals as goal
 
 pub register-requires-clause-newest : goal.register-requires-clause-newest
@@ -15,52 +14,25 @@ register-requires-clause-below c =
 pub complete-requires-clause-above : goal.complete-requires-clause-above
 complete-requires-clause-above c = λ r h.
     let p : Parts = c.args.self.now in
-    let same : c.reserve.new.self.checkpoints ≡ p.store.checkpoints = ap (λ (s : Stored). s.checkpoints) c.in_ok-reserve.ensures.kept ∙ ap (λ (q : Parts). q.store.checkpoints) c.in_ok-make_room.ensures.parts in
-    let P : List Record → Type 0 = λ rs. IsIn r rs in
-    c.requires.newest r (IsIn-in_order id_before r (grouped p.registry p.pending p.store.checkpoints p.store.savepoints)
-    (IsIn-append_right r (map (with_pins p.registry) p.pending) (p.store.checkpoints ++ p.store.savepoints) (IsIn-append_left r p.store.checkpoints p.store.savepoints (subst P same h))))
+    above_groups p c.args.done.id c.requires.newest r
+    (IsIn-append_right r (map (with_pins p.registry) p.pending) (p.store.checkpoints ++ p.store.savepoints)
+    (IsIn-append_left r p.store.checkpoints p.store.savepoints (rw (c.in_ok-reserve.ensures.kept, c.in_ok-make_room.ensures.parts) at h)))
 
--- room was made, the uses were added, the store took the checkpoint, and room was made for the files
-has_checkpoint : (p made after q : Parts) (x : Record) (s t : Stored) (id : ℕ) (acks : List Acked) (files : List ℕ)
-    → made ≡ record p { ended = made.ended } → length (records_in p) + 1 ≤ vec_capacity made.ended
-    → s ≡ record made.store { spare = s.spare } → t ≡ completing s x t.spare → length p.store.checkpoints < p.store.retained
-    → id ≡ x.id → acks ≡ x.acks → files ≡ x.pins
-    → after.registry ≡ made.registry ++ uses_held id acks files → after.pending ≡ made.pending → after.store ≡ t → after.opened ≡ made.opened → after.failures ≡ made.failures → after.ended ≡ made.ended
-    → q ≡ with_room after 0 → HasCheckpoint p q x
-has_checkpoint p made after q x s t id acks files parts room reserved completed fewer its_id its_acks its_pins registry pending store opened failures ended ok =
-    let same : q.registry ≡ after.registry = ap (λ (r : Parts). r.registry) ok in
-    let present : present_in q.registry ≡ present_in after.registry = ap present_in same in
-    let spare : q.outbox.spare ≡ max (present_in after.registry + 0) after.outbox.spare = ap (λ (r : Parts). r.outbox.spare) ok in
-    let capacity : vec_capacity q.ended ≡ vec_capacity made.ended = ap (λ (r : Parts). vec_capacity r.ended) ok ∙ ap (λ v. vec_capacity v) ended in
-    let stored : q.store ≡ completing s x t.spare = ap (λ (r : Parts). r.store) ok ∙ store ∙ completed in
-    let was : s.checkpoints ≡ p.store.checkpoints = ap (λ (w : Stored). w.checkpoints) reserved ∙ ap (λ (r : Parts). r.store.checkpoints) parts in
-    let keeps : s.retained ≡ p.store.retained = ap (λ (w : Stored). w.retained) reserved ∙ ap (λ (r : Parts). r.store.retained) parts in
-    record {
-      registry = same ∙ registry ∙ ap (λ (r : Parts). r.registry ++ uses_held id acks files) parts ∙ held_is p.registry x id acks files its_id its_acks its_pins;
-      pending = ap (λ (r : Parts). r.pending) ok ∙ pending ∙ ap (λ (r : Parts). r.pending) parts;
-      checkpoints = ap (λ (w : Stored). w.checkpoints) stored ∙ ap (λ n. retained_of n (s.checkpoints ++ x ∷ [])) keeps ∙ ap (λ rs. retained_of p.store.retained (rs ++ x ∷ [])) was ∙ none_surplus p.store.retained p.store.checkpoints x fewer;
-      savepoints = ap (λ (w : Stored). w.savepoints) stored ∙ ap (λ (w : Stored). w.savepoints) reserved ∙ ap (λ (r : Parts). r.store.savepoints) parts;
-      retained = ap (λ (w : Stored). w.retained) stored ∙ keeps;
-      opened = ap (λ (r : Parts). r.opened) ok ∙ opened ∙ ap (λ (r : Parts). r.opened) parts;
-      failures = ap (λ (r : Parts). r.failures) ok ∙ failures ∙ ap (λ (r : Parts). r.failures) parts;
-      spare = omega (arith, present, spare);
-      room = omega (arith, capacity, room);
-    }
-
-more : (c : goal.After-drop-none-2) → OnOk c.make_room_for_files.result (HasCheckpoint c.args.self.now c.make_room_for_files.new.self c.args.done)
+more : (c : goal.After-drop-none-2) → OnOk c.make_room_for_files.result (HasLoaded c.args.self.now c.make_room_for_files.new.self c.args.done)
 more c =
     let p : Parts = c.args.self.now in
     let made : Parts = c.make_room.new.self in
-    let after : Parts = record made { store = c.complete.new.self; registry = c.register.new.registry } in
+    let parts = c.in_ok-make_room.ensures.parts in
+    let kept = c.in_ok-reserve.ensures.kept in
+    let value = c.complete.ensures.value in
     on_ok_weaker c.make_room_for_files.result
-    (λ (ok : c.make_room_for_files.new.self ≡ with_room after 0). has_checkpoint p made after c.make_room_for_files.new.self c.args.done c.reserve.new.self c.complete.new.self c.id.result c.args.acks.now c.of-none.result
-    c.in_ok-make_room.ensures.parts c.in_ok-make_room.ensures.room c.in_ok-reserve.ensures.kept c.complete.ensures.value c.requires.fewer c.id.ensures.value c.requires.acks
-    (none_pinned c.args.done c.of-none.result c.new.result.items c.of-none.ensures c.new.ensures.items c.id.ensures.done.no_pins)
-    c.in_ok-register.ensures refl refl refl refl refl ok)
+    (has_loaded p made c.make_room_for_files.new.self c.args.done made.pending c.complete.new.self c.register.new.registry c.id.result c.args.acks.now c.of-none.result
+    parts c.in_ok-make_room.ensures.room c.id.ensures.value c.requires.acks (none_pinned c.args.done c.of-none.result c.new.result.items c.of-none.ensures c.new.ensures.items c.id.ensures.done.no_pins)
+    c.in_ok-register.ensures (rw (value, kept, parts) refl) (checkpoint_loaded p made c.reserve.new.self c.complete.new.self c.args.done parts kept value c.requires.fewer c.requires.newest))
     c.make_room_for_files.ensures.ok
 
 pub returns-clause-records : goal.returns-clause-records
-returns-clause-records c = on_ok_weaker c.make_room_for_files.result (records-checkpoint c.requires.newest) (more c)
+returns-clause-records c = on_ok_weaker c.make_room_for_files.result (λ (m : HasLoaded c.args.self.now c.make_room_for_files.new.self c.args.done). m.records) (more c)
 
 pub returns-clause-tied : goal.returns-clause-tied
-returns-clause-tied c = on_ok_weaker c.make_room_for_files.result (tied-checkpoint c.requires.tied c.requires.newest) (more c)
+returns-clause-tied c = on_ok_weaker c.make_room_for_files.result (tied-loaded c.requires.tied) (more c)

@@ -1,12 +1,7 @@
 -- Answers the goals of `Parts::load_done`.
-use Rattle.ckpt_core.proofs.Names.{◌≡◌, true, ◌&&◌, [], ◌∷◌, ◌++◌, OnOk, Result, Ok, Err, ap, subst, ◌∙◌, arith, Acked, IsAscendingSet, IsIn, Record, Parts, record_in, with_done, records_in}
-use Rattle.ckpt_core.proofs.Names.{is_checkpoint, is_checkpoint-kind}
+use Rattle.ckpt_core.proofs.{◌≡◌, true, ◌&&◌, [], ◌∷◌, ◌++◌, OnOk, Result, Ok, Err, ap, ◌∙◌, arith, Record, Parts, record_in, with_done, records_in, is_checkpoint, is_checkpoint-kind, groups_of}
+use Rattle.ckpt_core.proofs.{few_records, few_uses, joined_records, done_checkpoints-groups, state_done, savepoints-groups}
 use Rattle.ckpt_ids.specs.declared.numbers.Kind.TheVariants as kind
-use Rattle.ckpt_core.proofs.Ending.Drops.{groups_of}
-use Rattle.ckpt_core.proofs.Loaded.Bounds.{few_records, few_uses}
-use Rattle.ckpt_core.proofs.Loaded.Joining.{joined_records}
-use Rattle.ckpt_core.proofs.Loaded.Loads.{done_checkpoints-groups, state_done}
-use Rattle.ckpt_core.proofs.Records.GroupLookups.{savepoints-groups}
 use Rattle.ckpt_core.proofs.parts.Parts.load_done.Goals as goal
 
 -- what holds after a success follows from what does
@@ -24,14 +19,10 @@ load_checkpoint-requires-clause-fewer c =
     omega (arith, counted, c.requires.joins.retained yes, c.requires.tied.retained)
 
 pub load_checkpoint-requires-clause-files : goal.load_checkpoint-requires-clause-files
-load_checkpoint-requires-clause-files c =
-    let P : Record → Type 0 = λ r. (a : Acked) → IsIn a r.acks → IsAscendingSet a.files in
-    subst P c.requires.done c.requires.joins.is_record.files
+load_checkpoint-requires-clause-files c = rw c.requires.done at c.requires.joins.is_record.files
 
 pub load_checkpoint-requires-clause-few : goal.load_checkpoint-requires-clause-few
-load_checkpoint-requires-clause-few c =
-    let few = few_records (records_in c.args.self.now) c.recall_limits.ensures c.requires.sound in
-    omega (arith, few)
+load_checkpoint-requires-clause-few c = omega (arith, few_records (records_in c.args.self.now) c.recall_limits.ensures c.requires.sound)
 
 pub load_checkpoint-requires-clause-below : goal.load_checkpoint-requires-clause-below
 load_checkpoint-requires-clause-below c = few_uses (records_in c.args.self.now ++ c.args.done ∷ []) c.recall_limits.ensures (joined_records c.requires.sound c.requires.joins)
@@ -43,14 +34,10 @@ load_savepoint-requires-clause-fewer c =
     omega (arith, counted, c.requires.sound.savepoints_to)
 
 pub load_savepoint-requires-clause-files : goal.load_savepoint-requires-clause-files
-load_savepoint-requires-clause-files c =
-    let P : Record → Type 0 = λ r. (a : Acked) → IsIn a r.acks → IsAscendingSet a.files in
-    subst P c.requires.done c.requires.joins.is_record.files
+load_savepoint-requires-clause-files c = rw c.requires.done at c.requires.joins.is_record.files
 
 pub load_savepoint-requires-clause-few : goal.load_savepoint-requires-clause-few
-load_savepoint-requires-clause-few c =
-    let few = few_records (records_in c.args.self.now) c.recall_limits.ensures c.requires.sound in
-    omega (arith, few)
+load_savepoint-requires-clause-few c = omega (arith, few_records (records_in c.args.self.now) c.recall_limits.ensures c.requires.sound)
 
 pub load_savepoint-requires-clause-below : goal.load_savepoint-requires-clause-below
 load_savepoint-requires-clause-below c = few_uses (records_in c.args.self.now ++ c.args.done ∷ []) c.recall_limits.ensures (joined_records c.requires.sound c.requires.joins)

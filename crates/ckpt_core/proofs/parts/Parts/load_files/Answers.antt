@@ -1,8 +1,7 @@
 -- Answers the goals of `Parts::load_files`.
-use Rattle.ckpt_core.proofs.Names.{rules, ◌≡◌, ℕ, ◌≤◌, false, Err, List, [], ◌++◌, length, take, sym, ap, subst, ◌∙◌, ⊎_elim, arith, append-nil, drop_all, take_all, AreDistinct, IsIn, Use, is_present}
-use Rattle.ckpt_core.proofs.Names.{IsIn-append_cases, Queues, Damaged, Parts, AreFilesApart}
+use Rattle.ckpt_core.proofs.{rules, ◌≡◌, ℕ, ◌≤◌, Err, List, [], ◌++◌, length, take, sym, ap, subst, ◌∙◌, ⊎_elim, arith, append-nil, drop_all, take_all, IsIn, IsIn-append_cases, Queues, Damaged, Parts}
+use Rattle.ckpt_core.proofs.{apart_behind, state_files}
 use Rattle.std.proofs.Common.{drop}
-use Rattle.ckpt_core.proofs.Loaded.Reopened.{apart_behind, state_files}
 use Rattle.ckpt_core.proofs.parts.Parts.load_files.Goals as goal
 
 -- files put into the empty outbox
@@ -11,12 +10,10 @@ alone waiting slice taken files a b s = ap (λ (xs : List ℕ). (xs ++ slice) ++
 
 pub returns-in_err-put_back-clause-damaged : goal.returns-in_err-put_back-clause-damaged
 returns-in_err-put_back-clause-damaged c = λ h a.
-    let p : Parts = c.args.self.now in
     let bad : c.put_back.result ≡ Err Damaged = search rules in
     let empty : c.reserve.new.self.waiting ≡ [] = ap (λ (q : Queues). q.waiting) c.in_ok-reserve.ensures.ok ∙ c.requires.none_waits in
     let none : c.reserve.new.self.taken ≡ [] = ap (λ (q : Queues). q.taken) c.in_ok-reserve.ensures.ok ∙ c.requires.none_taken in
-    let P : List ℕ → Type 0 = λ xs. AreFilesApart p.registry xs in
-    c.put_back.ensures.damaged bad (subst P (sym (alone c.reserve.new.self.waiting c.as_slice.result.now c.reserve.new.self.taken c.args.taken.now empty none c.as_slice.ensures.files)) (apart_behind c.args.waiting.now c.args.taken.now a))
+    c.put_back.ensures.damaged bad (rw (alone c.reserve.new.self.waiting c.as_slice.result.now c.reserve.new.self.taken c.args.taken.now empty none c.as_slice.ensures.files) (apart_behind c.args.waiting.now c.args.taken.now a))
 
 -- the queues after the fetched files were put and taken again
 after_take : (before put after : Queues) (slice files : List ℕ) (n : ℕ) → before.waiting ≡ [] → before.taken ≡ [] → slice ≡ files → n ≡ length files → put.waiting ≡ before.waiting ++ slice → put.taken ≡ before.taken
@@ -52,28 +49,21 @@ takes c = ap taken_in c.in_ok-put_back-2.ensures.parts ∙ ap (λ (q : Queues). 
 pub returns-clause-state : goal.returns-clause-state
 returns-clause-state c =
     let p : Parts = c.args.self.now in
-    let p5 : Parts = c.put_back-2.new.self in
     let o : Queues = c.make_room_for_files.new.self.outbox in
     let frame : c.make_room_for_files.new.self ≡ record p { outbox = o } =
     c.in_ok-make_room_for_files.ensures.ok
-    ∙ ap (λ (x : Queues). record p5 { outbox = x }) (ap (λ (r : Parts). r.outbox) (sym c.in_ok-make_room_for_files.ensures.ok))
+    ∙ ap (λ (x : Queues). record c.put_back-2.new.self { outbox = x }) (ap (λ (r : Parts). r.outbox) (sym c.in_ok-make_room_for_files.ensures.ok))
     ∙ ap (λ (r : Parts). record r { outbox = o }) c.in_ok-put_back-2.ensures.parts
     ∙ ap (λ (r : Parts). record r { outbox = o }) c.in_ok-put_back.ensures.parts in
     state_files p c.make_room_for_files.new.self o c.args.waiting.now c.args.taken.now frame (ap waiting_in c.in_ok-make_room_for_files.ensures.ok ∙ waits c) (ap taken_in c.in_ok-make_room_for_files.ensures.ok ∙ takes c)
 
 pub returns-clause-apart : goal.returns-clause-apart
 returns-clause-apart c =
-    let p : Parts = c.args.self.now in
-    let p5 : Parts = c.put_back-2.new.self in
-    let same : c.put_back.new.self.registry ≡ p.registry = ap (λ (r : Parts). r.registry) c.in_ok-put_back.ensures.parts in
-    let D : List ℕ → Type 0 = λ xs. AreDistinct xs in
+    let same : c.put_back.new.self.registry ≡ c.args.self.now.registry = ap (λ (r : Parts). r.registry) c.in_ok-put_back.ensures.parts in
     record {
       unused = λ f h.
           let P : List ℕ → Type 0 = λ xs. IsIn f xs in
-          let U : List Use → Type 0 = λ us. is_present us f ≡ false in
-          ⊎_elim
-          (λ (k : IsIn f c.args.waiting.now). subst U same (c.in_ok-put_back-2.ensures.unused f (subst P (sym c.as_slice-2.ensures) k)))
-          (λ (k : IsIn f c.args.taken.now). c.in_ok-put_back.ensures.unused f (subst P (sym c.as_slice.ensures.files) k))
+          ⊎_elim (λ k. rw same at (c.in_ok-put_back-2.ensures.unused f (subst P (sym c.as_slice-2.ensures) k))) (λ k. c.in_ok-put_back.ensures.unused f (subst P (sym c.as_slice.ensures.files) k))
           (IsIn-append_cases f c.args.waiting.now c.args.taken.now h);
-      apart = subst D (ap (λ (xs : List ℕ). xs ++ p5.outbox.taken) (waits c) ∙ ap (λ (xs : List ℕ). c.args.waiting.now ++ xs) (takes c)) c.in_ok-put_back-2.ensures.apart;
+      apart = rw (ap (λ (xs : List ℕ). xs ++ c.put_back-2.new.self.outbox.taken) (waits c) ∙ ap (λ (xs : List ℕ). c.args.waiting.now ++ xs) (takes c)) at c.in_ok-put_back-2.ensures.apart;
     }

@@ -1,8 +1,6 @@
 -- Answers the goals of `Parts::make_room`.
-use Rattle.ckpt_core.proofs.Names.{arith, on_ok_weaker}
-use Rattle.ckpt_core.proofs.Records.Lookups.{length-records_of}
+use Rattle.ckpt_core.proofs.{arith, on_ok_weaker, length-records_of, state-ended}
 use Rattle.ckpt_core.proofs.parts.Parts.make_room.Goals as goal
-use Rattle.ckpt_core.proofs.Triggering.TriggerParts.{state-ended}
 
 pub overflow_add-live : goal.overflow_add-live
 overflow_add-live c = let p = c.args.self.now in omega (arith, length-records_of p.registry p.pending p.store.checkpoints p.store.savepoints, c.requires)

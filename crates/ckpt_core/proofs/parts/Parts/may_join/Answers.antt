@@ -1,6 +1,5 @@
 -- Answers the goals of `Parts::may_join`.
-use Rattle.ckpt_core.proofs.Names.{◌∙◌, sym, List, both_ways, Record, record_in, records_in}
-use Rattle.ckpt_core.proofs.Loaded.Loads.{above_all, no_live, not_above_all, some_live}
+use Rattle.ckpt_core.proofs.{◌∙◌, sym, both_ways, record_in, records_in, above_all, no_live, not_above_all, some_live}
 use Rattle.ckpt_core.proofs.parts.Parts.may_join.Goals as goal
 
 pub first_from-requires : goal.first_from-requires
@@ -8,10 +7,8 @@ first_from-requires c = c.requires.in_order
 
 pub returns-then-is_some-clause-no : goal.returns-then-is_some-clause-no
 returns-then-is_some-clause-no c = λ e j.
-    let rs : List Record = records_in c.args.self.now in
-    let r : Record = record_in c.args.saved.now in
     let k = some_live c.first_from.result (sym c.is_some.ensures ∙ c.if-is_some.true) in
-    not_above_all r.id rs c.first_from.result k.0 c.first_from.ensures k.1 j.above
+    not_above_all (record_in c.args.saved.now).id (records_in c.args.self.now) c.first_from.result k.0 c.first_from.ensures k.1 j.above
 
 pub returns-then-not-lies_in-clause-no : goal.returns-then-not-lies_in-clause-no
 returns-then-not-lies_in-clause-no c = λ e j. both_ways c.lies_in.result c.if-not-lies_in.true (c.lies_in.ensures.1 (j.from_first, j.below_next))
@@ -21,13 +18,11 @@ returns-then-not-is_before-clause-no c = λ e j. both_ways c.is_before.result c.
 
 pub returns-clause-yes : goal.returns-clause-yes
 returns-clause-yes c = λ yes ir.
-    let rs : List Record = records_in c.args.self.now in
-    let r : Record = record_in c.args.saved.now in
     let none = no_live c.first_from.result (sym c.is_some.ensures ∙ c.if-is_some.false) in
     let room = c.has_room_for.ensures.yes yes in
     let place = c.lies_in.ensures.0 c.if-not-lies_in.false in
     record {
-      above = above_all r.id rs c.first_from.result c.first_from.ensures none;
+      above = above_all (record_in c.args.saved.now).id (records_in c.args.self.now) c.first_from.result c.first_from.ensures none;
       from_first = place.0;
       below_next = place.1;
       is_record = ir;

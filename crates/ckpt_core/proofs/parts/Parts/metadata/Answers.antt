@@ -1,9 +1,7 @@
 -- A live record is pending or stored, and its metadata does not have its pins.
-use Rattle.ckpt_core.proofs.Names.{◌≡◌, Some, None, sym, ap, ◌∙◌, find, IsSome, option_copied, option_map, metadata_of, on_each_error, state_of, record_of}
+use Rattle.ckpt_core.proofs.{◌≡◌, Some, None, sym, ap, ◌∙◌, find, IsSome, option_copied, option_map, metadata_of, on_each_error, state_of, record_of, some_there, has_number, pending_live}
+use Rattle.ckpt_core.proofs.{pending_metadata, stored_metadata, stored_record}
 use Rattle.ckpt_store.specs.Storing as storing
-use Rattle.ckpt_core.proofs.Loaded.Saving.{some_there}
-use Rattle.ckpt_core.proofs.Records.Lookups.{has_number}
-use Rattle.ckpt_core.proofs.Answering.Reads.{pending_live, pending_metadata, stored_metadata, stored_record}
 use Rattle.ckpt_core.proofs.parts.Parts.metadata.Goals as goal
 
 pub returns-in_err-metadata-clause-memory : goal.returns-in_err-metadata-clause-memory
@@ -15,8 +13,7 @@ returns-in_err-metadata-clause-memory c =
 pub returns-in-Some-clause-value : goal.returns-in-Some-clause-value
 returns-in-Some-clause-value c =
     let p = c.args.self.now in
-    let found : find (has_number c.args.id) p.pending ≡ Some c.in-Some.record.now = sym c.get.ensures.value ∙ ap option_copied c.in-Some.is in
-    sym (pending_metadata p c.args.id c.in-Some.record.now c.in_ok-metadata.field-0 c.requires found c.in_ok-metadata.ensures)
+    sym (pending_metadata p c.args.id c.in-Some.record.now c.in_ok-metadata.field-0 c.requires (sym c.get.ensures.value ∙ ap option_copied c.in-Some.is) c.in_ok-metadata.ensures)
 
 pub returns-in_err-metadata-in-Some-get-clause-memory : goal.returns-in_err-metadata-in-Some-get-clause-memory
 returns-in_err-metadata-in-Some-get-clause-memory c =
@@ -35,6 +32,4 @@ returns-in_ok-metadata-in-Some-get-clause-value c =
 pub returns-in-None-clause-value : goal.returns-in-None-clause-value
 returns-in-None-clause-value c =
     let p = c.args.self.now in
-    let none : find (has_number c.args.id) p.pending ≡ None = sym c.get.ensures.value ∙ ap option_copied c.in_default.is in
-    let absent : storing.record_of p.store c.args.id ≡ None = sym c.get-2.ensures.value ∙ ap option_copied c.in-None.is in
-    sym (ap (option_map metadata_of) (stored_record p c.args.id c.requires none ∙ absent))
+    sym (ap (option_map metadata_of) (stored_record p c.args.id c.requires (sym c.get.ensures.value ∙ ap option_copied c.in_default.is) ∙ (sym c.get-2.ensures.value ∙ ap option_copied c.in-None.is)))

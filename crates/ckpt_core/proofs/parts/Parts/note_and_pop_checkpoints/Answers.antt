@@ -1,7 +1,6 @@
 -- There was room for the numbers of all checkpoints, and there still is for those that are left.
-use Rattle.ckpt_core.proofs.Names.{◌≡◌, ◌+◌, ℕ, ◌<◌, ◌≤◌, ◌++◌, List, [], ◌∷◌, length, ap, arith, Some, length-map, vec_capacity, Record, lowest}
+use Rattle.ckpt_core.proofs.{◌≡◌, ◌+◌, ℕ, ◌<◌, ◌≤◌, ◌++◌, List, [], ◌∷◌, length, ap, arith, Some, length-map, vec_capacity, Record, lowest, numbers}
 use Rattle.std.proofs.Common.{length-append}
-use Rattle.ckpt_core.proofs.Ending.Drops.{numbers}
 use Rattle.ckpt_core.proofs.parts.Parts.note_and_pop_checkpoints.Goals as goal
 
 one_there : (rs : List Record) (id : ℕ) → Some id ≡ lowest rs → 0 < length rs

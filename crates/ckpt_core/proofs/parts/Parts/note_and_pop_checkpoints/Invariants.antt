@@ -1,6 +1,5 @@
 -- Each number is noted already or that of a checkpoint which is still in the store.
-use Rattle.ckpt_core.proofs.Names.{◌≡◌, ◌++◌, length, vec_capacity}
-use Rattle.ckpt_core.proofs.Ending.Drops.{numbers}
+use Rattle.ckpt_core.proofs.{◌≡◌, ◌++◌, length, vec_capacity, numbers}
 use Rattle.ckpt_core.proofs.parts.Parts.note_and_pop_checkpoints.Given as goal
 
 abbrev pub invariant-loop-id : goal.invariant-loop-id

@@ -1,11 +1,8 @@
 -- Answers the goals of `Parts::note_expired`.
-use Rattle.ckpt_core.proofs.Names.{◌≡◌, ℕ, ◌+◌, ◌-◌, ◌&&◌, ◌++◌, Bool, ltb, length, ap, sym, ◌∙◌, arith, count_by, filter, lt-ltb, length-map, Expiry, is_checkpoint}
-use Rattle.ckpt_core.proofs.Ending.Drops.{groups_of, numbers, room_to_note}
-use Rattle.ckpt_core.proofs.Ending.Moves.{are_too_many}
-use Rattle.ckpt_core.proofs.Triggering.TickParts.{expiry_is, few_checkpoints, few_expired, few_failures, is_old, late_at_most}
+use Rattle.ckpt_core.proofs.{◌≡◌, ℕ, ◌+◌, ◌-◌, ◌&&◌, ◌++◌, Bool, ltb, length, ap, sym, ◌∙◌, arith, count_by, filter, lt-ltb, length-map, Expiry, is_checkpoint, groups_of, numbers, room_to_note}
+use Rattle.ckpt_core.proofs.{are_too_many, expiry_is, few_checkpoints, few_expired, few_failures, is_old, late_at_most, state-ended}
 use Rattle.ckpt_core.proofs.parts.Parts.note_expired.Goals as goal
 use Rattle.ckpt_core.proofs.parts.Parts.note_expired.Goals.{then-late-gt0, else-late-gt0}
-use Rattle.ckpt_core.proofs.Triggering.TriggerParts.{state-ended}
 
 pub note_expired-late-requires : goal.note_expired-late-requires
 note_expired-late-requires c = record { room = omega (arith, room_to_note c.args.self.now (length c.args.self.now.pending) c.requires.sound (omega arith)) }

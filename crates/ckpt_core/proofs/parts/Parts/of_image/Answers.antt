@@ -1,7 +1,6 @@
 -- Answers the goals of `Parts::of_image`.
-use Rattle.ckpt_core.proofs.Names.{rules, ◌≡◌, true, Err, List, [], ◌++◌, map, sym, ap, subst, ◌∙◌, Use, uses, Damaged, Parts, CanHold, record_in, state_in, AreFilesApart, emptied, state_of}
-use Rattle.ckpt_core.proofs.Names.{is_done_savepoint, IsSound, State}
-use Rattle.ckpt_core.proofs.Loaded.Reopened.{IsTold, after_files, can_hold_from, files_held, idle_held, idle_loaded, records_held, records_loaded, told, state_with_base, state_with_records}
+use Rattle.ckpt_core.proofs.{rules, ◌≡◌, true, Err, [], map, sym, ap, subst, ◌∙◌, uses, Damaged, Parts, CanHold, record_in, state_in, emptied, state_of, IsSound, State, IsTold, after_files}
+use Rattle.ckpt_core.proofs.{can_hold_from, files_held, idle_held, idle_loaded, records_held, records_loaded, told, state_with_base, state_with_records}
 use Rattle.ckpt_core.proofs.parts.Parts.of_image.Goals as goal
 
 pub load_all-requires-clause-none : goal.load_all-requires-clause-none
@@ -26,7 +25,7 @@ pub returns-in_err-load_base-clause-damaged : goal.returns-in_err-load_base-clau
 returns-in_err-load_base-clause-damaged c = λ h can.
     let loaded = state_with_records c.args.image.now c.in_ok-parts.parts c.load_all.new.self c.deref.result.now c.in_ok-parts.ensures.state c.deref.ensures.value c.in_ok-load_all.ensures.state in
     let bad : c.load_base.result ≡ Err Damaged = search rules in
-    c.load_base.ensures.damaged bad (λ id e. let P : State → Type 0 = λ s. is_done_savepoint s id ≡ true in subst P (sym loaded) (can.sound.base id e))
+    c.load_base.ensures.damaged bad (λ id e. rw loaded (can.sound.base id e))
 
 pub returns-then-not-is_idle-clause-damaged : goal.returns-then-not-is_idle-clause-damaged
 returns-then-not-is_idle-clause-damaged c = λ h can.
@@ -44,8 +43,7 @@ returns-in_err-load_files-clause-damaged c = λ h can.
     let m : State = state_in c.args.image.now in
     let based = state_with_base c.args.image.now c.in_ok-parts.parts c.load_all.new.self c.load_base.new.self c.deref.result.now c.in_ok-parts.ensures.state c.deref.ensures.value c.in_ok-load_all.ensures.state c.in_ok-load_base.ensures.state in
     let bad : c.load_files.result ≡ Err Damaged = search rules in
-    let Q : List Use → Type 0 = λ us. AreFilesApart us (m.waiting ++ m.taken) in
-    c.load_files.ensures.damaged bad (subst Q (sym (c.in_ok-load_base.ensures.tied.uses_are ∙ ap uses (told c.load_base.new.self _ based).records)) (files_held can))
+    c.load_files.ensures.damaged bad (rw (c.in_ok-load_base.ensures.tied.uses_are ∙ ap uses (told c.load_base.new.self _ based).records) (files_held can))
 
 -- once the files are loaded, each test has passed
 based : (c : goal.In_ok-load_files) → state_of c.load_base.new.self ≡ record (state_in c.args.image.now) { waiting = []; taken = [] }
@@ -58,19 +56,17 @@ held c =
     let loaded = state_with_records c.args.image.now c.in_ok-parts.parts c.load_all.new.self c.deref.result.now c.in_ok-parts.ensures.state c.deref.ensures.value c.in_ok-load_all.ensures.state in
     can_hold_from m (c.has_sound_numbers.ensures.yes c.if-not-has_sound_numbers.false) c.recall_limits.ensures c.recall.ensures c.recall-2.ensures
     (records_loaded m c.in_ok-parts.parts (map record_in c.deref.result.now) c.in_ok-parts.ensures.state (ap (map record_in) c.deref.ensures.value) c.in_ok-load_all.ensures.sound)
-    (λ id e. let P : State → Type 0 = λ s. is_done_savepoint s id ≡ true in subst P loaded (c.in_ok-load_base.ensures.there id e))
+    (λ id e. rw loaded at (c.in_ok-load_base.ensures.there id e))
     (idle_loaded m c.load_base.new.self t (c.is_idle.ensures.yes c.if-not-is_idle.false))
-    (let Q : List Use → Type 0 = λ us. AreFilesApart us (m.waiting ++ m.taken) in subst Q (c.in_ok-load_base.ensures.tied.uses_are ∙ ap uses t.records) c.in_ok-load_files.ensures.apart)
+    (rw (c.in_ok-load_base.ensures.tied.uses_are ∙ ap uses t.records) at c.in_ok-load_files.ensures.apart)
 
 pub returns-clause-held : goal.returns-clause-held
 returns-clause-held c = held c
 
 pub returns-clause-sound : goal.returns-clause-sound
 returns-clause-sound c =
-    let state : state_of c.load_files.new.self ≡ state_in c.args.image.now = after_files (state_in c.args.image.now) c.load_base.new.self c.load_files.new.self (based c) c.in_ok-load_files.ensures.state in
-    let can : CanHold (state_in c.args.image.now) = held c in
     record {
       tied = c.in_ok-load_files.ensures.tied;
-      sound = subst IsSound (sym state) can.sound;
+      sound = subst IsSound (sym (after_files (state_in c.args.image.now) c.load_base.new.self c.load_files.new.self (based c) c.in_ok-load_files.ensures.state)) (held c).sound;
       none_ended = c.in_ok-load_files.ensures.noted ∙ ap (λ (p : Parts). p.ended.items) c.load_base.ensures.rest ∙ c.in_ok-load_all.ensures.noted ∙ c.in_ok-parts.ensures.none_ended;
     }

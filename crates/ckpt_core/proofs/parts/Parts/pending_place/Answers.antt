@@ -1,5 +1,5 @@
 -- Answers the goals of `Parts::pending_place`.
-use Rattle.ckpt_core.proofs.Answering.RefusalLookups.{place_of-parts, found_at-parts}
+use Rattle.ckpt_core.proofs.{place_of-parts, found_at-parts}
 use Rattle.ckpt_core.proofs.parts.Parts.pending_place.Goals as goal
 
 pub returns-clause-place : goal.returns-clause-place

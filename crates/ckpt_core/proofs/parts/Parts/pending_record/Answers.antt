@@ -1,5 +1,5 @@
 -- Answers the goals of `Parts::pending_record`.
-use Rattle.ckpt_core.proofs.Answering.RefusalLookups.{pending_of-parts}
+use Rattle.ckpt_core.proofs.{pending_of-parts}
 use Rattle.ckpt_core.proofs.parts.Parts.pending_record.Goals as goal
 
 pub returns : goal.returns

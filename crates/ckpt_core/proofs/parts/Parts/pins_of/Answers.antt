@@ -1,14 +1,13 @@
 -- Answers the goals of `Parts::pins_of`.
-use Rattle.ckpt_core.proofs.Names.{◌≡◌, ℕ, List, sym, ap, ◌∙◌, IfOk-weaker, ascending, pins_by, Parts}
-use Rattle.ckpt_core.proofs.Loaded.Saving.{none_pinned, pins_registered}
+use Rattle.ckpt_core.proofs.{◌≡◌, ℕ, List, sym, ap, ◌∙◌, IfOk-weaker, ascending, pins_by, Parts, done_pins_none, pending_pins}
 use Rattle.ckpt_core.proofs.parts.Parts.pins_of.Goals as goal
 
 pub returns-then-done : goal.returns-then-done
-returns-then-done c = λ r h same done. c.of.ensures ∙ ap ascending c.new.ensures.items ∙ sym (none_pinned c.args.self.now r c.requires h (done ∙ c.if-done.true))
+returns-then-done c = λ r h same done. c.of.ensures ∙ ap ascending c.new.ensures.items ∙ sym (done_pins_none c.args.self.now r c.requires h (done ∙ c.if-done.true))
 
 pub returns : goal.returns
 returns c =
     let p : Parts = c.args.self.now in
     IfOk-weaker c.pins.result (λ (files : List ℕ). files ≡ pins_by c.args.id p.registry) _
-    (λ files e r h same done. e ∙ ap (λ (n : ℕ). pins_by n p.registry) (sym same) ∙ pins_registered p r c.recall_groups.ensures.pending c.recall_groups.ensures.stored h (done ∙ c.if-done.false))
+    (λ files e r h same done. e ∙ ap (λ (n : ℕ). pins_by n p.registry) (sym same) ∙ pending_pins p r c.recall_groups.ensures.pending c.recall_groups.ensures.stored h (done ∙ c.if-done.false))
     c.pins.ensures

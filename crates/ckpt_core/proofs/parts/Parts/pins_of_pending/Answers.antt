@@ -1,6 +1,5 @@
 -- The registry has the pins of a pending record.
-use Rattle.ckpt_core.proofs.Names.{◌∙◌, ap, not, IfOk-weaker, on_each_error}
-use Rattle.ckpt_core.proofs.Reading.Numbers.{is_pending_there, pins_found}
+use Rattle.ckpt_core.proofs.{◌∙◌, ap, not, IfOk-weaker, on_each_error, is_pending_there, pins_found}
 use Rattle.ckpt_core.proofs.parts.Parts.pins_of_pending.Goals as goal
 
 pub returns-clause-value : goal.returns-clause-value

@@ -1,17 +1,13 @@
 -- Answers the goals of `Parts::put_back`.
-use Rattle.ckpt_core.proofs.Names.{◌≡◌, ℕ, ◌+◌, Bool, true, false, ◌||◌, List, [], ◌∷◌, ◌++◌, take, refl, sym, ap, subst, ◌∙◌, ⊎_elim, take_all, take_more, IsIn, is_present, IsIn-append_cases}
-use Rattle.ckpt_core.proofs.Names.{only_one, Parts, is_known_in}
-use Rattle.ckpt_core.proofs.Loaded.Reopened.{known_twice, one_more_waits}
+use Rattle.ckpt_core.proofs.{◌≡◌, ℕ, ◌+◌, Bool, true, false, ◌||◌, List, [], ◌∷◌, ◌++◌, take, refl, sym, ap, ◌∙◌, ⊎_elim, take_all, take_more, IsIn, is_present, IsIn-append_cases, only_one, Parts}
+use Rattle.ckpt_core.proofs.{known_twice, one_more_waits}
 use Rattle.ckpt_core.proofs.parts.Parts.put_back.Goals as goal
 
 pub returns-then-knows-clause-damaged : goal.returns-then-knows-clause-damaged
 returns-then-knows-clause-damaged c = λ e a.
     let p : Parts = c.args.self.now in
-    let q : Parts = c.loop-file.self in
-    let f : ℕ = c.file-item.result in
-    let P : Parts → Type 0 = λ r. is_known_in r f ≡ true in
-    let known = subst P c.loop-file.invariant.parts (sym c.knows.ensures ∙ c.if-knows.true) in
-    known_twice p.registry p.outbox.waiting c.args.files.now p.outbox.taken c.loop-file.file-index f c.loop-file-test.true c.file-item.is known a
+    let known = rw c.loop-file.invariant.parts at (sym c.knows.ensures ∙ c.if-knows.true) in
+    known_twice p.registry p.outbox.waiting c.args.files.now p.outbox.taken c.loop-file.file-index c.file-item.result c.loop-file-test.true c.file-item.is known a
 
 left_false : (a b : Bool) → (a || b) ≡ false → a ≡ false
 left_false true b e = e
@@ -28,14 +24,10 @@ loop-file-preserved c =
     record {
       parts = one_more_waits p q (take i files) (take (i + 1) files) f c.put.new.self c.loop-file.invariant.parts c.put.ensures next;
       unused = λ g h.
-          let P : List ℕ → Type 0 = λ xs. IsIn g xs in
-          let U : ℕ → Type 0 = λ x. is_present p.registry x ≡ false in
-          let Q : Parts → Type 0 = λ r. is_present r.registry f ≡ false in
-          let mine : is_present p.registry f ≡ false = subst Q c.loop-file.invariant.parts (left_false (is_present q.registry f) _ (sym c.knows.ensures ∙ c.if-knows.false)) in
-          ⊎_elim (λ (k : IsIn g (take i files)). c.loop-file.invariant.unused g k) (λ (k : IsIn g (f ∷ [])). subst U (sym (only_one g f k)) mine) (IsIn-append_cases g (take i files) (f ∷ []) (subst P next h));
+          let mine : is_present p.registry f ≡ false = rw c.loop-file.invariant.parts at (left_false (is_present q.registry f) _ (sym c.knows.ensures ∙ c.if-knows.false)) in
+          ⊎_elim (λ (k : IsIn g (take i files)). c.loop-file.invariant.unused g k) (λ (k : IsIn g (f ∷ [])). rw (only_one g f k) mine) (IsIn-append_cases g (take i files) (f ∷ []) (rw next at h));
     }
 
 pub returns-clause-unused : goal.returns-clause-unused
 returns-clause-unused c = λ f h.
-    let P : List ℕ → Type 0 = λ xs. IsIn f xs in
-    c.loop-file.invariant.unused f (subst P (sym (take_all c.loop-file.file-index c.args.files.now c.loop-file-test.false)) h)
+    c.loop-file.invariant.unused f (rw (take_all c.loop-file.file-index c.args.files.now c.loop-file-test.false) h)

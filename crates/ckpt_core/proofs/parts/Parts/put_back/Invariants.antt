@@ -1,5 +1,5 @@
 -- The loop invariants of `Parts::put_back`.
-use Rattle.ckpt_core.proofs.Names.{◌≡◌, ℕ, false, take, IsIn, is_present, with_more_waiting}
+use Rattle.ckpt_core.proofs.{◌≡◌, ℕ, false, take, IsIn, is_present, with_more_waiting}
 use Rattle.ckpt_core.proofs.parts.Parts.put_back.Given as goal
 
 abbrev pub invariant-loop-file : goal.invariant-loop-file

@@ -1,14 +1,12 @@
 -- After the drop the job begins again at the moment of the call.
-use Rattle.ckpt_core.proofs.Names.{None, subst, Target, Parts, state_of, AreTied, IsAccepted, accepted_restore, accepted_restore_savepoint}
+use Rattle.ckpt_core.proofs.{None, Parts, AreTied, accepted_restore, accepted_restore_savepoint, rolled_back_in_order, restarted_clock, restored_answers}
+use Rattle.ckpt_core.proofs.Names.{state_of}
 use Rattle.ckpt_ids.specs.declared.call.Call.TheVariants as call
-use Rattle.ckpt_core.proofs.Ending.Moves.{rolled_back_in_order, restarted_clock, restored_answers}
 use Rattle.ckpt_core.proofs.parts.Parts.restore.Goals as goal
 
 pub roll_back-released-requires-clause-there : goal.roll_back-released-requires-clause-there
 roll_back-released-requires-clause-there c = λ id e.
-    let p = c.args.self.now in
-    let P : Target → Type 0 = λ t. IsAccepted p (call.Restore c.args.now t None) in
-    accepted_restore_savepoint (state_of p) c.args.now id None (subst P e c.requires.accepted)
+    accepted_restore_savepoint (state_of c.args.self.now) c.args.now id None (rw e at c.requires.accepted)
 
 pub read-moment-requires : goal.read-moment-requires
 read-moment-requires c = accepted_restore (state_of c.args.self.now) c.args.now c.args.target None c.requires.accepted

@@ -1,7 +1,5 @@
 -- Answers the goals of `Parts::save`.
-use Rattle.ckpt_core.proofs.Names.{◌∙◌, sym, Parts, state_of, record_of}
-use Rattle.ckpt_core.proofs.Loaded.Saving.{looked_up, saved_record}
-use Rattle.ckpt_core.proofs.Reading.Live.{live_in_order}
+use Rattle.ckpt_core.proofs.{◌∙◌, sym, Parts, state_of, record_of, looked_up, saved_record, live_in_order}
 use Rattle.ckpt_core.proofs.parts.Parts.save.Goals as goal
 
 pub metadata-requires : goal.metadata-requires

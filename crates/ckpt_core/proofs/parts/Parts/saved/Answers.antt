@@ -1,8 +1,6 @@
 -- Answers the goals of `Parts::saved`.
-use Rattle.ckpt_core.proofs.Names.{◌≡◌, ℕ, ◌+◌, ◌<◌, ◌≤◌, ◌^◌, None, List, [], ◌∷◌, ◌++◌, map, take, sym, ap, ◌∙◌, arith, count_by, find, option_map, map-append, Record, Parts, Live, record_in}
-use Rattle.ckpt_core.proofs.Names.{records_in, state_of, live_of, record_of}
-use Rattle.ckpt_core.proofs.Loaded.Saving.{found_from, found_next, saved_all, saved_next, some_there}
-use Rattle.ckpt_core.proofs.Reading.Live.{is_below, is_from, live_bound, live_in_order, none_below_zero}
+use Rattle.ckpt_core.proofs.{◌≡◌, ℕ, ◌+◌, ◌<◌, ◌^◌, List, [], ◌∷◌, ◌++◌, map, take, sym, ap, ◌∙◌, arith, count_by, map-append, Record, Parts, Live, record_in, records_in, state_of, record_of}
+use Rattle.ckpt_core.proofs.{found_from, found_next, saved_all, saved_next, some_there, is_below, live_bound, live_in_order, none_below_zero}
 use Rattle.ckpt_core.proofs.parts.Parts.saved.Goals as goal
 
 pub first_from-requires : goal.first_from-requires
@@ -53,13 +51,9 @@ loop-live-smaller c =
     let n : ℕ = c.loop-live.lowest in
     let live : Live = c.in-Some.live in
     let q = found_next p n live c.requires (sym c.in-Some.is ∙ c.first_from.ensures) in
-    let end : live.id < 2 ^ 62 = live_bound p n live c.requires.sound (sym c.in-Some.is ∙ c.first_from.ensures) in
-    let low : n ≤ q.0.id = found_from (records_in p) n q.0 q.3 in
-    let its : live.id ≡ q.0.id = q.4 in
-    omega (arith, end, low, its, c.number_after-lowest.ensures)
+    omega (arith, live_bound p n live c.requires.sound (sym c.in-Some.is ∙ c.first_from.ensures), found_from (records_in p) n q.0 q.3, q.4, c.number_after-lowest.ensures)
 
 pub returns : goal.returns
 returns c =
     let p : Parts = c.args.self.now in
-    let none : None ≡ option_map live_of (find (is_from c.loop-live.lowest) (records_in p)) = sym c.in_default.is ∙ c.first_from.ensures in
-    c.loop-live.invariant.saved ∙ saved_all (records_in p) c.loop-live.lowest (live_in_order p c.requires) none
+    c.loop-live.invariant.saved ∙ saved_all (records_in p) c.loop-live.lowest (live_in_order p c.requires) (sym c.in_default.is ∙ c.first_from.ensures)

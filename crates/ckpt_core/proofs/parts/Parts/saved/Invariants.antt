@@ -1,5 +1,5 @@
 -- The loop invariants of `Parts::saved`.
-use Rattle.ckpt_core.proofs.Names.{◌≡◌, ◌-◌, ◌≤◌, ◌^◌, map, nat_lt, take, count_by, record_in, records_in}
+use Rattle.ckpt_core.proofs.{◌≡◌, ◌-◌, ◌≤◌, ◌^◌, map, nat_lt, take, count_by, record_in, records_in}
 use Rattle.ckpt_core.proofs.parts.Parts.saved.Given as goal
 
 abbrev pub invariant-loop-live : goal.invariant-loop-live

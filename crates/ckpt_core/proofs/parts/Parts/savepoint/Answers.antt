@@ -1,6 +1,6 @@
 -- Answers the goals of `Parts::savepoint`.
-use Rattle.ckpt_core.proofs.Names.{state_of, IsSound, sym, subst, ◌∙◌, State, accepted_savepoint, moment_is_sound}
-use Rattle.ckpt_core.proofs.Triggering.TickParts.{clock_back, savepoint_answers, seen_state, tied_clock}
+use Rattle.ckpt_core.proofs.{◌∙◌, accepted_savepoint, moment_is_sound, clock_back, savepoint_answers, seen_state, tied_clock}
+use Rattle.ckpt_core.proofs.Names.{state_of}
 use Rattle.ckpt_core.proofs.parts.Parts.savepoint.Goals as goal
 
 pub see-requires : goal.see-requires
@@ -10,8 +10,7 @@ pub trigger-requires-clause-sound : goal.trigger-requires-clause-sound
 unfolding state_of
 trigger-requires-clause-sound c =
     let p = c.args.self.now in
-    let P : State → Type 0 = λ m. IsSound m in
-    subst P (sym (seen_state p c.args.now c.see.new.self c.see.ensures)) (moment_is_sound (state_of p) c.args.now c.requires.sound.sound (accepted_savepoint (state_of p) c.args.now c.requires.accepted).0.moment)
+    rw (seen_state p c.args.now c.see.new.self c.see.ensures) (moment_is_sound (state_of p) c.args.now c.requires.sound.sound (accepted_savepoint (state_of p) c.args.now c.requires.accepted).0.moment)
 
 pub trigger-requires-clause-next : goal.trigger-requires-clause-next
 unfolding state_of

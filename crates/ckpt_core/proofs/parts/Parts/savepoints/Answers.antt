@@ -1,6 +1,5 @@
 -- Answers the goals of `Parts::savepoints`.
-use Rattle.std.proofs.Common.{arith}
-use Rattle.ckpt_core.proofs.Answering.RefusalLookups.{savepoints-parts}
+use Rattle.ckpt_core.proofs.{arith, savepoints-parts}
 use Rattle.ckpt_core.proofs.parts.Parts.savepoints.Goals as goal
 
 pub overflow_add-result : goal.overflow_add-result

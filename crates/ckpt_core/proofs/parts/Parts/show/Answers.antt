@@ -1,9 +1,5 @@
 -- A show is refused exactly if no live record has the number.
-use Rattle.ckpt_core.proofs.Names.{◌∙◌, refl, sym, Ok, Err, Show, NoSuchRecord, Shown, Memory, state_of}
-use Rattle.ckpt_core.proofs.Answering.Calls.{show_wants}
-use Rattle.ckpt_core.proofs.Answering.Reads.{show_absent, show_live, show_told, shown_answers}
-use Rattle.ckpt_core.proofs.Answering.Reports.{names_it, names_none}
-use Rattle.ckpt_core.proofs.Reading.Live.{live_in_order}
+use Rattle.ckpt_core.proofs.{◌∙◌, refl, sym, Ok, Err, Show, NoSuchRecord, Shown, Memory, state_of, show_wants, show_absent, show_live, show_told, shown_answers, names_it, names_none, live_in_order}
 use Rattle.ckpt_core.proofs.parts.Parts.show.Goals as goal
 
 pub metadata-requires : goal.metadata-requires
@@ -18,8 +14,7 @@ returns-in-Ok-Some-clause-ok c =
 pub returns-in-Ok-Some-clause-refused : goal.returns-in-Ok-Some-clause-refused
 returns-in-Ok-Some-clause-refused c =
     let m = state_of c.args.self.now in
-    let accepted = show_told m c.args.id c.in-Ok-Some.metadata (sym c.in-Ok-Some.field-0-is ∙ c.in-Ok-Some.ensures.value) in
-    names_none m (Show c.args.id) (Ok (Shown c.in-Ok-Some.metadata)) tt accepted
+    names_none m (Show c.args.id) (Ok (Shown c.in-Ok-Some.metadata)) tt (show_told m c.args.id c.in-Ok-Some.metadata (sym c.in-Ok-Some.field-0-is ∙ c.in-Ok-Some.ensures.value))
 
 pub returns-in-Ok-None-clause-refused : goal.returns-in-Ok-None-clause-refused
 returns-in-Ok-None-clause-refused c =

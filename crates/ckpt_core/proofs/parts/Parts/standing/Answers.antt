@@ -1,9 +1,5 @@
 -- The number of a pending record, of a stored one, or of none.
-use Rattle.ckpt_core.proofs.Names.{◌≡◌, ◌∙◌, None, sym, find}
-use Rattle.ckpt_core.proofs.Answering.Reads.{stored_record}
-use Rattle.ckpt_core.proofs.Reading.Live.{live_in_order}
-use Rattle.ckpt_core.proofs.Reading.Numbers.{none_copied, standing_done, standing_of_none, standing_pending}
-use Rattle.ckpt_core.proofs.Records.Lookups.{has_number}
+use Rattle.ckpt_core.proofs.{◌≡◌, ◌∙◌, None, sym, find, stored_record, live_in_order, none_copied, standing_done, standing_of_none, standing_pending, has_number}
 use Rattle.ckpt_core.proofs.parts.Parts.standing.Goals as goal
 
 pub returns-then-is_some : goal.returns-then-is_some

@@ -1,8 +1,7 @@
 -- Answers the goals of `Parts::start_and_drop`.
-use Rattle.ckpt_core.proofs.Names.{ap, ◌∙◌, is_noted, state_of}
-use Rattle.ckpt_core.proofs.Ending.Drops.{groups_of}
+use Rattle.ckpt_core.proofs.{ap, ◌∙◌, is_noted, groups_of, done_not_dropped, expiry_goes, expiry_wants, started_tolerable, tied_failures, unknown_after}
+use Rattle.ckpt_core.proofs.Names.{state_of}
 use Rattle.ckpt_core.proofs.Triggering.TickStates.{starts_in_order}
-use Rattle.ckpt_core.proofs.Triggering.TickParts.{done_not_dropped, expiry_goes, expiry_wants, started_tolerable, tied_failures, unknown_after}
 use Rattle.ckpt_core.proofs.parts.Parts.start_and_drop.Goals as goal
 
 pub drop_noted-requires-clause-in_order : goal.drop_noted-requires-clause-in_order

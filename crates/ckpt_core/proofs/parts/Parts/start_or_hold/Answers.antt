@@ -1,7 +1,7 @@
 -- Answers the goals of `Parts::start_or_hold`.
 use Rattle.ckpt_rules.specs.declared.hold.Hold.TheVariants as hold
-use Rattle.ckpt_core.proofs.Names.{on_each_error, state_of, ap, start_or_hold}
-use Rattle.ckpt_core.proofs.Triggering.TickParts.{held_result, starts_now}
+use Rattle.ckpt_core.proofs.{on_each_error, ap, held_result, starts_now}
+use Rattle.ckpt_core.proofs.Names.{state_of, start_or_hold}
 use Rattle.ckpt_core.proofs.parts.Parts.start_or_hold.Goals as goal
 
 pub returns-in_err-id-in-Go-clause-memory : goal.returns-in_err-id-in-Go-clause-memory

@@ -1,5 +1,5 @@
 -- The files that are taken keep their places.
-use Rattle.ckpt_core.proofs.Answering.Reads.{taken_answers}
+use Rattle.ckpt_core.proofs.{taken_answers}
 use Rattle.ckpt_core.proofs.parts.Parts.take.Goals as goal
 
 pub returns-clause-ok : goal.returns-clause-ok

@@ -1,46 +1,26 @@
 -- The call was accepted, so the acknowledgement can be taken; taken back, nothing has changed.
-use Rattle.ckpt_core.proofs.Names.{◌≡◌, ◌∙◌, List, ap, rules, subst, sym, IsInOrder, LiesAt, Record, id_of, find-place, id_before, taken_in, acked, retracted}
-use Rattle.ckpt_core.proofs.Acknowledging.Takes.{CanTake, IsFoundAcked, acked_in_order, can_take, is_found_acked, lies_in_new, some_from}
-use Rattle.ckpt_core.proofs.Records.Pending.{retracted-acked}
+use Rattle.ckpt_core.proofs.{◌≡◌, ◌∙◌, List, ap, rules, subst, sym, IsInOrder, LiesAt, Record, id_of, find-place, id_before, taken_in, acked, retracted, retracted-acked}
+use Rattle.ckpt_core.proofs.Acknowledging.Takes.{CanTake, IsFoundAcked, acked_in_order, can_take, is_found_acked, lies_in_new}
 use Rattle.ckpt_core.proofs.parts.Parts.take_ack.Goals as goal
 
 pub joined-requires : goal.joined-requires
 joined-requires c =
-    let r = some_from _ c.requires.there in
-    (can_take c.args.self.now c.args.now c.args.id c.args.subtask c.args.fresh.now c.args.reused.now r.0 c.requires.sound c.requires.accepted c.recall.ensures.pending c.recall_store.ensures r.1).few
+    (can_take c.args.self.now c.args.now c.args.id c.args.subtask c.args.fresh.now c.args.reused.now c.requires.sound c.requires.accepted c.recall.ensures.pending c.recall_store.ensures c.requires.there).few
 
 taken : (c : goal.After-ack-arg-1) → CanTake c.args.self.now c.args.now c.args.id c.args.subtask c.args.fresh.now c.args.reused.now
 taken c =
-    let r = some_from _ c.requires.there in
-    can_take c.args.self.now c.args.now c.args.id c.args.subtask c.args.fresh.now c.args.reused.now r.0 c.requires.sound c.requires.accepted c.recall.ensures.pending c.recall_store.ensures r.1
+    can_take c.args.self.now c.args.now c.args.id c.args.subtask c.args.fresh.now c.args.reused.now c.requires.sound c.requires.accepted c.recall.ensures.pending c.recall_store.ensures c.requires.there
 
 pub ack-requires-clause-expected : goal.ack-requires-clause-expected
 ack-requires-clause-expected c = λ r e. (taken c).expected r (sym (find-place c.args.id c.args.self.now.pending c.args.place c.recall.ensures.in_order c.requires.place) ∙ e)
 
-using_files : (c : goal.After-use_files-arg-1) → CanTake c.args.self.now c.args.now c.args.id c.args.subtask c.args.fresh.now c.args.reused.now
-using_files c =
-    let r = some_from _ c.requires.there in
-    can_take c.args.self.now c.args.now c.args.id c.args.subtask c.args.fresh.now c.args.reused.now r.0 c.requires.sound c.requires.accepted c.recall.ensures.pending c.recall_store.ensures r.1
-
-pub use_files-requires-clause-fresh_absent : goal.use_files-requires-clause-fresh_absent
-use_files-requires-clause-fresh_absent c = (using_files c).fresh_absent
-
-pub use_files-requires-clause-reused_present : goal.use_files-requires-clause-reused_present
-use_files-requires-clause-reused_present c = (using_files c).reused_present
-
-pub use_files-requires-clause-each_once : goal.use_files-requires-clause-each_once
-use_files-requires-clause-each_once c = (using_files c).each_once
-
-pub use_files-requires-clause-below : goal.use_files-requires-clause-below
-use_files-requires-clause-below c = (using_files c).below
-
-pub use_files-requires-clause-unused : goal.use_files-requires-clause-unused
-use_files-requires-clause-unused c = (using_files c).unused
+pub use_files-requires : goal.use_files-requires
+use_files-requires c =
+    let t = can_take c.args.self.now c.args.now c.args.id c.args.subtask c.args.fresh.now c.args.reused.now c.requires.sound c.requires.accepted c.recall.ensures.pending c.recall_store.ensures c.requires.there in
+    record { fresh_absent = t.fresh_absent; reused_present = t.reused_present; each_once = t.each_once; below = t.below; unused = t.unused }
 
 acked_there : (c : goal.After-retract-arg-1) → IsFoundAcked c.args.id c.args.subtask c.ack.new.self
-acked_there c =
-    let r = some_from _ c.requires.there in
-    is_found_acked c.args.id c.args.subtask c.in_ok-files.files r.0 c.args.self.now.pending c.ack.new.self r.1 (c.in_ok-ack.ensures.ok c.args.id c.requires.place)
+acked_there c = is_found_acked c.args.id c.args.subtask c.in_ok-files.files c.args.self.now.pending c.ack.new.self c.requires.there (c.in_ok-ack.ensures.ok c.args.id c.requires.place)
 
 lies_still : (c : goal.After-retract-arg-1) → LiesAt id_of c.args.id c.ack.new.self c.args.place
 lies_still c = lies_in_new c.args.id c.args.subtask c.in_ok-files.files c.args.self.now.pending c.ack.new.self c.args.place c.requires.place (c.in_ok-ack.ensures.ok c.args.id c.requires.place)
@@ -56,9 +36,8 @@ retract-requires-clause-acknowledged c = λ r e.
 
 pub returns-in-Err-clause-err : goal.returns-in-Err-clause-err
 returns-in-Err-clause-err c =
-    let r = some_from _ c.requires.there in
     let p = c.args.self.now in
-    let t : CanTake p c.args.now c.args.id c.args.subtask c.args.fresh.now c.args.reused.now = can_take p c.args.now c.args.id c.args.subtask c.args.fresh.now c.args.reused.now r.0 c.requires.sound c.requires.accepted c.recall.ensures.pending c.recall_store.ensures r.1 in
+    let t = can_take p c.args.now c.args.id c.args.subtask c.args.fresh.now c.args.reused.now c.requires.sound c.requires.accepted c.recall.ensures.pending c.recall_store.ensures c.requires.there in
     let acked_is = c.in_ok-ack.ensures.ok c.args.id c.requires.place in
     let back : c.retract.new.self ≡ p.pending =
     c.retract.ensures c.args.id (lies_in_new c.args.id c.args.subtask c.in_ok-files.files p.pending c.ack.new.self c.args.place c.requires.place acked_is) ∙ ap (retracted c.args.id c.args.subtask) acked_is
@@ -67,8 +46,7 @@ returns-in-Err-clause-err c =
 
 pub see-requires : goal.see-requires
 see-requires c =
-    let r = some_from _ c.requires.there in
-    (can_take c.args.self.now c.args.now c.args.id c.args.subtask c.args.fresh.now c.args.reused.now r.0 c.requires.sound c.requires.accepted c.recall.ensures.pending c.recall_store.ensures r.1).moment
+    (can_take c.args.self.now c.args.now c.args.id c.args.subtask c.args.fresh.now c.args.reused.now c.requires.sound c.requires.accepted c.recall.ensures.pending c.recall_store.ensures c.requires.there).moment
 
 pub returns-clause-ok : goal.returns-clause-ok
 returns-clause-ok c =

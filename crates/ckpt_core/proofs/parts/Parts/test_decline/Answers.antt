@@ -1,5 +1,6 @@
 -- Answers the goals of `Parts::test_decline`.
-use Rattle.ckpt_core.proofs.Names.{rules, ◌∙◌, ap, refl, sym, Option, Record, state_of, refusal, is_foreign, row_holds, row_fails, row_last}
+use Rattle.ckpt_core.proofs.{rules, ◌∙◌, ap, refl, sym, Option, Record, is_foreign, row_holds, row_fails, row_last}
+use Rattle.ckpt_core.proofs.Names.{state_of, refusal}
 use Rattle.ckpt_core.proofs.parts.Parts.test_decline.Goals as goal
 
 pub returns-in_err-test_moment : goal.returns-in_err-test_moment

@@ -1,5 +1,6 @@
 -- Answers the goals of `Parts::test_given`.
-use Rattle.ckpt_core.proofs.Names.{rules, state_of, refusal, row_holds, row_fails, row_last}
+use Rattle.ckpt_core.proofs.{rules, row_holds, row_fails, row_last}
+use Rattle.ckpt_core.proofs.Names.{state_of, refusal}
 use Rattle.ckpt_core.proofs.parts.Parts.test_given.Goals as goal
 
 pub returns : goal.returns

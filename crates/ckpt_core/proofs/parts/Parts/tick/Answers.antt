@@ -1,6 +1,6 @@
 -- Answers the goals of `Parts::tick`.
-use Rattle.ckpt_core.proofs.Names.{Answers, state_of, IsSound, sym, subst, IfOk-weaker, on_err_weaker, Tick, Ticked, State, accepted_tick, moment_is_sound}
-use Rattle.ckpt_core.proofs.Triggering.TickParts.{clock_back, seen_state, tick_answers, tick_wants_memory, tied_clock}
+use Rattle.ckpt_core.proofs.{Answers, IfOk-weaker, on_err_weaker, Tick, Ticked, accepted_tick, moment_is_sound, clock_back, seen_state, tick_answers, tick_wants_memory, tied_clock}
+use Rattle.ckpt_core.proofs.Names.{state_of}
 use Rattle.ckpt_core.proofs.parts.Parts.tick.Goals as goal
 
 pub see-requires : goal.see-requires
@@ -10,10 +10,9 @@ pub expire-ticked-requires-clause-sound : goal.expire-ticked-requires-clause-sou
 unfolding state_of
 expire-ticked-requires-clause-sound c =
     let p = c.args.self.now in
-    let P : State → Type 0 = λ m. IsSound m in
     record {
       tied = tied_clock p c.see.new.self c.requires.sound.tied;
-      sound = subst P (sym (seen_state p c.args.now c.see.new.self c.see.ensures)) (moment_is_sound (state_of p) c.args.now c.requires.sound.sound (accepted_tick (state_of p) c.args.now c.requires.accepted).moment);
+      sound = rw (seen_state p c.args.now c.see.new.self c.see.ensures) (moment_is_sound (state_of p) c.args.now c.requires.sound.sound (accepted_tick (state_of p) c.args.now c.requires.accepted).moment);
       none_ended = c.requires.sound.none_ended;
     }
 

@@ -1,6 +1,5 @@
 -- Answers the goals of `Parts::trigger`.
-use Rattle.ckpt_core.proofs.Names.{◌∙◌, sym, ap, subst, arith, on_ok_weaker, on_err_weaker, on_each_error, IsSound, triggered}
-use Rattle.ckpt_core.proofs.Triggering.TriggerParts.{live_records}
+use Rattle.ckpt_core.proofs.{◌∙◌, sym, ap, subst, arith, on_ok_weaker, on_err_weaker, on_each_error, IsSound, triggered, live_records}
 use Rattle.ckpt_core.proofs.parts.Parts.trigger.Goals as goal
 
 pub make_room-requires : goal.make_room-requires

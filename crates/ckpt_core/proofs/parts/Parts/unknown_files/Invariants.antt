@@ -1,5 +1,5 @@
 -- So far: the unknown ones of the files before this place.
-use Rattle.ckpt_core.proofs.Names.{◌≡◌, not, take, filter, is_known_in}
+use Rattle.ckpt_core.proofs.{◌≡◌, not, take, filter, is_known_in}
 use Rattle.ckpt_core.proofs.parts.Parts.unknown_files.Given as goal
 
 abbrev pub invariant-loop-file : goal.invariant-loop-file

@@ -1,7 +1,6 @@
 -- Answers the goals of `PendingRecords::ack`.
-use Rattle.ckpt_core.proofs.Names.{◌≡◌, ◌∙◌, ◌<◌, ℕ, List, Some, Result, Ok, Err, OnOk, OnErr, find, length, refl, sym, ap, subst, slice_get, slice_set, LiesAt, Record, acknowledged, IsPending}
-use Rattle.ckpt_core.proofs.Names.{IsPending-put, has_id, id_of, find-place, IsIn-from_find}
-use Rattle.ckpt_core.proofs.Records.Pending.{AreKept-changed, changed, its_place, set-place}
+use Rattle.ckpt_core.proofs.{◌≡◌, ◌∙◌, ◌<◌, ℕ, List, Some, Result, Ok, Err, OnOk, OnErr, find, length, refl, sym, ap, subst, slice_get, slice_set, LiesAt, Record, acknowledged, IsPending}
+use Rattle.ckpt_core.proofs.{IsPending-put, has_id, id_of, find-place, IsIn-from_find, AreKept-changed, changed, its_place, set-place}
 use Rattle.ckpt_core.proofs.pending_records.PendingRecords.ack.Goals as goal
 use Rattle.ckpt_core.proofs.pending_records.PendingRecords.ack.Goals.{in-Ok, in-Err}
 
@@ -18,8 +17,7 @@ invariant_of-self c =
     let id : ℕ = held.id in
     let new : Record = c.ack.new.self in
     let ack : Record → Record = λ r. acknowledged r c.args.subtask c.args.files in
-    let within : place < length rs = subst (λ (xs : List Record). place < length xs) (sym c.self.view_is) c.requires.there in
-    let at : LiesAt id_of id rs place = its_place place held rs within c.index_mut.ensures.value in
+    let at : LiesAt id_of id rs place = its_place place held rs (subst (λ (xs : List Record). place < length xs) (sym c.self.view_is) c.requires.there) c.index_mut.ensures.value in
     let one : (r : Record) → find (has_id id) rs ≡ Some r → IsPending r = λ r e. c.self.invariant.pending r (IsIn-from_find (has_id id) r rs e).0 in
     let expected : (r : Record) → find (has_id id) rs ≡ Some r → IsPending (ack r) = λ r e.
     let facts = c.requires.expected r (ap (λ (xs : List Record). slice_get xs place) (sym c.self.view_is) ∙ find-place id rs place c.self.invariant.in_order at ∙ e) in

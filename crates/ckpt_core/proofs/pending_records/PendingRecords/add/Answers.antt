@@ -1,6 +1,5 @@
 -- Answers the goals of `PendingRecords::add`.
-use Rattle.ckpt_core.proofs.Names.{◌≡◌, ◌∙◌, ◌<◌, Bool, cond, List, ℕ, ap, subst, sym, IsIn, Record, is_checkpoint}
-use Rattle.ckpt_core.proofs.Records.Pending.{from_bool-cond, AreKept-added}
+use Rattle.ckpt_core.proofs.{◌≡◌, ◌∙◌, ◌<◌, Bool, cond, List, ℕ, ap, subst, sym, IsIn, Record, is_checkpoint, from_bool-cond, AreKept-added}
 use Rattle.ckpt_core.proofs.pending_records.PendingRecords.add.Goals as goal
 
 pub invariant_of-self-2 : goal.invariant_of-self-2

@@ -1,5 +1,5 @@
 -- Answers the goals of `PendingRecords::at`.
-use Rattle.ckpt_core.proofs.Names.{◌∙◌, ◌<◌, List, Some, ap, length, subst, sym, slice_get, slice_get-get_or, Record}
+use Rattle.ckpt_core.proofs.{◌∙◌, ◌<◌, List, Some, ap, length, subst, sym, slice_get, slice_get-get_or, Record}
 use Rattle.ckpt_core.proofs.pending_records.PendingRecords.at.Goals as goal
 
 pub returns : goal.returns

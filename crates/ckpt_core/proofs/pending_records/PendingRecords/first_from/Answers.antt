@@ -1,6 +1,6 @@
 -- Answers the goals of `PendingRecords::first_from`.
-use Rattle.ckpt_core.proofs.Names.{◌≡◌, ◌∙◌, ap, sym, ltb, leb, rules, List, Some, true, false, find, IsPartitionPoint, option_copied, option_map, IsPartitionPoint-from_clause, Record}
-use Rattle.ckpt_core.proofs.Names.{copied_from_get, find-partition, partitioned, live_of}
+use Rattle.ckpt_core.proofs.{◌≡◌, ◌∙◌, ap, sym, ltb, leb, rules, List, Some, true, false, find, IsPartitionPoint, option_copied, option_map, IsPartitionPoint-from_clause, Record, copied_from_get}
+use Rattle.ckpt_core.proofs.{find-partition, partitioned, live_of}
 use Rattle.ckpt_core.proofs.pending_records.PendingRecords.first_from.Goals as goal
 
 pub returns-in_err-pending-clause-value : goal.returns-in_err-pending-clause-value

@@ -1,5 +1,5 @@
 -- Answers the goals of `PendingRecords::get`.
-use Rattle.ckpt_core.proofs.Names.{◌≡◌, ◌∙◌, ap, sym, List, find, slice_get, option_copied, Record, has_id, find-none, copied_from_get, find-place, none_place}
+use Rattle.ckpt_core.proofs.{◌≡◌, ◌∙◌, ap, sym, List, find, slice_get, option_copied, Record, has_id, find-none, copied_from_get, find-place, none_place}
 use Rattle.ckpt_core.proofs.pending_records.PendingRecords.get.Goals as goal
 
 pub returns-in-Ok-clause-value : goal.returns-in-Ok-clause-value

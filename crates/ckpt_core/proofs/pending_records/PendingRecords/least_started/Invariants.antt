@@ -1,5 +1,5 @@
 -- The loop invariants of `PendingRecords::least_started`.
-use Rattle.ckpt_core.proofs.Names.{◌≡◌, ℕ, ◌||◌, nat_le, list_any, has_come, deque_iter_rest}
+use Rattle.ckpt_core.proofs.{◌≡◌, ℕ, ◌||◌, nat_le, list_any, has_come, deque_iter_rest}
 use Rattle.ckpt_core.proofs.pending_records.PendingRecords.least_started.Given as goal
 
 abbrev pub invariant-loop-pending : goal.invariant-loop-pending

@@ -1,5 +1,5 @@
 -- The loop invariants of `PendingRecords::note_all`.
-use Rattle.ckpt_core.proofs.Names.{◌≡◌, ◌+◌, ◌≤◌, ◌++◌, length, map, vec_len, vec_capacity, deque_iter_rest}
+use Rattle.ckpt_core.proofs.{◌≡◌, ◌+◌, ◌≤◌, ◌++◌, length, map, vec_len, vec_capacity, deque_iter_rest}
 use Rattle.ckpt_core.proofs.pending_records.PendingRecords.note_all.Given as goal
 
 abbrev pub invariant-loop-pending : goal.invariant-loop-pending

@@ -1,5 +1,5 @@
 -- The loop invariants of `PendingRecords::note_subsumed`.
-use Rattle.ckpt_core.proofs.Names.{◌≡◌, ◌+◌, ◌≤◌, ◌&&◌, ◌++◌, nat_lt, length, map, filter, vec_len, vec_capacity, is_checkpoint, deque_iter_rest}
+use Rattle.ckpt_core.proofs.{◌≡◌, ◌+◌, ◌≤◌, ◌&&◌, ◌++◌, nat_lt, length, map, filter, vec_len, vec_capacity, is_checkpoint, deque_iter_rest}
 use Rattle.ckpt_core.proofs.pending_records.PendingRecords.note_subsumed.Given as goal
 
 abbrev pub invariant-loop-pending : goal.invariant-loop-pending

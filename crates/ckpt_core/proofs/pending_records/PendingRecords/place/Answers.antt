@@ -1,5 +1,5 @@
 -- Answers the goals of `PendingRecords::place`.
-use Rattle.ckpt_core.proofs.Names.{◌∙◌, List, ap, subst, sym, list_any, LiesAt, Record, has_id, id_of, none_place}
+use Rattle.ckpt_core.proofs.{◌∙◌, List, ap, subst, sym, list_any, LiesAt, Record, has_id, id_of, none_place}
 use Rattle.ckpt_core.proofs.pending_records.PendingRecords.place.Goals as goal
 
 pub returns-in-Ok-clause-found : goal.returns-in-Ok-clause-found

@@ -1,5 +1,5 @@
 -- Answers the goals of `PendingRecords::remove`.
-use Rattle.ckpt_core.proofs.Names.{Bool, not, sym, ap, has_id, Record, fails-from_list_any, filter-all, find-none}
+use Rattle.ckpt_core.proofs.{Bool, not, sym, ap, has_id, Record, fails-from_list_any, filter-all, find-none}
 use Rattle.ckpt_core.proofs.pending_records.PendingRecords.remove.Goals as goal
 
 pub returns-in-Some-clause-value : goal.returns-in-Some-clause-value

@@ -1,6 +1,5 @@
 -- Answers the goals of `PendingRecords::remove_all`.
-use Rattle.ckpt_core.proofs.Names.{◌≡◌, ◌∙◌, ◌+◌, ◌++◌, ◌∷◌, [], ℕ, List, not, filter, take, eqb, refl, ap, sym, list_any, take_more, Record, has_id, filter-all}
-use Rattle.ckpt_core.proofs.Records.Pending.{filter-one_more}
+use Rattle.ckpt_core.proofs.{◌≡◌, ◌∙◌, ◌+◌, ◌++◌, ◌∷◌, [], ℕ, List, not, filter, take, eqb, refl, ap, sym, list_any, take_more, Record, has_id, filter-all, filter-one_more}
 use Rattle.ckpt_core.proofs.pending_records.PendingRecords.remove_all.Goals as goal
 
 pub loop-id-init : goal.loop-id-init

@@ -1,5 +1,5 @@
 -- The loop invariants of `PendingRecords::remove_all`.
-use Rattle.ckpt_core.proofs.Names.{◌≡◌, ◌==◌, not, filter, take, list_any}
+use Rattle.ckpt_core.proofs.{◌≡◌, ◌==◌, not, filter, take, list_any}
 use Rattle.ckpt_core.proofs.pending_records.PendingRecords.remove_all.Given as goal
 
 abbrev pub invariant-loop-id : goal.invariant-loop-id

@@ -1,6 +1,6 @@
 -- Answers the goals of `PendingRecords::retract`.
-use Rattle.ckpt_core.proofs.Names.{◌∙◌, ◌<◌, List, Some, length, refl, sym, ap, subst, slice_get, slice_get-get_or, LiesAt, Record, without_ack, IsPending-without, has_id, id_of, IsIn-from_find}
-use Rattle.ckpt_core.proofs.Records.Pending.{AreKept-changed, changed, its_place, set-place}
+use Rattle.ckpt_core.proofs.{◌∙◌, ◌<◌, List, Some, length, refl, sym, ap, subst, slice_get, slice_get-get_or, LiesAt, Record, without_ack, IsPending-without, has_id, id_of, IsIn-from_find}
+use Rattle.ckpt_core.proofs.{AreKept-changed, changed, its_place, set-place}
 use Rattle.ckpt_core.proofs.pending_records.PendingRecords.retract.Goals as goal
 
 pub retract-requires : goal.retract-requires

@@ -1,6 +1,5 @@
 -- Answers the goals of `PendingRecords::savepoints`.
-use Rattle.ckpt_core.proofs.Names.{arith, is_checkpoint}
-use Rattle.ckpt_core.proofs.Records.Pending.{count_by-others}
+use Rattle.ckpt_core.proofs.{arith, is_checkpoint, count_by-others}
 use Rattle.ckpt_core.proofs.pending_records.PendingRecords.savepoints.Goals as goal
 
 pub returns : goal.returns

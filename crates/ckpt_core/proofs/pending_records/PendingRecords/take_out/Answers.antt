@@ -1,7 +1,6 @@
 -- Answers the goals of `PendingRecords::take_out`.
-use Rattle.ckpt_core.proofs.Names.{◌≡◌, ◌∙◌, ◌+◌, ◌-◌, ◌<◌, not, Bool, ℕ, Some, cond, List, length, ap, sym, subst, find, filter, arith, slice_get, slice_get-get_or, LiesAt, Record, has_id, id_of}
-use Rattle.ckpt_core.proofs.Names.{remove-place, is_checkpoint}
-use Rattle.ckpt_core.proofs.Records.Pending.{AreKept-removed, count-removed, found_at, from_bool-cond, its_place}
+use Rattle.ckpt_core.proofs.{◌≡◌, ◌∙◌, ◌+◌, ◌-◌, ◌<◌, not, Bool, ℕ, Some, cond, List, length, ap, sym, subst, find, filter, arith, slice_get, slice_get-get_or, LiesAt, Record, has_id, id_of}
+use Rattle.ckpt_core.proofs.{remove-place, is_checkpoint, AreKept-removed, count-removed, found_at, from_bool-cond, its_place}
 use Rattle.ckpt_core.proofs.pending_records.PendingRecords.take_out.Goals as goal
 
 pub take_out-removed-requires : goal.take_out-removed-requires
