@@ -59,8 +59,13 @@ def test_each_process_answers_for_all_jobs():
             states = {one.job(name).state()["log"] for one in service}
             assert len(identities) == 1 and states == identities, (identities, states)
         check_kinds(servers, names)
-        for server in servers:
+        shown = [one["name"] for one in servers[0].get("/v1/view")[2]["jobs"]]
+        for server in servers[1:]:
             assert server.stop() == 0
+        even(servers[:1])
+        # the page has them in the same order where one process has all
+        assert [one["name"] for one in servers[0].get("/v1/view")[2]["jobs"]] == shown == sorted(names)
+        assert servers[0].stop() == 0
         return f"{len(names)} jobs at 3 processes with {'+'.join(map(str, at_each))} of them"
 
 
@@ -186,6 +191,30 @@ def test_one_that_stands_by_beside_those_that_share():
         return "6 jobs of two processes, whose clocks are a minute apart"
 
 
+def test_a_stop_beside_a_poll_of_a_job_of_another_process():
+    """A process that is told to stop does not wait for a poll that it has passed on: it goes in good order, and its shards are free at once."""
+    with postgres() as database, folder() as at:
+        servers = members(at, database.url, 2)
+        opened(servers, 8)
+        job, told, before = owned(database, servers[1]), [], connections(servers[1])
+        poll = threading.Thread(target=lambda: told.append(servers[0].get(f"/v1/jobs/{job}/events?after=0&wait=50")[0]))
+        poll.start()
+        until(lambda: connections(servers[1]) > before)
+        assert servers[0].stop() == 0
+        poll.join(10)
+        assert told == [503] and servers[0].log().endswith(" info stopped\n"), (told, servers[0].log()[-300:])
+        even(servers[1:])
+        assert "has not renewed" not in servers[1].log(), servers[1].log()[-300:]
+        assert servers[1].stop() == 0
+        return "503 to the poll"
+
+
+def connections(server):
+    """How many connections a process has."""
+    lines = server.get("/metrics")[2].splitlines()
+    return next(int(line.split(" ")[1]) for line in lines if line.startswith("relkvanu_http_connections "))
+
+
 class Late(Line):
     """A line that keeps the first message with these words, and what follows on its connection, until it is let go."""
 
@@ -251,11 +280,11 @@ def test_shards_that_are_freed_late():
         even([first, other], 60)
         assert other.stop() == 0
         even([first])
-        all_of, connections = "select number, owner, epoch from shard order by number", "select count(*) from pg_stat_activity where application_name = 'relkvanu'"
-        before, count = database.sql(all_of), int(database.sql(connections))
+        all_of, backends = "select number, owner, epoch from shard order by number", "select count(*) from pg_stat_activity where application_name = 'relkvanu'"
+        before, count = database.sql(all_of), int(database.sql(backends))
         line.is_let_go = True
         # the connection that was given up ends once it has done what it was sent
-        until(lambda: int(database.sql(connections)) < count)
+        until(lambda: int(database.sql(backends)) < count)
         time.sleep(0.5)
         assert database.sql(all_of) == before
         assert len(listed(first)) == SHARDS and first.process.poll() is None
