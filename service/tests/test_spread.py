@@ -209,6 +209,37 @@ def test_a_stop_beside_a_poll_of_a_job_of_another_process():
         return "503 to the poll"
 
 
+def test_a_clock_that_is_ahead():
+    """A process gets a job from one whose clock is an hour ahead. That job's moments go on from its log, and slowly come near. No record of another
+    job expires."""
+    with postgres() as database, folder() as at:
+        clocks = Clocks(at)
+        clocks.set(day=3600)
+        servers = [member(at, database.url), member(at, database.url, prefix=clocks.prefix)]
+        for server in servers:
+            server.start()
+        even(servers)
+        for server, name in zip(servers, ("here", "ahead")):
+            service = Service(server.url)
+            service.open(name, {**SETTINGS, "timeout": 600_000}, [1]).call(savepoint())
+        assert servers[1].stop() == 0
+        even(servers[:1])
+        service = Service(servers[0].url)
+
+        def ahead(job):
+            return service.job(job).state()["now"] - time.time() * 1000
+
+        first = ahead("ahead")
+        assert 3_590_000 < first < 3_601_000 and abs(ahead("here")) < 10_000, (first, ahead("here"))
+        until(lambda: ahead("ahead") < first - 150)
+        assert [service.job(job).call(savepoint())["seq"] for job in ("here", "ahead")] == [2, 2]
+        assert [len(service.job(job).state()["live"]) for job in ("here", "ahead")] == [2, 2]
+        moments = [int(moment) for moment in database.sql("select at from call join job using (job) where name = 'ahead' order by seq").splitlines()]
+        assert moments == sorted(moments), moments
+        assert servers[0].stop() == 0
+        return f"{first / 1000:.0f} s ahead at first, and less after some seconds"
+
+
 def connections(server):
     """How many connections a process has."""
     lines = server.get("/metrics")[2].splitlines()
