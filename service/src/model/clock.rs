@@ -143,6 +143,13 @@ mod tests {
     use super::*;
 
     #[test]
+    fn moments_that_are_ahead_come_nearer() {
+        let day = millis(FOLLOWED);
+        assert_eq!([nearer(5000, 1000), nearer(50, 1000), nearer(0, 1000)], [4900, 0, 0]);
+        assert_eq!((nearer(day, 1000), nearer(day + 1, 1000)), (day - 100, day + 1));
+    }
+
+    #[test]
     fn moments_follow_a_clock_that_is_near() {
         let day = millis(FOLLOWED);
         assert_eq!(Pace::towards(1000, 1000), Pace::Even);
