@@ -323,6 +323,29 @@ def test_shards_that_are_freed_late():
         return f"{SHARDS} shards, each in its epoch"
 
 
+def test_a_begin_that_comes_late():
+    """The line keeps what a process says as it begins with shards, until it serves their jobs: parts of images that it has written since stay."""
+    with postgres() as database, folder() as at:
+        line, other = Late(database.port, b"insert into log_start"), member(at, database.url).start()
+        opened([other], SHARDS)
+        late = member(at, database.url.replace(str(database.port), str(line.port))).start(ready=False)
+        until(lambda: line.is_kept)
+        # it gives that connection up after some time, and begins by another one
+        even([other, late], 60)
+        backends = "select count(*) from pg_stat_activity where application_name = 'relkvanu'"
+        # of a job of the shards that it got first
+        database.sql(f"insert into image_part select job, 7, 0, 'a part' from job where job & 63 = {SHARDS - 1}")
+        count, line.is_let_go = int(database.sql(backends)), True
+        until(lambda: int(database.sql(backends)) < count)
+        assert database.sql("select text from image_part") == "a part"
+        assert late.stop() == 0
+        # whoever has its shard next deletes it: there is no image of these parts
+        even([other])
+        assert database.sql("select count(*) from image_part") == "0"
+        other.stop()
+        return "1 part"
+
+
 def test_processes_come_and_go():
     """One that joins or leaves, is killed, or is suspended: the others have its jobs within seconds, and no answered call is lost."""
     with postgres() as database, folder() as at:
