@@ -59,8 +59,13 @@ def test_each_process_answers_for_all_jobs():
             states = {one.job(name).state()["log"] for one in service}
             assert len(identities) == 1 and states == identities, (identities, states)
         check_kinds(servers, names)
-        for server in servers:
+        shown = [one["name"] for one in servers[0].get("/v1/view")[2]["jobs"]]
+        for server in servers[1:]:
             assert server.stop() == 0
+        even(servers[:1])
+        # the page has them in the same order where one process has all
+        assert [one["name"] for one in servers[0].get("/v1/view")[2]["jobs"]] == shown == sorted(names)
+        assert servers[0].stop() == 0
         return f"{len(names)} jobs at 3 processes with {'+'.join(map(str, at_each))} of them"
 
 
@@ -186,6 +191,61 @@ def test_one_that_stands_by_beside_those_that_share():
         return "6 jobs of two processes, whose clocks are a minute apart"
 
 
+def test_a_stop_beside_a_poll_of_a_job_of_another_process():
+    """A process that is told to stop does not wait for a poll that it has passed on: it goes in good order, and its shards are free at once."""
+    with postgres() as database, folder() as at:
+        servers = members(at, database.url, 2)
+        opened(servers, 8)
+        job, told, before = owned(database, servers[1]), [], connections(servers[1])
+        poll = threading.Thread(target=lambda: told.append(servers[0].get(f"/v1/jobs/{job}/events?after=0&wait=50")[0]))
+        poll.start()
+        until(lambda: connections(servers[1]) > before)
+        assert servers[0].stop() == 0
+        poll.join(10)
+        assert told == [503] and servers[0].log().endswith(" info stopped\n"), (told, servers[0].log()[-300:])
+        even(servers[1:])
+        assert "has not renewed" not in servers[1].log(), servers[1].log()[-300:]
+        assert servers[1].stop() == 0
+        return "503 to the poll"
+
+
+def test_a_clock_that_is_ahead():
+    """A process gets a job from one whose clock is an hour ahead. That job's moments go on from its log, and slowly come near. No record of another
+    job expires."""
+    with postgres() as database, folder() as at:
+        clocks = Clocks(at)
+        clocks.set(day=3600)
+        servers = [member(at, database.url), member(at, database.url, prefix=clocks.prefix)]
+        for server in servers:
+            server.start()
+        even(servers)
+        for server, name in zip(servers, ("here", "ahead")):
+            service = Service(server.url)
+            service.open(name, {**SETTINGS, "timeout": 600_000}, [1]).call(savepoint())
+        assert servers[1].stop() == 0
+        even(servers[:1])
+        service = Service(servers[0].url)
+
+        def ahead(job):
+            return service.job(job).state()["now"] - time.time() * 1000
+
+        first = ahead("ahead")
+        assert 3_590_000 < first < 3_601_000 and abs(ahead("here")) < 10_000, (first, ahead("here"))
+        until(lambda: ahead("ahead") < first - 150)
+        assert [service.job(job).call(savepoint())["seq"] for job in ("here", "ahead")] == [2, 2]
+        assert [len(service.job(job).state()["live"]) for job in ("here", "ahead")] == [2, 2]
+        moments = [int(moment) for moment in database.sql("select at from call join job using (job) where name = 'ahead' order by seq").splitlines()]
+        assert moments == sorted(moments), moments
+        assert servers[0].stop() == 0
+        return f"{first / 1000:.0f} s ahead at first, and less after some seconds"
+
+
+def connections(server):
+    """How many connections a process has."""
+    lines = server.get("/metrics")[2].splitlines()
+    return next(int(line.split(" ")[1]) for line in lines if line.startswith("relkvanu_http_connections "))
+
+
 class Late(Line):
     """A line that keeps the first message with these words, and what follows on its connection, until it is let go."""
 
@@ -251,16 +311,39 @@ def test_shards_that_are_freed_late():
         even([first, other], 60)
         assert other.stop() == 0
         even([first])
-        all_of, connections = "select number, owner, epoch from shard order by number", "select count(*) from pg_stat_activity where application_name = 'relkvanu'"
-        before, count = database.sql(all_of), int(database.sql(connections))
+        all_of, backends = "select number, owner, epoch from shard order by number", "select count(*) from pg_stat_activity where application_name = 'relkvanu'"
+        before, count = database.sql(all_of), int(database.sql(backends))
         line.is_let_go = True
         # the connection that was given up ends once it has done what it was sent
-        until(lambda: int(database.sql(connections)) < count)
+        until(lambda: int(database.sql(backends)) < count)
         time.sleep(0.5)
         assert database.sql(all_of) == before
         assert len(listed(first)) == SHARDS and first.process.poll() is None
         first.stop()
         return f"{SHARDS} shards, each in its epoch"
+
+
+def test_a_begin_that_comes_late():
+    """The line keeps what a process says as it begins with shards, until it serves their jobs: parts of images that it has written since stay."""
+    with postgres() as database, folder() as at:
+        line, other = Late(database.port, b"insert into log_start"), member(at, database.url).start()
+        opened([other], SHARDS)
+        late = member(at, database.url.replace(str(database.port), str(line.port))).start(ready=False)
+        until(lambda: line.is_kept)
+        # it gives that connection up after some time, and begins by another one
+        even([other, late], 60)
+        backends = "select count(*) from pg_stat_activity where application_name = 'relkvanu'"
+        # of a job of the shards that it got first
+        database.sql(f"insert into image_part select job, 7, 0, 'a part' from job where job & 63 = {SHARDS - 1}")
+        count, line.is_let_go = int(database.sql(backends)), True
+        until(lambda: int(database.sql(backends)) < count)
+        assert database.sql("select text from image_part") == "a part"
+        assert late.stop() == 0
+        # whoever has its shard next deletes it: there is no image of these parts
+        even([other])
+        assert database.sql("select count(*) from image_part") == "0"
+        other.stop()
+        return "1 part"
 
 
 def test_processes_come_and_go():

@@ -84,11 +84,14 @@ impl Others {
     }
 
     /// Passes a request for a job on to its owner. What is known of the job is forgotten if that does not have it.
-    pub async fn pass(&self, address: &str, job: &str, asked: Request<Body>) -> Result<Reply, Box<Reply>> {
+    pub async fn pass(&self, app: &App, address: &str, job: &str, asked: Request<Body>) -> Result<Reply, Box<Reply>> {
+        let is_read = *asked.method() == Method::GET;
         let told = tokio::select! {
             told = self.send(address, asked) => told,
             // it may have been answered by the owner, which is suspended or cut off
             () = left(Arc::clone(&self.owners), job.to_string(), address.to_string()) => Err(not_answered().into()),
+            // a poll would keep this process for as long as it waits
+            () = app.board.stopping(), if is_read => Err(gate::busy("the service is stopping").into()),
         };
         match told {
             Ok(reply) if is_stream(&reply) => Ok(self.followed(reply, job, address)),
@@ -230,7 +233,7 @@ pub async fn answered(app: &App, job: &str, request: Request<Body>) -> Result<Re
             Err(moves().into())
         }
         Some(Served::At(address)) => {
-            let reply = others.pass(&address, job, request).await?;
+            let reply = others.pass(app, &address, job, request).await?;
             Err(reply.into())
         }
     }

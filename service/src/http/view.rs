@@ -50,7 +50,7 @@ pub async fn answer(
         _ => None,
     };
     let (shards, mut parts) = lists::parts(app, &request, NAMES, || own(app, name.as_ref(), caller, wanted)).await?;
-    if was_passed(request.headers()) || parts.len() == 1 {
+    if was_passed(request.headers()) || app.others.is_none() {
         return Ok(lists::reply(&request, shards, &parts.swap_remove(0)));
     }
     let mut names: Vec<Value> =
@@ -58,7 +58,7 @@ pub async fn answer(
     names.sort_by(|one, other| one["name"].as_str().cmp(&other["name"].as_str()));
     let mut told = match elsewhere {
         Some((others, job, address)) => {
-            let reply = others.pass(&address, &job, others::get(&place(&request), request.headers())).await?;
+            let reply = others.pass(app, &address, &job, others::get(&place(&request), request.headers())).await?;
             if reply.status() != 200 {
                 return Err(reply.into());
             }

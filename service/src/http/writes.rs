@@ -79,7 +79,7 @@ async fn pass_new(
 ) -> Result<Reply, Box<Reply>> {
     match &app.others {
         Some(others) if !was_passed(&head.headers) => {
-            others.pass(address, job, Request::from_parts(head, Body::from(bytes))).await
+            others.pass(app, address, job, Request::from_parts(head, Body::from(bytes))).await
         }
         _ => Err(others::moves().into()),
     }

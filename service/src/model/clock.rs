@@ -60,12 +60,6 @@ impl Clock {
         Clock { base: wall().max(floor), since: Moment::now(), pace: Pace::Even }
     }
 
-    /// Goes on from this moment, if it has not come yet: a log ends there.
-    pub fn go_on_from(&mut self, floor: u64) {
-        let base = self.now().max(floor);
-        *self = Clock { base, since: Moment::now(), pace: self.pace };
-    }
-
     pub fn now(&self) -> u64 {
         self.base.saturating_add(self.pace.of(millis(self.since.elapsed())))
     }
@@ -94,6 +88,14 @@ impl Pace {
             Pace::Fast => elapsed + elapsed / PART,
         }
     }
+}
+
+/// How far moments that are ahead of a clock still are after so many milliseconds of it: they go as much slower as a [`Clock`] does.
+pub fn nearer(ahead: u64, passed: u64) -> u64 {
+    if ahead > millis(FOLLOWED) {
+        return ahead;
+    }
+    ahead.saturating_sub(passed / PART)
 }
 
 /// The system's clock is more than a day ahead of the last moment that the database has.
@@ -141,6 +143,13 @@ mod tests {
     use super::*;
 
     #[test]
+    fn moments_that_are_ahead_come_nearer() {
+        let day = millis(FOLLOWED);
+        assert_eq!([nearer(5000, 1000), nearer(50, 1000), nearer(0, 1000)], [4900, 0, 0]);
+        assert_eq!((nearer(day, 1000), nearer(day + 1, 1000)), (day - 100, day + 1));
+    }
+
+    #[test]
     fn moments_follow_a_clock_that_is_near() {
         let day = millis(FOLLOWED);
         assert_eq!(Pace::towards(1000, 1000), Pace::Even);
@@ -162,10 +171,6 @@ mod tests {
             last = now;
         }
         assert_eq!(clock.pace, Pace::Slow);
-        clock.go_on_from(last + 60_000);
-        assert!(clock.now() >= last + 60_000);
-        clock.go_on_from(last);
-        assert!(clock.now() >= last + 60_000);
     }
 
     #[test]

@@ -76,6 +76,8 @@ pub struct Job {
     pub kept: Kept,
     /// The bytes of files, if this process leads.
     pub sizes: Sizes,
+    /// How many milliseconds its moments are ahead of the writer's clock: it came from a process whose clock is ahead of this one's.
+    pub ahead: u64,
     pub is_deleted: bool,
     engine: Lendable,
     live: Live,
@@ -86,9 +88,23 @@ impl Job {
         let engine = Lendable::of(Engine::open(&opening.settings, &opening.shape, opening.started)?);
         let (shape, at, kept) = (opening.shape.clone(), opening.started, Kept::default());
         let (live, sizes) = (Live::new(), Sizes::default());
-        let (seq, last_completed, last_event, is_deleted) = (0, None, 0, false);
+        let (seq, last_completed, last_event, ahead, is_deleted) = (0, None, 0, 0, false);
         let bases = Bases::from(seq, Choice::Fresh);
-        Ok(Job { opening, shape, seq, at, last_completed, last_event, bases, kept, sizes, is_deleted, engine, live })
+        Ok(Job {
+            opening,
+            shape,
+            seq,
+            at,
+            last_completed,
+            last_event,
+            bases,
+            kept,
+            sizes,
+            ahead,
+            is_deleted,
+            engine,
+            live,
+        })
     }
 
     /// Goes on from an image.
@@ -105,7 +121,7 @@ impl Job {
     /// The job was deleted: frees what it takes, as far as memory allows.
     pub fn close(&mut self) {
         self.is_deleted = true;
-        (self.kept, self.sizes, self.live) = (Kept::default(), Sizes::default(), Live::new());
+        (self.kept, self.sizes, self.live, self.ahead) = (Kept::default(), Sizes::default(), Live::new(), 0);
         if let Ok(engine) = Engine::open(&self.opening.settings, &self.opening.shape, self.opening.started) {
             self.engine = Lendable::of(engine);
         }
@@ -132,6 +148,11 @@ impl Job {
 
     pub fn take_back(&mut self, engine: Engine) {
         self.engine = Lendable::of(engine);
+    }
+
+    /// The job's moment when the writer's clock says `now`. It never goes back.
+    pub fn moment(&self, now: u64) -> u64 {
+        now.saturating_add(self.ahead).max(self.at)
     }
 
     /// Makes a call. If it changed something, also returns its row, which has to be committed before the call is answered.
@@ -265,7 +286,7 @@ impl Job {
         }
     }
 
-    /// The moment at which the timer has to tick: a checkpoint is due and may be triggered, or a record expires.
+    /// When the writer's clock says that the timer has to tick: a checkpoint is due and may be triggered, or a record expires.
     pub fn wake(&mut self) -> Option<u64> {
         if self.is_deleted || self.engine.is_lent() || self.engine.mode() != Mode::Running {
             return None;
@@ -273,7 +294,7 @@ impl Job {
         let expiry = self.engine.oldest_expiry();
         let has_room = self.pending(Kind::Checkpoint) < pending_limit(&self.opening.settings);
         let due = has_room.then(|| self.engine.due());
-        due.into_iter().chain(expiry).min()
+        due.into_iter().chain(expiry).min().map(|moment| moment.saturating_sub(self.ahead))
     }
 
     pub fn pending(&self, kind: Kind) -> usize {

@@ -19,7 +19,7 @@ mod summary;
 
 pub use bases::Bases;
 pub use call::{Call, Subtask, Target};
-pub use clock::{check as check_clock, millis, shown, wall, Clock, FarAhead, Moment};
+pub use clock::{check as check_clock, millis, nearer, shown, wall, Clock, FarAhead, Moment};
 pub use engine::{Engine, NoJob};
 pub use event::{kind, Event};
 pub use image::{sha256, Contents, Image, ImagePart, SavedRecord};

@@ -32,14 +32,16 @@ const TAKE: &str = "with free as (select number from shard where owner is null o
 /// With the epochs in which they were had: one that comes late frees none that this process has got again.
 const FREE: &str = "update shard set owner = null from unnest($2::bigint[], $3::bigint[]) u(number, epoch)
     where shard.number = u.number and shard.epoch = u.epoch and owner = $1 returning 1";
-/// A member that was deleted writes none. One that goes waits until this is done.
+/// A member that was deleted writes none. One that goes waits until this is done. Parts of images are deleted once in an epoch: one that comes
+/// late deletes none that this process has written since.
 const BEGIN: &str = "with m as (select from member where name = $1 for key share),
     s as (select u.number, u.epoch, u.lengths from m, unnest($2::bigint[], $3::bigint[], $4::text[]) u(number, epoch, lengths)
         join shard on shard.number = u.number and shard.epoch = u.epoch where shard.owner = $1),
     d as (delete from log_start using s where log_start.shard = s.number and log_start.number <= s.epoch - $5::bigint),
     o as (delete from log_start where shard = -1 and number <= (select min(epoch) from shard) - $5::bigint),
     p as (delete from image_part using s where (image_part.job & 63) = s.number
-        and not exists (select from image where image.job = image_part.job and image.seq = image_part.seq))
+        and not exists (select from image where image.job = image_part.job and image.seq = image_part.seq)
+        and not exists (select from log_start where log_start.shard = s.number and log_start.number = s.epoch))
     insert into log_start(shard, number, name, lengths) select s.number, s.epoch, $6, s.lengths from s
     on conflict (shard, number) do update set name = excluded.name, lengths = excluded.lengths returning 1";
 

@@ -42,13 +42,24 @@ impl Jobs {
         self.shards
     }
 
-    /// Takes in the jobs of other shards. Returns their places.
-    pub fn adopt(&mut self, others: Jobs) -> Vec<usize> {
+    /// Takes in the jobs of other shards, when the writer's clock says `now`. Returns their places. Each goes on from its own last moment, so that
+    /// the clock of another process takes no time from the records of other jobs.
+    pub fn adopt(&mut self, others: Jobs, now: u64) -> Vec<usize> {
         self.shards = self.shards.with(others.shards);
         self.last_number = self.last_number.max(others.last_number);
         self.last_gone = self.last_gone.max(others.last_gone);
         self.last_moment = self.last_moment.max(others.last_moment);
-        others.jobs.into_iter().filter(|job| !job.is_deleted).map(|job| self.add(job)).collect()
+        let mut places = Vec::with_capacity(others.places.len());
+        for mut job in others.jobs.into_iter().filter(|job| !job.is_deleted) {
+            job.ahead = job.at.saturating_sub(now);
+            places.push(self.add(job));
+        }
+        places
+    }
+
+    /// The places of jobs whose moments are ahead of the writer's clock.
+    pub fn ahead(&self) -> Vec<usize> {
+        (0..self.jobs.len()).filter(|place| self.jobs[*place].ahead > 0).collect()
     }
 
     /// Gives up the jobs of shards. Returns their places and names.

@@ -33,7 +33,7 @@ pub use state::{JobState, RecordState};
 
 use crate::log;
 use crate::metrics::Metrics;
-use crate::model::{Call, Clock, Keeping, Moment, Outcome};
+use crate::model::{millis, nearer, Call, Clock, Keeping, Moment, Outcome};
 use crate::store::Store;
 use batch::{calls_of, Answered};
 use commit::lose;
@@ -209,8 +209,14 @@ impl Writer {
         if self.followed.elapsed() < SLEEP {
             return;
         }
-        self.followed = Moment::now();
+        let passed = millis(std::mem::replace(&mut self.followed, Moment::now()).elapsed());
         self.metrics.clock(self.clock.follow());
+        for place in self.jobs.ahead() {
+            let job = self.jobs.at(place);
+            job.ahead = nearer(job.ahead, passed);
+            let wake = job.wake();
+            self.timer.set(place, wake);
+        }
         if self.noted.elapsed() >= NOTE_EACH {
             self.noted = Moment::now();
             if let Err(why) = self.store.note(self.clock.now()) {
@@ -300,7 +306,7 @@ impl Writer {
 
     fn call(&mut self, round: &mut Round, place: usize, call: &Call) -> Outcome {
         let job = self.jobs.at(place);
-        let (outcome, logged) = job.call(call, self.clock.now());
+        let (outcome, logged) = job.call(call, job.moment(self.clock.now()));
         self.metrics.call(&job.opening.name, call.name(), &outcome);
         if let Some(logged) = logged {
             round.group.log(logged);

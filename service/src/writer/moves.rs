@@ -18,10 +18,9 @@ impl Writer {
     pub(super) fn adopt(&mut self, adoptions: Vec<Adoption>) {
         for Adoption { held, jobs, reply } in adoptions {
             self.store.hold(&held);
-            self.clock.go_on_from(jobs.last_moment());
             self.leftovers.extend(jobs.leftovers());
             let (shards, count) = (jobs.shards(), jobs.count());
-            let places = self.jobs.adopt(jobs);
+            let places = self.jobs.adopt(jobs, self.clock.now());
             self.keeper.called(&places.iter().copied().collect());
             for place in places {
                 self.publish(place);

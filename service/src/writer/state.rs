@@ -36,10 +36,10 @@ pub struct RecordState {
     pub metadata: Option<String>,
 }
 
-/// Reads what is asked for, at the moment `now`. A job whose coordinator is lent has had this state since.
+/// Reads what is asked for, when the writer's clock says `now`. A job whose coordinator is lent has had this state since.
 pub fn read(jobs: &mut Jobs, read: Read, now: u64, lent: Option<&JobState>) -> ReadDone {
     let state = |job: &mut Job| match lent.filter(|lent| lent.opening.number == job.opening.number) {
-        Some(lent) => JobState { now, ..lent.clone() },
+        Some(lent) => JobState { now: job.moment(now), ..lent.clone() },
         None => state(job, now),
     };
     match read {
@@ -73,7 +73,7 @@ fn record(job: &mut Job, id: u64) -> Option<RecordState> {
     Some(RecordState { metadata: job.engine().show(id) })
 }
 
-/// The state of a job at the moment `now`.
+/// The state of a job when the writer's clock says `now`.
 pub fn state(job: &mut Job, now: u64) -> JobState {
     let records: Vec<LiveRecord> = job.live().values().copied().collect();
     let (checkpoints, savepoints) = (job.pending(Kind::Checkpoint), job.pending(Kind::Savepoint));
@@ -86,7 +86,7 @@ pub fn state(job: &mut Job, now: u64) -> JobState {
         shape: job.shape.clone(),
         mode,
         seq: job.seq,
-        now,
+        now: job.moment(now),
         due,
         oldest_expiry,
         choice,
