@@ -1,7 +1,7 @@
 """Load by wrk. load.py [SECONDS [sqlite|postgres [SYNCS]]] prints acknowledgements a second with 1 and 256 connections, of one and of 64
 each, and what wrk itself takes of a processor. It also prints how often the disk syncs, how many bare commits of as many rows the database
 makes, and the cost of a start over that log, with an image and without. Over SQLite it also prints the cost of images of a job with a
-million files. With SYNCS each sync of SQLite takes as long as on a disk that makes so many a second."""
+million files. With SYNCS each sync of the database takes as long as on a disk that makes so many a second."""
 import os
 import re
 import resource
@@ -212,6 +212,7 @@ def measure(at, seconds, database):
 def over_slow_disk(syncs):
     """Runs this program again over a disk that syncs so often."""
     with folder() as at:
+        os.chmod(at, 0o755)  # PostgreSQL runs as a user of its own
         environment = {"LD_PRELOAD": built(at, "slow_disk"), "SYNC_MICROSECONDS": str(1_000_000 // syncs)}
         return subprocess.run([sys.executable, *sys.argv[:3]], env={**os.environ, **environment}, check=False).returncode
 

@@ -1,6 +1,7 @@
-"""Many jobs over several processes of one PostgreSQL. many.py [JOBS [SECONDS]] opens so many jobs (10,000) at 1, 2 and 4 processes, and prints for
-each number of them: durable acknowledgements a second by wrk at all of them, how long a process that joins takes until it has its part, and
-how long it takes until the others have the jobs of one that is stopped, and of one that is killed."""
+"""Many jobs over several processes of one PostgreSQL. many.py [JOBS [SECONDS]] opens so many jobs (10,000) at 1, 2 and 4 processes, and prints a
+table with a row for each number of them: how long the openings take, durable acknowledgements a second by wrk at all of them, how long a
+process that joins takes until it has its part, and how long it takes until the others have the jobs of one that is stopped, and of one that
+is killed. RELKVANU_PROGRAM is the program, by default the debug build."""
 import os
 import re
 import subprocess
@@ -8,13 +9,16 @@ import sys
 import threading
 import time
 
-from harness import HERE, folder
+from harness import HERE, PROGRAM, folder
 from postgres import postgres
 from relkvanu_service import Service
 from spread import even, member, shards
 
-TEXT = "lease_seconds = 5\n"
+LEASE = 5
+TEXT = f"lease_seconds = {LEASE}\n"
 CLIENTS = 64
+COLUMNS = ["Processes, jobs", "Shards of each", "Jobs opened in", f"Acknowledgements/s by {CLIENTS} connections (99% within)", "A further one has its part after",
+           "The others have its jobs after it is stopped", "after it is killed, with the lease"]
 
 
 def opened(servers, jobs):
@@ -93,14 +97,19 @@ def measured(jobs, count, seconds):
         rate, slow = acknowledged(servers, jobs, seconds)
         joins, stopped, killed = moved(servers, jobs)
         parts = "+".join(str(shards(server)) for server in servers)
-        print(f"{count} processes ({parts} shards): {jobs} jobs opened in {took:.0f} s; {rate:.0f} acknowledgements/s by {CLIENTS} connections, 99% within {slow:.0f} ms; "
-              f"one more has its part after {joins:.1f} s; the others have its jobs {stopped:.1f} s after it is stopped and {killed:.1f} s after it is killed", flush=True)
+        print_row([f"{count}, {jobs:,}", parts, f"{took:.0f} s", f"{rate:,.0f} ({slow:.0f} ms)", f"{joins:.1f} s", f"{stopped:.1f} s", f"{killed:.1f} s, {LEASE} s"])
         for server in servers:
             server.stop()
 
 
+def print_row(cells):
+    print(f"| {' | '.join(cells)} |", flush=True)
+
+
 def main(jobs=10_000, seconds=10):
-    print(f"load {os.getloadavg()[0]:.1f} before")
+    print(f"{PROGRAM}; load {os.getloadavg()[0]:.1f} before", flush=True)
+    print_row(COLUMNS)
+    print_row(["---"] * len(COLUMNS))
     for count in (1, 2, 4):
         measured(jobs, count, seconds)
     print(f"load {os.getloadavg()[0]:.1f} after")
