@@ -5,8 +5,8 @@ use Rattle.ckpt_ids.specs.declared.ack.Acked.{Acked}
 use Rattle.ckpt_ids.specs.Configuration.{Configuration}
 use Rattle.ckpt_ids.specs.Records.{Record}
 use Rattle.ckpt_model.specs.State.{Opening, State}
-use Rattle.ckpt_texts.proofs.NoFloats.{no_floats, numbers}
-use Rattle.ckpt_texts.specs.MetadataTexts.{members, natural}
+use Rattle.ckpt_answers.proofs.NoFloats.{no_floats, numbers}
+use Rattle.ckpt_answers.specs.MetadataTexts.{members, natural}
 use Rattle.serde_json.specs.Data.{Data, null, boolean, number, string, array, object, Members, member, no_members, depth, items_depth, members_depth}
 use Rattle.serde_json.specs.Read.{max_depth}
 use Rattle.serde_json.specs.View.{items_of}

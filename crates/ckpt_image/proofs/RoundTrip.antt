@@ -18,7 +18,7 @@ use Rattle.ckpt_ids.proofs.LimitLemmas.{shape_holds}
 use Rattle.ckpt_model.specs.declared.mode.Mode.{Mode}
 use Rattle.ckpt_model.specs.declared.mode.Mode.TheVariants.{Running, Failed, Cancelled}
 use Rattle.ckpt_model.specs.State.{Opening, State}
-use Rattle.ckpt_texts.specs.MetadataTexts.{kind_name, list, members, natural, state_name}
+use Rattle.ckpt_answers.specs.MetadataTexts.{kind_name, list, members, natural, state_name}
 use Rattle.serde_json.specs.Data.{Data, object, string}
 use Rattle.serde_json.specs.View.{items_of}
 use Rattle.ckpt_image.specs.Fits.{AckFits, Fits, RecordFits}

@@ -7,7 +7,7 @@ use Rattle.ckpt_ids.specs.Records.{Record}
 use Rattle.ckpt_model.specs.declared.mode.Mode.{Mode}
 use Rattle.ckpt_model.specs.declared.mode.Mode.TheVariants.{Running, Failed, Cancelled}
 use Rattle.ckpt_model.specs.State.{Opening, State}
-use Rattle.ckpt_texts.specs.MetadataTexts.{kind_name, list, members, natural, state_name}
+use Rattle.ckpt_answers.specs.MetadataTexts.{kind_name, list, members, natural, state_name}
 use Rattle.serde_json.specs.Data.{Data, null, boolean, string, object}
 use Rattle.serde_json.specs.Written.{compact_text}
 

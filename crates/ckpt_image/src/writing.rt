@@ -9,7 +9,7 @@ ghost use Rattle.ckpt_ids.specs.Ordered.{IsIn};
 ghost use Rattle.ckpt_ids.specs.Records.{Record};
 ghost use Rattle.ckpt_ids.specs.Shapes.{IsShape};
 ghost use Rattle.ckpt_model.specs.Images.{record_in, state_in};
-ghost use Rattle.ckpt_texts.specs.MetadataTexts.{list, members, natural};
+ghost use Rattle.ckpt_answers.specs.MetadataTexts.{list, members, natural};
 ghost use Rattle.serde_json.specs.Data.{no_members};
 ghost use Rattle.serde_json.specs.View.{members_view, view};
 ghost use Rattle.ckpt_image.specs.Fits.{AckFits, Fits, RecordFits};
@@ -17,9 +17,9 @@ ghost use Rattle.ckpt_image.specs.Images.{image_read};
 ghost use Rattle.ckpt_image.specs.Written.{ack_data, clock_data, config_data, image_bytes, image_data, image_members, later_members, mode_name, naturals, opening_data, optional, outbox_data, record_data};
 
 use crate::members::VERSION;
+use ckpt_answers::metadata::{files_value, kind_name, shape_value, state_name};
 use ckpt_core::{Image, Mode, Saved};
 use ckpt_ids::{Acked, Acks, CheckpointId, Config, Handed};
-use ckpt_texts::metadata::{files_value, kind_name, shape_value, state_name};
 use serde_json::{Map, Value, json, put};
 use std::alloc::{AllocError, Global};
 

@@ -16,8 +16,8 @@ use Rattle.ckpt_lines.specs.declared.keyword.Keyword.{Keyword}
 use Rattle.ckpt_lines.specs.declared.keyword.Keyword.TheVariants as keyword
 use Rattle.ckpt_lines.specs.Keywords.{keyword_of, spelling}
 use Rattle.ckpt_lines.specs.Reading.{line_of, row, number_call, number_line, only_number, start_line, job_line, ack_line, decline_line, restore_line, restoring, config_line, retention_place, target_place, ended}
-use Rattle.ckpt_texts.specs.Texts.{spaced}
-use Rattle.ckpt_texts.specs.MetadataTexts.{subtask_bytes}
+use Rattle.ckpt_answers.specs.Texts.{spaced}
+use Rattle.ckpt_answers.specs.MetadataTexts.{subtask_bytes}
 use Rattle.ckpt_lines.specs.CallTexts.{call_text, triggers_text, limits_text, subtask_text, files_text, config_text, line_of_config, job_text, start_text, retention_text, parallelisms, Fits, FitsSubtask, FitsShape, FitsCall, IsReadAs}
 use Rattle.ckpt_lines.proofs.KeywordLemmas.{found}
 use Rattle.ckpt_lines.proofs.LineLemmas.{Each, from_all, IsPlain, IsWritten, last, next, each_next, each_before, plain_by, reading-written}

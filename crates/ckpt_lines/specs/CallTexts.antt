@@ -12,8 +12,8 @@ use Rattle.ckpt_lines.specs.declared.limits.TheConstants.{LONGEST_LINE}
 use Rattle.ckpt_lines.specs.declared.line.Line.{Line}
 use Rattle.ckpt_lines.specs.declared.line.Line.TheVariants as line
 use Rattle.ckpt_lines.specs.Reading.{reading}
-use Rattle.ckpt_texts.specs.Texts.{spaced}
-use Rattle.ckpt_texts.specs.MetadataTexts.{subtask_bytes}
+use Rattle.ckpt_answers.specs.Texts.{spaced}
+use Rattle.ckpt_answers.specs.MetadataTexts.{subtask_bytes}
 
 abbrev pub subtask_text : SubtaskId → List ℕ
 subtask_text s = codes " " ++ subtask_bytes s

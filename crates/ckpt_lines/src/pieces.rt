@@ -1,7 +1,7 @@
 //! Parts of lines. Their contracts also say what the types of numbers allow, for reading them back.
 ghost use Rattle.std.specs.Prelude.{◌≡◌, ◌++◌, ◌<◌, ◌^◌, flat_map, decimal, All, OnOk, string_bytes};
 ghost use Rattle.ckpt_ids.specs.Shapes.{IsShape};
-ghost use Rattle.ckpt_texts.specs.Texts.{spaced};
+ghost use Rattle.ckpt_answers.specs.Texts.{spaced};
 ghost use Rattle.ckpt_lines.specs.CallTexts.{Fits, FitsFiles, FitsSubtask, FitsTarget, fresh_text, reused_text, subtask_text, target_text};
 
 use ckpt_ids::{Files, Shape, SubtaskId, Target};

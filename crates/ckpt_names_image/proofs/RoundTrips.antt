@@ -12,8 +12,8 @@ use Rattle.ckpt_image.proofs.Plain.{image_depth, members_have_no_float, shallow_
 use Rattle.ckpt_names_image.specs.Named.{Fenced, Named, Plain, Saved, named_data, named_of, names_data, names_of, saved_of, span_data, span_of}
 use Rattle.ckpt_names_image.proofs.Placed.{depth_put, float_put}
 use Rattle.ckpt_terms.specs.declared.names.Span.{Span}
-use Rattle.ckpt_texts.specs.MetadataTexts.{members}
-use Rattle.ckpt_texts.proofs.NoFloats.{no_floats}
+use Rattle.ckpt_answers.specs.MetadataTexts.{members}
+use Rattle.ckpt_answers.proofs.NoFloats.{no_floats}
 use Rattle.serde_json.specs.Data.{Data, object, put, depth, items_depth, members_depth}
 use Rattle.serde_json.specs.Find.{get}
 use Rattle.serde_json.specs.Read.{max_depth}

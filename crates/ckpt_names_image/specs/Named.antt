@@ -11,7 +11,7 @@ use Rattle.ckpt_names_image.specs.declared.saved.SavedImage.{SavedImage}
 use Rattle.ckpt_names_image.specs.declared.saved.SavedImage.TheVariants as saved
 use Rattle.ckpt_terms.specs.declared.image.TermsImage.{TermsImage}
 use Rattle.ckpt_terms.specs.declared.names.Span.{Span}
-use Rattle.ckpt_texts.specs.MetadataTexts.{list, members, natural}
+use Rattle.ckpt_answers.specs.MetadataTexts.{list, members, natural}
 use Rattle.serde_json.specs.Data.{Data, Items, no_items, item, object, put}
 use Rattle.serde_json.specs.Find.{as_array}
 use Rattle.serde_json.specs.Read.{read}

@@ -3,7 +3,7 @@
 ghost use Rattle.std.specs.Prelude.{◌≡◌, Some, IfOk, OnOk, map, string_bytes};
 ghost use Rattle.ckpt_image.specs.Fits.{Fits};
 ghost use Rattle.ckpt_names_image.specs.Named.{Fenced, named_bytes, named_data, named_in, names_data, saved_read, span_data};
-ghost use Rattle.ckpt_texts.specs.MetadataTexts.{list};
+ghost use Rattle.ckpt_answers.specs.MetadataTexts.{list};
 ghost use Rattle.serde_json.specs.View.{view};
 
 use crate::saved::NAMES_VERSION;

@@ -26,7 +26,7 @@ use Rattle.ckpt_session.specs.declared.all.AllLine.{AllLine}
 use Rattle.ckpt_session.specs.declared.outcome.ScriptRefusal.TheVariants.{FilesUsedUp}
 use Rattle.ckpt_session.specs.declared.outcome.Outcome.{Outcome}
 use Rattle.ckpt_session.specs.declared.outcome.Outcome.TheVariants.{Refused}
-use Rattle.ckpt_texts.specs.MetadataTexts.{missing_subtasks}
+use Rattle.ckpt_answers.specs.MetadataTexts.{missing_subtasks}
 use Rattle.ckpt_session.specs.AllLines.{Obeyed, pending_metadata, acks_for, acknowledged, told, all_of, IsAsInOrder}
 use Rattle.ckpt_session.proofs.BookLemmas.{state_of_book-more, state_of_book-entered}
 use Rattle.ckpt_session.proofs.ShownLemmas.{its_record}

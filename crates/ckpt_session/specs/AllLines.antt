@@ -16,7 +16,7 @@ use Rattle.ckpt_model.specs.Interleavings.{NewFile, first_completed}
 pub use Rattle.ckpt_model.specs.Interleavings.{ack_with}
 use Rattle.ckpt_locked.specs.declared.limits.TheConstants.{MOST_SEATS}
 use Rattle.ckpt_locked.specs.Books.{state_of_book}
-use Rattle.ckpt_texts.specs.MetadataTexts.{missing, missing_subtasks}
+use Rattle.ckpt_answers.specs.MetadataTexts.{missing, missing_subtasks}
 use Rattle.ckpt_workers.specs.declared.team.Made.{Made}
 use Rattle.ckpt_workers.specs.Teams.{is_accepted}
 use Rattle.ckpt_session.specs.declared.all.AllLine.{AllLine}

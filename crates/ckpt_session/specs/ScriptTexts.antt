@@ -2,7 +2,7 @@
 use Rattle.std.specs.Prelude.{ℕ, Bool, true, false, List, [], ◌++◌, codes, decimal}
 use Rattle.ckpt_lines.specs.declared.fault.LineFault.{LineFault}
 use Rattle.ckpt_lines.specs.declared.fault.LineFault.TheVariants as fault
-use Rattle.ckpt_texts.specs.Texts.{answer_bytes, spaced}
+use Rattle.ckpt_answers.specs.Texts.{answer_bytes, spaced}
 use Rattle.ckpt_session.specs.declared.outcome.AllEnd.{AllEnd}
 use Rattle.ckpt_session.specs.declared.outcome.AllEnd.TheVariants.{Completed, Pending}
 use Rattle.ckpt_session.specs.declared.outcome.Outcome.{Outcome}

@@ -4,7 +4,7 @@ ghost use Rattle.std.specs.List.{list_any};
 ghost use Rattle.ckpt_ids.specs.Shapes.{same_subtask};
 ghost use Rattle.ckpt_model.specs.Soundness.{IsSound};
 ghost use Rattle.ckpt_locked.specs.Books.{state_of_book};
-ghost use Rattle.ckpt_texts.specs.MetadataTexts.{missing_subtasks};
+ghost use Rattle.ckpt_answers.specs.MetadataTexts.{missing_subtasks};
 ghost use Rattle.ckpt_session.specs.AllLines.{ack_with, missing_now, pending_metadata, shown_pending, acks_for, told_of, all_of, all_obeyed};
 ghost use Rattle.ckpt_session.specs.Seating.{Asks, EntersAll};
 
@@ -186,7 +186,7 @@ fn missing_now(alloc: Global, book: &mut Book, id: CheckpointId) -> Result<u64, 
 }
 
 /// The subtasks that have not acknowledged, in subtask order.
-#[tactic(auto, unfolding(ckpt_texts::specs::MetadataTexts::missing_subtasks))]
+#[tactic(auto, unfolding(ckpt_answers::specs::MetadataTexts::missing_subtasks))]
 fn missing_subtasks(alloc: Global, metadata: &Metadata) -> Result<Vec<SubtaskId>, AllocError>
     ensures { IfOk result (λ missing. missing.items ≡ missing_subtasks metadata.now) }
 {

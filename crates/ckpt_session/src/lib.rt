@@ -2,7 +2,7 @@
 //!
 //! [`Session`] runs the lines of a script one after the other. What a line does is an [`Outcome`],
 //! which has a text that the line prints. `specs/Sessions.antt` defines both, by the coordinator's
-//! answers and their texts (crate `ckpt_texts`).
+//! answers and their texts (crate `ckpt_answers`).
 #![tactic(auto)]
 
 mod all;

@@ -3,11 +3,11 @@ ghost use Rattle.std.specs.Prelude.{◌≡◌, ◌++◌, true, OnErr, OnOk, stri
 ghost use Rattle.ckpt_session.specs.declared.outcome.Outcome.TheVariants.{Refused};
 ghost use Rattle.ckpt_session.specs.declared.outcome.ScriptRefusal.TheVariants.{NotStarted};
 ghost use Rattle.ckpt_session.specs.ScriptTexts.{all_end_bytes, fault_bytes, fault_name, is_said, outcome_bytes, refusal_bytes, refusal_name};
-ghost use Rattle.ckpt_texts.specs.Fronts.{KeepsFront};
+ghost use Rattle.ckpt_answers.specs.Fronts.{KeepsFront};
 
 use crate::outcome::{AllEnd, Outcome, ScriptRefusal};
+use ckpt_answers::{write_answer, write_number, write_two};
 use ckpt_lines::LineFault;
-use ckpt_texts::{write_answer, write_number, write_two};
 use std::alloc::{AllocError, Global};
 
 /// Appends the printed text of an outcome: one text with its newline, or nothing. Fails only if

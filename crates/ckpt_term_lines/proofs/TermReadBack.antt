@@ -7,7 +7,7 @@ use Rattle.ckpt_lines.specs.declared.limits.TheConstants.{LONGEST_LINE}
 use Rattle.ckpt_lines.specs.declared.line.Line.{Line}
 use Rattle.ckpt_lines.specs.declared.line.Line.TheVariants as script
 use Rattle.ckpt_lines.specs.Reading.{line_of}
-use Rattle.ckpt_texts.specs.Texts.{spaced}
+use Rattle.ckpt_answers.specs.Texts.{spaced}
 use Rattle.ckpt_lines.specs.CallTexts.{Fits, FitsCall, call_text}
 use Rattle.ckpt_lines.proofs.LineLemmas.{Each, IsWritten, each_next, from_all, next, no_strip, plain_by}
 use Rattle.ckpt_lines.proofs.NumberWords.{each-numbers, number_place-decimal, plain_number, plain_numbers, stays}

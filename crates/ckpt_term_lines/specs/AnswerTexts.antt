@@ -7,7 +7,7 @@ use Rattle.ckpt_terms.specs.declared.call.FencedRefusal.{FencedRefusal}
 use Rattle.ckpt_terms.specs.declared.call.FencedRefusal.TheVariants.{OldTerm, Ended, BadCount, NamesUsedUp, TermsUsedUp, Spent, NeverReserved}
 use Rattle.ckpt_terms.specs.declared.call.FencedAnswer.{FencedAnswer}
 use Rattle.ckpt_terms.specs.declared.call.FencedAnswer.TheVariants.{Reserved, Forfeited, Made, Fenced}
-use Rattle.ckpt_texts.specs.Texts.{answer_bytes, spaced}
+use Rattle.ckpt_answers.specs.Texts.{answer_bytes, spaced}
 
 -- why a call did not reach the coordinator, and the file that is to blame
 unfoldable pub fence_refusal_bytes : FencedRefusal → List ℕ

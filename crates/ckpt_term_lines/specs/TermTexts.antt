@@ -2,7 +2,7 @@
 use Rattle.std.specs.Prelude.{ℕ, ◌≤◌, ◌==◌, List, ◌++◌, flat_map, codes, length, if◌then◌else◌, Ok, ◌≡◌}
 use Rattle.ckpt_ids.specs.declared.call.Call.{Call}
 use Rattle.ckpt_lines.specs.declared.limits.TheConstants.{LONGEST_LINE}
-use Rattle.ckpt_texts.specs.Texts.{spaced}
+use Rattle.ckpt_answers.specs.Texts.{spaced}
 use Rattle.ckpt_lines.specs.CallTexts.{Fits, FitsCall, FitsFiles, call_text}
 use Rattle.ckpt_terms.specs.declared.call.FencedCall.{FencedCall}
 use Rattle.ckpt_terms.specs.declared.call.FencedCall.TheVariants as call

@@ -8,7 +8,7 @@ use Rattle.ckpt_lines.specs.declared.line.Line.TheVariants as script
 use Rattle.ckpt_lines.specs.Keywords.{keyword_of}
 use Rattle.ckpt_lines.specs.Reading.{line_of, row, number_line, only_number, start_line, ack_line, restore_line, number_place, subtask_place, target_place, file_places, each, ended}
 use Rattle.ckpt_lines.specs.Values.{number_of, part_of, subtask_of, target_of, file_word}
-use Rattle.ckpt_texts.specs.Texts.{answer_bytes, refusal_bytes}
+use Rattle.ckpt_answers.specs.Texts.{answer_bytes, refusal_bytes}
 use Rattle.ckpt_lines.specs.CallTexts.{call_text}
 use Rattle.ckpt_terms.specs.declared.call.FencedAnswer.TheVariants.{Reserved, Forfeited, Made, Fenced}
 use Rattle.ckpt_terms.specs.declared.call.FencedCall.TheVariants as call

@@ -1,11 +1,11 @@
 //! The text of an answer of a job that gives out names.
 ghost use Rattle.std.specs.Prelude.{◌≡◌, ◌++◌, codes, OnOk, string_bytes};
-ghost use Rattle.ckpt_texts.specs.Fronts.{KeepsFront};
+ghost use Rattle.ckpt_answers.specs.Fronts.{KeepsFront};
 ghost use Rattle.ckpt_term_lines.specs.AnswerTexts.{fence_refusal_bytes, fenced_answer_bytes, new_term_bytes};
 
+use ckpt_answers::{write_answer, write_number};
 use ckpt_ids::{Answer, Reply};
 use ckpt_terms::{FencedAnswer, FencedRefusal};
-use ckpt_texts::{write_answer, write_number};
 use std::alloc::{AllocError, Global};
 
 /// Appends the printed text of an answer, with its newline. The answer that the coordinator gave has

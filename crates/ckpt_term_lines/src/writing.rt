@@ -1,6 +1,6 @@
 //! Writes calls as lines of a log whose job gives out names.
 ghost use Rattle.std.specs.Prelude.{◌≡◌, ◌++◌, flat_map, IfOk, OnOk, string_bytes};
-ghost use Rattle.ckpt_texts.specs.Texts.{spaced};
+ghost use Rattle.ckpt_answers.specs.Texts.{spaced};
 ghost use Rattle.ckpt_lines.specs.CallTexts.{Fits, FitsCall, FitsFiles};
 ghost use Rattle.ckpt_term_lines.specs.declared.line.TermLine.TheVariants as line;
 ghost use Rattle.ckpt_term_lines.specs.TermTexts.{FitsTermCall, IsTermReadAs, fence_text, made_text, term_text};

@@ -7,7 +7,7 @@ use Rattle.ckpt_ids.specs.declared.reply.Answer as ids
 use Rattle.ckpt_ids.specs.declared.reply.Answer.TheVariants.{Done, Refused}
 use Rattle.ckpt_model.specs.State.{State}
 use Rattle.ckpt_model.specs.Steps.{step}
-use Rattle.ckpt_texts.specs.MetadataTexts.{metadata_bytes}
+use Rattle.ckpt_answers.specs.MetadataTexts.{metadata_bytes}
 use Rattle.relkvanu.specs.declared.answer.Answer.{Answer}
 use Rattle.relkvanu.specs.Told.{reply_told, refusal_told, done, no_memory, too_short}
 

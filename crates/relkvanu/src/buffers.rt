@@ -5,7 +5,7 @@ ghost use Rattle.ckpt_ids.specs.declared.call.Call.TheVariants as call;
 ghost use Rattle.ckpt_model.specs.Memory.{answer_wants, may_want_memory};
 ghost use Rattle.ckpt_model.specs.State.{State};
 ghost use Rattle.ckpt_model.specs.Steps.{step};
-ghost use Rattle.ckpt_texts.specs.MetadataTexts.{metadata_bytes};
+ghost use Rattle.ckpt_answers.specs.MetadataTexts.{metadata_bytes};
 ghost use Rattle.relkvanu.specs.Buffers.{BringsFiles, BringsJson, IsShowTold, StandsInFront, files_in, files_of_reply, json_in, json_of_reply};
 ghost use Rattle.relkvanu.specs.Buffers.{json_told, show_reply_told, show_told};
 ghost use Rattle.relkvanu.specs.Calls.{HasNoNumbers, IsAnswered, IsStepTold, StaysAsItWas, StaysClosed, WantsMemory};
@@ -14,9 +14,9 @@ ghost use Rattle.ckpt_terms.specs.Machines.{core_in, names_in};
 
 use crate::answer::Answer;
 use crate::handle::Handle;
+use ckpt_answers::metadata_text;
 use ckpt_ids::{Answer as Told, Call, CheckpointId, FileId, Metadata, Reply};
 use ckpt_terms::Machine;
-use ckpt_texts::metadata_text;
 use std::alloc::Global;
 
 /// Fetches files that wait for deletion, at most as many as the buffer has places, and writes them

@@ -1,6 +1,6 @@
 -- Answers the goals of `write_reused`.
 use Rattle.std.proofs.Common.{sym, ◌∙◌, append_assoc, arith}
-use Rattle.ckpt_texts.proofs.ListLemmas.{flat_map-take-next, none_within-absurd}
+use Rattle.ckpt_answers.proofs.ListLemmas.{flat_map-take-next, none_within-absurd}
 use Rattle.ckpt_lines.specs.CallTexts.{reused_text}
 use Rattle.ckpt_lines.proofs.PieceLemmas.{fit-next}
 use Rattle.ckpt_lines.proofs.pieces.write_reused.Goals as goal

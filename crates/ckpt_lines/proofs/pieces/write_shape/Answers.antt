@@ -1,7 +1,7 @@
 -- Answers the goals of `write_shape`.
 use Rattle.std.proofs.Common.{sym, ◌∙◌, append_assoc, arith}
-use Rattle.ckpt_texts.specs.Texts.{spaced}
-use Rattle.ckpt_texts.proofs.ListLemmas.{flat_map-take-next, none_within-absurd}
+use Rattle.ckpt_answers.specs.Texts.{spaced}
+use Rattle.ckpt_answers.proofs.ListLemmas.{flat_map-take-next, none_within-absurd}
 use Rattle.ckpt_lines.proofs.PieceLemmas.{fit-next}
 use Rattle.ckpt_lines.proofs.pieces.write_shape.Goals as goal
 use Rattle.ckpt_lines.proofs.pieces.write_shape.Goals.{in-Some+in_ok-write_number, in_default}

@@ -6,7 +6,7 @@ use Rattle.std.proofs.lemmas.Option.{slice_get-get_or, slice_get_within, get_or_
 use Rattle.ckpt_ids.specs.declared.subtask.SubtaskId.{SubtaskId}
 use Rattle.ckpt_ids.specs.declared.ack.Metadata.{Metadata}
 use Rattle.ckpt_ids.specs.Shapes.{subtasks}
-use Rattle.ckpt_texts.specs.MetadataTexts.{has_acknowledged}
+use Rattle.ckpt_answers.specs.MetadataTexts.{has_acknowledged}
 use Rattle.ckpt_session.proofs.all.missing_subtasks.Goals as goal
 use Rattle.ckpt_session.proofs.all.missing_subtasks.Goals.{in-Some+then-not-has_acknowledged+in_ok-push, in-Some+else-not-has_acknowledged, in_default}
 

@@ -2,7 +2,7 @@
 use Rattle.std.proofs.Common.{◌≡◌, take}
 use Rattle.std.specs.Prelude.{not, filter}
 use Rattle.ckpt_ids.specs.Shapes.{subtasks}
-use Rattle.ckpt_texts.specs.MetadataTexts.{has_acknowledged}
+use Rattle.ckpt_answers.specs.MetadataTexts.{has_acknowledged}
 use Rattle.ckpt_session.proofs.all.missing_subtasks.Given as goal
 
 abbrev pub invariant-loop-place : goal.invariant-loop-place
