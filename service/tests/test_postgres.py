@@ -14,7 +14,7 @@ LEASE = 2
 
 def test_kills():
     with postgres() as database:
-        told = kills.run(int(os.environ.get("RELKVANU_KILLS_PG", "15")), database, "lease_seconds = 1\n" + kills.KEEPING)
+        told = kills.run(int(os.environ.get("RELKVANU_KILLS_PG", "8")), database, "lease_seconds = 1\n" + kills.KEEPING)
         assert database.sql("select count(*) > 0 from call") == "t"
         return told
 
