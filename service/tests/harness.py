@@ -146,20 +146,27 @@ class Server:
         return answer.status, {name.lower(): value for name, value in answer.getheaders()}, told
 
 
-class Kept(threading.Thread):
-    """Starts a service again if it ended with 75, as systemd does."""
+@contextmanager
+def kept(*servers):
+    """Until the end of the block each of these services is started again if it ended, as systemd does. Gives the statuses that they ended with."""
+    ended, over = [], threading.Event()
 
-    def __init__(self, server):
-        super().__init__(daemon=True)
-        self.server, self.over, self.ended = server, threading.Event(), []
-
-    def run(self):
-        while not self.over.is_set():
-            status = self.server.process.poll()
+    def keep(server):
+        while not over.wait(0.05):
+            status = server.process.poll()
             if status is not None:
-                self.ended.append(status)
-                self.server.start(ready=False)
-            time.sleep(0.05)
+                ended.append(status)
+                server.start(ready=False)
+
+    threads = [threading.Thread(target=keep, args=(server,), daemon=True) for server in servers]
+    for thread in threads:
+        thread.start()
+    try:
+        yield ended
+    finally:
+        over.set()
+        for thread in threads:
+            thread.join()
 
 
 @contextmanager

@@ -8,7 +8,7 @@ import sys
 import threading
 import time
 
-from harness import Kept, PgArchive, Server, configured, folder, free_port, until
+from harness import PgArchive, Server, configured, folder, free_port, kept, until
 from postgres import postgres
 from preloaded import Clocks
 from relkvanu_service import Service
@@ -19,6 +19,7 @@ SETTINGS = {**SETTINGS, "interval": 25, "timeout": 3000}
 SHAPE = [2, 4]
 CONFIG = "lease_seconds = 2\nimage_calls = 200\nkeep_calls = 400\n"
 HOUR = 3600
+LEAST, BUSY = 100, 300  # calls of each client; seconds more, on a busy machine
 
 
 class Line(threading.Thread):
@@ -121,62 +122,91 @@ def told(processes, what):
 
 
 class Faults:
-    """One fault at a time, for a while."""
+    """One fault at a time, for a while: each of the kinds once before one comes again."""
+
+    KINDS, LONGEST = [], 5
 
     def __init__(self, chance, database, servers, lines, clocks):
         self.chance, self.database, self.servers, self.lines, self.clocks = chance, database, servers, lines, clocks
-        self.deck = []
-        self.made = {"cut": 0, "stopped": 0, "killed": 0, "clock": 0, "database stopped": 0, "both cut": 0, "all suspended": 0}
+        self.deck, self.made = [], dict.fromkeys(self.KINDS, 0)
 
     def next(self):
         if not self.deck:
-            self.deck = self.chance.sample(list(self.made), len(self.made))
+            self.deck = self.chance.sample(self.KINDS, len(self.KINDS))
         fault = self.deck.pop()
         self.made[fault] += 1
-        # more often the leader than the other
-        place = next((place for place, server in enumerate(self.servers) if server.get("/readyz")[0] == 200), 0)
-        place = place if self.chance.random() < 0.7 else 1 - place
-        getattr(self, fault.replace(" ", "_"))(place, self.chance.uniform(0.5, 5))
+        getattr(self, fault.replace(" ", "_"))(self.place(), self.chance.uniform(0.5, self.LONGEST))
+
+    def place(self):
+        return self.chance.randrange(len(self.servers))
+
+    def go_on(self, clients, seconds):
+        """Faults for so many seconds, and until each kind was made and each of these clients has made some calls. They end once all is whole
+        again."""
+        end = time.monotonic() + seconds
+        while time.monotonic() < end or 0 in self.made.values() or min(len(client.made) for client in clients) < LEAST:
+            assert time.monotonic() < end + BUSY, [len(client.made) for client in clients]
+            self.next()
+            time.sleep(self.chance.uniform(0.3, 3))
+            errors = [client.errors for client in clients if client.errors]
+            assert not errors, errors
+        time.sleep(5)
+        for client in clients:
+            client.over.set()
+        for client in clients:
+            client.join(90)
+            assert not client.is_alive(), "a client hangs"
+
+    def said(self):
+        return ", ".join(f"{count} {fault}" for fault, count in self.made.items())
+
+    def suspend(self, processes, seconds):
+        told(processes, signal.SIGSTOP)
+        time.sleep(seconds)
+        # in any order
+        self.chance.shuffle(processes)
+        told(processes, signal.SIGCONT)
 
     def cut(self, place, seconds):
         self.lines[place].is_cut = True
         time.sleep(seconds)
         self.lines[place].is_cut = False
 
-    def both_cut(self, place, seconds):
-        self.lines[place].is_cut = True
-        self.cut(1 - place, min(seconds, 2))
-        self.lines[place].is_cut = False
-
-    def stopped(self, place, seconds):
-        process = self.servers[place].process.pid
-        told([process], signal.SIGSTOP)
-        time.sleep(seconds)
-        told([process], signal.SIGCONT)
+    def suspended(self, place, seconds):
+        self.suspend([self.servers[place].process.pid], seconds)
 
     def killed(self, place, _):
         told([self.servers[place].process.pid], signal.SIGKILL)
 
     def clock(self, place, seconds):
+        """Jobs that move meanwhile go on from the moments that they have."""
         self.clocks[place].set(day=self.chance.choice([-HOUR, -5, 5, HOUR, 20 * HOUR]))
         time.sleep(seconds)
         self.clocks[place].set()
 
-    def database_stopped(self, _, seconds):
+    def database_suspended(self, _, seconds):
         """Neither a line nor a process tells that it is."""
-        processes = family(self.database)
-        told(processes, signal.SIGSTOP)
-        time.sleep(min(seconds, 3))
-        told(processes, signal.SIGCONT)
+        self.suspend(family(self.database), min(seconds, 3))
+
+
+class FaultsOfTwo(Faults):
+    """Those of a leader and of the process beside it."""
+
+    KINDS = ["cut", "suspended", "killed", "clock", "database suspended", "both cut", "all suspended"]
+
+    def place(self):
+        """More often the leader than the other."""
+        place = next((place for place, server in enumerate(self.servers) if server.get("/readyz")[0] == 200), 0)
+        return place if self.chance.random() < 0.7 else 1 - place
+
+    def both_cut(self, place, seconds):
+        self.lines[place].is_cut = True
+        self.cut(1 - place, min(seconds, 2))
+        self.lines[place].is_cut = False
 
     def all_suspended(self, _, seconds):
         """As a machine with all of them is that its host suspends."""
-        processes = [*(server.process.pid for server in self.servers), *family(self.database)]
-        told(processes, signal.SIGSTOP)
-        time.sleep(seconds)
-        # in any order
-        self.chance.shuffle(processes)
-        told(processes, signal.SIGCONT)
+        self.suspend([*(server.process.pid for server in self.servers), *family(self.database)], seconds)
 
 
 def run(seconds, seed=1):
@@ -190,37 +220,25 @@ def run(seconds, seed=1):
         servers[0].start()
         archive = PgArchive(database)
         servers[1].stand_by()
-        kept = [Kept(server) for server in servers]
         service, addresses, floor = Service(*(server.url for server in servers)), [server.url for server in servers], Floor()
         for job, names in zip(JOBS, (False, True)):
             service.open(job, SETTINGS, SHAPE, names=names)
         clients = [(Client, NamedClient)[number % 2](addresses, JOBS[number % 2], number, floor) for number in range(10)]
-        for it in (*kept, *clients):
-            it.start()
-        faults = Faults(chance, database, servers, lines, clocks)
-        end = time.monotonic() + seconds
-        while time.monotonic() < end:
-            faults.next()
-            time.sleep(chance.uniform(0.3, 3))
-            assert not [error for client in clients for error in client.errors], [client.errors for client in clients if client.errors]
-        time.sleep(5)  # all is whole again
-        for client in clients:
-            client.over.set()
-        for client in clients:
-            client.join(90)
-            assert not client.is_alive(), "a client hangs"
-        found = [check(clients, service, job, SHAPE, archive) for job in JOBS]
-        for it in kept:
-            it.over.set()
+        faults = FaultsOfTwo(chance, database, servers, lines, clocks)
+        with kept(*servers) as ended:
+            for client in clients:
+                client.start()
+            faults.go_on(clients, seconds)
+            found = [check(clients, service, job, SHAPE, archive) for job in JOBS]
         for server in servers:
             server.stop()
         made, logged, oracle = (sum(one[part] or 0 for one in found) for part in range(3))
         reads, epochs = sum(client.reads for client in clients), database.sql("select max(epoch) from shard")
-        wrong = [status for it in kept for status in it.ended if status not in (75, -9)]
+        wrong = [status for status in ended if status not in (75, -9)]
         assert not wrong, (wrong, [server.log()[-600:] for server in servers])
         assert made > 10 * seconds and int(epochs) > seconds // 30, (made, epochs, faults.made)
-        said = ", ".join(f"{count} {fault}" for fault, count in faults.made.items())
-        return f"{seconds} s with faults ({said}), {epochs} leaders: {made} calls answered, {logged} in the log, {oracle} as the proved programs answer them; {reads} reads, none old"
+        calls = f"{made} calls answered, {logged} in the log, {oracle} as the proved programs answer them"
+        return f"{seconds} s with faults ({faults.said()}), {epochs} leaders: {calls}; {reads} reads, none old"
 
 
 if __name__ == "__main__":

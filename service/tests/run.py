@@ -2,6 +2,7 @@
 own. The last line has the counts."""
 import importlib
 import os
+import resource
 import subprocess
 import sys
 import time
@@ -32,15 +33,20 @@ def tests(name, words):
             yield f"{name[5:]}: {word[5:].replace('_', ' ')}", test
 
 
+def processor_seconds():
+    """Of this process, and of those that it has waited for: so not of PostgreSQL, which is nobody's child."""
+    return sum(sum(resource.getrusage(who)[:2]) for who in (resource.RUSAGE_SELF, resource.RUSAGE_CHILDREN))
+
+
 def run_module(name, words):
     """Runs the tests of a module. The last line has what passed, failed and was skipped."""
     passed, failed, skipped = 0, 0, 0
     for title, test in tests(name, words):
-        started = time.monotonic()
+        started, before = time.monotonic(), processor_seconds()
         try:
             told = test()
             passed += 1
-            print(f"ok   {title} ({time.monotonic() - started:.1f} s): {told}")
+            print(f"ok   {title} ({time.monotonic() - started:.1f} s, {processor_seconds() - before:.1f} of a processor): {told}")
         except Skipped as why:
             skipped += 1
             print(f"skipped: {title}: {why}")

@@ -6,8 +6,8 @@ import sys
 import threading
 import time
 
-from harness import Kept, PgArchive, Server, configured, folder, until
-from partition import HOUR, Client, Floor, Line, NamedClient, family, told
+from harness import PgArchive, Server, configured, folder, kept, until
+from partition import Client, Faults, Floor, Line, NamedClient, told
 from postgres import postgres
 from preloaded import Clocks
 from relkvanu_service import Service
@@ -116,45 +116,10 @@ class Answers:
             assert not began or began[-1][:2] == (epoch, log), (job, seq, epoch, log, began[-1])
 
 
-class Faults:
-    """One fault at a time, for a while."""
+class FaultsOfMany(Faults):
+    """Those of processes that share jobs."""
 
-    def __init__(self, chance, database, servers, lines, clocks):
-        self.chance, self.database, self.servers, self.lines, self.clocks, self.deck = chance, database, servers, lines, clocks, []
-        self.made = {"cut": 0, "suspended": 0, "killed": 0, "stopped": 0, "clock": 0, "database suspended": 0}
-
-    def next(self):
-        if not self.deck:
-            self.deck = self.chance.sample(list(self.made), len(self.made))
-        fault = self.deck.pop()
-        self.made[fault] += 1
-        getattr(self, fault.replace(" ", "_"))(self.chance.randrange(len(self.servers)), self.chance.uniform(0.5, 2 * LEASE))
-
-    def cut(self, place, seconds):
-        self.lines[place].is_cut = True
-        time.sleep(seconds)
-        self.lines[place].is_cut = False
-
-    def suspended(self, place, seconds):
-        process = self.servers[place].process.pid
-        told([process], signal.SIGSTOP)
-        time.sleep(seconds)
-        told([process], signal.SIGCONT)
-
-    def killed(self, place, _):
-        told([self.servers[place].process.pid], signal.SIGKILL)
-
-    def clock(self, place, seconds):
-        """Jobs that move meanwhile go on from the moments that they have."""
-        self.clocks[place].set(day=self.chance.choice([-HOUR, -5, 5, HOUR, 20 * HOUR]))
-        time.sleep(seconds)
-        self.clocks[place].set()
-
-    def database_suspended(self, _, seconds):
-        processes = family(self.database)
-        told(processes, signal.SIGSTOP)
-        time.sleep(min(seconds, 3))
-        told(processes, signal.SIGCONT)
+    KINDS, LONGEST = ["cut", "suspended", "killed", "stopped", "clock", "database suspended"], 2 * LEASE
 
     def stopped(self, place, _):
         """In good order: its shards are free at once."""
@@ -172,7 +137,6 @@ def run(seconds, count=3, seed=1):
         for server in servers[1:]:
             server.start()
         even(servers)
-        kept = [Kept(server) for server in servers]
         addresses, floor, answers = [server.url for server in servers], Floor(), Answers()
         service = Service(*addresses)
         for number, job in enumerate(JOBS):
@@ -182,32 +146,21 @@ def run(seconds, count=3, seed=1):
                    for number in range(2 * len(JOBS))]
         for client in clients:
             answers.listen(client, client.name_of_job)
-        for it in (*kept, *clients):
-            it.start()
-        faults, end = Faults(chance, database, servers, lines, clocks), time.monotonic() + seconds
-        while time.monotonic() < end:
-            faults.next()
-            time.sleep(chance.uniform(0.3, 3))
-            assert not [error for client in clients for error in client.errors], [client.errors for client in clients if client.errors]
-        time.sleep(5)  # all is whole again
-        for client in clients:
-            client.over.set()
-        for client in clients:
-            client.join(90)
-            assert not client.is_alive(), "a client hangs"
-        found = [check(clients, service, job, SHAPE, archive) for job in JOBS]
-        epochs = answers.check(database)
-        for it in kept:
-            it.over.set()
+        faults = FaultsOfMany(chance, database, servers, lines, clocks)
+        with kept(*servers) as ended:
+            for client in clients:
+                client.start()
+            faults.go_on(clients, seconds)
+            found = [check(clients, service, job, SHAPE, archive) for job in JOBS]
+            epochs = answers.check(database)
         for server in servers:
             server.stop()
         made, logged, oracle = (sum(one[part] or 0 for one in found) for part in range(3))
-        wrong = [status for it in kept for status in it.ended if status not in (0, 75, -9, -15)]  # -15: told to stop before it served
+        wrong = [status for status in ended if status not in (0, 75, -9, -15)]  # -15: told to stop before it served
         assert not wrong, (wrong, [server.log()[-600:] for server in servers])
         assert made > 10 * seconds and epochs > len(JOBS), (made, epochs, faults.made)
-        said = ", ".join(f"{number} {fault}" for fault, number in faults.made.items())
         calls = f"{made} calls answered in {epochs} epochs of jobs, {logged} in the log, {oracle} as the proved programs answer them"
-        return f"{seconds} s with {count} processes and faults ({said}): {calls}; {sum(client.reads for client in clients)} reads, none old"
+        return f"{seconds} s with {count} processes and faults ({faults.said()}): {calls}; {sum(client.reads for client in clients)} reads, none old"
 
 
 if __name__ == "__main__":

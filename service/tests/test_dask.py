@@ -13,7 +13,7 @@ from writers import check_made
 
 ENGINE = f"{TOP}/embed/dask/run"
 SHAPE = [2, 6, 3]
-LONGEST = 180  # seconds, on a busy machine
+LONGEST = 900  # seconds, on a busy machine
 MOST = 20  # kills; on a busy machine the engine may not get on between two of them
 
 

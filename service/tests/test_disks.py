@@ -4,7 +4,7 @@ import subprocess
 import time
 
 import kills
-from harness import Kept, Server, check_log, folder, small_disk, until
+from harness import Server, check_log, folder, kept, small_disk, until
 from postgres import postgres
 from relkvanu_service import Service
 
@@ -63,21 +63,18 @@ def test_postgresql():
     room again, all goes on."""
     with folder() as at, small_disk(at, "96m") as small, postgres(small, "--wal-segsize=1") as database:
         server = Server(at, database.url).start()
-        kept, told = Kept(server), []
-        kept.start()
-        with kills.writers_at([server.url], told):
+        told = []
+        with kept(server) as ended, kills.writers_at([server.url], told):
             time.sleep(0.5)
             with open(f"{small}/ballast", "wb", buffering=0) as ballast:
                 fill(ballast)
             until(lambda: "commit is tried again" in server.log() and "No space left" in server.log(), 30)
             until(lambda: not has_log(database), 30)
-            until(lambda: kept.ended, 30)
+            until(lambda: ended, 30)
             os.remove(f"{small}/ballast")
             until(lambda: database.runs() or database.start_again(), 30)
             server.wait_ready(kept=True)
-        kept.over.set()
-        kept.join()
         server.stop()
-        assert set(kept.ended) == {75}, kept.ended
+        assert set(ended) == {75}, ended
         tries = server.log().count("commit is tried again")
-        return f"{tries} commits tried again, the service ended {len(kept.ended)} times; {told[0]}"
+        return f"{tries} commits tried again, the service ended {len(ended)} times; {told[0]}"

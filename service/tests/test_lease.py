@@ -2,7 +2,7 @@
 import threading
 import time
 
-from harness import Kept, Server, configured, folder, until
+from harness import Server, configured, folder, kept, until
 from postgres import postgres
 from relkvanu_service import Service, savepoint
 from slow import Slow
@@ -104,19 +104,16 @@ def test_two_processes_on_slow_lines():
     with postgres() as database, folder() as at:
         opened(at, database.url, 40)
         servers = [far(at, database, DELAY)[0] for _ in range(2)]
-        kept = [Kept(server.start(ready=False)) for server in servers]
-        for one in kept:
-            one.start()
-        until(lambda: any(is_ready(server) for server in servers), 20)
-        before, made = epoch(database), 0
-        leader = next(server for server in servers if is_ready(server))
-        end = time.monotonic() + 4
-        while time.monotonic() < end:
-            made += leader.request("POST", "/v1/jobs/j0/calls", {"calls": [{"call": "tick"}]})[0] == 200
-        for one in kept:
-            one.over.set()
-            one.join()
-        assert made > 20 and epoch(database) == before, (made, before, epoch(database), [one.ended for one in kept])
+        for server in servers:
+            server.start(ready=False)
+        with kept(*servers) as ended:
+            until(lambda: any(is_ready(server) for server in servers), 20)
+            before, made = epoch(database), 0
+            leader = next(server for server in servers if is_ready(server))
+            end = time.monotonic() + 4
+            while time.monotonic() < end:
+                made += leader.request("POST", "/v1/jobs/j0/calls", {"calls": [{"call": "tick"}]})[0] == 200
+        assert made > 20 and epoch(database) == before, (made, before, epoch(database), ended)
         for server in servers:
             server.kill()
         return f"{made} calls in 4 s in one epoch"

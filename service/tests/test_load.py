@@ -21,7 +21,7 @@ def test_load_by_wrk():
 
         scraping = threading.Thread(target=scrape)
         scraping.start()
-        told, made = load.loaded(server, load.WAYS, 2)
+        told, made = load.loaded(server, load.WAYS, 1)
         over.set()
         scraping.join()
         assert not errors, errors[:3]

@@ -244,12 +244,12 @@ def test_a_reserve_is_durable_before_it_is_told():
 
 
 def test_kills_with_names():
-    return kills.run(int(os.environ.get("RELKVANU_KILLS", "10")), names=True)
+    return kills.run(int(os.environ.get("RELKVANU_KILLS", "6")), names=True)
 
 
 def test_kills_with_names_over_postgresql():
     with postgres() as database:
-        return kills.run(int(os.environ.get("RELKVANU_KILLS_PG", "6")), database, "lease_seconds = 1\n" + kills.KEEPING, names=True)
+        return kills.run(int(os.environ.get("RELKVANU_KILLS_PG", "4")), database, "lease_seconds = 1\n" + kills.KEEPING, names=True)
 
 
 def uses(log):

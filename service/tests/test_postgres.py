@@ -5,7 +5,7 @@ import signal
 import time
 
 import kills
-from harness import Kept, PgArchive, Server, check_log, configured, folder, until
+from harness import PgArchive, Server, check_log, configured, folder, kept, until
 from postgres import postgres
 from relkvanu_service import Service
 
@@ -14,7 +14,7 @@ LEASE = 2
 
 def test_kills():
     with postgres() as database:
-        told = kills.run(int(os.environ.get("RELKVANU_KILLS_PG", "15")), database, "lease_seconds = 1\n" + kills.KEEPING)
+        told = kills.run(int(os.environ.get("RELKVANU_KILLS_PG", "8")), database, "lease_seconds = 1\n" + kills.KEEPING)
         assert database.sql("select count(*) > 0 from call") == "t"
         return told
 
@@ -22,9 +22,8 @@ def test_kills():
 def test_a_database_that_stops():
     with postgres() as database, folder() as at:
         server = Server(at, database.url, configured(at, "lease_seconds = 1\n")).start()
-        kept, told = Kept(server), []
-        kept.start()
-        with kills.writers_at([server.url], told):
+        told = []
+        with kept(server) as ended, kills.writers_at([server.url], told):
             for mode in ("immediate", "fast", "immediate"):
                 time.sleep(0.7)
                 database.stop(mode)
@@ -35,10 +34,8 @@ def test_a_database_that_stops():
             cut_writer(database)
             time.sleep(0.5)
             server.wait_ready(kept=True)
-        kept.over.set()
-        kept.join()
         server.stop()
-        assert len(kept.ended) >= 4 and set(kept.ended) == {75}, kept.ended
+        assert len(ended) >= 4 and set(ended) == {75}, ended
         return f"3 stops of the database and 1 cut connection, {told[0]}"
 
 

@@ -4,7 +4,7 @@ import signal
 import time
 
 import kills
-from harness import Kept, PgArchive, Server, configured, folder
+from harness import PgArchive, Server, configured, folder, kept
 from partition import family, told
 from postgres import Replica, postgres
 
@@ -19,10 +19,7 @@ def test_a_replica_that_is_promoted():
             servers[0].start()
             servers[1].stand_by()
             archive, found = PgArchive(database), []
-            kept = [Kept(server) for server in servers]
-            for it in kept:
-                it.start()
-            with kills.writers_at([server.url for server in servers], found, archive) as writers:
+            with kept(*servers) as ended, kills.writers_at([server.url for server in servers], found, archive) as writers:
                 time.sleep(1.5)
                 told(family(database), signal.SIGKILL)
                 os.remove(f"{database.data}/postmaster.pid")
@@ -33,10 +30,7 @@ def test_a_replica_that_is_promoted():
                 while sum(len(writer.made) for writer in writers) < before + 200:
                     assert time.monotonic() < began + 60, [server.log()[-600:] for server in servers]
                     time.sleep(0.05)
-            for it in kept:
-                it.over.set()
-                it.join()
-            wrong = [status for it in kept for status in it.ended if status != 75]
+            wrong = [status for status in ended if status != 75]
             assert not wrong and before > 50, (wrong, before, [server.log()[-600:] for server in servers])
             for server in servers:
                 server.stop()

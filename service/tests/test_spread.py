@@ -620,4 +620,4 @@ def test_settings_of_sharing():
 
 
 def test_faults():
-    return run(int(os.environ.get("RELKVANU_SPREAD", "60")))
+    return run(int(os.environ.get("RELKVANU_SPREAD", "30")))

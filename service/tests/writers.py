@@ -95,10 +95,11 @@ class NamedWriter(Writer):
 
     def __init__(self, urls, job, number):
         super().__init__(urls, job, number)
-        self.session = None
+        self.session, self.turns = None, 7 * number
 
     def turn(self):
-        return self.send([restore()]) if self.random.random() < 0.03 else super().turn()
+        self.turns += 1
+        return self.send([restore()]) if self.turns % 20 == 0 else super().turn()
 
     def files(self, count):
         while True:
@@ -189,5 +190,5 @@ def check(writers, service, job, shape, archive=None):
         check_made(writer.made, log, seen)
     if state["names"]:
         names, term = check_names(log)
-        assert names > 0 and term > 1, "the writers did next to nothing"
+        assert names > 0 and term > 1, f"the writers did next to nothing: {names} names, term {term}, {len(log)} calls"
     return len(seen), len(log), harness.check_log(service.job(job).state(), shape, log)

@@ -120,15 +120,9 @@ impl Reader for LiteReader {
         self.all(sql, params![job, signed(after), signed(upto)])
     }
 
-    fn sizes(
-        &mut self,
-        _shards: Shards,
-        after: Option<(i64, u64)>,
-        most: u32,
-    ) -> Result<Vec<(i64, FileBytes)>, DbError> {
+    fn sizes(&mut self, _: Shards, after: (i64, i64), most: u32) -> Result<Vec<(i64, FileBytes)>, DbError> {
         let sql = "select job, file, bytes from size where (job, file) > (?, ?) order by job, file limit ?";
-        let (job, file) = after.map_or((i64::MIN, i64::MIN), |(job, file)| (job, file as i64));
-        self.all(sql, params![job, file, most])
+        self.all(sql, params![after.0, after.1, most])
     }
 
     fn gone(&mut self) -> Result<Vec<(i64, u64)>, DbError> {

@@ -147,18 +147,12 @@ impl Reader for PgReader {
         self.all(sql, &[&job.to_string(), &signed(after), &signed(upto)])
     }
 
-    fn sizes(
-        &mut self,
-        shards: Shards,
-        after: Option<(i64, u64)>,
-        most: u32,
-    ) -> Result<Vec<(i64, FileBytes)>, DbError> {
+    fn sizes(&mut self, shards: Shards, after: (i64, i64), most: u32) -> Result<Vec<(i64, FileBytes)>, DbError> {
         let sql = format!(
             "select job, file, bytes from size where (job, file) > ($2::bigint, $3::bigint) and {OF_SHARDS}
             order by job, file limit $4::bigint"
         );
-        let (job, file) = after.map_or((i64::MIN, i64::MIN), |(job, file)| (job, file as i64));
-        self.all(&sql, &[&shards.bits().to_string(), &job.to_string(), &file.to_string(), &most.to_string()])
+        self.all(&sql, &[&shards.bits().to_string(), &after.0.to_string(), &after.1.to_string(), &most.to_string()])
     }
 
     fn gone(&mut self) -> Result<Vec<(i64, u64)>, DbError> {

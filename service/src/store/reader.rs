@@ -48,10 +48,9 @@ pub trait Reader: Send {
     /// What acknowledgements said of sizes, of the calls after `after` up to `upto`, in order.
     fn said(&mut self, job: i64, after: u64, upto: u64) -> Result<Vec<AckBytes>, DbError>;
 
-    /// The bytes of files of the jobs of shards, after the file `after` of a job, at most `most`, in order. A database whose only process
-    /// has all shards gives those of all jobs.
-    fn sizes(&mut self, shards: Shards, after: Option<(i64, u64)>, most: u32)
-        -> Result<Vec<(i64, FileBytes)>, DbError>;
+    /// The bytes of files of the jobs of shards, after a job and the number of its file, which a database keeps with a sign; at most `most`, in
+    /// order. A database whose only process has all shards gives those of all jobs.
+    fn sizes(&mut self, shards: Shards, after: (i64, i64), most: u32) -> Result<Vec<(i64, FileBytes)>, DbError>;
 
     /// The numbers of jobs that were deleted, and 1 if nothing is left of it.
     fn gone(&mut self) -> Result<Vec<(i64, u64)>, DbError>;

@@ -57,7 +57,7 @@ impl Reader for Memory {
     fn said(&mut self, _: i64, after: u64, upto: u64) -> Result<Vec<AckBytes>, DbError> {
         Ok(self.said.iter().filter(|one| one.seq > after && one.seq <= upto).cloned().collect())
     }
-    fn sizes(&mut self, _: Shards, _: Option<(i64, u64)>, _: u32) -> Result<Vec<(i64, FileBytes)>, DbError> {
+    fn sizes(&mut self, _: Shards, _: (i64, i64), _: u32) -> Result<Vec<(i64, FileBytes)>, DbError> {
         Ok(vec![])
     }
     fn gone(&mut self) -> Result<Vec<(i64, u64)>, DbError> {

@@ -197,14 +197,12 @@ impl Jobs {
 
     /// Reads the bytes of files that the database has.
     fn take_sizes(&mut self, reader: &mut dyn Reader, beat: Beat) -> Result<(), StartError> {
-        let (mut sizes, mut after) = (HashMap::<i64, Vec<FileBytes>>::new(), None);
+        let (mut sizes, mut after) = (HashMap::<i64, Vec<FileBytes>>::new(), (i64::MIN, i64::MIN));
         loop {
             beat()?;
             let page = reader.sizes(self.shards, after, PAGE)?;
-            after = page.last().map(|(job, (file, _))| (*job, *file));
-            if after.is_none() {
-                break;
-            }
+            let Some((job, (file, _))) = page.last() else { break };
+            after = (*job, *file as i64);
             for (job, size) in page {
                 sizes.entry(job).or_default().push(size);
             }
