@@ -27,8 +27,7 @@ static void *loaded(void *library, const char *name) {
     return function;
 }
 
-static struct functions functions_of(const char *path) {
-    void *library = dlopen(path, RTLD_NOW | RTLD_LOCAL);
+static struct functions functions_of(void *library) {
     CHECK(library != NULL);
     CHECK(dlsym(library, "proved_relkvanu_ack") == NULL);
     return (struct functions){FUNCTIONS(LOADED)};
@@ -78,12 +77,14 @@ static void try_texts(const struct functions *lib, void *none) {
 }
 
 int main(int argc, char **argv) {
-    struct functions linked = {FUNCTIONS(ADDRESS)}, lib = argc > 1 ? functions_of(argv[1]) : linked;
+    void *library = argc > 1 ? dlopen(argv[1], RTLD_NOW | RTLD_LOCAL) : NULL;
+    struct functions linked = {FUNCTIONS(ADDRESS)}, lib = argc > 1 ? functions_of(library) : linked;
     void *pointers[] = {NULL, (void *)1};
     for (size_t place = 0; place < 2; place++) {
         try_calls(&lib, pointers[place]);
         try_names(&lib, pointers[place]);
         try_texts(&lib, pointers[place]);
     }
+    CHECK(argc == 1 || dlclose(library) == 0);
     return 0;
 }
