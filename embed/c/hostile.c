@@ -126,16 +126,15 @@ static void run(const struct numbers *files, const struct secrets *secrets) {
     relkvanu_close(&job);
 }
 
-/* The least processor time of this many runs, in seconds. */
-static double cost(const struct numbers *files, const struct secrets *secrets, int runs) {
-    double best = 0;
-    for (int turn = 0; turn < runs; turn++) {
-        clock_t before = clock();
-        run(files, secrets);
-        double used = (double)(clock() - before) / CLOCKS_PER_SEC;
-        best = turn == 0 || used < best ? used : best;
-    }
-    return best;
+/* The processor time of a run, in seconds. */
+static double cost(const struct numbers *files, const struct secrets *secrets) {
+    clock_t before = clock();
+    run(files, secrets);
+    return (double)(clock() - before) / CLOCKS_PER_SEC;
+}
+
+static double lesser(double one, double other) {
+    return one < other ? one : other;
 }
 
 int main(int count, char **paths) {
@@ -155,8 +154,12 @@ int main(int count, char **paths) {
     struct secrets known_at_opening = secret, known_at_images = secret;
     memset(known_at_opening.opening, 0, sizeof known_at_opening.opening);
     memset(known_at_images.saved, 0, sizeof known_at_images.saved);
-    double plain = cost(&others, &secret, RUNS), hidden = cost(&chosen, &secret, RUNS);
-    double at_opening = cost(&chosen, &known_at_opening, 1), at_images = cost(&chosen, &known_at_images, 1);
+    double plain = cost(&others, &secret), hidden = cost(&chosen, &secret);
+    for (int turn = 1; turn < RUNS; turn++) { /* in turn, so that other programs are beside both */
+        plain = lesser(plain, cost(&others, &secret));
+        hidden = lesser(hidden, cost(&chosen, &secret));
+    }
+    double at_opening = cost(&chosen, &known_at_opening), at_images = cost(&chosen, &known_at_images);
     printf("hostile: %zu files, seconds: %.3f of others, %.3f of numbers that meet; under words that are 0 %.3f at the opening, %.3f at "
            "images\n",
         chosen.len, plain, hidden, at_opening, at_images);

@@ -55,6 +55,10 @@ def free_port():
         return port
 
 
+# How many times as long a busy machine may take.
+BUSY = 8
+
+
 class Server:
     """A service in a folder of its own, or over the database of another one. Most tests are of engines that number their files themselves;
     with `names` a new job gives them out, as by default."""
@@ -88,7 +92,7 @@ class Server:
 
     def wait_ready(self, seconds=30, kept=False):
         """Waits until it answers. It may end meanwhile if somebody starts it again."""
-        until = time.monotonic() + seconds
+        until = time.monotonic() + BUSY * seconds
         while time.monotonic() < until:
             if self.process.poll() is not None and not kept:
                 raise AssertionError(f"the service ended with {self.process.returncode}: {self.log()[-600:]}")
@@ -353,8 +357,9 @@ class PgArchive:
 
 
 def until(said, seconds=20, each=0.05, told=lambda: ""):
-    """Waits until `said()` is true, and returns it. If it does not come to be, the error says what `told()` returns."""
-    end = time.monotonic() + seconds
+    """Waits until `said()` is true, and returns it. If it does not come to be in so many seconds of an idle machine, the error says what `told()`
+    returns. A test of how long something takes compares the time itself."""
+    end = time.monotonic() + BUSY * seconds
     while time.monotonic() < end:
         if found := said():
             return found
