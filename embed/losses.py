@@ -146,7 +146,8 @@ class LogJob:
         assert not back, f"files {back} were reported as deleted, and are there"
         ran = self.run(folder, *(["new"] if log is None else []))
         complete = [int(one or other) for one, other in lost_jobs.COMPLETE.findall(ran.stdout)]
-        assert ran.returncode == 0 and complete and complete[0] > told, ran.stdout.decode()
+        is_told_again = complete[:1] == [last] or last == 0  # a start tells of the last record of its log once more
+        assert ran.returncode == 0 and complete and is_told_again and complete[-1] > last, ran.stdout.decode()
         assert {it.name for it in folder.iterdir()} == {"log", str(complete[-1])}, list(folder.iterdir())
 
     def lost(self):
