@@ -6,7 +6,7 @@ from contextlib import contextmanager
 
 from harness import Archive, PgArchive, Server, configured, folder, until
 from relkvanu_service import Service
-from writers import SETTINGS, NamedWriter, Writer, check
+from writers import SETTINGS, NamedWriter, Writer, check, end
 
 JOBS = ["orders", "users"]
 SETTINGS = {**SETTINGS, "interval": 15}
@@ -26,11 +26,7 @@ def writers_at(urls, told, archive=None, names=False):
         writer.start()
     yield writers
     time.sleep(0.3)
-    for writer in writers:
-        writer.over.set()
-    for writer in writers:
-        writer.join(90)
-        assert not writer.is_alive(), "a writer hangs"
+    end(writers)
     found = [check(writers, service, job, SHAPE, archive) for job in JOBS]
     acknowledged, logged = sum(one[0] for one in found), sum(one[1] for one in found)
     oracle = sum(one[2] or 0 for one in found)

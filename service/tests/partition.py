@@ -12,7 +12,7 @@ from harness import PgArchive, Server, configured, folder, free_port, kept, unti
 from postgres import postgres
 from preloaded import Clocks
 from relkvanu_service import Service
-from writers import SETTINGS, NamedWriter, Writer, check
+from writers import SETTINGS, NamedWriter, Writer, check, end
 
 JOBS = ["orders", "users"]
 SETTINGS = {**SETTINGS, "interval": 25, "timeout": 3000}
@@ -141,21 +141,19 @@ class Faults:
         return self.chance.randrange(len(self.servers))
 
     def go_on(self, clients, seconds):
-        """Faults for so many seconds, and until each kind was made and each of these clients has made some calls. They end once all is whole
-        again."""
-        end = time.monotonic() + seconds
-        while time.monotonic() < end or 0 in self.made.values() or min(len(client.made) for client in clients) < LEAST:
-            assert time.monotonic() < end + BUSY, [len(client.made) for client in clients]
+        """Starts these clients, and makes faults for so many seconds, and until each kind was made and each client has made some calls. They end
+        once all is whole again."""
+        for client in clients:
+            client.start()
+        deadline = time.monotonic() + seconds
+        while time.monotonic() < deadline or 0 in self.made.values() or min(len(client.made) for client in clients) < LEAST:
+            assert time.monotonic() < deadline + BUSY, [len(client.made) for client in clients]
             self.next()
             time.sleep(self.chance.uniform(0.3, 3))
             errors = [client.errors for client in clients if client.errors]
             assert not errors, errors
         time.sleep(5)
-        for client in clients:
-            client.over.set()
-        for client in clients:
-            client.join(90)
-            assert not client.is_alive(), "a client hangs"
+        end(clients)
 
     def said(self):
         return ", ".join(f"{count} {fault}" for fault, count in self.made.items())
@@ -226,8 +224,6 @@ def run(seconds, seed=1):
         clients = [(Client, NamedClient)[number % 2](addresses, JOBS[number % 2], number, floor) for number in range(10)]
         faults = FaultsOfTwo(chance, database, servers, lines, clocks)
         with kept(*servers) as ended:
-            for client in clients:
-                client.start()
             faults.go_on(clients, seconds)
             found = [check(clients, service, job, SHAPE, archive) for job in JOBS]
         for server in servers:

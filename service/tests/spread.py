@@ -148,8 +148,6 @@ def run(seconds, count=3, seed=1):
             answers.listen(client, client.name_of_job)
         faults = FaultsOfMany(chance, database, servers, lines, clocks)
         with kept(*servers) as ended:
-            for client in clients:
-                client.start()
             faults.go_on(clients, seconds)
             found = [check(clients, service, job, SHAPE, archive) for job in JOBS]
             epochs = answers.check(database)

@@ -161,16 +161,22 @@ def test_a_name_that_another_process_took():
         return f"one is open; the answers were {' and '.join(map(str, sorted(told)))}"
 
 
+def with_clocks(at, database, ahead):
+    """Two processes that share the jobs. The clock of the second one is so many seconds ahead."""
+    clocks = Clocks(at)
+    clocks.set(day=ahead)
+    servers = [member(at, database.url), member(at, database.url, prefix=clocks.prefix)]
+    for server in servers:
+        server.start()
+    even(servers)
+    return servers
+
+
 def test_one_that_stands_by_beside_those_that_share():
     """A process that does not share follows the logs of two that do, with clocks that differ. It leads once they are gone, and has all jobs and
     all calls."""
     with postgres() as database, folder() as at:
-        clocks = Clocks(at)
-        clocks.set(day=60)
-        servers = [member(at, database.url), member(at, database.url, prefix=clocks.prefix)]
-        for server in servers:
-            server.start()
-        even(servers)
+        servers = with_clocks(at, database, 60)
         opened(servers[1:], 3)
         alone = Server(at, database.url, configured(at, CONFIG)).stand_by()
         # the jobs that the first one opens have lower numbers, and the moments of their calls are earlier
@@ -213,12 +219,7 @@ def test_a_clock_that_is_ahead():
     """A process gets a job from one whose clock is an hour ahead. That job's moments go on from its log, and slowly come near. No record of another
     job expires."""
     with postgres() as database, folder() as at:
-        clocks = Clocks(at)
-        clocks.set(day=3600)
-        servers = [member(at, database.url), member(at, database.url, prefix=clocks.prefix)]
-        for server in servers:
-            server.start()
-        even(servers)
+        servers = with_clocks(at, database, 3600)
         for server, name in zip(servers, ("here", "ahead")):
             service = Service(server.url)
             service.open(name, {**SETTINGS, "timeout": 600_000}, [1]).call(savepoint())

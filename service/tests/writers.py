@@ -89,6 +89,15 @@ class Writer(threading.Thread):
             self.send([deleted(file) if self.random.random() < 0.8 else undeleted(file) for file in files])
 
 
+def end(writers):
+    """Ends these writers, each after the call that it makes."""
+    for writer in writers:
+        writer.over.set()
+    for writer in writers:
+        writer.join(90)
+        assert not writer.is_alive(), "a writer hangs"
+
+
 class NamedWriter(Writer):
     """The same of a job that gives out names. It is also who starts tasks: where its term has ended, by a restore of another writer, it
     begins the next one."""
