@@ -1,19 +1,13 @@
 -- Each subtask of a shape is missing, or one acknowledgement comes from it.
-use Rattle.std.proofs.Common.{◌≡◌, ℕ, ◌+◌, Bool, true, false, ◌||◌, List, [], ◌∷◌, length, refl, sym, ap, ◌∙◌, ⊎_elim, arith}
-use Rattle.std.specs.Prelude.{count_by, not}
+use Rattle.ckpt_answers.proofs.Names.{◌≡◌, ℕ, ◌+◌, Bool, true, false, ◌||◌, List, [], ◌∷◌, length, refl, sym, ap, ◌∙◌, ⊎_elim, arith, count_by, not, cases_Bool, both_ways, length-filter, Acked}
+use Rattle.ckpt_answers.proofs.Names.{Metadata, is_subtask, same_subtask, subtasks, missing, missing_subtasks}
 use Rattle.std.specs.List.{list_any}
-use Rattle.std.proofs.lemmas.Bool.{cases_Bool, both_ways}
-use Rattle.std.proofs.lemmas.List.Sums.{length-filter}
-use Rattle.ckpt_ids.specs.declared.ack.Acked.{Acked}
-use Rattle.ckpt_ids.specs.declared.ack.Metadata.{Metadata}
 use Rattle.ckpt_ids.specs.declared.subtask.SubtaskId.{SubtaskId}
 use Rattle.ckpt_ids.specs.Acknowledged.{acknowledges_before, is_before, AreInSubtaskOrder}
-use Rattle.ckpt_ids.specs.Shapes.{is_subtask, same_subtask, subtasks}
 use Rattle.ckpt_ids.proofs.CountLemmas.{count_by-all, count_by_no, count_by_yes, count_by-same}
 use Rattle.ckpt_ids.proofs.OrderLemmas.{subtasks_in_order, same_subtask-Decides}
 use Rattle.ckpt_ids.proofs.OrderedLemmas.{ComesBefore-at, IsIn-from_list_any}
 use Rattle.ckpt_pending.proofs.SubtaskLemmas.{IsIn-subtasks, IsInOrder-subtasks, count_by_one_more, is_subtask-from_IsIn, same_subtask-itself, same_subtask-other}
-use Rattle.ckpt_answers.specs.MetadataTexts.{missing, missing_subtasks}
 
 abbrev is_acked : List Acked → SubtaskId → Bool
 is_acked acks s = list_any (λ a. same_subtask s a.subtask) acks
@@ -32,7 +26,8 @@ acked_once a acks order = ⊎_elim twice (λ (h : is_acked acks a.subtask ≡ fa
         let later : is_before a.subtask q.0.subtask ≡ true = ComesBefore-at acknowledges_before a q.0 acks order.0 q.1 in
         absurd (both_ways (is_before a.subtask a.subtask) (subtasks_in_order.irreflexive a.subtask) (ap (is_before a.subtask) same ∙ later))
 
-pub acknowledged_and_missing : (shape : List ℕ) (acks : List Acked) → AreInSubtaskOrder acks → count_by (λ a. is_subtask shape a.subtask) acks + count_by (is_missing acks) (subtasks shape) ≡ length (subtasks shape)
+pub acknowledged_and_missing : (shape : List ℕ) (acks : List Acked) → AreInSubtaskOrder acks
+    → count_by (λ a. is_subtask shape a.subtask) acks + count_by (is_missing acks) (subtasks shape) ≡ length (subtasks shape)
 acknowledged_and_missing shape [] order =
     let all : count_by (is_missing []) (subtasks shape) ≡ length (subtasks shape) = count_by-all (is_missing []) (subtasks shape) (λ s h. refl) in
     omega (arith, all)

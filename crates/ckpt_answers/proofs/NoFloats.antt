@@ -1,11 +1,5 @@
 -- The metadata has no float, so its text is known.
-use Rattle.std.specs.Prelude.{◌≡◌, ℕ, false, List, [], ◌∷◌, map, refl}
-use Rattle.ckpt_ids.specs.declared.ack.Acked.{Acked}
-use Rattle.ckpt_ids.specs.declared.ack.Metadata.{Metadata}
-use Rattle.serde_json.specs.Data.{Data}
-use Rattle.serde_json.specs.View.{items_of}
-use Rattle.serde_json.specs.Written.{has_float, items_have_float}
-use Rattle.ckpt_answers.specs.MetadataTexts.{natural, ack_data, metadata_data}
+use Rattle.ckpt_answers.proofs.Names.{◌≡◌, ℕ, false, List, [], ◌∷◌, map, refl, Acked, Metadata, Data, items_of, has_float, items_have_float, natural, ack_data, metadata_data}
 
 -- a list has no float if none of its items has one
 pub no_floats : {X : Type 0} (shown : X → Data) (xs : List X) → ((x : X) → has_float (shown x) ≡ false) → items_have_float (items_of (map shown xs)) ≡ false

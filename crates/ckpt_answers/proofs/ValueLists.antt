@@ -1,12 +1,7 @@
 -- Values that are the data of the first elements of a list.
-use Rattle.std.proofs.Common.{◌≡◌, ◌∙◌, ℕ, ◌+◌, ◌≤◌, List, [], ◌∷◌, ◌++◌, Some, take, length, sym, ap}
-use Rattle.std.specs.Prelude.{slice_get, map}
-use Rattle.std.proofs.lemmas.List.{take_all, map_push}
-use Rattle.serde_json.specs.Data.{Data, array}
-use Rattle.serde_json.specs.View.{view, items_of, items_view}
-use Rattle.serde_json.specs.declared.value.Value.{Value}
-use Rattle.ckpt_answers.specs.MetadataTexts.{list}
+use Rattle.ckpt_answers.proofs.Names.{◌≡◌, ◌∙◌, ℕ, ◌+◌, ◌≤◌, List, [], ◌∷◌, ◌++◌, Some, take, length, sym, ap, slice_get, map, take_all, map_push, Data, array, view, items_of, items_view, list}
 use Rattle.ckpt_answers.proofs.ListLemmas.{map-take-next}
+use Rattle.serde_json.specs.declared.value.Value.{Value}
 
 -- one value more, of the next element
 pub views-next : {X : Type 0} (f : X → Data) (xs : List X) (k : ℕ) (x : X) (old new : List Value) (value : Value)

@@ -4,7 +4,7 @@ ghost use Rattle.ckpt_ids.specs.declared.call.Call.TheVariants as call;
 ghost use Rattle.ckpt_ids.specs.declared.numbers.Kind.TheVariants as kind;
 ghost use Rattle.ckpt_ids.specs.declared.reply.Reply.TheVariants as reply;
 ghost use Rattle.ckpt_model.specs.declared.faults.CoreFault.TheVariants.{Memory};
-ghost use Rattle.ckpt_core.specs.Inside.Completing.{IsMissing, superseded, surplus};
+ghost use Rattle.ckpt_core.specs.Inside.Completing.{IsMissing, superseded_ids, surplus};
 ghost use Rattle.ckpt_core.specs.Inside.Moving.{checkpoint_completed, completion, savepoint_completed, with_checkpoint, without_pending};
 ghost use Rattle.ckpt_core.specs.Inside.Parts.{Answers, AreInUseAlone, AreSound, IsAccepted, Stays};
 ghost use Rattle.ckpt_model.specs.Reads.{present_in};
@@ -108,10 +108,10 @@ impl Parts {
         requires none_ended { self.old.ended.items ≡ [] }
         requires places { length self.old.pending + 1 ≤ vec_capacity self.old.ended }
         requires few { length self.old.pending + 1 < 2 ^ 32 }
-        ensures parts { self.new ≡ checkpoint_completed self.old done (superseded self.old.pending self.old.store done) self.new }
+        ensures parts { self.new ≡ checkpoint_completed self.old done (superseded_ids self.old.pending self.old.store done) self.new }
         ensures none_ended { self.new.ended.items ≡ [] }
         ensures capacity { vec_capacity self.new.ended ≡ vec_capacity self.old.ended }
-        ensures reply { reply.AckCompleted result.0 result.1 ≡ completion self.old done (superseded self.old.pending self.old.store done) }
+        ensures reply { reply.AckCompleted result.0 result.1 ≡ completion self.old done (superseded_ids self.old.pending self.old.store done) }
     {
         let id = done.id();
         self.pending.note_subsumed(id, &mut self.ended);

@@ -1,4 +1,4 @@
-//! Acknowledgements of records that have ended.
+//! Acknowledgements of records that are done or have ended.
 ghost use Rattle.std.specs.Prelude.{◌≡◌, ◌<◌, ◌≤◌, ℕ, not, filter, length, count_by, IfOk, OnOk, OnErr, None, true, false, IfErr};
 ghost use Rattle.ckpt_ids.specs.declared.call.Call.TheVariants as call;
 ghost use Rattle.ckpt_model.specs.declared.faults.CoreFault.TheVariants.{Memory};
@@ -14,7 +14,7 @@ use ckpt_model::CoreFault;
 use std::alloc::AllocError;
 
 impl Parts {
-    /// The record has ended: what is not known of its fresh files waits for deletion.
+    /// The record is done or has ended: what is not known of its fresh files waits for deletion.
     ///
     /// Conditions: the parts are sound, the call is accepted, and no pending record has the number.
     #[inline(never)]

@@ -1,10 +1,11 @@
 //! The pending records, in rising number.
 ghost use Rattle.std.specs.Prelude.{◌≡◌, ℕ, ◌+◌, ◌<◌, ◌≤◌, true, false, not, ◌&&◌, ◌||◌, nat_lt, nat_le, ◌==◌, [], ◌∷◌, ◌++◌, map, filter, find, length, count_by, Some, IfSome, IfNone, OnOk, OnErr, option_copied, option_map, slice_get, vec_capacity, vec_len};
 ghost use Rattle.std.specs.List.{list_any};
-ghost use Rattle.ckpt_core.specs.Inside.PendingRecords.{Expects, acked, retracted};
+ghost use Rattle.ckpt_core.specs.Inside.PendingRecords.{acked, retracted};
 ghost use Rattle.ckpt_core.specs.Inside.RecordFacts.{IsIn, IsInOrder, IsPending, Record, has_acknowledged, id_before, is_checkpoint};
 ghost use Rattle.ckpt_model.specs.Reads.{has_come, live_of};
 ghost use Rattle.ckpt_ids.specs.Places.{LiesAt};
+ghost use Rattle.ckpt_pending.specs.Acknowledging.{Expects};
 ghost use Rattle.ckpt_store.specs.Storing.{has_id, id_of};
 
 use crate::queries::{Live, live_pending};
@@ -123,10 +124,7 @@ impl PendingRecords {
         ensures ok { (id : ℕ) → LiesAt id_of id self.old place → OnOk result (self.new ≡ acked id subtask files self.old) }
         ensures err { OnErr result (self.new ≡ self.old) }
     {
-        match self.records[place].ack(subtask, files) {
-            Ok(()) => Ok(()),
-            Err(_) => Err(AllocError),
-        }
+        self.records[place].ack_expected(subtask, files)
     }
 
     /// Takes back the acknowledgement of a subtask in the record at this place. Takes no memory.

@@ -8,4 +8,9 @@ use Rattle.ckpt_ids.specs.Shapes.{IsShape, is_shape}
 
 pub shape_holds : (shape : List ℕ) → IsShape shape → is_shape shape ≡ true
 shape_holds shape s =
-    rw (le-leb 1 (length shape) s.vertices_from, le-leb (length shape) MOST_VERTICES s.vertices_to, list_all-from_AllPass (nat_le 1) shape (λ k d within. le-leb 1 _ (s.each k d within)), le-leb (sum shape) MOST_SUBTASKS s.size_to) refl
+    rw (
+      le-leb 1 (length shape) s.vertices_from,
+      le-leb (length shape) MOST_VERTICES s.vertices_to,
+      list_all-from_AllPass (nat_le 1) shape (λ k d within. le-leb 1 _ (s.each k d within)),
+      le-leb (sum shape) MOST_SUBTASKS s.size_to,
+    ) refl

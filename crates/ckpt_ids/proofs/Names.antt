@@ -8,9 +8,9 @@ pub use Rattle.ckpt_ids.specs.Shapes.{IsShape, is_subtask, same_subtask, subtask
 pub use Rattle.ckpt_ids.specs.SubtaskOrder.{same_parts}
 pub use Rattle.ckpt_ids.specs.declared.subtask.SubtaskId.{SubtaskId}
 pub use Rattle.std.proofs.Common.{Bool, Err, IfErr, IfOk, IsSome, List, Ok, OnErr, OnOk, OnSome, Option, Ordering, Result, Some, [], ap, arith, cond, drop, eqb, false, get_or, inl, inr, leb, length}
-pub use Rattle.std.proofs.Common.{length-append, ltb, map, not, refl, rules, subst, suc, sum, sym, take, true, zero, ℕ, ⊎_elim, ◌&&◌, ◌++◌, ◌+◌, ◌-◌, ◌<◌, ◌||◌, ◌∙◌, ◌∷◌, ◌≡◌, ◌≤◌, ◌⊎◌}
-pub use Rattle.std.proofs.lemmas.Bool.{MatchBool-at_true, and_cases, and_from, and_parts, and_right, both_ways, cases_Bool, cases_lt, cases_order, cond-false, cond-true, cond_both, eq-eqb, eqb-true}
-pub use Rattle.std.proofs.lemmas.Bool.{le-leb, le-ltb, leb-true, lt-ltb, ltb-false, ltb-true, or_cases, or_from, or_left, or_parts, or_right}
+pub use Rattle.std.proofs.Common.{length-append, ltb, map, not, refl, rules, subst, suc, sum, sym, take, true, zero, ℕ, ◌&&◌, ◌++◌, ◌+◌, ◌-◌, ◌<◌, ◌||◌, ◌∙◌, ◌∷◌, ◌≡◌, ◌≤◌, ◌⊎◌}
+pub use Rattle.std.proofs.lemmas.Bool.{MatchBool-at_true, and_right, both_ways, cases_Bool, cases_lt, cond-false, eq-eqb, eqb-true}
+pub use Rattle.std.proofs.lemmas.Bool.{le-ltb, leb-true, lt-ltb, ltb-false, ltb-true, or_from}
 pub use Rattle.std.proofs.lemmas.Bool.Decides.{Decides-eqb, nat_tests}
 pub use Rattle.std.proofs.lemmas.List.{drop_more, get_or_past, get_or_read_under}
 pub use Rattle.std.proofs.lemmas.List.Filters.{dedup_is}
@@ -30,3 +30,4 @@ pub use Rattle.std.specs.Ordering.{nat_cmp, ordering_index}
 pub use Rattle.std.specs.Prelude.{None, count_by, filter, find, slice_get}
 pub use Rattle.std.specs.Result.{is_err}
 pub use Rattle.std.specs.declared.cmp.Ordering.TheVariants.{Equal, Greater, Less}
+pub use Rattle.std.proofs.lemmas.Grind.{common_steps}

@@ -2,6 +2,7 @@
 pub mod Acknowledged
 pub mod Ascending
 pub mod Configuration
+pub mod ConfigurationValues
 pub mod Counting
 pub mod Ordered
 pub mod Places

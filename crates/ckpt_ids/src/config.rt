@@ -1,7 +1,8 @@
 //! The configuration of a job, within its limits.
 
 ghost use Rattle.std.specs.Prelude.{◌≡◌, ◌↔◌, false, IsErr, IfOk};
-ghost use Rattle.ckpt_ids.specs.Configuration.{Configuration, IsWithinLimits, configured, is_within_limits};
+ghost use Rattle.ckpt_ids.specs.Configuration.{IsWithinLimits, configured, is_within_limits};
+ghost use Rattle.ckpt_ids.specs.ConfigurationValues.{configured_by};
 
 use crate::limits::{
     LEAST_INTERVAL, LONGEST_DURATION, MOST_AT_ONCE, MOST_RETAINED, MOST_TOLERABLE,
@@ -13,6 +14,25 @@ use thiserror::Error;
 #[derive(Clone, Copy, Debug, PartialEq, Eq, Error)]
 #[error("a value of the configuration is outside its limits")]
 pub struct BadConfig;
+
+/// The values of a configuration. They may be outside its limits.
+#[derive(Clone, Copy, Debug, PartialEq, Eq)]
+pub struct ConfigValues {
+    /// Milliseconds between two triggers: 10 to 2^40.
+    pub interval: u64,
+    /// Milliseconds between a completion and the next trigger: 0 to 2^40.
+    pub pause: u64,
+    /// How many checkpoints may be pending at once: 1 to 64.
+    pub at_once: u64,
+    /// Milliseconds after which a pending record expires: 1 to 2^40.
+    pub timeout: u64,
+    /// How many failed checkpoints in a row are tolerated: 0 to 1000.
+    pub tolerable: u64,
+    /// How many completed checkpoints are kept: 1 to 1000.
+    pub retained: u64,
+    /// Whether completed checkpoints are kept when the job is cancelled.
+    pub keep_on_cancel: bool,
+}
 
 /// How a job takes checkpoints.
 ///
@@ -75,6 +95,31 @@ impl Config {
         ensures refused { IsErr result ↔ (is_within_limits (configured interval pause at_once timeout tolerable retained keep_on_cancel) ≡ false) }
         ensures value { IfOk result (λ config. config ≡ configured interval pause at_once timeout tolerable retained keep_on_cancel) }
     {
+        Config::of(ConfigValues {
+            interval,
+            pause,
+            at_once,
+            timeout,
+            tolerable,
+            retained,
+            keep_on_cancel,
+        })
+    }
+
+    /// As [`Config::new`], of values that have names.
+    pub fn of(values: ConfigValues) -> Result<Config, BadConfig>
+        ensures refused { IsErr result ↔ (is_within_limits (configured_by values) ≡ false) }
+        ensures value { IfOk result (λ config. config ≡ configured_by values) }
+    {
+        let ConfigValues {
+            interval,
+            pause,
+            at_once,
+            timeout,
+            tolerable,
+            retained,
+            keep_on_cancel,
+        } = values;
         let good = LEAST_INTERVAL <= interval
             && interval <= LONGEST_DURATION
             && pause <= LONGEST_DURATION

@@ -22,7 +22,7 @@ pub mod subtask;
 
 pub use ack::{Acked, Acks, Metadata};
 pub use call::{Call, Target};
-pub use config::{BadConfig, Config};
+pub use config::{BadConfig, Config, ConfigValues};
 pub use files::Files;
 pub use handed::Handed;
 pub use limits::{

@@ -1,12 +1,8 @@
 -- Acknowledgements in which the subtask of each comes before that of the next.
-use Rattle.std.proofs.Common.{◌≡◌, ℕ, zero, suc, ◌<◌, Bool, true, false, ◌&&◌, List, [], ◌∷◌, length, get_or, refl, sym, ap, subst, arith, add-one}
+use Rattle.ckpt_image.proofs.Names.{◌≡◌, ℕ, zero, suc, ◌<◌, Bool, true, false, ◌&&◌, List, [], ◌∷◌, length, get_or, refl, sym, ap, subst, arith, add-one, and_from, and_parts, and_right, Acked}
+use Rattle.ckpt_image.proofs.Names.{AreInSubtaskOrder, acknowledges_before, ComesBefore-at, ComesBefore-from, are_in_subtask_order}
 use Rattle.std.specs.List.{IsAllAdjacentAnswer}
-use Rattle.std.proofs.lemmas.Bool.{and_from, and_parts, and_right}
-use Rattle.ckpt_ids.specs.declared.ack.Acked.{Acked}
-use Rattle.ckpt_ids.specs.Acknowledged.{AreInSubtaskOrder, acknowledges_before}
 use Rattle.ckpt_ids.proofs.OrderLemmas.{subtasks_in_order}
-use Rattle.ckpt_ids.proofs.OrderedLemmas.{ComesBefore-at, ComesBefore-from}
-use Rattle.ckpt_image.specs.Members.{are_in_subtask_order}
 
 pub in_order-from_test : (acks : List Acked) → are_in_subtask_order acks ≡ true → AreInSubtaskOrder acks
 in_order-from_test [] h = tt
@@ -33,6 +29,5 @@ test-from_adjacent acks true h =
     passes acks (λ k d l. let At : ℕ → Type 0 = λ n. true ≡ acknowledges_before (get_or acks k d) (get_or acks n d) in subst At (add-one k) (h k d (omega arith)))
 test-from_adjacent [] false h = absurd (omega (arith, h.1))
 test-from_adjacent (a ∷ acks) false h =
-    let k : ℕ = h.0 in
-    let At : ℕ → Type 0 = λ n. false ≡ acknowledges_before (get_or (a ∷ acks) k a) (get_or (a ∷ acks) n a) in
+    let k : ℕ = h.0 in let At : ℕ → Type 0 = λ n. false ≡ acknowledges_before (get_or (a ∷ acks) k a) (get_or (a ∷ acks) n a) in
     fails (a ∷ acks) k a (omega (arith, h.1)) (subst At (add-one k) (h.2 a))

@@ -1,10 +1,5 @@
 -- A list that is read item by item: what was read, and what is left.
-use Rattle.std.proofs.Common.{ℕ, List, ◌++◌, drop, Option}
-use Rattle.std.specs.Option.{option_map}
-use Rattle.serde_json.specs.Data.{Data}
-use Rattle.serde_json.specs.View.{items_view}
-use Rattle.serde_json.specs.declared.value.Value.{Value}
-use Rattle.ckpt_image.specs.Members.{each}
+use Rattle.ckpt_image.proofs.Names.{ℕ, List, ◌++◌, drop, Option, option_map, Data, items_view, Value, each}
 
 -- with these at the start
 abbrev pub with_front : {X : Type 0} → List X → Option (List X) → Option (List X)

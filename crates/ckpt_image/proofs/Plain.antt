@@ -1,17 +1,8 @@
 -- The JSON of a state has no float, so its text is known. It is not deep, so it is read.
-use Rattle.std.proofs.Common.{◌≡◌, ℕ, suc, ◌≤◌, false, List, [], ◌∷◌, map, refl, arith, None, Some, Option}
-use Rattle.std.specs.Prelude.{max}
-use Rattle.ckpt_ids.specs.declared.ack.Acked.{Acked}
-use Rattle.ckpt_ids.specs.Configuration.{Configuration}
-use Rattle.ckpt_ids.specs.Records.{Record}
-use Rattle.ckpt_model.specs.State.{Opening, State}
+use Rattle.ckpt_image.proofs.Names.{◌≡◌, ℕ, suc, ◌≤◌, false, List, [], ◌∷◌, map, refl, arith, None, Some, Option, max, Acked, Configuration, Record, Opening, State, members, natural, Data, null}
+use Rattle.ckpt_image.proofs.Names.{boolean, number, string, array, object, Members, member, no_members, depth, items_depth, members_depth, max_depth, items_of, has_float, ack_data, clock_data}
+use Rattle.ckpt_image.proofs.Names.{config_data, image_data, image_members, naturals, opening_data, optional, outbox_data, record_data}
 use Rattle.ckpt_answers.proofs.NoFloats.{no_floats, numbers}
-use Rattle.ckpt_answers.specs.MetadataTexts.{members, natural}
-use Rattle.serde_json.specs.Data.{Data, null, boolean, number, string, array, object, Members, member, no_members, depth, items_depth, members_depth}
-use Rattle.serde_json.specs.Read.{max_depth}
-use Rattle.serde_json.specs.View.{items_of}
-use Rattle.serde_json.specs.Written.{has_float}
-use Rattle.ckpt_image.specs.Written.{ack_data, clock_data, config_data, image_data, image_members, naturals, opening_data, optional, outbox_data, record_data}
 
 -- ---- no float
 
@@ -79,6 +70,9 @@ members_in (object ms) = ms
 deeper : (a k : ℕ) → a ≤ k → suc a ≤ suc k
 deeper a k h = omega arith
 
+object_depth : (k : ℕ) (ms : Members) → Reach k ms → depth (object ms) ≤ suc k
+object_depth k ms h = deeper (members_depth ms) k (shallow_members k ms h)
+
 list_depth : (ns : List ℕ) (k : ℕ) → depth (naturals ns) ≤ suc k
 list_depth ns k = deeper (items_depth (items_of (map natural ns))) k (shallow_items k natural ns (λ n. omega arith))
 
@@ -91,35 +85,59 @@ optional_depth (Some n) k = none_deep k
 
 ack_depth : (a : Acked) → depth (ack_data a) ≤ 2
 unfolding ack_data
-ack_depth a = deeper (members_depth (members_in (ack_data a))) 1 (shallow_members 1 (members_in (ack_data a)) (list_depth a.files 0, (none_deep 1, (none_deep 1, tt))))
+ack_depth a = object_depth 1 (members_in (ack_data a)) (list_depth a.files 0, (none_deep 1, (none_deep 1, tt)))
 
 record_depth : (r : Record) → depth (record_data r) ≤ 4
 unfolding record_data
 record_depth r =
-    deeper (members_depth (members_in (record_data r))) 3 (shallow_members 3 (members_in (record_data r)) (deeper (items_depth (items_of (map ack_data r.acks))) 2 (shallow_items 2 ack_data r.acks ack_depth), (none_deep 3, (none_deep 3, (list_depth r.pins 2, (list_depth r.shape 2, (none_deep 3, (none_deep 3, tt))))))))
+    object_depth 3 (members_in (record_data r)) (
+      deeper (items_depth (items_of (map ack_data r.acks))) 2 (shallow_items 2 ack_data r.acks ack_depth),
+      (none_deep 3, (none_deep 3, (list_depth r.pins 2, (list_depth r.shape 2, (none_deep 3, (none_deep 3, tt)))))),
+    )
 
 config_depth : (c : Configuration) → depth (config_data c) ≤ 5
 unfolding config_data
-config_depth c = deeper (members_depth (members_in (config_data c))) 4 (shallow_members 4 (members_in (config_data c)) (none_deep 4, (none_deep 4, (none_deep 4, (none_deep 4, (none_deep 4, (none_deep 4, (none_deep 4, tt))))))))
+config_depth c = object_depth 4 (members_in (config_data c)) (none_deep 4, (none_deep 4, (none_deep 4, (none_deep 4, (none_deep 4, (none_deep 4, (none_deep 4, tt)))))))
 
 opening_depth : (o : Opening) → depth (opening_data o) ≤ 6
 unfolding opening_data
-opening_depth o = deeper (members_depth (members_in (opening_data o))) 5 (shallow_members 5 (members_in (opening_data o)) (config_depth o.config, (none_deep 5, (list_depth o.shape 4, (none_deep 5, tt)))))
+opening_depth o = object_depth 5 (members_in (opening_data o)) (config_depth o.config, (none_deep 5, (list_depth o.shape 4, (none_deep 5, tt))))
 
 clock_depth : (m : State) → depth (clock_data m) ≤ 6
 unfolding clock_data
-clock_depth m = deeper (members_depth (members_in (clock_data m))) 5 (shallow_members 5 (members_in (clock_data m)) (optional_depth m.completed 5, (none_deep 5, (none_deep 5, tt))))
+clock_depth m = object_depth 5 (members_in (clock_data m)) (optional_depth m.completed 5, (none_deep 5, (none_deep 5, tt)))
 
 outbox_depth : (m : State) → depth (outbox_data m) ≤ 6
 unfolding outbox_data
-outbox_depth m = deeper (members_depth (members_in (outbox_data m))) 5 (shallow_members 5 (members_in (outbox_data m)) (list_depth m.taken 4, (list_depth m.waiting 4, tt)))
+outbox_depth m = object_depth 5 (members_in (outbox_data m)) (list_depth m.taken 4, (list_depth m.waiting 4, tt))
 
 records_depth : (rs : List Record) → items_depth (items_of (map record_data rs)) ≤ 5
 records_depth rs = shallow_items 5 record_data rs (λ r. let four : depth (record_data r) ≤ 4 = record_depth r in omega arith)
 
 pub image_depth : (format : ℕ) (m : State) → depth (object (members (image_members format m))) ≤ 7
 image_depth format m =
-    deeper (members_depth (members (image_members format m))) 6 (shallow_members 6 (members (image_members format m)) (optional_depth m.base 6, (clock_depth m, (none_deep 6, (none_deep 6, (none_deep 6, (opening_depth m.opening, (outbox_depth m, (deeper (items_depth (items_of (map record_data m.records))) 5 (records_depth m.records), (list_depth m.shape 5, (none_deep 6, tt)))))))))))
+    object_depth 6 (members (image_members format m)) (
+      optional_depth m.base 6,
+      (
+        clock_depth m,
+        (
+          none_deep 6,
+          (
+            none_deep 6,
+            (
+              none_deep 6,
+              (
+                opening_depth m.opening,
+                (
+                  outbox_depth m,
+                  (deeper (items_depth (items_of (map record_data m.records))) 5 (records_depth m.records), (list_depth m.shape 5, (none_deep 6, tt))),
+                ),
+              ),
+            ),
+          ),
+        ),
+      ),
+    )
 
 pub image_is_shallow : (m : State) → depth (image_data m) ≤ max_depth
 unfolding image_data

@@ -1,30 +1,18 @@
 -- The text that is written for a state is read as that state.
-use Rattle.std.proofs.Common.{◌≡◌, ℕ, ◌<◌, ◌^◌, Bool, true, false, List, [], ◌∷◌, map, refl, sym, ap, ◌∙◌, inl, inr, Some, None, Option}
-use Rattle.std.specs.Prelude.{nat_lt, option_and_then}
-use Rattle.std.specs.Option.{option_map}
-use Rattle.std.proofs.lemmas.Bool.{le-leb, lt-ltb}
-use Rattle.ckpt_ids.specs.declared.ack.Acked.{Acked}
+use Rattle.ckpt_image.proofs.Names.{◌≡◌, ℕ, ◌<◌, ◌^◌, Bool, true, false, List, [], ◌∷◌, map, refl, sym, ap, ◌∙◌, inl, inr, Some, None, Option, nat_lt, option_and_then, option_map, le-leb, lt-ltb}
+use Rattle.ckpt_image.proofs.Names.{Acked, AreInSubtaskOrder, Configuration, IsWithinLimits, is_within_limits, IsIn, Record, Opening, State, kind_name, list, members, natural, state_name, Data}
+use Rattle.ckpt_image.proofs.Names.{object, string, items_of, AckFits, Fits, RecordFits, image_of, image_of_any_version, ack_of, acks_of, are_in_subtask_order, clock_of, config_of, each, files_of}
+use Rattle.ckpt_image.proofs.Names.{kind_of, list_of, mode_of, number_below, number_of, only, opening_of, optional_of, outbox_of, saved_of, shape_of, state_of, version_of, ack_data, clock_data}
+use Rattle.ckpt_image.proofs.Names.{config_data, image_data, image_members, mode_name, naturals, opening_data, optional, outbox_data, record_data}
 use Rattle.ckpt_ids.specs.declared.limits.TheConstants.{LEAST_INTERVAL, LONGEST_DURATION, MOST_AT_ONCE, MOST_RETAINED, MOST_TOLERABLE}
 use Rattle.ckpt_ids.specs.declared.numbers.Kind.{Kind}
 use Rattle.ckpt_ids.specs.declared.numbers.Kind.TheVariants.{Checkpoint, Savepoint}
-use Rattle.ckpt_ids.specs.Acknowledged.{AreInSubtaskOrder}
 use Rattle.ckpt_ids.specs.Ascending.{IsAscending, ascending}
-use Rattle.ckpt_ids.specs.Configuration.{Configuration, IsWithinLimits, is_within_limits}
-use Rattle.ckpt_ids.specs.Ordered.{IsIn}
-use Rattle.ckpt_ids.specs.Records.{Record}
 use Rattle.ckpt_ids.specs.Shapes.{IsShape, is_shape}
 use Rattle.ckpt_ids.proofs.AscendingLemmas.{ascending_already}
 use Rattle.ckpt_ids.proofs.LimitLemmas.{shape_holds}
 use Rattle.ckpt_model.specs.declared.mode.Mode.{Mode}
 use Rattle.ckpt_model.specs.declared.mode.Mode.TheVariants.{Running, Failed, Cancelled}
-use Rattle.ckpt_model.specs.State.{Opening, State}
-use Rattle.ckpt_answers.specs.MetadataTexts.{kind_name, list, members, natural, state_name}
-use Rattle.serde_json.specs.Data.{Data, object, string}
-use Rattle.serde_json.specs.View.{items_of}
-use Rattle.ckpt_image.specs.Fits.{AckFits, Fits, RecordFits}
-use Rattle.ckpt_image.specs.Images.{image_of, image_of_any_version}
-use Rattle.ckpt_image.specs.Members.{ack_of, acks_of, are_in_subtask_order, clock_of, config_of, each, files_of, kind_of, list_of, mode_of, number_below, number_of, only, opening_of, optional_of, outbox_of, saved_of, shape_of, state_of, version_of}
-use Rattle.ckpt_image.specs.Written.{ack_data, clock_data, config_data, image_data, image_members, mode_name, naturals, opening_data, optional, outbox_data, record_data}
 
 -- ---- values
 

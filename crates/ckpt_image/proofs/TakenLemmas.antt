@@ -1,11 +1,6 @@
 -- A fact about the first elements of a list and about the next holds for one element more.
-use Rattle.std.proofs.Common.{◌≡◌, ℕ, ◌+◌, ◌<◌, ◌≤◌, List, [], ◌∷◌, ◌++◌, take, length, get_or, map, sym, ap, subst, ◌∙◌, ⊎_elim, inl, inr}
-use Rattle.std.proofs.lemmas.List.{map_push, take_all, take_more}
-use Rattle.ckpt_ids.specs.Ordered.{IsIn}
-use Rattle.ckpt_ids.proofs.OrderedLemmas.{IsIn-append_cases}
-use Rattle.serde_json.specs.Data.{Data}
-use Rattle.serde_json.specs.View.{view}
-use Rattle.serde_json.specs.declared.value.Value.{Value}
+use Rattle.ckpt_image.proofs.Names.{◌≡◌, ℕ, ◌+◌, ◌<◌, ◌≤◌, List, [], ◌∷◌, ◌++◌, take, length, get_or, map, sym, ap, subst, ◌∙◌, ⊎_elim, inl, inr, map_push, take_all, take_more, IsIn}
+use Rattle.ckpt_image.proofs.Names.{IsIn-append_cases, Data, view, Value}
 
 pub each-more : {X : Type 0} (P : X → Type 0) (xs : List X) (k : ℕ) (x : X) → k < length xs → x ≡ get_or xs k x → ((y : X) → IsIn y (take k xs) → P y) → P x → (y : X) → IsIn y (take (k + 1) xs) → P y
 each-more {X} P xs k x within here before next y h =

@@ -1,7 +1,6 @@
 -- What a text with a keyword and a space at its start says.
-use Rattle.ckpt_lines.proofs.Names.{◌≡◌, ℕ, List, ◌∷◌, ◌++◌, Option, Some, None, ap, ◌∙◌, refl, IfNone, Keyword, Tick, Savepoint, Ack, Dispose}
-use Rattle.ckpt_lines.proofs.Names.{Take, Deleted, Undeleted, Count, spelling, BeginsWith, BeginsWithNone, is_long, is_recognized, words_of, common_steps}
-use Rattle.ckpt_lines.proofs.Names.{arith}
+use Rattle.ckpt_lines.proofs.Names.{◌≡◌, ℕ, List, ◌∷◌, ◌++◌, Option, Some, None, ap, ◌∙◌, refl, IfNone, Keyword, Tick, Savepoint, Ack, Dispose, Take, Deleted, Undeleted, Count, spelling, BeginsWith}
+use Rattle.ckpt_lines.proofs.Names.{BeginsWithNone, is_long, is_recognized, words_of, common_steps, arith}
 
 -- the keyword is the first word
 spelled : (first : Keyword) (rest : List ℕ) → words_of (spelling first ++ 32 ∷ rest) ≡ spelling first ∷ words_of rest

@@ -6,7 +6,8 @@ pub files_fail : (words : List (List ℕ)) (why : LineFault) → each file_word 
 unfolding file_places
 files_fail words why failed = rw failed refl
 
-pub files_are : (words : List (List ℕ)) (done : List FileWord) → each file_word words ≡ Ok done → file_places words ≡ Ok (ascending (filter_map fresh_file done), ascending (filter_map reused_file done))
+pub files_are : (words : List (List ℕ)) (done : List FileWord) → each file_word words ≡ Ok done
+    → file_places words ≡ Ok (ascending (filter_map fresh_file done), ascending (filter_map reused_file done))
 unfolding file_places
 files_are words done all = rw all refl
 
@@ -54,6 +55,5 @@ bad_file (word ∷ words) why is = by (file_word word) refl
     by : (read : Result FileWord LineFault) → file_word word ≡ read → (w : List ℕ) × (rest : List (List ℕ)) × (word ∷ words ≡ w ∷ rest) × (file_word w ≡ Err why)
     by (Ok found) e = let no : ◌≡◌ {A = Result Read LineFault} (Ok (Some found, words)) (Err why) = rw e at is in absurd (cc)
     by (Err other) e =
-        let same : ◌≡◌ {A = Result Read LineFault} (Err other) (Err why) = rw e at is in
-        let one : other ≡ why = cc in
+        let same : ◌≡◌ {A = Result Read LineFault} (Err other) (Err why) = rw e at is in let one : other ≡ why = cc in
         (word, words, refl, e ∙ ap (λ (w : LineFault). Err w) one)

@@ -1,11 +1,11 @@
 -- The number at a text's start, byte by byte.
-use Rattle.ckpt_lines.proofs.Names.{◌≡◌, ℕ, zero, suc, add-suc, add-zero, pow-suc, ◌+◌, ◌-◌, ◌*◌, ◌^◌, ◌<◌, ◌≤◌, ◌==◌, Bool, true, false, ltb, if◌then◌else◌, Result, sym, List, []}
-use Rattle.ckpt_lines.proofs.Names.{◌∷◌, length, take, drop, get_or, Option, Some, None, Ok, Err, refl, ap, ◌∙◌, arith, ltb-true, option_map, nat_tests, get_or-take, length-take-le}
-use Rattle.ckpt_lines.proofs.Names.{take_all, passes_at_first, fails_before_first, prefix_len-le-length, LineFault, FileWord, Fresh, Reused, file_place, number_place, file_word, is_fresh, number_of}
-use Rattle.ckpt_lines.proofs.Names.{signed, with_digit, begins_with_space, first_length, is_space, words_of, common_steps}
-use Rattle.ckpt_lines.specs.declared.fault.LineFault.TheVariants as fault
+use Rattle.ckpt_lines.proofs.Names.{◌≡◌, ℕ, zero, suc, add-suc, add-zero, pow-suc, ◌+◌, ◌-◌, ◌*◌, ◌^◌, ◌<◌, ◌≤◌, ◌==◌, Bool, true, false, ltb, if◌then◌else◌, Result, sym, List, [], ◌∷◌, length}
+use Rattle.ckpt_lines.proofs.Names.{take, drop, get_or, Option, Some, None, Ok, Err, refl, ap, ◌∙◌, arith, ltb-true, option_map, nat_tests, get_or-take, length-take-le, take_all, passes_at_first}
+use Rattle.ckpt_lines.proofs.Names.{fails_before_first, prefix_len-le-length, LineFault, FileWord, Fresh, Reused, file_place, number_place, file_word, is_fresh, number_of, signed, with_digit}
+use Rattle.ckpt_lines.proofs.Names.{begins_with_space, first_length, is_space, words_of, common_steps}
 use Rattle.ckpt_lines.proofs.NumberLemmas.{Spells, Spells-all, Spells-more, Spells-none}
 use Rattle.ckpt_lines.proofs.WordSplits.{one_more, words_of-split}
+use Rattle.ckpt_lines.specs.declared.fault.LineFault.TheVariants as fault
 
 abbrev first : List ℕ → List ℕ
 first text = take (first_length text) text
@@ -39,7 +39,8 @@ inside text place within there other = by (ltb place (first_length text)) refl
 digit_of : (text : List ℕ) (place number : ℕ) → place < first_length text → with_digit number (get_or (first text) place 0) ≡ with_digit number (get_or text place 0)
 digit_of text place number inside = ap (with_digit number) (get_or-take (first_length text) text place 0 inside)
 
-pub Reads-more : (text : List ℕ) (place number next : ℕ) → place < length text → is_space (get_or text place 0) ≡ false → Reads text place number → with_digit number (get_or text place 0) ≡ Some next → Reads text (place + 1) next
+pub Reads-more : (text : List ℕ) (place number next : ℕ) → place < length text → is_space (get_or text place 0) ≡ false → Reads text place number
+    → with_digit number (get_or text place 0) ≡ Some next → Reads text (place + 1) next
 Reads-more text place number next there other reads is =
     let within : place < first_length text = inside text place reads.within there other in
     record {
@@ -57,8 +58,7 @@ ten_below k (suc gap) =
 -- nineteen digits are never too large a number
 nineteen : (k : ℕ) → k ≤ 19 → 10 ^ k < 2 ^ 64
 nineteen k few =
-    let below : 10 ^ k ≤ 10 ^ (k + (19 - k)) = ten_below k (19 - k) in
-    let same : k + (19 - k) ≡ 19 = omega arith in
+    let below : 10 ^ k ≤ 10 ^ (k + (19 - k)) = ten_below k (19 - k) in let same : k + (19 - k) ≡ 19 = omega arith in
     let most : 10 ^ k ≤ 10 ^ 19 = rw same at below in
     omega arith
 
@@ -83,7 +83,8 @@ Short-fits text place number digit few short small =
 with_digit-of : (number byte digit : ℕ) → digit ≤ 9 → byte ≡ 48 + digit → number * 10 + digit < 2 ^ 64 → with_digit number byte ≡ Some (number * 10 + digit)
 with_digit-of number byte digit small is fits = grind (arith, common_steps)
 
-pub Short-more : (text : List ℕ) (place number digit : ℕ) → place < length text → place < 19 → Short text place number → digit ≤ 9 → get_or text place 0 ≡ 48 + digit → Short text (place + 1) (number * 10 + digit)
+pub Short-more : (text : List ℕ) (place number digit : ℕ) → place < length text → place < 19 → Short text place number → digit ≤ 9 → get_or text place 0 ≡ 48 + digit
+    → Short text (place + 1) (number * 10 + digit)
 Short-more text place number digit there few short small is =
     let fits : number * 10 + digit < 2 ^ 64 = Short-fits text place number digit few short small in
     let other : is_space (get_or text place 0) ≡ false = other_byte (get_or text place 0) (λ space. omega (arith, is, space)) in
@@ -137,7 +138,8 @@ answer-None text is = by (number_of (first text)) refl
     by None e = e
 
 -- the place of a number, by the number at the text's start
-pub number_at-Some : (text : List ℕ) (number place : ℕ) → 0 < length text → begins_with_space text ≡ false → Some (number, place) ≡ answer text → number_place (words_of text) ≡ Ok (number, words_of (drop place text))
+pub number_at-Some : (text : List ℕ) (number place : ℕ) → 0 < length text → begins_with_space text ≡ false → Some (number, place) ≡ answer text
+    → number_place (words_of text) ≡ Ok (number, words_of (drop place text))
 unfolding number_place
 number_at-Some text number place some start is =
     let spelled = answer-Some text number place is in
@@ -164,7 +166,8 @@ after_sign-cons sign digits = take_all (suc (length digits) - 1) digits (omega a
 -- a file word is its sign and the first word of what follows
 sign_split : (sign : ℕ) (digits : List ℕ) → is_space sign ≡ false → words_of (sign ∷ digits) ≡ (sign ∷ first digits) ∷ words_of (drop (first_length digits) digits)
 sign_split sign digits other =
-    let split : words_of (sign ∷ digits) ≡ take (first_length (sign ∷ digits)) (sign ∷ digits) ∷ words_of (drop (first_length (sign ∷ digits)) (sign ∷ digits)) = words_of-split (sign ∷ digits) (omega arith) other in
+    let split : words_of (sign ∷ digits) ≡ take (first_length (sign ∷ digits)) (sign ∷ digits) ∷ words_of (drop (first_length (sign ∷ digits)) (sign ∷ digits)) =
+    words_of-split (sign ∷ digits) (omega arith) other in
     let more : first_length (sign ∷ digits) ≡ 1 + first_length digits = rw other refl in
     split ∙ rw (more, (one_more (first_length digits) sign digits).0, (one_more (first_length digits) sign digits).1) refl
 
@@ -174,8 +177,7 @@ signed_word sign word fresh is = by (sign == 43) refl (sign == 61) refl
   where
     by : (plus : Bool) → (sign == 43) ≡ plus → (equals : Bool) → (sign == 61) ≡ equals → file_word (sign ∷ word) ≡ signed (signed_file fresh) (number_of word)
     by true e equals f =
-        let same : ◌≡◌ {A = Result Bool LineFault} (Ok fresh) (Ok true) = is ∙ rw e refl in
-        let value : fresh ≡ true = cc in
+        let same : ◌≡◌ {A = Result Bool LineFault} (Ok fresh) (Ok true) = is ∙ rw e refl in let value : fresh ≡ true = cc in
         rw (e, value) refl
     by false e true f =
         let same : ◌≡◌ {A = Result Bool LineFault} (Ok fresh) (Ok false) = is ∙ rw (e, f) refl in
@@ -185,7 +187,8 @@ signed_word sign word fresh is = by (sign == 43) refl (sign == 61) refl
         let same : ◌≡◌ {A = Result Bool LineFault} (Ok fresh) (Err fault.Word) = is ∙ rw (e, f) refl in
         absurd (cc)
 
-pub file_at-Some : (text : List ℕ) (number place : ℕ) (fresh : Bool) → 0 < length text → begins_with_space text ≡ false → Ok fresh ≡ is_fresh (get_or text 0 0) → Some (number, place) ≡ answer (after_sign text)
+pub file_at-Some : (text : List ℕ) (number place : ℕ) (fresh : Bool) → 0 < length text → begins_with_space text ≡ false → Ok fresh ≡ is_fresh (get_or text 0 0)
+    → Some (number, place) ≡ answer (after_sign text)
     → file_place (words_of text) ≡ Ok (Some (signed_file fresh number), words_of (drop place (after_sign text)))
 unfolding file_place
 file_at-Some [] number place fresh some start is found = absurd (omega (arith, some))
@@ -194,7 +197,8 @@ file_at-Some (sign ∷ digits) number place fresh some start is found =
     let spelled = answer-Some digits number place read in
     rw (after_sign-cons sign digits, sign_split sign digits start, signed_word sign (first digits) fresh is, spelled.0, spelled.1) refl
 
-pub file_at-None : (text : List ℕ) (fresh : Bool) → 0 < length text → begins_with_space text ≡ false → Ok fresh ≡ is_fresh (get_or text 0 0) → None ≡ answer (after_sign text) → file_place (words_of text) ≡ Err fault.Number
+pub file_at-None : (text : List ℕ) (fresh : Bool) → 0 < length text → begins_with_space text ≡ false → Ok fresh ≡ is_fresh (get_or text 0 0) → None ≡ answer (after_sign text)
+    → file_place (words_of text) ≡ Err fault.Number
 unfolding file_place
 file_at-None [] fresh some start is found = absurd (omega (arith, some))
 file_at-None (sign ∷ digits) fresh some start is found =

@@ -1,6 +1,5 @@
 -- What the first word says, once it is spelled as a keyword.
-use Rattle.ckpt_lines.proofs.Names.{◌≡◌, false, List, ℕ, ◌∷◌, Some, refl, Keyword}
-use Rattle.ckpt_lines.proofs.Names.{keyword_of, spelling, takes_memory, begins_with_a_list, is_comment, line_of, row, common_steps, arith}
+use Rattle.ckpt_lines.proofs.Names.{◌≡◌, false, List, ℕ, ◌∷◌, Some, refl, Keyword, keyword_of, spelling, takes_memory, begins_with_a_list, is_comment, line_of, row, common_steps, arith}
 
 -- the spelling of a keyword is read as that keyword, and not as a comment
 pub found : (first : Keyword) → (keyword_of (spelling first) ≡ Some first) × (is_comment (spelling first) ≡ false)

@@ -1,16 +1,8 @@
 -- A text of words with one space between two is read as these words.
-use Rattle.std.proofs.Common.{◌≡◌, ℕ, zero, suc, ◌-◌, ◌<◌, ◌≤◌, true, false, ◌&&◌, ltb, List, [], ◌∷◌, ◌++◌, length, filter, refl, sym, ap, subst, ◌∙◌, arith, append_assoc, append-nil, ltb-true}
-use Rattle.std.specs.Prelude.{map, flat_map, slice_index, ◌==◌}
-use Rattle.std.specs.List.{list_all, slice_split}
-use Rattle.std.specs.Str.Lines.{strip_carriage_return}
-use Rattle.std.proofs.lemmas.Bool.{and_parts, le-ltb}
-use Rattle.std.proofs.lemmas.Bool.Decides.{nat_tests}
-use Rattle.std.specs.List.{All}
-use Rattle.std.proofs.lemmas.List.Elements.{All-nil, All-head, All-tail, All-cons}
+use Rattle.ckpt_lines.proofs.Names.{◌≡◌, ℕ, zero, suc, ◌-◌, ◌<◌, ◌≤◌, true, false, ◌&&◌, ltb, List, [], ◌∷◌, ◌++◌, length, filter, refl, sym, ap, subst, ◌∙◌, arith, append_assoc, append-nil}
+use Rattle.ckpt_lines.proofs.Names.{ltb-true, map, flat_map, slice_index, ◌==◌, list_all, slice_split, strip_carriage_return, and_parts, le-ltb, nat_tests, All, All-nil, All-head, All-tail}
+use Rattle.ckpt_lines.proofs.Names.{All-cons, LONGEST_LINE, reading, line_of, is_space, is_word, words_of}
 use Rattle.std.proofs.lemmas.List.Splits.{slice_split_at, slice_split_none}
-use Rattle.ckpt_lines.specs.declared.limits.TheConstants.{LONGEST_LINE}
-use Rattle.ckpt_lines.specs.Reading.{reading, line_of}
-use Rattle.ckpt_lines.specs.Words.{is_space, is_word, words_of}
 
 -- each element, by recursion
 abbrev pub Each : {X : Type 0} → (X → Type 0) → List X → Type 0
@@ -66,7 +58,8 @@ last word plain = (ap (filter is_word) (slice_split_none is_space word (to_all (
 
 pub next : (word rest : List ℕ) (words : List (List ℕ)) → IsPlain word → IsWritten rest words → IsWritten (word ++ 32 ∷ rest) (word ∷ words)
 next word rest words plain written =
-    let split : words_of (word ++ 32 ∷ rest) ≡ word ∷ words_of rest = ap (filter is_word) (slice_split_at is_space word 32 rest (to_all (λ b. is_space b ≡ false) word (not_space word plain.0)) refl) ∙ kept word (slice_split is_space rest) plain.1 in
+    let split : words_of (word ++ 32 ∷ rest) ≡ word ∷ words_of rest =
+    ap (filter is_word) (slice_split_at is_space word 32 rest (to_all (λ b. is_space b ≡ false) word (not_space word plain.0)) refl) ∙ kept word (slice_split is_space rest) plain.1 in
     let space : 13 < 32 = omega arith in
     (split ∙ ap (λ (ws : List (List ℕ)). word ∷ ws) written.0, each_append (λ b. 13 < b) word (32 ∷ rest) (no_return word plain.0) (space, written.1))
 

@@ -1,7 +1,7 @@
 -- A number is read digit by digit.
 use Rattle.ckpt_lines.proofs.Names.{◌≡◌, ℕ, ◌+◌, ◌-◌, ◌*◌, ◌^◌, ◌<◌, ◌≤◌, Bool, true, false, ◌&&◌, cond, ltb, List, [], ◌∷◌, length, take, get_or, Option, Some, None, refl, sym, ap, ◌∙◌, arith}
-use Rattle.ckpt_lines.proofs.Names.{lt-ltb, ltb-true, zero, suc, is_ascii_digit, digit_value, all_ascii_digits, digits_value, and_parts, and_from, nat_tests, digits_value_more}
-use Rattle.ckpt_lines.proofs.Names.{digits_value-take-le, is_number, number_of, with_digit, common_steps}
+use Rattle.ckpt_lines.proofs.Names.{lt-ltb, ltb-true, zero, suc, is_ascii_digit, digit_value, all_ascii_digits, digits_value, and_parts, and_from, nat_tests, digits_value_more, digits_value-take-le}
+use Rattle.ckpt_lines.proofs.Names.{is_number, number_of, with_digit, common_steps}
 
 -- this many bytes from the start are digits, and spell the number
 pub record Spells (word : List ℕ) (place number : ℕ) : Type 0 where
@@ -42,7 +42,8 @@ Spells-more word i number next within spells is = by (takes number (get_or word 
   where
     by : (b : Bool) → takes number (get_or word i 0) ≡ b → Spells word (i + 1) next
     by true e =
-        let parts : (is_ascii_digit (get_or word i 0) ≡ true) × (ltb (more number (get_or word i 0)) (2 ^ 64) ≡ true) = and_parts (is_ascii_digit (get_or word i 0)) (ltb (more number (get_or word i 0)) (2 ^ 64)) e in
+        let parts : (is_ascii_digit (get_or word i 0) ≡ true) × (ltb (more number (get_or word i 0)) (2 ^ 64) ≡ true) =
+        and_parts (is_ascii_digit (get_or word i 0)) (ltb (more number (get_or word i 0)) (2 ^ 64)) e in
         let small : more number (get_or word i 0) < 2 ^ 64 = ltb-true (more number (get_or word i 0)) (2 ^ 64) parts.1 in
         let some : Some (more number (get_or word i 0)) ≡ Some next = ap (λ b. cond b (Some (more number (get_or word i 0))) None) (sym e) ∙ is in
         let same : more number (get_or word i 0) ≡ next = cc in
@@ -77,7 +78,8 @@ Spells-stops word i number within spells is = no_number word (λ all.
     let value : more number (get_or word i 0) ≡ digits_value 10 (take (i + 1) word) = value_more word i number within spells digit in
     let bound : digits_value 10 (take (i + 1) word) ≤ digits_value 10 word = digits_value-take-le 10 word (i + 1) (omega arith) in
     let fits : digits_value 10 word < 2 ^ 64 = all.2 in
-    let taken : takes number (get_or word i 0) ≡ true = and_from (is_ascii_digit (get_or word i 0)) (ltb (more number (get_or word i 0)) (2 ^ 64)) digit (lt-ltb (more number (get_or word i 0)) (2 ^ 64) (omega (arith, value))) in
+    let taken : takes number (get_or word i 0) ≡ true =
+    and_from (is_ascii_digit (get_or word i 0)) (ltb (more number (get_or word i 0)) (2 ^ 64)) digit (lt-ltb (more number (get_or word i 0)) (2 ^ 64) (omega (arith, value))) in
     let some : ◌≡◌ {A = Option ℕ} (Some (more number (get_or word i 0))) None = ap (λ b. cond b (Some (more number (get_or word i 0))) None) (sym taken) ∙ is in
     absurd cc)
 

@@ -1,23 +1,13 @@
 -- The words of numbers, subtasks and files, and what they are read as.
-use Rattle.std.proofs.Common.{◌≡◌, ℕ, suc, ◌+◌, ◌^◌, ◌<◌, true, false, eqb, List, [], ◌∷◌, ◌++◌, length, take, drop, Some, Ok, refl, ap, ◌∙◌, arith, lt-ltb}
-use Rattle.std.specs.Prelude.{map, codes, decimal}
-use Rattle.std.specs.List.{filter_map, position_or_len}
-use Rattle.std.specs.Char.{is_ascii_digit}
-use Rattle.std.specs.Str.{all_ascii_digits, bytes_eq}
-use Rattle.std.specs.Str.Parse.{digits_value}
-use Rattle.std.proofs.lemmas.Bool.{and_parts}
-use Rattle.std.proofs.lemmas.Bool.Decides.{nat_tests}
-use Rattle.std.proofs.lemmas.Fmt.{digits_decimal, digits_value-decimal, decimal_nonempty}
-use Rattle.std.proofs.lemmas.Str.Parse.{IsNumeralModel, numerals_by_value, tells_all_ascii_digits}
-use Rattle.ckpt_ids.specs.declared.subtask.SubtaskId.{SubtaskId}
-use Rattle.ckpt_ids.specs.declared.call.Target.TheVariants as target
-use Rattle.ckpt_ids.specs.Ascending.{IsAscending, ascending}
-use Rattle.ckpt_ids.proofs.AscendingLemmas.{same_from_times, times-ascending, IsAscending-ascending}
-use Rattle.ckpt_lines.specs.declared.values.FileWord.TheVariants.{Fresh, Reused}
-use Rattle.ckpt_lines.specs.Reading.{number_place, subtask_place, target_place, each, file_places}
-use Rattle.ckpt_lines.specs.Values.{is_dot, number, number_of, part_of, subtask_of, target_of, file_word, fresh_file, reused_file}
-use Rattle.ckpt_lines.specs.CallTexts.{Fits, FitsSubtask}
+use Rattle.ckpt_lines.proofs.Names.{◌≡◌, add-one, length-append, ℕ, suc, ◌+◌, ◌^◌, ◌<◌, true, false, eqb, List, [], ◌∷◌, ◌++◌, length, take, drop, Some, Ok, refl, ap, ◌∙◌, arith, lt-ltb, map}
+use Rattle.ckpt_lines.proofs.Names.{codes, decimal, filter_map}
+use Rattle.ckpt_lines.proofs.Names.{position_or_len, is_ascii_digit, all_ascii_digits, bytes_eq, digits_value, and_parts, nat_tests, IsNumeralModel, numerals_by_value, tells_all_ascii_digits}
+use Rattle.ckpt_lines.proofs.Names.{SubtaskId, IsAscending, ascending, Fresh, Reused, number_place, subtask_place, target_place, each, file_places, is_dot, number, number_of, part_of, subtask_of}
+use Rattle.ckpt_lines.proofs.Names.{target_of, file_word, fresh_file, reused_file, Fits, FitsSubtask}
 use Rattle.ckpt_lines.proofs.LineLemmas.{IsPlain, Each, each_append}
+use Rattle.std.proofs.lemmas.Fmt.{digits_decimal, digits_value-decimal, decimal_nonempty}
+use Rattle.ckpt_ids.specs.declared.call.Target.TheVariants as target
+use Rattle.ckpt_ids.proofs.AscendingLemmas.{same_from_times, times-ascending, IsAscending-ascending}
 
 own : IsNumeralModel (λ ds. all_ascii_digits ds ≡ true) (digits_value 10)
 own = numerals_by_value (λ ds. all_ascii_digits ds ≡ true) tells_all_ascii_digits
@@ -61,21 +51,15 @@ subtask_word s = decimal s.vertex ++ 46 ∷ decimal s.index
 
 pub plain_subtask : (s : SubtaskId) → FitsSubtask s → IsPlain (subtask_word s)
 plain_subtask s fits =
-    let vertex : Fits s.vertex = omega (arith, fits.0) in
-    let index : Fits s.index = omega (arith, fits.1) in
+    let vertex : Fits s.vertex = omega (arith, fits.0) in let index : Fits s.index = omega (arith, fits.1) in
     let dot : 32 < 46 = omega arith in
-    (each_append (λ b. 32 < b) (decimal s.vertex) (46 ∷ decimal s.index) (plain_number s.vertex vertex).0 (dot, (plain_number s.index index).0), some (decimal s.vertex) (decimal s.index))
-  where
-    some : (xs ys : List ℕ) → 0 < length (xs ++ 46 ∷ ys)
-    some [] ys = omega arith
-    some (x ∷ xs) ys = omega arith
+    (each_append (λ b. 32 < b) (decimal s.vertex) (46 ∷ decimal s.index) (plain_number s.vertex vertex).0 (dot, (plain_number s.index index).0), simp length-append (omega arith))
 
 dot_at : (ds rest : List ℕ) → all_ascii_digits ds ≡ true → position_or_len is_dot (ds ++ 46 ∷ rest) ≡ length ds
 dot_at [] rest e = refl
 dot_at (d ∷ ds) rest e =
     let parts : (is_ascii_digit d ≡ true) × (all_ascii_digits ds ≡ true) = and_parts _ _ e in
-    let first : is_ascii_digit d ≡ true = parts.0 in
-    let other : is_dot d ≡ false = grind (arith, nat_tests) in
+    let first : is_ascii_digit d ≡ true = parts.0 in let other : is_dot d ≡ false = grind (arith, nat_tests) in
     let more : 1 + length ds ≡ suc (length ds) = omega arith in
     rw (other, dot_at ds rest parts.1) more
 
@@ -88,10 +72,7 @@ drop_front [] y ys = refl
 drop_front (x ∷ xs) y ys = drop_front xs y ys
 
 after_dot : (xs : List ℕ) (y : ℕ) (ys : List ℕ) → drop (length xs + 1) (xs ++ y ∷ ys) ≡ ys
-after_dot xs y ys = ap (λ (k : ℕ). drop k (xs ++ y ∷ ys)) (more (length xs)) ∙ drop_front xs y ys
-  where
-    more : (n : ℕ) → n + 1 ≡ suc n
-    more n = omega arith
+after_dot xs y ys = rw add-one (drop_front xs y ys)
 
 pub subtask_of-word : (s : SubtaskId) → FitsSubtask s → subtask_of (subtask_word s) ≡ Some s
 unfolding subtask_of
@@ -107,8 +88,7 @@ subtask_place-word s words fits = rw (subtask_of-word s fits) refl
 not_latest : (ds : List ℕ) → all_ascii_digits ds ≡ true → bytes_eq ds (codes "latest") ≡ false
 not_latest [] e = refl
 not_latest (d ∷ ds) e =
-    let first : is_ascii_digit d ≡ true = (and_parts _ _ e).0 in
-    let other : eqb d 108 ≡ false = grind (arith, nat_tests) in
+    let first : is_ascii_digit d ≡ true = (and_parts _ _ e).0 in let other : eqb d 108 ≡ false = grind (arith, nat_tests) in
     rw other refl
 
 pub target_place-decimal : (id : ℕ) (words : List (List ℕ)) → Fits id → target_place (decimal id ∷ words) ≡ Ok (target.Savepoint id, words)

@@ -1,27 +1,22 @@
 -- The line of each call is read as that call.
-use Rattle.std.proofs.Common.{◌≡◌, ℕ, ◌<◌, Bool, true, false, List, [], ◌∷◌, ◌++◌, Option, Some, None, Ok, refl, sym, ap, subst, ◌∙◌, arith, append_assoc}
-use Rattle.std.specs.Prelude.{All, map, flat_map, codes, decimal}
-use Rattle.ckpt_ids.specs.declared.subtask.SubtaskId.{SubtaskId}
+use Rattle.ckpt_lines.proofs.Names.{◌≡◌, ℕ, ◌<◌, Bool, true, false, List, [], ◌∷◌, ◌++◌, Option, Some, None, Ok, refl, sym, ap, subst, ◌∙◌, arith, append_assoc, All, map, flat_map, codes, decimal}
+use Rattle.ckpt_lines.proofs.Names.{SubtaskId, IsAscending, Line, Keyword, keyword_of, spelling, line_of, row, number_call, number_line, only_number, start_line, job_line, ack_line, decline_line}
+use Rattle.ckpt_lines.proofs.Names.{restore_line, restoring, config_line, retention_place, target_place, ended, spaced, call_text, triggers_text, limits_text, subtask_text, files_text, config_text}
+use Rattle.ckpt_lines.proofs.Names.{line_of_config, job_text, start_text, retention_text, parallelisms, Fits, FitsSubtask, FitsShape, FitsCall, IsReadAs}
+use Rattle.ckpt_lines.proofs.KeywordLemmas.{found}
+use Rattle.ckpt_lines.proofs.LineLemmas.{Each, from_all, IsPlain, IsWritten, last, next, each_next, each_before, plain_by, reading-written}
+use Rattle.ckpt_lines.proofs.NumberWords.{subtask_word, plain_number, plain_numbers, plain_subtask, plain_files, number_place-decimal, subtask_place-word, target_place-decimal, target_place-latest}
+use Rattle.ckpt_lines.proofs.NumberWords.{each-numbers, file_places-words}
 use Rattle.ckpt_ids.specs.declared.call.Target.{Target}
 use Rattle.ckpt_ids.specs.declared.call.Target.TheVariants as target
 use Rattle.ckpt_ids.specs.declared.call.Call.{Call}
 use Rattle.ckpt_ids.specs.declared.call.Call.TheVariants as call
-use Rattle.ckpt_ids.specs.Ascending.{IsAscending}
 use Rattle.ckpt_ids.specs.Shapes.{IsShape}
 use Rattle.ckpt_ids.specs.Configuration.{Configuration, IsWithinLimits}
 use Rattle.ckpt_ids.proofs.LimitLemmas.{shape_holds}
-use Rattle.ckpt_lines.specs.declared.line.Line.{Line}
 use Rattle.ckpt_lines.specs.declared.line.Line.TheVariants as line
-use Rattle.ckpt_lines.specs.declared.keyword.Keyword.{Keyword}
 use Rattle.ckpt_lines.specs.declared.keyword.Keyword.TheVariants as keyword
-use Rattle.ckpt_lines.specs.Keywords.{keyword_of, spelling}
-use Rattle.ckpt_lines.specs.Reading.{line_of, row, number_call, number_line, only_number, start_line, job_line, ack_line, decline_line, restore_line, restoring, config_line, retention_place, target_place, ended}
-use Rattle.ckpt_answers.specs.Texts.{spaced}
 use Rattle.ckpt_answers.specs.MetadataTexts.{subtask_bytes}
-use Rattle.ckpt_lines.specs.CallTexts.{call_text, triggers_text, limits_text, subtask_text, files_text, config_text, line_of_config, job_text, start_text, retention_text, parallelisms, Fits, FitsSubtask, FitsShape, FitsCall, IsReadAs}
-use Rattle.ckpt_lines.proofs.KeywordLemmas.{found}
-use Rattle.ckpt_lines.proofs.LineLemmas.{Each, from_all, IsPlain, IsWritten, last, next, each_next, each_before, plain_by, reading-written}
-use Rattle.ckpt_lines.proofs.NumberWords.{subtask_word, plain_number, plain_numbers, plain_subtask, plain_files, number_place-decimal, subtask_place-word, target_place-decimal, target_place-latest, each-numbers, file_places-words}
 
 -- The text has words that are read as this line.
 pub record Says (read : Line) (text : List ℕ) : Type 0 where
@@ -53,7 +48,8 @@ unfolding line_of keyword_of row start_line start_text
 says_start now fits = read_as _ _ _ (one (codes "start") now (plain_by (codes "start") refl) fits) (rw (only now fits) refl)
 
 -- a call of one number is read as its keyword says
-numbered : (first : Keyword) (n : ℕ) → IsPlain (spelling first) → Fits n → row first (decimal n ∷ []) ≡ number_line first (decimal n ∷ []) → Says (line.Call (number_call first n)) (spelling first ++ 32 ∷ decimal n)
+numbered : (first : Keyword) (n : ℕ) → IsPlain (spelling first) → Fits n → row first (decimal n ∷ []) ≡ number_line first (decimal n ∷ [])
+    → Says (line.Call (number_call first n)) (spelling first ++ 32 ∷ decimal n)
 unfolding line_of number_line
 numbered first n plain fits is = read_as _ _ _ (one (spelling first) n plain fits) (rw ((found first).0, (found first).1, is, only n fits) refl)
 
@@ -61,36 +57,31 @@ numbered first n plain fits is = read_as _ _ _ (one (spelling first) n plain fit
 two : (word : List ℕ) (m n : ℕ) (rest : List ℕ) (words : List (List ℕ)) → IsPlain word → Fits m → Fits n → IsWritten rest words
     → IsWritten (word ++ 32 ∷ (decimal m ++ 32 ∷ (decimal n ++ 32 ∷ rest))) (word ∷ decimal m ∷ decimal n ∷ words)
 two word m n rest words plain fits fits' written =
-    let inner : IsWritten (decimal n ++ 32 ∷ rest) (decimal n ∷ words) = next (decimal n) rest words (plain_number n fits') written in
-    let middle : IsWritten (decimal m ++ 32 ∷ (decimal n ++ 32 ∷ rest)) (decimal m ∷ decimal n ∷ words) = next (decimal m) _ _ (plain_number m fits) inner in
-    next word _ _ plain middle
+    next word _ _ plain (next (decimal m) _ _ (plain_number m fits) (next (decimal n) rest words (plain_number n fits') written))
 
-pub decline : (now id : ℕ) (s : SubtaskId) → Fits now → Fits id → FitsSubtask s → Says (line.Call (call.Decline now id s)) (codes "decline" ++ 32 ∷ (decimal now ++ 32 ∷ (decimal id ++ 32 ∷ subtask_word s)))
+pub decline : (now id : ℕ) (s : SubtaskId) → Fits now → Fits id → FitsSubtask s
+    → Says (line.Call (call.Decline now id s)) (codes "decline" ++ 32 ∷ (decimal now ++ 32 ∷ (decimal id ++ 32 ∷ subtask_word s)))
 unfolding line_of keyword_of row decline_line ended
 decline now id s now_fits id_fits s_fits =
-    let sub : IsWritten (subtask_word s) (subtask_word s ∷ []) = last (subtask_word s) (plain_subtask s s_fits) in
-    let plain : IsPlain (codes "decline") = plain_by (codes "decline") refl in
-    read_as _ (codes "decline" ∷ decimal now ∷ decimal id ∷ subtask_word s ∷ []) _ (two (codes "decline") now id (subtask_word s) _ plain now_fits id_fits sub)
-    (rw (number_place-decimal now (decimal id ∷ subtask_word s ∷ []) now_fits, number_place-decimal id (subtask_word s ∷ []) id_fits, subtask_place-word s [] s_fits) refl)
+    read_as _ _ _ (two (codes "decline") now id (subtask_word s) _ (plain_by (codes "decline") refl) now_fits id_fits (last (subtask_word s) (plain_subtask s s_fits)))
+    (rw (number_place-decimal, number_place-decimal, subtask_place-word s [] s_fits) refl)
 
 pub ack : (now id : ℕ) (s : SubtaskId) (fresh reused : List ℕ) → Fits now → Fits id → FitsSubtask s → Each Fits fresh → Each Fits reused → IsAscending fresh → IsAscending reused
-    → Says (line.Call (call.Ack now id s fresh reused)) (codes "ack" ++ 32 ∷ (decimal now ++ 32 ∷ (decimal id ++ 32 ∷ (subtask_word s ++ (flat_map (λ f. 32 ∷ 43 ∷ decimal f) fresh ++ flat_map (λ f. 32 ∷ 61 ∷ decimal f) reused)))))
+    → Says (line.Call (call.Ack now id s fresh reused)) (codes "ack" ++ 32 ∷ (decimal now ++ 32 ∷ (decimal id ++ 32 ∷ (subtask_word s ++ files_text fresh reused))))
 unfolding line_of keyword_of row ack_line
 ack now id s fresh reused now_fits id_fits s_fits fresh_fit reused_fit order order' =
-    let plus : 32 < 43 = omega arith in
-    let equals : 32 < 61 = omega arith in
+    let plus : 32 < 43 = omega arith in let equals : 32 < 61 = omega arith in
     let words : List (List ℕ) = map (λ f. 43 ∷ decimal f) fresh ++ map (λ f. 61 ∷ decimal f) reused in
-    let files : IsWritten (subtask_word s ++ (flat_map (λ f. 32 ∷ 43 ∷ decimal f) fresh ++ flat_map (λ f. 32 ∷ 61 ∷ decimal f) reused)) (subtask_word s ∷ words) =
-    each_before (λ f. 43 ∷ decimal f) (subtask_word s) (flat_map (λ f. 32 ∷ 61 ∷ decimal f) reused) (map (λ f. 61 ∷ decimal f) reused) fresh (plain_subtask s s_fits) (plain_files 43 fresh plus fresh_fit)
+    let files : IsWritten (subtask_word s ++ files_text fresh reused) (subtask_word s ∷ words) =
+    each_before (λ f. 43 ∷ decimal f) (subtask_word s) _ _ fresh (plain_subtask s s_fits) (plain_files 43 fresh plus fresh_fit)
     (λ w plain. each_next (λ f. 61 ∷ decimal f) w reused plain (plain_files 61 reused equals reused_fit)) in
     read_as _ (codes "ack" ∷ decimal now ∷ decimal id ∷ subtask_word s ∷ words) _ (two (codes "ack") now id _ _ (plain_by (codes "ack") refl) now_fits id_fits files)
-    (rw (number_place-decimal now (decimal id ∷ subtask_word s ∷ words) now_fits, number_place-decimal id (subtask_word s ∷ words) id_fits, subtask_place-word s words s_fits, file_places-words fresh reused fresh_fit reused_fit order order') refl)
+    (rw (number_place-decimal, number_place-decimal, subtask_place-word s words s_fits, file_places-words fresh reused fresh_fit reused_fit order order') refl)
 
 restore_rest : (now : ℕ) (word : List ℕ) (shape : List ℕ) → Fits now → IsPlain word → Each Fits shape
     → IsWritten (codes "restore" ++ 32 ∷ (decimal now ++ 32 ∷ (word ++ flat_map (λ n. 32 ∷ decimal n) shape))) (codes "restore" ∷ decimal now ∷ word ∷ map decimal shape)
 restore_rest now word shape fits plain all =
-    let inner : IsWritten (word ++ flat_map (λ n. 32 ∷ decimal n) shape) (word ∷ map decimal shape) = each_next decimal word shape plain (plain_numbers shape all) in
-    next (codes "restore") _ _ (plain_by (codes "restore") refl) (next (decimal now) _ _ (plain_number now fits) inner)
+    next (codes "restore") _ _ (plain_by (codes "restore") refl) (next (decimal now) _ _ (plain_number now fits) (each_next decimal word shape plain (plain_numbers shape all)))
 
 -- a shape is the new shape, and none stays the old one
 restoring-call : (now : ℕ) (t : Target) (shape : Option (List ℕ)) → FitsShape shape → restoring now t (parallelisms shape) ≡ line.Call (call.Restore now t shape)
@@ -108,9 +99,8 @@ restore : (now : ℕ) (word : List ℕ) (t : Target) (shape : Option (List ℕ))
 unfolding line_of keyword_of row restore_line
 restore now word t shape fits plain whole target =
     let all = each_fits shape whole in
-    let ps = parallelisms shape in
-    read_as _ (codes "restore" ∷ decimal now ∷ word ∷ map decimal ps) _ (restore_rest now word ps fits plain all)
-    (rw (number_place-decimal now (word ∷ map decimal ps) fits, target, each-numbers ps all, restoring-call now t shape whole) refl)
+    read_as _ _ _ (restore_rest now word (parallelisms shape) fits plain all)
+    (rw (number_place-decimal, target, each-numbers (parallelisms shape) all, restoring-call now t shape whole) refl)
 
 pub says_job : (first : ℕ) (others : List ℕ) → Each Fits (first ∷ others) → Says (line.Job (first ∷ others)) (job_text (first ∷ others))
 unfolding job_text line_of keyword_of row job_line
@@ -122,33 +112,12 @@ pub says_job_of : (shape : List ℕ) → IsShape shape → All Fits shape → Sa
 says_job_of [] is all = absurd (omega (arith, is.vertices_from))
 says_job_of (first ∷ others) is all = says_job first others (from_all Fits (first ∷ others) all)
 
-config_words : (i p a t f r : ℕ) (word : List ℕ) → Fits i → Fits p → Fits a → Fits t → Fits f → Fits r → IsPlain word
-    → IsWritten (codes "config" ++ 32 ∷ (decimal i ++ 32 ∷ (decimal p ++ 32 ∷ (decimal a ++ 32 ∷ (decimal t ++ 32 ∷ (decimal f ++ 32 ∷ (decimal r ++ 32 ∷ word)))))))
-    (codes "config" ∷ decimal i ∷ decimal p ∷ decimal a ∷ decimal t ∷ decimal f ∷ decimal r ∷ word ∷ [])
-config_words i p a t f r word fi fp fa ft ff fr plain =
-    next (codes "config") _ _ (plain_by (codes "config") refl)
-    (next (decimal i) _ _ (plain_number i fi)
-    (next (decimal p) _ _ (plain_number p fp)
-    (next (decimal a) _ _ (plain_number a fa)
-    (next (decimal t) _ _ (plain_number t ft)
-    (next (decimal f) _ _ (plain_number f ff)
-    (next (decimal r) _ _ (plain_number r fr)
-    (last word plain)))))))
-
 config_row : (i p a t f r : ℕ) (word : List ℕ) (keep : Bool) → Fits i → Fits p → Fits a → Fits t → Fits f → Fits r
     → retention_place (word ∷ []) ≡ Ok (keep, [])
     → line_of (codes "config" ∷ decimal i ∷ decimal p ∷ decimal a ∷ decimal t ∷ decimal f ∷ decimal r ∷ word ∷ []) ≡ Ok (line.Config i p a t f r keep)
 unfolding line_of keyword_of row config_line ended
 config_row i p a t f r word keep fi fp fa ft ff fr kept =
-    rw (
-      number_place-decimal i (decimal p ∷ decimal a ∷ decimal t ∷ decimal f ∷ decimal r ∷ word ∷ []) fi,
-      number_place-decimal p (decimal a ∷ decimal t ∷ decimal f ∷ decimal r ∷ word ∷ []) fp,
-      number_place-decimal a (decimal t ∷ decimal f ∷ decimal r ∷ word ∷ []) fa,
-      number_place-decimal t (decimal f ∷ decimal r ∷ word ∷ []) ft,
-      number_place-decimal f (decimal r ∷ word ∷ []) ff,
-      number_place-decimal r (word ∷ []) fr,
-      kept,
-    ) refl
+    rw (number_place-decimal, number_place-decimal, number_place-decimal, number_place-decimal, number_place-decimal, number_place-decimal, kept) refl
 
 abbrev kept_word : Bool → List ℕ
 kept_word true = codes "keep"
@@ -167,28 +136,23 @@ text_kept : (keep : Bool) → retention_text keep ≡ 32 ∷ kept_word keep
 text_kept true = refl
 text_kept false = refl
 
-config_parts : (a b c d e f g h : List ℕ) → (a ++ b ++ c ++ d) ++ (e ++ f ++ g ++ h) ≡ a ++ (b ++ (c ++ (d ++ (e ++ (f ++ (g ++ h))))))
+config_parts : (a b c d e f g h : List ℕ) → (a ++ b ++ c ++ d) ++ (e ++ f ++ g ++ h) ≡ a ++ ((b ++ (c ++ (d ++ (e ++ (f ++ (g ++ [])))))) ++ h)
 config_parts a b c d e f g h = simp append_assoc
-
-kept_parts : (c : Configuration)
-    → codes "config" ++ (spaced c.interval ++ (spaced c.pause ++ (spaced c.at_once ++ (spaced c.timeout ++ (spaced c.tolerable ++ (spaced c.retained ++ retention_text c.keep_on_cancel))))))
-    ≡ codes "config" ++ 32 ∷ (decimal c.interval ++ 32 ∷ (decimal c.pause ++ 32 ∷ (decimal c.at_once ++ 32 ∷ (decimal c.timeout ++ 32 ∷ (decimal c.tolerable ++ 32 ∷ (decimal c.retained ++ 32 ∷ kept_word c.keep_on_cancel))))))
-kept_parts c =
-    ap (λ (w : List ℕ). codes "config" ++ 32 ∷ (decimal c.interval ++ 32 ∷ (decimal c.pause ++ 32 ∷ (decimal c.at_once ++ 32 ∷ (decimal c.timeout ++ 32 ∷ (decimal c.tolerable ++ 32 ∷ (decimal c.retained ++ w))))))) (text_kept c.keep_on_cancel)
 
 pub says_config : (c : Configuration) → IsWithinLimits c → Says (line_of_config c) (config_text c)
 unfolding config_text triggers_text limits_text
 says_config c is =
-    let i : Fits c.interval = omega (arith, is.interval_to) in
-    let p : Fits c.pause = omega (arith, is.pause_to) in
-    let a : Fits c.at_once = omega (arith, is.at_once_to) in
-    let t : Fits c.timeout = omega (arith, is.timeout_to) in
-    let f : Fits c.tolerable = omega (arith, is.tolerable_to) in
-    let r : Fits c.retained = omega (arith, is.retained_to) in
+    let i : Fits c.interval = omega (arith, is.interval_to) in let p : Fits c.pause = omega (arith, is.pause_to) in
+    let a : Fits c.at_once = omega (arith, is.at_once_to) in let t : Fits c.timeout = omega (arith, is.timeout_to) in
+    let f : Fits c.tolerable = omega (arith, is.tolerable_to) in let r : Fits c.retained = omega (arith, is.retained_to) in
+    let ns : List ℕ = c.interval ∷ c.pause ∷ c.at_once ∷ c.timeout ∷ c.tolerable ∷ c.retained ∷ [] in
     let word : List ℕ = kept_word c.keep_on_cancel in
-    put_together _ _ _ (config_parts (codes "config") (spaced c.interval) (spaced c.pause) (spaced c.at_once) (spaced c.timeout) (spaced c.tolerable) (spaced c.retained) (retention_text c.keep_on_cancel) ∙ kept_parts c)
-    (read_as _ _ _ (config_words c.interval c.pause c.at_once c.timeout c.tolerable c.retained word i p a t f r (plain_kept c.keep_on_cancel))
-    (config_row c.interval c.pause c.at_once c.timeout c.tolerable c.retained word c.keep_on_cancel i p a t f r (read_kept c.keep_on_cancel)))
+    let written : IsWritten (codes "config" ++ (flat_map spaced ns ++ 32 ∷ word)) (codes "config" ∷ (map decimal ns ++ word ∷ [])) =
+    each_before decimal (codes "config") (32 ∷ word) (word ∷ []) ns (plain_by (codes "config") refl) (plain_numbers ns (i, (p, (a, (t, (f, (r, tt)))))))
+    (λ w plain. next w word (word ∷ []) plain (last word (plain_kept c.keep_on_cancel))) in
+    put_together _ _ _ (config_parts (codes "config") (spaced c.interval) (spaced c.pause) (spaced c.at_once) (spaced c.timeout) (spaced c.tolerable) (spaced c.retained)
+    (retention_text c.keep_on_cancel) ∙ ap (λ w. codes "config" ++ (flat_map spaced ns ++ w)) (text_kept c.keep_on_cancel))
+    (read_as _ _ _ written (config_row c.interval c.pause c.at_once c.timeout c.tolerable c.retained word c.keep_on_cancel i p a t f r (read_kept c.keep_on_cancel)))
 
 -- every call
 sub : (s : SubtaskId) → subtask_bytes s ≡ subtask_word s
@@ -201,24 +165,16 @@ parts_5 : (a b c d e : List ℕ) → a ++ b ++ c ++ d ++ e ≡ a ++ (b ++ (c ++ 
 parts_5 a b c d e = append_assoc (a ++ b ++ c) d e ∙ parts_4 a b c (d ++ e)
 
 ack_parts : (now id : ℕ) (s : SubtaskId) (fresh reused : List ℕ)
-    → call_text (call.Ack now id s fresh reused) ≡ codes "ack" ++ 32 ∷ (decimal now ++ 32 ∷ (decimal id ++ 32 ∷ (subtask_word s ++ (flat_map (λ f. 32 ∷ 43 ∷ decimal f) fresh ++ flat_map (λ f. 32 ∷ 61 ∷ decimal f) reused))))
+    → call_text (call.Ack now id s fresh reused) ≡ codes "ack" ++ 32 ∷ (decimal now ++ 32 ∷ (decimal id ++ 32 ∷ (subtask_word s ++ files_text fresh reused)))
 unfolding call_text
 ack_parts now id s fresh reused =
     parts_5 (codes "ack") (spaced now) (spaced id) (subtask_text s) (files_text fresh reused)
-    ∙ ap (λ (w : List ℕ). codes "ack" ++ 32 ∷ (decimal now ++ 32 ∷ (decimal id ++ 32 ∷ (w ++ (flat_map (λ f. 32 ∷ 43 ∷ decimal f) fresh ++ flat_map (λ f. 32 ∷ 61 ∷ decimal f) reused))))) (sub s)
+    ∙ ap (λ w. codes "ack" ++ 32 ∷ (decimal now ++ 32 ∷ (decimal id ++ 32 ∷ (w ++ files_text fresh reused)))) (sub s)
 
 decline_parts : (now id : ℕ) (s : SubtaskId) → call_text (call.Decline now id s) ≡ codes "decline" ++ 32 ∷ (decimal now ++ 32 ∷ (decimal id ++ 32 ∷ subtask_word s))
 unfolding call_text
 decline_parts now id s =
     parts_4 (codes "decline") (spaced now) (spaced id) (subtask_text s) ∙ ap (λ (w : List ℕ). codes "decline" ++ 32 ∷ (decimal now ++ 32 ∷ (decimal id ++ 32 ∷ w))) (sub s)
-
-latest_parts : (now : ℕ) (shape : Option (List ℕ)) → call_text (call.Restore now target.Latest shape) ≡ codes "restore" ++ 32 ∷ (decimal now ++ 32 ∷ (codes "latest" ++ flat_map (λ n. 32 ∷ decimal n) (parallelisms shape)))
-unfolding call_text
-latest_parts now shape = parts_4 (codes "restore") (spaced now) (codes " latest") (flat_map spaced (parallelisms shape))
-
-savepoint_parts : (now id : ℕ) (shape : Option (List ℕ)) → call_text (call.Restore now (target.Savepoint id) shape) ≡ codes "restore" ++ 32 ∷ (decimal now ++ 32 ∷ (decimal id ++ flat_map (λ n. 32 ∷ decimal n) (parallelisms shape)))
-unfolding call_text
-savepoint_parts now id shape = parts_4 (codes "restore") (spaced now) (spaced id) (flat_map spaced (parallelisms shape))
 
 pub says_call : (c : Call) → FitsCall c → Says (line.Call c) (call_text c)
 unfolding call_text row
@@ -230,9 +186,11 @@ says_call (call.Ack now id s fresh reused) fits =
 says_call (call.Decline now id s) fits = put_together _ _ _ (decline_parts now id s) (decline now id s fits.0 fits.1 fits.2)
 says_call (call.Dispose id) fits = numbered keyword.Dispose id (plain_by (codes "dispose") refl) fits refl
 says_call (call.Restore now target.Latest shape) fits =
-    put_together _ _ _ (latest_parts now shape) (restore now (codes "latest") target.Latest shape fits.0 (plain_by (codes "latest") refl) fits.2 (target_place-latest (map decimal (parallelisms shape))))
+    put_together _ _ _ (parts_4 (codes "restore") (spaced now) (codes " latest") (flat_map spaced (parallelisms shape)))
+    (restore now (codes "latest") target.Latest shape fits.0 (plain_by (codes "latest") refl) fits.2 (target_place-latest (map decimal (parallelisms shape))))
 says_call (call.Restore now (target.Savepoint id) shape) fits =
-    put_together _ _ _ (savepoint_parts now id shape) (restore now (decimal id) (target.Savepoint id) shape fits.0 (plain_number id fits.1) fits.2 (target_place-decimal id (map decimal (parallelisms shape)) fits.1))
+    put_together _ _ _ (parts_4 (codes "restore") (spaced now) (spaced id) (flat_map spaced (parallelisms shape)))
+    (restore now (decimal id) (target.Savepoint id) shape fits.0 (plain_number id fits.1) fits.2 (target_place-decimal id (map decimal (parallelisms shape)) fits.1))
 says_call (call.Cancel now) fits = numbered keyword.Cancel now (plain_by (codes "cancel") refl) fits refl
 says_call (call.Take most) fits = numbered keyword.Take most (plain_by (codes "take") refl) fits refl
 says_call (call.Deleted file) fits = numbered keyword.Deleted file (plain_by (codes "deleted") refl) fits refl

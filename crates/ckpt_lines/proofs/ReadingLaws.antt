@@ -1,8 +1,8 @@
 -- The reading of a line never says that memory ran out.
-use Rattle.ckpt_lines.proofs.Names.{◌≡◌, ◌≢◌, ℕ, Bool, false, cond, List, [], ◌∷◌, Option, Result, Ok, Err, IfErr, refl, codes, ok_or, bytes_eq, strip_carriage_return}
-use Rattle.ckpt_lines.proofs.Names.{SubtaskId, LineFault, Keyword, Line, FileWord, ◌>>=◌, is_memory, place, number_place, subtask_place, retention_place, target_place}
-use Rattle.ckpt_lines.proofs.Names.{ended, each, config_line, job_line, some_parallelisms, start_line, number_line, only_number, file_places, ack_line, decline_line, restore_line, all_line, row, row_of, line_of}
-use Rattle.ckpt_lines.proofs.Names.{is_too_long, reading, number, subtask, retention, target_of, savepoint, file_word, signed, number_of, subtask_of, words_of, common_steps, arith}
+use Rattle.ckpt_lines.proofs.Names.{◌≡◌, ◌≢◌, ℕ, Bool, false, cond, List, [], ◌∷◌, Option, Result, Ok, Err, IfErr, refl, codes, ok_or, bytes_eq, strip_carriage_return, SubtaskId, LineFault, Keyword}
+use Rattle.ckpt_lines.proofs.Names.{Line, FileWord, ◌>>=◌, is_memory, place, number_place, subtask_place, retention_place, target_place, ended, each, config_line, job_line, some_parallelisms}
+use Rattle.ckpt_lines.proofs.Names.{start_line, number_line, only_number, file_places, ack_line, decline_line, restore_line, all_line, row, row_of, line_of, is_too_long, reading, number, subtask}
+use Rattle.ckpt_lines.proofs.Names.{retention, target_of, savepoint, file_word, signed, number_of, subtask_of, words_of, common_steps, arith}
 use Rattle.ckpt_lines.specs.declared.fault.LineFault.TheVariants as fault
 
 abbrev pub NoMemory : {X : Type 0} → Result X LineFault → Type 0
@@ -121,8 +121,7 @@ restore-no_memory words = grind (arith, common_steps, bind, number_then, numbers
 
 all-no_memory : (words : List (List ℕ)) → NoMemory (all_line words)
 unfolding all_line
-all-no_memory words =
-    number_then words _ (λ now. number_then now.1 _ (λ id. number_then id.1 _ (λ threads. number_then threads.1 _ (λ first. ended_then first.1 _))))
+all-no_memory words = number_then words _ (λ now. number_then now.1 _ (λ id. number_then id.1 _ (λ threads. number_then threads.1 _ (λ first. ended_then first.1 _))))
 
 row-no_memory : (first : Keyword) (words : List (List ℕ)) → NoMemory (row first words)
 unfolding row

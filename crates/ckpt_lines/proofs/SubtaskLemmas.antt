@@ -1,6 +1,6 @@
 -- A subtask's word: the part before its first dot, and the part after it.
-use Rattle.ckpt_lines.proofs.Names.{◌≡◌, ℕ, ◌+◌, ◌-◌, Bool, false, cond, ltb, ltb-false, List, [], length, take, drop, Option, Some, None, refl, arith, length-drop, position_or_len}
-use Rattle.ckpt_lines.proofs.Names.{take_all, drop_all, is_dot, joined, number_of, part_of, subtask_of, common_steps}
+use Rattle.ckpt_lines.proofs.Names.{◌≡◌, ℕ, ◌+◌, ◌-◌, Bool, false, cond, ltb, ltb-false, List, [], length, take, drop, Option, Some, None, refl, arith, length-drop, position_or_len, take_all}
+use Rattle.ckpt_lines.proofs.Names.{drop_all, is_dot, joined, number_of, part_of, subtask_of, common_steps}
 
 abbrev dot_place : List ℕ → ℕ
 dot_place word = position_or_len is_dot word

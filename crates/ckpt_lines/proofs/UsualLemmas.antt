@@ -1,9 +1,9 @@
 -- What a usual line says: the call of its keyword and its number.
 use Rattle.ckpt_lines.proofs.Names.{◌≡◌, ◌≤◌, ℕ, true, List, length, Ok, ◌∙◌, refl, arith, nat_tests, strip_carriage_return, Keyword, Tick, Savepoint, Dispose, Take, Deleted, Undeleted, Count}
 use Rattle.ckpt_lines.proofs.Names.{LONGEST_LINE, number_call, number_line, only_number, reading, row, BeginsWith, is_usual, words_of, common_steps}
-use Rattle.ckpt_lines.specs.declared.line.Line.TheVariants as said
 use Rattle.ckpt_lines.proofs.BeginLemmas.{words_of-begin}
 use Rattle.ckpt_lines.proofs.KeywordLemmas.{begins}
+use Rattle.ckpt_lines.specs.declared.line.Line.TheVariants as said
 
 -- a line that is short enough is read as the row of its first word
 reads_row : (line : List ℕ) (first : Keyword) (rest : List ℕ) → length line ≤ LONGEST_LINE

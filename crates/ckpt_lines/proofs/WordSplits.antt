@@ -1,6 +1,6 @@
 -- The first word of a text, and the words after it.
-use Rattle.ckpt_lines.proofs.Names.{◌≡◌, ℕ, ◌+◌, ◌<◌, Bool, true, false, cond, not, List, [], ◌∷◌, length, take, drop, filter, refl, arith, ◌↔◌, ◌==◌, IsTrue, slice_split}
-use Rattle.ckpt_lines.proofs.Names.{is_space, is_word, words_of, begins_with_space, first_length, common_steps}
+use Rattle.ckpt_lines.proofs.Names.{◌≡◌, ℕ, ◌+◌, ◌<◌, Bool, true, false, cond, not, List, [], ◌∷◌, length, take, drop, filter, refl, arith, ◌↔◌, ◌==◌, IsTrue, slice_split, is_space, is_word}
+use Rattle.ckpt_lines.proofs.Names.{words_of, begins_with_space, first_length, common_steps}
 
 -- what `split` gives after a part: nothing, or the parts after one space
 abbrev parts_after : List ℕ → List (List ℕ)

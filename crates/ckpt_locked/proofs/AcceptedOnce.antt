@@ -1,42 +1,36 @@
 -- The accepted acknowledgements of a done record: one per subtask.
-use Rattle.std.proofs.Common.{◌≡◌, suc, Bool, true, false, ◌||◌, List, [], ◌∷◌, map, refl, sym, ap, subst, ◌∙◌, ⊎_elim}
-use Rattle.std.specs.List.{list_any}
-use Rattle.std.proofs.lemmas.Bool.{both_ways, cases_Bool, or_left}
-use Rattle.ckpt_ids.specs.declared.ack.Acked.{Acked}
-use Rattle.ckpt_ids.specs.declared.subtask.SubtaskId.{SubtaskId}
-use Rattle.ckpt_ids.specs.Acknowledged.{AreInSubtaskOrder, acknowledges_before, is_before}
-use Rattle.ckpt_ids.specs.Counting.{one_if}
-use Rattle.ckpt_ids.specs.Ordered.{IsIn, ComesBefore, in_order}
-use Rattle.ckpt_ids.specs.Shapes.{is_subtask, same_subtask}
+use Rattle.ckpt_locked.proofs.Names.{Acknowledgements, Bool, History, IsSound, List, [], ap, calls_of, false, map, refl, subst, sym, true, ⊎_elim, ◌∙◌, ◌∷◌, ◌≡◌}
+use Rattle.ckpt_ids.proofs.CountLemmas.{count_by-in_order, count_by-none, count_by_no, count_by_yes}
 use Rattle.ckpt_ids.proofs.OrderLemmas.{same_subtask-Decides, subtasks_in_order}
 use Rattle.ckpt_ids.proofs.OrderedLemmas.{ComesBefore-at, IsIn-in_order}
-use Rattle.ckpt_model.specs.Laws.{Acknowledgements}
-use Rattle.ckpt_model.specs.Soundness.{IsSound}
-use Rattle.ckpt_ids.proofs.CountLemmas.{count_by-in_order, count_by_no, count_by_yes, count_by-none}
-use Rattle.ckpt_locked.specs.Books.{History, calls_of, state_of_book}
+use Rattle.ckpt_ids.specs.Acknowledged.{AreInSubtaskOrder, acknowledges_before, is_before}
+use Rattle.ckpt_ids.specs.Counting.{one_if}
+use Rattle.ckpt_ids.specs.Ordered.{ComesBefore, IsIn, in_order}
+use Rattle.ckpt_ids.specs.Shapes.{is_subtask, same_subtask}
+use Rattle.ckpt_ids.specs.declared.ack.Acked.{Acked}
+use Rattle.ckpt_ids.specs.declared.subtask.SubtaskId.{SubtaskId}
+use Rattle.ckpt_locked.specs.Books.{state_of_book}
 use Rattle.ckpt_locked.specs.Promises.{ExactlyOne, accepted_in, times_of}
+use Rattle.std.proofs.lemmas.Bool.{both_ways, cases_Bool}
+use Rattle.std.specs.List.{list_any}
 
 -- after an acknowledgement of s there is no other of s
 later_differs : (s : SubtaskId) (x a : Acked) (xs : List Acked) → ComesBefore acknowledges_before x xs → IsIn a xs → same_subtask s x.subtask ≡ true → same_subtask s a.subtask ≡ false
 later_differs s x a xs first h same =
-    let is_x : s ≡ x.subtask = (same_subtask-Decides s x.subtask).0 same in
-    let twice : same_subtask s a.subtask ≡ true → ⊥ = λ (e : same_subtask s a.subtask ≡ true).
-    let is_a : s ≡ a.subtask = (same_subtask-Decides s a.subtask).0 e in
-    both_ways (is_before s s) (subtasks_in_order.irreflexive s) (ap (is_before s) is_a ∙ ap (λ t. is_before t a.subtask) is_x ∙ ComesBefore-at acknowledges_before x a xs first h) in
-    ⊎_elim (λ (e : same_subtask s a.subtask ≡ true). absurd (twice e)) (λ (e : same_subtask s a.subtask ≡ false). e) (cases_Bool (same_subtask s a.subtask))
+    ⊎_elim
+    (λ (e : same_subtask s a.subtask ≡ true).
+    let is : x.subtask ≡ a.subtask = sym ((same_subtask-Decides s x.subtask).0 same) ∙ (same_subtask-Decides s a.subtask).0 e in
+    absurd (both_ways (is_before a.subtask a.subtask) (subtasks_in_order.irreflexive a.subtask) (ap (λ t. is_before t a.subtask) (sym is) ∙ ComesBefore-at acknowledges_before x a xs first h)))
+    (λ e. e)
+    (cases_Bool (same_subtask s a.subtask))
 
 -- in order there is at most one of each subtask
 times_of-in_order : (s : SubtaskId) (acks : List Acked) → AreInSubtaskOrder acks → times_of s acks ≡ one_if (list_any (same_subtask s) (map (λ a. a.subtask) acks))
 times_of-in_order s [] o = refl
 times_of-in_order s (a ∷ acks) o =
     let is_its : Acked → Bool = λ b. same_subtask s b.subtask in
-    let rest : Bool = list_any (same_subtask s) (map (λ b. b.subtask) acks) in
-    let Goal : Type 0 = times_of s (a ∷ acks) ≡ one_if (is_its a || rest) in
-    let its : is_its a ≡ true → Goal = λ (e : is_its a ≡ true).
-    count_by_yes is_its a acks e ∙ ap suc (count_by-none is_its acks (λ b h. later_differs s a b acks o.0 h e)) ∙ sym (ap one_if (or_left (is_its a) rest e)) in
-    let other : is_its a ≡ false → Goal = λ (e : is_its a ≡ false).
-    count_by_no is_its a acks e ∙ times_of-in_order s acks o.1 ∙ sym (ap (λ b. one_if (b || rest)) e) in
-    ⊎_elim its other (cases_Bool (is_its a))
+    ⊎_elim (λ (e : is_its a ≡ true). count_by_yes is_its a acks e ∙ rw (count_by-none is_its acks (λ b h. later_differs s a b acks o.0 h e), e))
+    (λ (e : is_its a ≡ false). count_by_no is_its a acks e ∙ rw e (times_of-in_order s acks o.1)) (cases_Bool (is_its a))
 
 pub exactly_one : (h : History) → IsSound (state_of_book h) → Acknowledgements h.opening (calls_of h.entries) → ExactlyOne h
 unfolding state_of_book
@@ -44,9 +38,6 @@ exactly_one h sound law r there done =
     let accepted : List Acked = accepted_in h r.id in
     let acks_are : r.acks ≡ in_order acknowledges_before accepted = (law r there).0 in
     let once : (s : SubtaskId) → times_of s accepted ≡ one_if (is_subtask r.shape s) = λ s.
-    sym (count_by-in_order (λ (a : Acked). same_subtask s a.subtask) acknowledges_before accepted)
-    ∙ ap (times_of s) (sym acks_are)
-    ∙ times_of-in_order s r.acks ((sound.records.each r there).acks_in_order)
-    ∙ ap (λ ss. one_if (list_any (same_subtask s) ss)) ((law r there).1 done) in
-    let In : Acked → List Acked → Type 0 = λ a acks. IsIn a acks in
-    (once, λ a k. subst (In a) (sym acks_are) (IsIn-in_order acknowledges_before a accepted k))
+    sym (count_by-in_order (λ (a : Acked). same_subtask s a.subtask) acknowledges_before accepted) ∙ ap (times_of s) (sym acks_are)
+    ∙ times_of-in_order s r.acks ((sound.records.each r there).acks_in_order) ∙ ap (λ ss. one_if (list_any (same_subtask s) ss)) ((law r there).1 done) in
+    (once, λ a k. subst (λ (acks : List Acked). IsIn a acks) (sym acks_are) (IsIn-in_order acknowledges_before a accepted k))

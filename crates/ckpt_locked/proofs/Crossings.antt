@@ -1,9 +1,9 @@
 -- A book and a pass may go to another thread, and threads may share a lock.
-use denote.Struct.Declared.{Declared, fields, shape, row}
-use denote.Struct.Struct.{Struct}
-use denote.Param.Send.{IsSend, IsSync, AllSend, AllSync, sendable, view_send, view_sync, recorded_sync, struct_sync}
+use Rattle.ckpt_core.proofs.Crossings.{core_send, declared_send}
 use Rattle.std.proofs.Crossing.{crosses, frees}
-use Rattle.ckpt_core.proofs.Crossings.{declared_send, core_send}
+use denote.Param.Send.{AllSend, AllSync, IsSend, IsSync, recorded_sync, sendable, struct_sync, view_send, view_sync}
+use denote.Struct.Declared.{Declared, fields, row, shape}
+use denote.Struct.Struct.{Struct}
 use Rattle.atomic_table.proofs.send_lease.SendLease.TheSendSync as lease
 use Rattle.atomic_table.proofs.shared.Seat.TheSendSync as seat
 use Rattle.atomic_table.proofs.shared.Shared.TheSendSync as shared

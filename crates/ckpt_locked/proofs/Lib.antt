@@ -4,6 +4,16 @@ pub mod Crossings
 pub mod Keeps
 pub mod LockCalls
 pub mod Moves
+mod Names
 pub mod Openings
 pub mod Replays
 pub mod SeatLists
+pub use AcceptedOnce.*
+pub use Crossings.*
+pub use Keeps.*
+pub use LockCalls.*
+pub use Moves.*
+pub use Names.*
+pub use Openings.*
+pub use Replays.*
+pub use SeatLists.*

@@ -1,8 +1,6 @@
 -- A book that was just opened.
-use Rattle.std.proofs.Common.{ℕ, [], refl}
-use Rattle.ckpt_model.specs.Laws.{CanOpen}
-use Rattle.ckpt_model.specs.State.{Opening, opened}
-use Rattle.ckpt_locked.specs.Books.{IsKept, state_of_book}
+use Rattle.ckpt_locked.proofs.Names.{CanOpen, IsKept, Opening, [], opened, refl, ℕ}
+use Rattle.ckpt_locked.specs.Books.{state_of_book}
 
 pub kept_opened : (o : Opening) (keep : ℕ) → CanOpen o → IsKept (opened o) [] keep
 unfolding state_of_book

@@ -1,15 +1,8 @@
 -- Sums over views, functions that change at one number, and prefixes of a history.
-use Rattle.std.proofs.Common.{◌≡◌, ℕ, zero, suc, ◌+◌, ◌<◌, ◌≤◌, ◌≢◌, Bool, true, false, cond, eqb, eq-eqb, ne_eqb, List, [], ◌∷◌, ◌++◌, length, set, sym, refl, ap, ◌∙◌, subst, ⊎_elim, arith, append_assoc, append-nil, All}
-use Rattle.std.proofs.lemmas.List.Elements.{All-nil, All-head, All-tail, All-cons}
-use mathlib.Core.Logic.{dite}
-use native.Mathlib.Decide.{ℕ_discrete}
-use mathlib.Core.Option.{some, some-injective, some-ne-none}
-use lib.ListN.{get_elem?}
-use Rattle.atomic_table.proofs.Lists.{at_set}
-use Rattle.ckpt_locked.specs.declared.book.Entry.{Entry}
-use Rattle.ckpt_locked.specs.declared.view.View.{View}
-use Rattle.ckpt_locked.specs.Seats.{calls_by, StartsWith, SeatsBelow}
-use Rattle.ckpt_locked.specs.Turns.{total, in_line, has_number}
+use Rattle.std.proofs.lemmas.Grind.{common_steps}
+use Rattle.ckpt_locked.proofs.Names.{All, All-cons, All-head, All-nil, All-tail, Entry, List, SeatsBelow, StartsWith, View, [], ap, append-nil, append_assoc, arith, at_set, calls_by, cond, dite}
+use Rattle.ckpt_locked.proofs.Names.{eq-eqb, eqb, get_elem?, has_number, in_line, length, ne_eqb, refl, set, some, some-injective, some-ne-none, subst, suc, sym, total, zero, ℕ, ℕ_discrete, ⊎_elim}
+use Rattle.ckpt_locked.proofs.Names.{◌++◌, ◌+◌, ◌<◌, ◌∙◌, ◌∷◌, ◌≡◌, ◌≢◌, ◌≤◌}
 
 module _ {A : Type 0} where
   pub total-append : (g : A → ℕ) (l m : List A) → total g (l ++ m) ≡ total g l + total g m
@@ -27,7 +20,8 @@ module _ {A : Type 0} where
   set_at (x ∷ xs) (suc i) v w e = set_at xs i v w e
 
   -- a fact about each other place, and about the changed one, holds everywhere
-  pub all_set : (P : ℕ → A → Type 0) (l : List A) (i : ℕ) (w : A) → ((j : ℕ) (u : A) → j ≢ i → get_elem? l j ≡ some u → P j u) → P i w → (j : ℕ) (u : A) → get_elem? (set l i w) j ≡ some u → P j u
+  pub all_set : (P : ℕ → A → Type 0) (l : List A) (i : ℕ) (w : A) → ((j : ℕ) (u : A) → j ≢ i → get_elem? l j ≡ some u → P j u) → P i w → (j : ℕ) (u : A)
+      → get_elem? (set l i w) j ≡ some u → P j u
   all_set P l i w others mine j u e =
       ⊎_elim
       (λ (x : (j ≡ i) × (w ≡ u)). subst (λ (y : ℕ × A). P y.0 y.1) (λ k. (sym x.0 k, x.1 k)) mine)
@@ -36,12 +30,7 @@ module _ {A : Type 0} where
 
 pub in_line-le : (views : List View) → total in_line views ≤ total has_number views
 in_line-le [] = omega arith
-in_line-le (v ∷ vs) = let rest = in_line-le vs in let one = each v.numbered v.queued in omega arith
-  where
-    each : (a b : Bool) → cond a (cond b 1 0) 0 ≤ cond a 1 0
-    each true true = omega arith
-    each true false = omega arith
-    each false b = omega arith
+in_line-le (v ∷ vs) = grind (arith, common_steps, in_line-le vs)
 
 -- f with the value p at k
 abbrev pub put : (ℕ → ℕ) → ℕ → ℕ → ℕ → ℕ
@@ -67,12 +56,8 @@ pub starts_more : (log part : List Entry) (e : Entry) → StartsWith log part �
 starts_more log part e s = (s.0 ++ e ∷ [], ap (λ l. l ++ e ∷ []) s.1 ∙ append_assoc part s.0 (e ∷ []))
 
 pub calls_by-same : (k : ℕ) (es : List Entry) (e : Entry) → e.seat ≡ k → calls_by k (es ++ e ∷ []) ≡ calls_by k es ++ e.call ∷ []
-calls_by-same k [] e is = ap (λ b. cond b (e.call ∷ []) []) (eq-eqb e.seat k is)
-calls_by-same k (x ∷ xs) e is = step (eqb x.seat k) (calls_by-same k xs e is)
-  where
-    step : (b : Bool) → calls_by k (xs ++ e ∷ []) ≡ calls_by k xs ++ e.call ∷ [] → cond b (x.call ∷ calls_by k (xs ++ e ∷ [])) (calls_by k (xs ++ e ∷ [])) ≡ cond b (x.call ∷ calls_by k xs) (calls_by k xs) ++ e.call ∷ []
-    step true rest = ap (λ l. x.call ∷ l) rest
-    step false rest = rest
+calls_by-same k [] e is = grind (arith, common_steps)
+calls_by-same k (x ∷ xs) e is = grind (arith, common_steps, calls_by-same k xs e is)
 
 pub calls_by-other : (k : ℕ) (es : List Entry) (e : Entry) → e.seat ≢ k → calls_by k (es ++ e ∷ []) ≡ calls_by k es
 calls_by-other k [] e ne = ap (λ b. cond b (e.call ∷ []) []) (ne_eqb e.seat k ne)
@@ -84,11 +69,7 @@ calls_by-none k (x ∷ xs) below = ap (λ b. cond b (x.call ∷ calls_by k xs) (
 
 pub length-calls_by : (k : ℕ) (es : List Entry) → length (calls_by k es) ≤ length es
 length-calls_by k [] = omega arith
-length-calls_by k (x ∷ xs) = step (eqb x.seat k) (length-calls_by k xs)
-  where
-    step : (b : Bool) → length (calls_by k xs) ≤ length xs → length (cond b (x.call ∷ calls_by k xs) (calls_by k xs)) ≤ length (x ∷ xs)
-    step true rest = omega arith
-    step false rest = omega arith
+length-calls_by k (x ∷ xs) = grind (arith, common_steps, length-calls_by k xs)
 
 pub below-push : (n : ℕ) (es : List Entry) (e : Entry) → SeatsBelow n es → e.seat < n → SeatsBelow n (es ++ e ∷ [])
 below-push n [] e all one = (one, tt)

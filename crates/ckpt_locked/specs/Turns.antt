@@ -110,7 +110,7 @@ pub record Orderly (base : Base) (s : State (Option History) View) : Type 0 wher
   pub words : s.words ≡ length log ∷ tickets ∷ served ∷ given ∷ perches
   pub few : (given ≤ base.seats) × (base.seats ≤ MOST_SEATS)
   pub early : served ≤ TICKETS_END
-  pub lines : total in_line s.views + served ≡ tickets
+  pub line_length : total in_line s.views + served ≡ tickets
   pub numbers : total has_number s.views ≤ given
   pub seats : SeatsBelow given log
   pub views : (place : ℕ) (v : View) → get_elem? s.views place ≡ some v → Fits base log tickets served given owner holder place v

@@ -29,23 +29,22 @@ tick_is : (m : State) (now : ℕ) (P : Answer → Type 0) → ((why : Refusal) �
     → P (step m (Tick now)).1
 unfolding effect tick after_expiry drop
 tick_is m now P refused failed starts =
-    let Q : Stepped → Type 0 = λ s. P s.1 in
     let t : ℕ = max now m.latest in
     let seen : State = record m { latest = t } in
     let expired : Record → Bool = is_expired seen t in
     let late : ℕ = count_by (λ r. expired r && is_checkpoint r) m.records in
     let counted : State = record seen { failures = m.failures + late } in
     let rest : State = drop counted expired None in
-    let fails : Bool = ltb 0 late && ltb m.opening.config.tolerable (m.failures + late) in
-    let going : Q (after_expiry rest (dropped_by seen expired)) =
-    starts rest (dropped_by seen expired) (hold m.opening.config m.due m.completed t (pending_checkpoints rest)) (hold_tells m.opening.config m.due m.completed t (pending_checkpoints rest)) in
-    let done : Q (tick seen) = cond_both fails (failed_over counted, _) (after_expiry rest (dropped_by seen expired)) Q (λ _. failed (dropped_by seen expired)) (λ _. going) in
-    step_by m (Tick now) Q (λ why _. refused why) (λ _. done)
+    step_by m (Tick now) (λ s. P s.1) (λ why _. refused why) (λ _.
+    cond_both (ltb 0 late && ltb m.opening.config.tolerable (m.failures + late)) (failed_over counted, _) (after_expiry rest (dropped_by seen expired)) (λ (s : Stepped). P s.1)
+    (λ _. failed (dropped_by seen expired)) (λ _. starts rest (dropped_by seen expired) _ (hold_tells m.opening.config m.due m.completed t (pending_checkpoints rest))))
 
 pub none_before : (m : State) → NoneTriggersBefore m (next_due m)
 none_before m now before =
-    tick_is m now (λ a. triggered_one a ≡ false) (λ why. refl) (λ expired. refl) (λ n expired h tells. none_starts n expired m.due (pause_ends m.opening.config m.completed) (max now m.latest) h tells before)
+    tick_is m now (λ a. triggered_one a ≡ false) (λ why. refl) (λ expired. refl)
+    (λ n expired h tells. none_starts n expired m.due (pause_ends m.opening.config m.completed) (max now m.latest) h tells before)
 
 pub none_early : (m : State) → NoneIsEarlyFrom m (next_due m)
 none_early m now from =
-    tick_is m now (λ a. was_early a ≡ false) (λ why. refl) (λ expired. refl) (λ n expired h tells. none_is_early n expired m.due (pause_ends m.opening.config m.completed) (max now m.latest) h tells from)
+    tick_is m now (λ a. was_early a ≡ false) (λ why. refl) (λ expired. refl)
+    (λ n expired h tells. none_is_early n expired m.due (pause_ends m.opening.config m.completed) (max now m.latest) h tells from)

@@ -27,7 +27,7 @@ pub use Rattle.ckpt_ids.specs.declared.reply.Answer.TheVariants.{Done, Refused}
 pub use Rattle.ckpt_ids.specs.declared.reply.Choice.{Choice}
 pub use Rattle.ckpt_ids.specs.declared.reply.Refusal.{Refusal}
 pub use Rattle.ckpt_ids.specs.declared.reply.Refusal.TheVariants.{FileGone, MomentTooLarge, NameTaken, RepeatedFile}
-pub use Rattle.ckpt_ids.specs.declared.reply.Refusal.TheVariants.{TooManyFiles, UnknownCheckpoint}
+pub use Rattle.ckpt_ids.specs.declared.reply.Refusal.TheVariants.{TooManyFiles}
 pub use Rattle.ckpt_ids.specs.declared.reply.Reply.TheVariants.{Ticked}
 pub use Rattle.ckpt_ids.specs.declared.subtask.SubtaskId.{SubtaskId}
 pub use Rattle.ckpt_model.specs.Histories.{answers, replay}
@@ -60,12 +60,12 @@ pub use Rattle.ckpt_rules.specs.declared.hold.Hold.TheVariants.{AtOnce, Go, Inte
 pub use Rattle.std.proofs.Common.{Bool, List, [], ap, arith, cond, eqb, false, inl, inr, leb, length, ltb, map, max, not, refl, subst, suc, sum, sym, take, true, zero, ℕ, ⊎_elim, ◌%◌, ◌&&◌, ◌++◌, ◌+◌}
 pub use Rattle.std.proofs.Common.{◌<◌, ◌^◌, ◌||◌, ◌∙◌, ◌∷◌, ◌≡◌, ◌≢◌, ◌≤◌, ◌⊎◌}
 pub use Rattle.std.proofs.lemmas.Bool.{and_cases, and_from, and_left, and_parts, and_right, both_ways, cases_Bool, cases_lt, cond-false, cond-true, cond_both, eq-eqb, eqb-false, eqb-true, le-ltb}
-pub use Rattle.std.proofs.lemmas.Bool.{leb-false, lt-leb, lt-ltb, ltb-false, ltb-true, ne_eqb, not-false, not-true, not_from_false, not_from_true, or_from, or_left, or_parts}
+pub use Rattle.std.proofs.lemmas.Bool.{leb-false, lt-ltb, ltb-false, ltb-true, ne_eqb, not-false, not-true, not_from_false, not_from_true, or_from, or_left, or_parts}
 pub use Rattle.std.proofs.lemmas.List.{append-nil, append_assoc, length-drop, map-append, map-id, take-append-drop}
 pub use Rattle.std.proofs.lemmas.List.Folds.{list_any-append}
 pub use Rattle.std.proofs.lemmas.List.Sums.{sum_by-cons}
 pub use Rattle.std.proofs.lemmas.Option.{none-some}
 pub use Rattle.std.specs.List.{enumerate_from, filter, flat_map, list_any, range_with_len}
 pub use Rattle.std.specs.Option.{is_some, option_or}
-pub use Rattle.std.specs.Prelude.{IfSome, None, Option, Some, count_by, find, unwrap_or, ⊤}
+pub use Rattle.std.specs.Prelude.{None, Option, Some, count_by, find, unwrap_or, ⊤}
 pub use Rattle.std.proofs.lemmas.Grind.{common_steps}

@@ -7,3 +7,10 @@ pub mod Pins
 pub mod Present
 pub mod Released
 pub mod Replacing
+pub use Acknowledged.*
+pub use Counts.*
+pub use Held.*
+pub use Lists.*
+pub use Present.*
+pub use Released.*
+pub use Replacing.*

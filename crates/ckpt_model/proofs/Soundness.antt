@@ -7,3 +7,8 @@ pub mod Histories
 pub mod Opening
 pub mod Outbox
 pub mod Triggers
+pub use Acks.*
+pub use Completions.*
+pub use Drops.*
+pub use Outbox.*
+pub use Triggers.*

@@ -72,7 +72,8 @@ unfolding named_data
 named_is_shallow m =
     let names : depth (names_data m) ≤ 3 = names_depth m in
     let image : depth (object (members (image_members 2 m.core))) ≤ 7 = image_depth 2 m.core in
-    let both : members_depth (put (codes "names") (names_data m) (members (image_members 2 m.core))) ≤ 6 = depth_put (codes "names") (names_data m) (members (image_members 2 m.core)) 6 (omega arith) (omega arith) in
+    let both : members_depth (put (codes "names") (names_data m) (members (image_members 2 m.core))) ≤ 6 =
+    depth_put (codes "names") (names_data m) (members (image_members 2 m.core)) 6 (omega arith) (omega arith) in
     omega arith
 
 -- ---- an image without names is read as ever
@@ -90,7 +91,8 @@ no_plain : (named : Option Named) (m : State) → option_map (λ k. Fenced k) na
 no_plain None m e = let f : None ≡ Some m = ap plain_in e in absurd (cc)
 no_plain (Some k) m e = let f : None ≡ Some m = ap plain_in e in absurd (cc)
 
-by_version : (n : ℕ) (any : Option State) (named : Option Named) (m : State) → (cond (eqb n 1) (option_map (λ k. Plain k) any) (cond (eqb n 2) (option_map (λ k. Fenced k) named) None) ≡ Some (Plain m)) ↔ (option_and_then (λ _. any) (only (λ k. eqb k 1) n) ≡ Some m)
+by_version : (n : ℕ) (any : Option State) (named : Option Named) (m : State)
+    → (cond (eqb n 1) (option_map (λ k. Plain k) any) (cond (eqb n 2) (option_map (λ k. Fenced k) named) None) ≡ Some (Plain m)) ↔ (option_and_then (λ _. any) (only (λ k. eqb k 1) n) ≡ Some m)
 by_version n any named m =
     ⊎_elim
     (λ (e : eqb n 1 ≡ true). rw (e) (λ h. from_plain any m h, λ h. ap (option_map (λ k. Plain k)) h))
@@ -101,11 +103,15 @@ by_version n any named m =
     by_two true h = no_plain named m h
     by_two false h = absurd (cc)
 
-by_number : (o : Option ℕ) (any : Option State) (named : Option Named) (m : State) → (option_and_then (λ n. cond (eqb n 1) (option_map (λ k. Plain k) any) (cond (eqb n 2) (option_map (λ k. Fenced k) named) None)) o ≡ Some (Plain m)) ↔ (option_and_then (λ _. any) (option_and_then (only (λ k. eqb k 1)) o) ≡ Some m)
+by_number : (o : Option ℕ) (any : Option State) (named : Option Named) (m : State)
+    → (option_and_then (λ n. cond (eqb n 1) (option_map (λ k. Plain k) any) (cond (eqb n 2) (option_map (λ k. Fenced k) named) None)) o ≡ Some (Plain m)) ↔
+    (option_and_then (λ _. any) (option_and_then (only (λ k. eqb k 1)) o) ≡ Some m)
 by_number None any named m = (λ h. absurd (cc), λ h. absurd (cc))
 by_number (Some n) any named m = by_version n any named m
 
-by_member : (o : Option Data) (any : Option State) (named : Option Named) (m : State) → (option_and_then (λ n. cond (eqb n 1) (option_map (λ k. Plain k) any) (cond (eqb n 2) (option_map (λ k. Fenced k) named) None)) (option_and_then number_of o) ≡ Some (Plain m)) ↔ (option_and_then (λ _. any) (option_and_then version_of o) ≡ Some m)
+by_member : (o : Option Data) (any : Option State) (named : Option Named) (m : State)
+    → (option_and_then (λ n. cond (eqb n 1) (option_map (λ k. Plain k) any) (cond (eqb n 2) (option_map (λ k. Fenced k) named) None)) (option_and_then number_of o) ≡ Some (Plain m)) ↔
+    (option_and_then (λ _. any) (option_and_then version_of o) ≡ Some m)
 unfolding version_of
 by_member None any named m = (λ h. absurd (cc), λ h. absurd (cc))
 by_member (Some d) any named m = by_number (number_of d) any named m

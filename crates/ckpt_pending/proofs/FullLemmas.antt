@@ -6,9 +6,7 @@ use Rattle.ckpt_pending.proofs.SubtaskLemmas.{IsInOrder-subtasks, IsIn-subtasks,
 
 -- a subtask of a full record has acknowledged
 IsIn-acknowledged : (r : Record) (s : SubtaskId) → has_acknowledged r s ≡ true → IsIn s (map (λ a. a.subtask) r.acks)
-IsIn-acknowledged r s h =
-    let q = IsIn-from_list_any (λ (a : Acked). same_subtask s a.subtask) r.acks h in
-    rw ((same_subtask-Decides s q.0.subtask).0 q.2) (IsIn-map (λ (a : Acked). a.subtask) q.0 r.acks q.1)
+IsIn-acknowledged r s h = grind (arith, IsIn-from_list_any (λ (a : Acked). same_subtask s a.subtask) r.acks h, same_subtask-Decides s, IsIn-map (λ (a : Acked). a.subtask))
 
 pub full_from_missing : (r : Record) → IsPending r → missing r ≡ 0 → IsFull r
 full_from_missing r p none =

@@ -1,6 +1,6 @@
 -- A pending record stays one, with its count, through each change.
-use Rattle.ckpt_pending.proofs.Names.{◌≡◌, ℕ, ◌+◌, ◌-◌, ◌≤◌, Bool, true, false, not, List, [], length, refl, sym, ap, ◌∙◌, ⊎_elim, arith, count_by-le-length, cases_Bool, both_ways, SubtaskId, Kind}
-use Rattle.ckpt_pending.proofs.Names.{Acked, IsIn, acknowledges_before, AreInSubtaskOrder, put_ack, IsShape, subtasks, is_subtask, same_subtask, Record, missing, has_acknowledged, count_by-all}
+use Rattle.ckpt_pending.proofs.Names.{◌≡◌, ℕ, ◌+◌, ◌-◌, ◌≤◌, Bool, true, false, not, List, [], length, refl, sym, ap, ◌∙◌, arith, count_by-le-length, cases_Bool, both_ways, SubtaskId, Kind, Acked}
+use Rattle.ckpt_pending.proofs.Names.{IsIn, acknowledges_before, AreInSubtaskOrder, put_ack, IsShape, subtasks, is_subtask, same_subtask, Record, missing, has_acknowledged, count_by-all}
 use Rattle.ckpt_pending.proofs.Names.{subtasks_in_order, same_subtask-Decides, IsIn-put_cases, IsIn-from_filter, IsInOrder-filter, IsInOrder-put_between, IsIn-from_list_any, list_any-from_IsIn}
 use Rattle.ckpt_pending.proofs.Names.{length-subtasks_from, pending_record, without_ack, IsPending, IsDone, IsCounted}
 use Rattle.ckpt_pending.proofs.AckLemmas.{acked, missing-put, missing-without, without_put}
@@ -17,9 +17,8 @@ other_subtask s a acks h k e = both_ways (acked acks s) h (list_any-from_IsIn (�
 
 AreInSubtaskOrder-put : (one : Acked) (acks : List Acked) → acked acks one.subtask ≡ false → AreInSubtaskOrder acks → AreInSubtaskOrder (put_ack one acks)
 AreInSubtaskOrder-put one acks h a =
-    let turns : (b : Acked) → IsIn b acks → acknowledges_before b one ≡ false → acknowledges_before one b ≡ true = λ b k e.
-    ⊎_elim (λ t. t) (λ t. absurd (other_subtask one.subtask b acks h k (subtasks_in_order.total one.subtask b.subtask t e))) (cases_Bool (acknowledges_before one b)) in
-    IsInOrder-put_between acknowledges_before (λ x y z. subtasks_in_order.transitive x.subtask y.subtask z.subtask) one acks turns a
+    IsInOrder-put_between acknowledges_before (λ x y z. subtasks_in_order.transitive x.subtask y.subtask z.subtask) one acks
+    (λ b k e. grind (arith, other_subtask one.subtask b acks h k, subtasks_in_order.total one.subtask b.subtask, cases_Bool)) a
 
 -- the record with one acknowledgement more
 abbrev pub with_ack : SubtaskId → List ℕ → Record → Record
@@ -28,9 +27,7 @@ with_ack s files r = record r { acks = put_ack (record { subtask = s; files = fi
 pub IsPending-put : (r : Record) (s : SubtaskId) (files : List ℕ) → IsPending r → is_subtask r.shape s ≡ true → has_acknowledged r s ≡ false → IsPending (with_ack s files r)
 IsPending-put r s files p h k =
     let one : Acked = record { subtask = s; files = files } in
-    let expected : (a : Acked) → IsIn a (put_ack one r.acks) → is_subtask r.shape a.subtask ≡ true = λ a there.
-    ⊎_elim (λ e. rw e h) (λ m. p.expected a m) (IsIn-put_cases acknowledges_before one a r.acks there) in
-    record { not_done = p.not_done; no_pins = p.no_pins; has_shape = p.has_shape; in_order = AreInSubtaskOrder-put one r.acks k p.in_order; expected = expected }
+    grind (arith, p.expected, IsIn-put_cases acknowledges_before one, AreInSubtaskOrder-put one r.acks k p.in_order)
 
 pub missing-with_ack : (r : Record) (s : SubtaskId) (files : List ℕ) → is_subtask r.shape s ≡ true → has_acknowledged r s ≡ false → missing (with_ack s files r) + 1 ≡ missing r
 missing-with_ack r s files h k = missing-put r.shape s files r.acks h k
@@ -44,10 +41,7 @@ IsCounted-put r s files count c h k = record { pending = IsPending-put r s files
 
 -- and with one less
 pub IsPending-without : (r : Record) (s : SubtaskId) → IsPending r → IsPending (without_ack s r)
-IsPending-without r s p =
-    let keep : Acked → Bool = λ a. not (same_subtask s a.subtask) in
-    let order = IsInOrder-filter acknowledges_before keep r.acks p.in_order in
-    record { not_done = p.not_done; no_pins = p.no_pins; has_shape = p.has_shape; in_order = order; expected = λ a h. p.expected a (IsIn-from_filter keep a r.acks h).0 }
+IsPending-without r s p = let keep : Acked → Bool = λ a. not (same_subtask s a.subtask) in grind (arith, IsInOrder-filter acknowledges_before keep r.acks p.in_order, p.expected, IsIn-from_filter keep)
 
 -- a subtask that has acknowledged is one of the shape
 pub expected_acknowledged : (r : Record) (s : SubtaskId) → IsPending r → has_acknowledged r s ≡ true → is_subtask r.shape s ≡ true

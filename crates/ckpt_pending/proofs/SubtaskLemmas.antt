@@ -1,13 +1,12 @@
 -- The subtasks of a shape are in strict order, so each is there once.
-use Rattle.ckpt_pending.proofs.Names.{nat_tests, ◌≡◌, ℕ, zero, suc, ◌+◌, ◌≤◌, Bool, true, false, ltb, leb, List, [], ◌∷◌, map, refl, sym, ap, ◌∙◌, inl, inr, ⊎_elim, arith, count_by, range_with_len}
-use Rattle.ckpt_pending.proofs.Names.{cases_Bool, both_ways, or_left, and_parts, lt-ltb, leb-true, SubtaskId, IsIn, IsInOrder, is_before, subtasks, subtasks_from, is_subtask, same_subtask, one_if}
-use Rattle.ckpt_pending.proofs.Names.{count_by-cons, count_by_yes, count_by_no, count_by-same, counted-from_IsIn, subtasks_in_order, same_subtask-Decides, ComesBefore-from, ComesBefore-at}
-use Rattle.ckpt_pending.proofs.Names.{IsInOrder-append, IsInOrder-map, IsIn-from_map, IsIn-from_list_any, list_any-from_IsIn, is_subtask_from}
+use Rattle.ckpt_pending.proofs.Names.{nat_tests, ◌≡◌, ℕ, zero, suc, ◌+◌, ◌≤◌, Bool, true, false, ltb, leb, List, [], ◌∷◌, map, refl, sym, ap, ◌∙◌, ⊎_elim, arith, count_by, range_with_len, cases_Bool}
+use Rattle.ckpt_pending.proofs.Names.{or_left, and_parts, lt-ltb, leb-true, SubtaskId, IsIn, IsInOrder, is_before, subtasks, subtasks_from, is_subtask, same_subtask, count_by_yes, count_by_no}
+use Rattle.ckpt_pending.proofs.Names.{count_by-same, counted-from_IsIn, subtasks_in_order, same_subtask-Decides, ComesBefore-from, ComesBefore-at, IsInOrder-append, IsInOrder-map, IsIn-from_map}
+use Rattle.ckpt_pending.proofs.Names.{IsIn-from_list_any, list_any-from_IsIn, is_subtask_from}
 
 range_from : (from n x : ℕ) → IsIn x (range_with_len from n) → from ≤ x
 range_from from zero x h = absurd h
-range_from from (suc n) x (inl e) = omega arith
-range_from from (suc n) x (inr h) = omega (arith, range_from (from + 1) n x h)
+range_from from (suc n) x h = grind (arith, range_from (from + 1) n x)
 
 range_in_order : (from n : ℕ) → IsInOrder ltb (range_with_len from n)
 range_in_order from zero = tt
@@ -49,13 +48,9 @@ is_subtask-from_IsIn shape s h = list_any-from_IsIn (same_subtask s) s (subtasks
 pub count_by_one_more : (p q : SubtaskId → Bool) (s : SubtaskId) (xs : List SubtaskId) → IsInOrder is_before xs → IsIn s xs → p s ≡ true → q s ≡ false → ((t : SubtaskId) → (t ≡ s → ⊥) → q t ≡ p t)
     → count_by q xs + 1 ≡ count_by p xs
 count_by_one_more p q s [] a h ps qs f = absurd h
-count_by_one_more p q s (x ∷ xs) a (inl e) ps qs f =
-    let apart : (t : SubtaskId) → IsIn t xs → t ≡ s → ⊥ = λ t k same.
-    both_ways (is_before x x) (subtasks_in_order.irreflexive x) (ap (is_before x) (sym e ∙ sym same) ∙ ComesBefore-at is_before x t xs a.0 k) in
-    omega (arith, count_by-same q p xs (λ t k. f t (apart t k)), count_by_yes p x xs (rw (← e) ps), count_by_no q x xs (rw (← e) qs))
-count_by_one_more p q s (x ∷ xs) a (inr h) ps qs f =
-    let other : x ≡ s → ⊥ = λ same. both_ways (is_before x x) (subtasks_in_order.irreflexive x) (ap (is_before x) same ∙ ComesBefore-at is_before x s xs a.0 h) in
-    omega (arith, ap one_if (f x other), count_by_one_more p q s xs a.1 h ps qs f, count_by-cons p x xs, count_by-cons q x xs)
+count_by_one_more p q s (x ∷ xs) a h ps qs f =
+    let rest = count_by_one_more p q s xs a.1 in
+    grind (arith, subtasks_in_order.irreflexive, ComesBefore-at is_before x, count_by-same q p xs, count_by_yes, count_by_no, rest) steps 1000000
 
 -- what is counted nowhere
 pub none_counted : {X : Type 0} (p : X → Bool) (x : X) (xs : List X) → count_by p xs ≡ 0 → IsIn x xs → p x ≡ false

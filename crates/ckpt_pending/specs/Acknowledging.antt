@@ -29,6 +29,10 @@ files_from r s = option_map (λ a. a.files) (find (λ a. same_subtask s a.subtas
 abbrev pub HasAlready : Record → SubtaskId → Type 0
 HasAlready r subtask = (is_subtask r.shape subtask ≡ true) × (has_acknowledged r subtask ≡ true)
 
+-- the record has this subtask, and waits for it
+abbrev pub Expects : Record → SubtaskId → Type 0
+Expects r subtask = (is_subtask r.shape subtask ≡ true) × (has_acknowledged r subtask ≡ false)
+
 -- what holds for each record that waits for acknowledgements
 pub record IsPending (r : Record) : Type 0 where
   pub not_done : r.done ≡ false

@@ -5,7 +5,7 @@ ghost use Rattle.std.specs.List.{flat_map, insert};
 ghost use Rattle.ckpt_ids.specs.Ascending.{ascending_set};
 ghost use Rattle.ckpt_ids.specs.Records.{Record, acknowledged, has_acknowledged, missing, metadata_of};
 ghost use Rattle.ckpt_ids.specs.Shapes.{is_subtask};
-ghost use Rattle.ckpt_pending.specs.Acknowledging.{HasAlready, IsPending, files_from, without_ack};
+ghost use Rattle.ckpt_pending.specs.Acknowledging.{Expects, HasAlready, IsPending, files_from, without_ack};
 
 use crate::done::Done;
 use ckpt_ids::{
@@ -122,15 +122,31 @@ impl Pending {
         ensures undone_by_retract { OnOk result (without_ack subtask self.new ≡ self.old) }
         ensures err { OnErr result (self.new ≡ self.old) }
     {
-        if !self.shape.contains(subtask) {
+        if !self.expects(subtask) {
             return Err(AckFault::UnknownSubtask);
         }
-        let Err(place) = place_of(&self.acks, subtask) else {
+        if self.has(subtask) {
             return Err(AckFault::AlreadyAcknowledged);
-        };
-        if add(&mut self.acks, place, Acked { subtask, files }).is_err() {
-            return Err(AckFault::Memory);
         }
+        match self.ack_expected(subtask, files) {
+            Ok(()) => Ok(()),
+            Err(_) => Err(AckFault::Memory),
+        }
+    }
+
+    /// Adds the acknowledgement of a subtask that the record waits for, with all files of its part.
+    /// Fails only if memory runs out, and then the record has not changed.
+    ///
+    /// Condition: the shape has the subtask, and it has not acknowledged.
+    pub fn ack_expected(&mut self, subtask: SubtaskId, files: Files) -> Result<(), AllocError>
+        requires { Expects self.old subtask }
+        ensures ok { OnOk result (self.new ≡ acknowledged self.old subtask files) }
+        ensures one_less { OnOk result (missing self.new + 1 ≡ missing self.old) }
+        ensures undone_by_retract { OnOk result (without_ack subtask self.new ≡ self.old) }
+        ensures err { OnErr result (self.new ≡ self.old) }
+    {
+        let place = place_of(&self.acks, subtask).unwrap_err();
+        add(&mut self.acks, place, Acked { subtask, files })?;
         self.missing -= 1;
         Ok(())
     }

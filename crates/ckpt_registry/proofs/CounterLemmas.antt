@@ -1,27 +1,12 @@
 -- What one change of the counters does to the count of each file.
-use Rattle.ckpt_registry.proofs.Names.{IsIn, IsIn-at, ◌≡◌, ℕ, zero, suc, ◌+◌, ◌<◌, ◌≤◌, ◌^◌, cond, eqb, ltb, nat_eq, List, [], ◌∷◌, ◌++◌, length, get_or, take, refl, ap, ◌∙◌, arith, Option, Some}
-use Rattle.ckpt_registry.proofs.Names.{None, Result, unwrap_or, is_some, IfOk, if◌then◌else◌, eqb-true, ne_eqb, lt-ltb, le-ltb, cond-false, none-some, sum_by_more, IsOk, OnOk, false≢true, position}
-use Rattle.ckpt_registry.proofs.Names.{slice_get, lookup, keys_of, values_of, position-Some, get, keys, values, one_if-true, one_if-false, count_by_push, Counts, Released, counter, counted_once}
-use Rattle.ckpt_registry.proofs.Names.{AreInRange, AreLowered, AreReleased, HasRoom, one_if, times, common_steps, released}
+use Rattle.ckpt_registry.proofs.Names.{IsIn, IsIn-at, ◌≡◌, ℕ, zero, suc, ◌+◌, ◌<◌, ◌≤◌, ◌^◌, cond, eqb, ltb, nat_eq, List, [], ◌∷◌, ◌++◌, length, get_or, take, ap, arith, Option, Some}
+use Rattle.ckpt_registry.proofs.Names.{None, Result, unwrap_or, is_some, IfOk, if◌then◌else◌, eqb-true, lt-ltb, le-ltb, none-some, IsOk, OnOk, false≢true, position}
+use Rattle.ckpt_registry.proofs.Names.{slice_get, lookup, keys_of, values_of, position-Some, get, keys, values, one_if-true, one_if-false, Counts, Released, counter, counted_once}
+use Rattle.ckpt_registry.proofs.Names.{AreInRange, AreLowered, AreReleased, one_if, times, common_steps, released}
 
 -- n has w at k, and else what m has
 abbrev pub Sets : Counts → Counts → ℕ → Option ℕ → Type 0
 Sets m n k w = (q : ℕ) → get nat_eq n q ≡ cond (eqb k q) w (get nat_eq m q)
-
-pub get-set_at : (m n : Counts) (k : ℕ) (w : Option ℕ) → Sets m n k w → (f : ℕ) → k ≡ f → get nat_eq n f ≡ w
-get-set_at m n k w s f e = grind (arith, s f)
-
-pub get-set_off : (m n : Counts) (k : ℕ) (w : Option ℕ) → Sets m n k w → (f : ℕ) → (k ≡ f → ⊥) → get nat_eq n f ≡ get nat_eq m f
-get-set_off m n k w s f ne = s f ∙ cond-false (eqb k f) w (get nat_eq m f) (ne_eqb k f ne)
-
-abbrev value_of : Option ℕ → ℕ
-value_of o = unwrap_or o 0
-
-pub counter-set_at : (m n : Counts) (k : ℕ) (w : Option ℕ) → Sets m n k w → (f : ℕ) → k ≡ f → counter n f ≡ unwrap_or w 0
-counter-set_at m n k w s f e = ap value_of (get-set_at m n k w s f e)
-
-pub counter-set_off : (m n : Counts) (k : ℕ) (w : Option ℕ) → Sets m n k w → (f : ℕ) → (k ≡ f → ⊥) → counter n f ≡ counter m f
-counter-set_off m n k w s f ne = ap value_of (get-set_off m n k w s f ne)
 
 -- the entry that a look-up of its index finds
 
@@ -60,12 +45,6 @@ counted_once-above m f h = one_if-true (ltb 0 (counter m f)) (lt-ltb 0 (counter 
 pub counted_once-zero : (m : Counts) (f : ℕ) → counter m f ≡ 0 → counted_once m f ≡ 0
 counted_once-zero m f h = one_if-false (ltb 0 (counter m f)) (le-ltb 0 (counter m f) (omega arith))
 
-counted_once-same : (m n : Counts) (f : ℕ) → counter n f ≡ counter m f → counted_once n f ≡ counted_once m f
-counted_once-same m n f e = ap (λ c. one_if (ltb 0 c)) e
-
-pub times_push : (f x : ℕ) (xs : List ℕ) → times f (xs ++ x ∷ []) ≡ times f xs + one_if (eqb x f)
-times_push f x xs = count_by_push (λ y. eqb y f) xs x
-
 -- a file whose count only falls keeps its place
 pub counted_once-kept : (m n : Counts) (k v w : ℕ) → Sets m n k (Some w) → counter m k ≡ v → 0 < v → 0 < w → (f : ℕ) → counted_once n f ≡ counted_once m f
 counted_once-kept m n k v w s had above still f = grind (arith, common_steps)
@@ -73,13 +52,6 @@ counted_once-kept m n k v w s had above still f = grind (arith, common_steps)
 -- a file whose last use goes is released
 pub times-released : (m n : Counts) (k : ℕ) (xs : List ℕ) → Sets m n k None → 0 < counter m k → (f : ℕ) → times f (xs ++ k ∷ []) + counted_once n f ≡ times f xs + counted_once m f
 times-released m n k xs s above f = grind (arith, common_steps)
-
--- one use more
-pub counter-raised : (m n : Counts) (k w : ℕ) → Sets m n k (Some w) → w ≡ counter m k + 1 → (f : ℕ) → counter n f ≡ counter m f + one_if (eqb k f)
-counter-raised m n k w s more f = grind (arith, common_steps)
-
-pub times_more : (f : ℕ) (xs : List ℕ) (i d : ℕ) → i < length xs → times f (take (i + 1) xs) ≡ times f (take i xs) + one_if (eqb (get_or xs i d) f)
-times_more f xs i d h = sum_by_more (λ y. one_if (eqb y f)) xs i d h
 
 -- one more file counted, of a list of which i were
 pub counter_more : (was m n : Counts) (xs : List ℕ) (i k w : ℕ) → Sets m n k (Some w) → w ≡ counter m k + 1 → i < length xs → k ≡ get_or xs i k
@@ -133,17 +105,8 @@ length_more r l n h3 h4 = grind (arith, common_steps, false≢true)
 
 -- releases one after the other
 
-pub AreReleased-none : (m : Counts) (out : Released) → AreReleased m out m out
-AreReleased-none m out = record { each = λ f. refl; len = refl; capacity = refl }
-
 pub AreReleased-then : (m n k : Counts) (out more most : Released) → AreReleased m out n more → AreReleased n more k most → AreReleased m out k most
 AreReleased-then m n k out more most a b = grind (arith, common_steps)
-
-pub HasRoom-released : (m n : Counts) (out more : Released) → HasRoom m out → AreReleased m out n more → HasRoom n more
-HasRoom-released m n out more room a = omega (arith, room, a.len, a.capacity)
-
-pub AreLowered-none : (m : Counts) (out : Released) → AreInRange m → AreLowered (λ f. 0) m out m out
-AreLowered-none m out range = record { lowered = λ f. omega arith; released = AreReleased-none m out; range = range }
 
 pub AreLowered-then : (first later all : ℕ → ℕ) (m n k : Counts) (out more most : Released) → ((f : ℕ) → first f + later f ≡ all f) → AreLowered first m out n more → AreLowered later n more k most
     → AreLowered all m out k most

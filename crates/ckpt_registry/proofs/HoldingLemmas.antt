@@ -127,9 +127,6 @@ module _ (m n : Acknowledged) (id : ℕ) (before old after : List Holding) (new 
         count_by-append p (uses_in old) (uses_in after),
       )
 
-  pub uses-same : more ≡ [] → uses_in n.items ≡ uses_in m.items
-  uses-same none = is ∙ ap (λ ps. uses_in before ++ ((uses_in old ++ uses_by id ps) ++ uses_in after)) none ∙ ap (λ us. uses_in before ++ (us ++ uses_in after)) (append-nil (uses_in old)) ∙ sym was
-
   held_by : (q : ℕ) (xs ys : List Holding) → parts_in (filter (has_id q) (xs ++ ys)) ≡ parts_in (filter (has_id q) xs) ++ parts_in (filter (has_id q) ys)
   held_by q xs ys = ap parts_in (filter-append (has_id q) xs ys) ∙ flat_map-append _ (filter (has_id q) xs) (filter (has_id q) ys)
 

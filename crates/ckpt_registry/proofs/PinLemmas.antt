@@ -166,10 +166,6 @@ module _ (chosen : ℕ) (parts : List Part) (old now : List Pinner) (i : ℕ) (d
 
 -- the files of the pinners that are removed, for one pinner more
 
-own_of-push : (f : ℕ) (owners : List ℕ) (pinned : List Pinner) (one : Pinner)
-    → times f (own_of owners (pinned ++ one ∷ [])) ≡ times f (own_of owners pinned) + cond (goes owners one) (times f (own_files one.pins)) 0
-own_of-push f owners pinned one = grind (arith, common_steps)
-
 pub own_of-more : (f : ℕ) (owners : List ℕ) (pinned : List Pinner) (i : ℕ) (one : Pinner) → i < length pinned → one ≡ get_or pinned i one
     → times f (own_of owners (take (i + 1) pinned)) ≡ times f (own_of owners (take i pinned)) + cond (goes owners one) (times f (own_files one.pins)) 0
 own_of-more f owners pinned i one within at = grind (arith, common_steps)

@@ -1,6 +1,6 @@
 -- What a record pins, computed from the uses.
-use Rattle.ckpt_registry.proofs.Names.{◌≡◌, ℕ, Bool, true, ◌&&◌, ◌||◌, eqb, ltb, List, [], ◌∷◌, ◌++◌, filter, map, refl, sym, ap, ◌∙◌, inl, inr, ⊎_elim, arith, IsPermutation, IsSorted, IsFiltered}
-use Rattle.ckpt_registry.proofs.Names.{DiffersFromLast, nat_cmp, and_parts, both_ways, IsAscendingSet, ascending, ascending_set, IsIn, IsInOrder, Use, Holder, Pin, holder_before, same_holder}
+use Rattle.ckpt_registry.proofs.Names.{◌≡◌, ℕ, Bool, true, ◌&&◌, eqb, ltb, List, [], ◌∷◌, ◌++◌, filter, map, refl, sym, ap, ◌∙◌, inl, inr, ⊎_elim, arith, IsPermutation, IsSorted, IsFiltered}
+use Rattle.ckpt_registry.proofs.Names.{DiffersFromLast, nat_cmp, and_parts, both_ways, IsAscendingSet, ascending, ascending_set, IsIn, IsInOrder, Use, Pin, same_holder}
 use Rattle.ckpt_registry.proofs.Names.{use_before, numbers_in_order, uses_in_order, ComesBefore-at, ComesBefore-from, IsIn-append_left, IsIn-append_right, IsIn-append_cases, IsIn-filter}
 use Rattle.ckpt_registry.proofs.Names.{IsIn-flat_map, IsIn-from_filter, IsIn-from_flat_map, IsIn-from_map, IsIn-from_in_order_once, IsIn-in_order_once, IsIn-map, IsInOrder-filter}
 use Rattle.ckpt_registry.proofs.Names.{IsInOrder-in_order_once, same_from_members, ascending-from_dedup, Pinner, Acknowledged, uses_in, each_file, named_by, own_files, parts_pinned, pinned_by}
@@ -9,13 +9,6 @@ use Rattle.ckpt_registry.proofs.PinLemmas.{uses_in-holder}
 
 abbrev pins_it : ℕ → Use → Bool
 pins_it id u = eqb u.id id && same_holder u.holder Pin
-
-pins_in_order : (i j f g : ℕ) → i ≡ j → (ltb i j || (eqb i j && ltb f g)) ≡ true → ltb f g ≡ true
-pins_in_order i j f g e t = grind (arith, common_steps)
-
-by_holders : (i j : ℕ) (h k : Holder) (f g : ℕ) → i ≡ j → same_holder h Pin ≡ true → same_holder k Pin ≡ true → (ltb i j || (eqb i j && (holder_before h k || (same_holder h k && ltb f g)))) ≡ true
-    → ltb f g ≡ true
-by_holders i j h k f g h6 h7 h8 h9 = grind (arith, common_steps, both_ways, pins_in_order)
 
 -- two pins of one record are in the order of their files
 later_file : (id : ℕ) (u v : Use) → pins_it id u ≡ true → pins_it id v ≡ true → use_before u v ≡ true → ltb u.file v.file ≡ true

@@ -7,7 +7,7 @@ use Rattle.ckpt_ids.specs.Places.{AreInOrderBy}
 use Rattle.ckpt_ids.specs.Records.{Use, Subtask}
 use Rattle.ckpt_ids.specs.declared.subtask.SubtaskId.{SubtaskId}
 use Rattle.ckpt_registry.specs.declared.holdings.Holding.{Holding}
-use Rattle.ckpt_registry.specs.Parts.{Part, files_of}
+use Rattle.ckpt_registry.specs.RecordParts.{Part, files_of}
 use Rattle.ckpt_registry.specs.Uses.{triples}
 
 -- what the subtasks of each record acknowledged

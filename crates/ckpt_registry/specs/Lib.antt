@@ -2,7 +2,7 @@
 pub mod Counters
 pub mod Ends
 pub mod Holdings
-pub mod Parts
 pub mod Pins
+pub mod RecordParts
 pub mod Sound
 pub mod Uses

@@ -12,7 +12,7 @@ use Rattle.ckpt_registry.specs.declared.pins.Pinner.{Pinner}
 use Rattle.ckpt_registry.specs.declared.pins.Pins.{Pins}
 use Rattle.ckpt_registry.specs.declared.pins.Pins.TheVariants.{Record, Files}
 use Rattle.ckpt_registry.specs.Holdings.{Acknowledged, parts_of}
-use Rattle.ckpt_registry.specs.Parts.{Part, files_in}
+use Rattle.ckpt_registry.specs.RecordParts.{Part, files_in}
 use Rattle.ckpt_registry.specs.Uses.{triples}
 
 -- the files of these parts, each once

@@ -8,7 +8,7 @@ use Rattle.ckpt_registry.specs.declared.pins.Pinner.{Pinner}
 use Rattle.ckpt_registry.specs.declared.pins.Pins.{Pins}
 use Rattle.ckpt_registry.specs.Counters.{Counts, counter, AreInRange}
 use Rattle.ckpt_registry.specs.Holdings.{Acknowledged, AreRising, parts_of, uses_in}
-use Rattle.ckpt_registry.specs.Parts.{Part}
+use Rattle.ckpt_registry.specs.RecordParts.{Part}
 use Rattle.ckpt_registry.specs.Pins.{AreKept, IsKept, each_file, own_in, parts_pinned, pins_in}
 
 -- the uses by acknowledgements, then the pins

@@ -5,7 +5,7 @@ ghost use Rattle.ckpt_registry.specs.Counters.{counter, AreInRange, AreLowered, 
 ghost use Rattle.ckpt_registry.specs.Holdings.{Adds, AreRising, Extends, parts_of, uses_in, uses_of_ack};
 
 use crate::counters::{Counts, lower};
-use crate::parts::Parts;
+use crate::record_parts::RecordParts;
 use ckpt_ids::{CheckpointId, FileId, Files, Keyed, SubtaskId, place_of, take_out};
 use std::alloc::AllocError;
 use std::collections::VecDeque;
@@ -15,7 +15,7 @@ use std::mem::replace;
 #[derive(Debug, Drop)]
 pub(crate) struct Holding {
     id: CheckpointId,
-    parts: Parts,
+    parts: RecordParts,
 }
 
 impl Keyed for Holding {
@@ -60,7 +60,7 @@ pub(crate) fn lower_each(counts: &mut Counts, released: &mut Vec<FileId>, files:
 /// The parts of a record, or `None` if no subtask of it uses a file.
 ///
 /// Condition: the numbers of the records rise.
-pub(crate) fn parts_held(acknowledged: &Acknowledged, id: CheckpointId) -> Option<&Parts>
+pub(crate) fn parts_held(acknowledged: &Acknowledged, id: CheckpointId) -> Option<&RecordParts>
     requires { AreRising acknowledged.now.items }
     ensures some { IfSome result (λ parts. parts.now ≡ parts_of acknowledged.now id) }
     ensures none { IfNone result (parts_of acknowledged.now id ≡ []) }
@@ -74,7 +74,7 @@ pub(crate) fn parts_held(acknowledged: &Acknowledged, id: CheckpointId) -> Optio
 /// Removes the parts of a record, if it has any. Takes no memory.
 ///
 /// Condition: the numbers of the records rise.
-pub(crate) fn remove(acknowledged: &mut Acknowledged, id: CheckpointId) -> Option<Parts>
+pub(crate) fn remove(acknowledged: &mut Acknowledged, id: CheckpointId) -> Option<RecordParts>
     requires { AreRising acknowledged.old.items }
     ensures gone { acknowledged.new.items ≡ filter (λ h. not (h.id == id)) acknowledged.old.items }
     ensures parts { IfSome result (λ parts. parts ≡ parts_of acknowledged.old id) }
@@ -110,7 +110,7 @@ fn add(acknowledged: &mut Acknowledged, place: usize, holding: Holding) -> Resul
 /// Conditions: the numbers of the records rise, and the spare parts are empty.
 pub(crate) fn hold(
     acknowledged: &mut Acknowledged,
-    spare: &mut Parts,
+    spare: &mut RecordParts,
     id: CheckpointId,
     subtask: SubtaskId,
     fresh: &Files,
@@ -135,7 +135,7 @@ pub(crate) fn hold(
         Err(place) => {
             spare.push(subtask, fresh, reused)?;
             let alloc = *acknowledged.allocator();
-            let parts = replace(spare, Parts::new(alloc));
+            let parts = replace(spare, RecordParts::new(alloc));
             add(acknowledged, place, Holding { id, parts })?;
             Ok(())
         }

@@ -12,8 +12,8 @@
 
 mod counters;
 mod holdings;
-mod parts;
 mod pins;
+mod record_parts;
 pub mod registry;
 mod releases;
 mod sorting;

@@ -8,13 +8,13 @@ ghost use Rattle.ckpt_ids.specs.Counting.{times};
 ghost use Rattle.ckpt_ids.specs.Ordered.{IsIn};
 ghost use Rattle.ckpt_registry.specs.Counters.{counter, AreInRange, AreLowered, HasRoom};
 ghost use Rattle.ckpt_registry.specs.Holdings.{Acknowledged, AreRising, parts_of};
-ghost use Rattle.ckpt_registry.specs.Parts.{files_in};
+ghost use Rattle.ckpt_registry.specs.RecordParts.{files_in};
 ghost use Rattle.ckpt_registry.specs.Pins.{AreKept, AreSettled, IsKept, IsLook, IsSettled, each_file, is_named, named_by, own_files, own_in, own_of, parts_pinned, pinned_by, pins_of_records};
 ghost use Rattle.ckpt_registry.specs.Sound.{AreCounted, WereKept};
 
 use crate::counters::{Counts, count_reused};
 use crate::holdings::{Acknowledged, lower_each, parts_held};
-use crate::parts::{MOST_FILES, Parts, emptied, write};
+use crate::record_parts::{MOST_FILES, RecordParts, emptied, write};
 use crate::sorting::sort;
 use ckpt_ids::{CheckpointId, FileId};
 use std::alloc::{AllocError, Global};
@@ -74,7 +74,7 @@ impl Pins {
     ///
     /// Conditions: each file of these parts has a counter, no counter grows beyond its range, and there
     /// is room for the files.
-    fn settle(&mut self, counts: &mut Counts, chosen: CheckpointId, parts: &Parts)
+    fn settle(&mut self, counts: &mut Counts, chosen: CheckpointId, parts: &RecordParts)
         requires kept { WereKept chosen parts.now counts.old self.old }
         requires present { (f : ℕ) → IsIn f (files_in parts.now) → 0 < counter counts.old f }
         requires range { AreInRange counts.old }
@@ -176,7 +176,7 @@ pub(crate) fn pin_all(
     counts: &mut Counts,
     pinned: &[Pinner],
     chosen: CheckpointId,
-    parts: &Parts,
+    parts: &RecordParts,
     room: Vec<FileId>,
 ) -> Pins
     requires empty { room.items ≡ [] }
@@ -289,7 +289,7 @@ pub(crate) fn settle(
     pinned: &mut Vec<Pinner>,
     counts: &mut Counts,
     chosen: CheckpointId,
-    parts: &Parts,
+    parts: &RecordParts,
 )
     requires { (before : Acknowledged) × (parts_of before chosen ≡ parts.now) × AreCounted before pinned.old.items counts.old }
     ensures settled { AreSettled chosen parts.now pinned.old.items pinned.new.items }

@@ -6,11 +6,11 @@ ghost use Rattle.ckpt_ids.specs.Ascending.{IsAscendingSet, ascending_set};
 ghost use Rattle.ckpt_ids.specs.Records.{Subtask, Pin, count, is_present, released, use_before};
 ghost use Rattle.ckpt_registry.specs.Uses.{IsEachOnce, HasNoUse, after_end, files_by, pins_by, triples, without};
 
-use crate::counters::{Counts, count_each, count_fresh, count_reused};
-use crate::holdings::{Acknowledged, hold, parts_held};
-use crate::parts::Parts;
+use crate::counters::{count_each, count_fresh, count_reused};
+use crate::holdings::{hold, parts_held};
 use crate::pins::{Pinner, Pins, files_pinned, pin_all, pins_of, unpin};
-use crate::releases::release_each;
+use crate::record_parts::RecordParts;
+use crate::releases::{Uses, release_each};
 use crate::sorting::sort;
 use ckpt_hash::Secret;
 use ckpt_ids::{CheckpointId, FileId, Files, SubtaskId};
@@ -44,13 +44,11 @@ use std::mem::replace;
 /// need no more, an acknowledgement takes memory only for the counters of further files.
 #[derive(Debug)]
 pub struct Registry {
-    counts: Counts,
-    acknowledged: Acknowledged,
-    pinned: Vec<Pinner>,
+    uses: Uses,
     /// The answer of the last release, in room for all files that are present.
     released: Vec<FileId>,
     /// Empty room for the parts of the next new record. It comes from the last dropped record.
-    spare: Parts,
+    spare: RecordParts,
     /// Empty room for the files of the next record that pins another. It comes from the last pins
     /// that went.
     room: Vec<FileId>,
@@ -59,9 +57,7 @@ pub struct Registry {
 impl Drop for Registry {
     fn drop(self) {
         let Registry {
-            counts: _,
-            acknowledged: _,
-            pinned: _,
+            uses: _,
             released: _,
             spare: _,
             room: _,
@@ -77,9 +73,9 @@ impl Model for Registry {
 
     ghost Value = { List Use };
 
-    ghost view = { λ r. in_use r.acknowledged r.pinned.items };
+    ghost view = { λ r. in_use r.uses.acknowledged r.uses.pinned.items };
 
-    ghost invariant = { λ r. IsSound r.acknowledged r.pinned.items r.counts (vec_capacity r.released) × (r.spare ≡ []) × (r.room.items ≡ []) };
+    ghost invariant = { λ r. IsSound r.uses.acknowledged r.uses.pinned.items r.uses.counts (vec_capacity r.released) × (r.spare ≡ []) × (r.room.items ≡ []) };
 }
 
 impl Registry {
@@ -99,11 +95,13 @@ impl Registry {
         ensures { result ≡ [] }
     {
         Registry {
-            counts: IndexMap::with_hasher(alloc, secret),
-            acknowledged: VecDeque::new(alloc),
-            pinned: Vec::new(alloc),
+            uses: Uses {
+                acknowledged: VecDeque::new(alloc),
+                pinned: Vec::new(alloc),
+                counts: IndexMap::with_hasher(alloc, secret),
+            },
             released: Vec::new(alloc),
-            spare: Parts::new(alloc),
+            spare: RecordParts::new(alloc),
             room: Vec::new(alloc),
         }
     }
@@ -130,11 +128,11 @@ impl Registry {
     {
         // Everything that may run out of memory comes first. A released file has a counter, so room
         // for as many files as counters is enough.
-        self.counts.reserve(fresh.len())?;
+        self.uses.counts.reserve(fresh.len())?;
         self.released.clear();
-        self.released.reserve(self.counts.capacity())?;
+        self.released.reserve(self.uses.counts.capacity())?;
         hold(
-            &mut self.acknowledged,
+            &mut self.uses.acknowledged,
             &mut self.spare,
             id,
             subtask,
@@ -143,8 +141,8 @@ impl Registry {
         )?;
         let fresh = fresh.as_slice();
         let reused = reused.as_slice();
-        count_fresh(&mut self.counts, fresh);
-        count_reused(&mut self.counts, reused);
+        count_fresh(&mut self.uses.counts, fresh);
+        count_reused(&mut self.uses.counts, reused);
         Ok(())
     }
 
@@ -165,19 +163,19 @@ impl Registry {
         ensures ok { OnOk result (self.new ≡ in_order_once use_before (self.old ++ triples id (Subtask subtask) files.now)) }
         ensures err { OnErr result (self.new ≡ self.old) }
     {
-        self.counts.reserve(files.len())?;
+        self.uses.counts.reserve(files.len())?;
         self.released.clear();
-        self.released.reserve(self.counts.capacity())?;
+        self.released.reserve(self.uses.counts.capacity())?;
         let none = Files::of(Vec::new(*self.released.allocator()));
         hold(
-            &mut self.acknowledged,
+            &mut self.uses.acknowledged,
             &mut self.spare,
             id,
             subtask,
             files,
             &none,
         )?;
-        count_each(&mut self.counts, files.as_slice());
+        count_each(&mut self.uses.counts, files.as_slice());
         Ok(())
     }
 
@@ -195,14 +193,14 @@ impl Registry {
         ensures err { OnErr result (self.new ≡ self.old) }
     {
         let alloc = *self.released.allocator();
-        self.counts.reserve(files.len())?;
+        self.uses.counts.reserve(files.len())?;
         self.released.clear();
-        self.released.reserve(self.counts.capacity())?;
+        self.released.reserve(self.uses.counts.capacity())?;
         let files = files.as_slice();
         let own = Vec::from_slice(alloc, files)?;
         let pins = Pins::Files(own);
-        self.pinned.push(Pinner { id, pins })?;
-        count_each(&mut self.counts, files);
+        self.uses.pinned.push(Pinner { id, pins })?;
+        count_each(&mut self.uses.counts, files);
         Ok(())
     }
 
@@ -219,17 +217,23 @@ impl Registry {
         ensures ok { OnOk result (self.new ≡ in_order_once use_before (self.old ++ triples id Pin (files_by chosen self.old))) }
         ensures err { OnErr result (self.new ≡ self.old) }
     {
-        let Some(parts) = parts_held(&self.acknowledged, chosen) else {
+        let Some(parts) = parts_held(&self.uses.acknowledged, chosen) else {
             return Ok(());
         };
         let alloc = *self.released.allocator();
         // Room for the files. They are written if the other record is dropped first, since a drop
         // may take no memory. Until then nothing touches this room.
         self.room.reserve(parts.files().len())?;
-        self.pinned.reserve(1)?;
+        self.uses.pinned.reserve(1)?;
         let room = replace(&mut self.room, Vec::new(alloc));
-        let pins = pin_all(&mut self.counts, &self.pinned, chosen, parts, room);
-        self.pinned.push_reserved(Pinner { id, pins });
+        let pins = pin_all(
+            &mut self.uses.counts,
+            &self.uses.pinned,
+            chosen,
+            parts,
+            room,
+        );
+        self.uses.pinned.push_reserved(Pinner { id, pins });
         Ok(())
     }
 
@@ -238,7 +242,7 @@ impl Registry {
         ensures { IfOk result (λ files. files ≡ pins_by id self.now) }
     {
         let alloc = *self.released.allocator();
-        let mut all = files_pinned(alloc, &self.acknowledged, &self.pinned, id)?;
+        let mut all = files_pinned(alloc, &self.uses.acknowledged, &self.uses.pinned, id)?;
         all.sort_unstable();
         all.dedup();
         Ok(Files::of(all))
@@ -254,9 +258,7 @@ impl Registry {
     {
         self.released.clear();
         release_each(
-            &mut self.acknowledged,
-            &mut self.pinned,
-            &mut self.counts,
+            &mut self.uses,
             &mut self.released,
             &mut self.spare,
             &mut self.room,
@@ -276,16 +278,14 @@ impl Registry {
     {
         self.released.clear();
         unpin(
-            &mut self.pinned,
-            &mut self.counts,
+            &mut self.uses.pinned,
+            &mut self.uses.counts,
             &mut self.released,
             &mut self.room,
             &[id],
         );
         release_each(
-            &mut self.acknowledged,
-            &mut self.pinned,
-            &mut self.counts,
+            &mut self.uses,
             &mut self.released,
             &mut self.spare,
             &mut self.room,
@@ -300,15 +300,15 @@ impl Registry {
         ensures value { result ≡ count self.now file }
         ensures in_order { IsInOrder use_before self.now }
     {
-        let counted = self.counts.get(&file).copied().unwrap_or(0);
-        counted + pins_of(&self.acknowledged, &self.pinned, file)
+        let counted = self.uses.counts.get(&file).copied().unwrap_or(0);
+        counted + pins_of(&self.uses.acknowledged, &self.uses.pinned, file)
     }
 
     /// Whether a file is present, that is, in use.
     pub fn contains(&self, file: FileId) -> bool
         ensures { result ≡ is_present self.now file }
     {
-        self.counts.contains_key(&file)
+        self.uses.counts.contains_key(&file)
     }
 
     /// The number of files that are present.
@@ -317,6 +317,6 @@ impl Registry {
         ensures in_order { IsInOrder use_before self.now }
         ensures below { (f : ℕ) → count self.now f < 2 ^ 32 }
     {
-        self.counts.len() as u64
+        self.uses.counts.len() as u64
     }
 }

@@ -1,11 +1,8 @@
 -- Lines of a text, put together from parts of it.
-use Rattle.std.proofs.Common.{◌≡◌, ◌≢◌, ℕ, zero, suc, ◌+◌, ◌-◌, ◌<◌, ◌≤◌, min, Bool, true, false, ◌||◌, ◌==◌, nat_lt, List, [], ◌∷◌, ◌++◌, length, take, drop, slice_index, refl, sym, ap, ◌∙◌, ⊎_elim, arith, length-append, length-drop}
-use Rattle.std.proofs.lemmas.Bool.{cases_Bool, eqb-true, ltb-true, ltb-false, or_parts, or_from, or_left, or_right, both_ways}
-use Rattle.std.proofs.lemmas.List.Folds.{list_any-append}
-use Rattle.std.specs.List.{slice_range}
-use Rattle.std.proofs.lemmas.List.{take_all, take-take, drop-take, drop-drop, length-take}
-use Rattle.std.proofs.Math.Seq.{take-append-add, take-add}
-use Rattle.ckpt_script.specs.Lines.{newline, onto_first, lines_of, has_newline, whole_lines, held, Moves}
+use Rattle.ckpt_script.proofs.Names.{◌≡◌, ◌≢◌, ℕ, zero, suc, ◌+◌, ◌-◌, ◌<◌, ◌≤◌, min, Bool, true, false, ◌||◌, ◌==◌, nat_lt, List, [], ◌∷◌, ◌++◌, length, take, drop, slice_index, refl, sym, ap, ◌∙◌}
+use Rattle.ckpt_script.proofs.Names.{⊎_elim, arith, length-append, length-drop, cases_Bool, eqb-true, ltb-true, ltb-false, or_parts, or_from, or_left, or_right, both_ways, list_any-append}
+use Rattle.ckpt_script.proofs.Names.{slice_range, take_all, take-take, drop-take, drop-drop, length-take, take-append-add, take-add, newline, onto_first, lines_of, has_newline, whole_lines, held}
+use Rattle.ckpt_script.proofs.Names.{Moves}
 
 -- what is held of a line
 
@@ -18,7 +15,8 @@ take_min : (n : ℕ) (ys : List ℕ) → take (min (length ys) n) ys ≡ take n 
 take_min n ys =
     ⊎_elim
     (λ (more : nat_lt n (length ys) ≡ true). let lt : n < length ys = ltb-true n (length ys) more in let e : min (length ys) n ≡ n = omega arith in rw e refl)
-    (λ (all : nat_lt n (length ys) ≡ false). let le : length ys ≤ n = ltb-false n (length ys) all in let e : min (length ys) n ≡ length ys = omega arith in rw e (take_all (length ys) ys (omega arith) ∙ sym (take_all n ys le)))
+    (λ (all : nat_lt n (length ys) ≡ false). let le : length ys ≤ n = ltb-false n (length ys) all in let e : min (length ys) n ≡ length ys = omega arith in
+    rw e (take_all (length ys) ys (omega arith) ∙ sym (take_all n ys le)))
     (cases_Bool (nat_lt n (length ys)))
 
 pub take_room : (n : ℕ) (xs ys : List ℕ) → length xs ≤ n → xs ++ take (min (length ys) (n - length xs)) ys ≡ take n (xs ++ ys)
@@ -40,7 +38,8 @@ take_rest m n xs =
 pub drop-slice_range : (bytes : List ℕ) (from to n : ℕ) → from + n ≤ to → drop n (slice_range bytes from to) ≡ slice_range bytes (from + n) to
 drop-slice_range bytes from to n fits =
     let e : to - from ≡ n + (to - (from + n)) = omega arith in
-    ap (λ (k : ℕ). drop n (take k (drop from bytes))) e ∙ drop-take n (to - (from + n)) (drop from bytes) ∙ ap (take (to - (from + n))) (drop-drop n from bytes ∙ ap (λ (k : ℕ). drop k bytes) (omega arith))
+    ap (λ (k : ℕ). drop n (take k (drop from bytes))) e ∙ drop-take n (to - (from + n)) (drop from bytes)
+    ∙ ap (take (to - (from + n))) (drop-drop n from bytes ∙ ap (λ (k : ℕ). drop k bytes) (omega arith))
 
 -- the first n bytes, as many of them as are kept
 take_both : (n kept : ℕ) (xs : List ℕ) → take (min n kept) xs ≡ take kept (take n xs)
@@ -51,7 +50,8 @@ take_both n kept xs =
     (cases_Bool (nat_lt kept n))
 
 -- the same of a range of the bytes
-pub front-slice_range : (bytes : List ℕ) (from to n kept : ℕ) → n ≤ length (slice_range bytes from to) → kept ≡ min n held → take (from + kept - from) (drop from bytes) ≡ take held (take n (slice_range bytes from to))
+pub front-slice_range : (bytes : List ℕ) (from to n kept : ℕ) → n ≤ length (slice_range bytes from to) → kept ≡ min n held
+    → take (from + kept - from) (drop from bytes) ≡ take held (take n (slice_range bytes from to))
 front-slice_range bytes from to n kept fits e =
     let short : length (slice_range bytes from to) ≤ to - from = omega (arith, length-take (to - from) (drop from bytes)) in
     ap (λ (k : ℕ). take k (drop from bytes)) (omega (arith, e))
@@ -65,11 +65,9 @@ some_bytes [] some = absurd (some refl)
 some_bytes (b ∷ bytes) some = omega arith
 
 -- fewer, if a part of a line was moved
-pub moved_fewer : (bytes rest line after : List ℕ) (ends : Bool) → Moves bytes rest line after ends → bytes ≢ [] → length rest < length bytes
-moved_fewer bytes rest line after true moves some =
-    omega (arith, ap (length {A = ℕ}) moves.bytes_before, length-append moves.part (newline ∷ rest))
-moved_fewer bytes rest line after false moves some =
-    omega (arith, some_bytes bytes some, ap (length {A = ℕ}) (moves.none_left refl))
+pub moved_fewer : {bytes rest line after : List ℕ} (ends : Bool) → Moves bytes rest line after ends → bytes ≢ [] → length rest < length bytes
+moved_fewer {rest = rest} true moves some = omega (arith, ap (length {A = ℕ}) moves.bytes_before, length-append moves.part (newline ∷ rest))
+moved_fewer {bytes} false moves some = omega (arith, some_bytes bytes some, ap (length {A = ℕ}) (moves.none_left refl))
 
 -- the place of the first newline
 

@@ -1,9 +1,6 @@
 -- What was written and what waits, from step to step.
-use Rattle.std.proofs.Common.{◌≡◌, ℕ, List, [], ◌++◌, Option, None, Some, refl, sym, ap, subst, ◌∙◌, append_assoc, append-nil}
-use Rattle.std.specs.Io.KnownBytes.{Appends, Keeps}
-use Rattle.std.specs.Prelude.{Result, Ok, Err, OnErr, IfErr}
+use Rattle.ckpt_script.proofs.Names.{◌≡◌, ℕ, List, [], ◌++◌, Option, None, Some, refl, sym, ap, subst, ◌∙◌, append_assoc, append-nil, Appends, Keeps, Result, Ok, Err, OnErr, IfErr, IsCut, Passes}
 use Rattle.std.specs.Result.{IsErrAnd}
-use Rattle.ckpt_script.specs.Known.{IsCut, Passes}
 
 pub Appends-trans : (a b c : Option (List ℕ)) (xs ys : List ℕ) → Appends a b xs → Appends b c ys → Appends a c (xs ++ ys)
 Appends-trans None b c xs ys p q = tt
@@ -47,8 +44,9 @@ passes_said before after waiting text left p = record {
 }
 
 -- nothing more was shown
-pub passes_on : (before between after : Option (List ℕ)) (waiting middle left : List ℕ) → Passes before between waiting [] middle → Passes between after middle [] left → Passes before after waiting [] left
-passes_on before between after waiting middle left p q = record {
+pub passes_on : {before between after : Option (List ℕ)} {waiting middle left : List ℕ} → Passes before between waiting [] middle
+    → Passes between after middle [] left → Passes before after waiting [] left
+passes_on {before} {between} {after} {waiting} {middle} {left} p q = record {
   written = p.written ++ q.written;
   appended = Appends-trans before between after p.written q.written p.appended q.appended;
   in_turn = append_assoc p.written q.written left ∙ ap (λ (zs : List ℕ). p.written ++ zs) (q.in_turn ∙ append-nil middle) ∙ p.in_turn;

@@ -1,20 +1,12 @@
 -- What is written when a run ends.
-use Rattle.std.proofs.Common.{◌≡◌, ℕ, Bool, true, false, List, [], ◌++◌, Option, None, Some, refl, sym, ap, subst, ◌∙◌, append_assoc, append-nil}
-use Rattle.std.specs.Prelude.{IfSome, Ok, Err}
-use Rattle.std.specs.Io.KnownBytes.{Appends, IsAtEnd, prepend_known}
-use Rattle.ckpt_script.specs.declared.fault.RunFault.{RunFault}
-use Rattle.ckpt_script.specs.declared.fault.RunFault.TheVariants.{Read, Write, TooManyLines, Memory}
-use Rattle.ckpt_script.specs.declared.summary.Summary.{Summary}
-use Rattle.ckpt_script.specs.Known.{WhereKnown, IsCut}
-use Rattle.ckpt_script.specs.Lines.{whole_lines}
-use Rattle.ckpt_script.specs.Outputs.{output, Ran}
-use Rattle.ckpt_session.specs.Sessions.{Scene, opening_scene}
-use Rattle.ckpt_script.specs.Telling.{Shows, IsSoFar, Stopped, keeps_lines}
+use Rattle.ckpt_script.proofs.Names.{◌≡◌, ℕ, Bool, true, false, List, [], ◌++◌, Option, None, Some, refl, sym, ap, ◌∙◌, append_assoc, append-nil, IfSome, Ok, Err, Appends, IsAtEnd}
+use Rattle.ckpt_script.proofs.Names.{prepend_known, RunFault, Read, Write, TooManyLines, Memory, Summary, WhereKnown, IsCut, output, Ran, Scene, opening_scene, Shows, IsSoFar, Stopped}
+use Rattle.ckpt_script.proofs.Names.{keeps_lines}
 use Rattle.ckpt_script.proofs.KnownLemmas.{WhereKnown-map, WhereKnown-if}
 use Rattle.ckpt_script.proofs.PassesLemmas.{Appends-trans, Appends-as, Appends-none}
 use Rattle.ckpt_script.proofs.TellingLemmas.{run_none, all_run}
 
-module _ (before now after : Option (List ℕ)) (waiting shown : List ℕ) (shows : Shows before now waiting shown) where
+module _ {before now : Option (List ℕ)} {waiting shown : List ℕ} (after : Option (List ℕ)) (shows : Shows before now waiting shown) where
   -- all that waited was written
   written_out : Appends now after waiting → Appends before after shown
   written_out out = Appends-as before after (shows.written ++ waiting) shown shows.all (Appends-trans before now after shows.written waiting shows.appended out)
@@ -25,28 +17,25 @@ module _ (before now after : Option (List ℕ)) (waiting shown : List ℕ) (show
     shows.written ++ cut.0,
     cut.1 ++ more,
     Appends-trans before now after shows.written cut.0 shows.appended cut.2,
-    regroup shows.written cut.0 cut.1 more ∙ ap (λ (xs : List ℕ). (shows.written ++ xs) ++ more) cut.3 ∙ ap (λ (xs : List ℕ). xs ++ more) shows.all ∙ sym e,
+    (let same : (shows.written ++ cut.0) ++ (cut.1 ++ more) ≡ (shows.written ++ (cut.0 ++ cut.1)) ++ more = simp append_assoc in
+        same ∙ ap (λ xs. (shows.written ++ xs) ++ more) cut.3 ∙ ap (λ xs. xs ++ more) shows.all ∙ sym e),
   )
-    where
-      regroup : (a b c d : List ℕ) → (a ++ b) ++ (c ++ d) ≡ (a ++ (b ++ c)) ++ d
-      regroup a b c d = simp append_assoc
 
 if_map : (o : Option (List ℕ)) (P Q : List ℕ → Type 0) → ((x : List ℕ) → P x → Q x) → IfSome o P → IfSome o Q
 if_map None P Q f p = tt
 if_map (Some x) P Q f p = f x p
 
 module _ (text rest before now after : Option (List ℕ)) (waiting : List ℕ) where
-  pub stopped_whole : (fault : RunFault) → keeps_lines fault ≡ true → Stopped text rest before now waiting fault → Appends now after waiting → Ran text rest before after (Err fault)
-  stopped_whole Read keeps stopped out =
-      WhereKnown-map text rest _ _ (λ t r told. (told.0, told.2, written_out before now after waiting (output (whole_lines told.0)) told.3 out)) stopped
-  stopped_whole TooManyLines keeps stopped out = if_map text _ _ (λ t told. (told.0, written_out before now after waiting (output t) told.1 out)) stopped
+  pub stopped_whole : (fault : RunFault) → keeps_lines fault ≡ true → Stopped text rest before now waiting fault → Appends now after waiting
+      → Ran text rest before after (Err fault)
+  stopped_whole Read keeps stopped out = WhereKnown-map text rest _ _ (λ t r told. (told.0, told.2, written_out after told.3 out)) stopped
+  stopped_whole TooManyLines keeps stopped out = if_map text _ _ (λ t told. (told.0, written_out after told.1 out)) stopped
   stopped_whole Write keeps stopped out = absurd cc
   stopped_whole Memory keeps stopped out = absurd cc
 
   pub stopped_short : (fault : RunFault) → keeps_lines fault ≡ true → Stopped text rest before now waiting fault → IsCut now after waiting → Ran text rest before after (Err Write)
-  stopped_short Read keeps stopped cut =
-      WhereKnown-if text rest _ _ (λ t r told. cut_short before now after waiting (output (whole_lines told.0)) told.3 cut told.1 (output t) told.4) stopped
-  stopped_short TooManyLines keeps stopped cut = if_map text _ _ (λ t told. cut_short before now after waiting (output t) told.1 cut [] (output t) (sym (append-nil (output t)))) stopped
+  stopped_short Read keeps stopped cut = WhereKnown-if text rest _ _ (λ t r told. cut_short after told.3 cut told.1 (output t) told.4) stopped
+  stopped_short TooManyLines keeps stopped cut = if_map text _ _ (λ t told. cut_short after told.1 cut [] (output t) (sym (append-nil (output t)))) stopped
   stopped_short Write keeps stopped cut = absurd cc
   stopped_short Memory keeps stopped cut = absurd cc
 
@@ -62,45 +51,32 @@ so_far_none None before = tt
 so_far_none (Some text) before = ([], run_none text, record { written = []; appended = Appends-none before; all = refl })
 
 pub so_far_first : (known before : Option (List ℕ)) (bytes : List ℕ) (is_ended : Bool) (summary : Summary) (scene : Scene) (waiting : List ℕ)
-    → bytes ≡ [] → is_ended ≡ false → summary ≡ record { lines = 0; faults = 0 } → scene ≡ opening_scene → waiting ≡ [] → IsSoFar known (prepend_known bytes known) before before is_ended summary scene waiting
-so_far_first known before bytes is_ended summary scene waiting none going_on first opens empty =
-    subst (λ (xs : List ℕ). IsSoFar known (prepend_known xs known) before before is_ended summary scene waiting) (sym none)
-    (subst (λ (b : Bool). IsSoFar known (prepend_known [] known) before before b summary scene waiting) (sym going_on)
-    (subst (λ (s : Summary). IsSoFar known (prepend_known [] known) before before false s scene waiting) (sym first)
-    (subst (λ (s : Scene). IsSoFar known (prepend_known [] known) before before false (record { lines = 0; faults = 0 }) s waiting) (sym opens)
-    (subst (λ (xs : List ℕ). IsSoFar known (prepend_known [] known) before before false (record { lines = 0; faults = 0 }) opening_scene xs) (sym empty)
-    (so_far_none known before)))))
+    → bytes ≡ [] → is_ended ≡ false → summary ≡ record { lines = 0; faults = 0 } → scene ≡ opening_scene → waiting ≡ []
+    → IsSoFar known (prepend_known bytes known) before before is_ended summary scene waiting
+so_far_first known before bytes is_ended summary scene waiting none going_on first opens empty = rw (none, going_on, first, opens, empty) (so_far_none known before)
 
 -- nothing has been written
 pub cut_none : (known before : Option (List ℕ)) → Ran known known before before (Err Memory)
 cut_none None before = tt
 cut_none (Some text) before = ([], output text, Appends-none before, refl)
 
+-- nothing is left
+at_end : (t k : Option (List ℕ)) (xs : List ℕ) (P : List ℕ → List ℕ → Type 0) → xs ≡ [] → IsAtEnd k → WhereKnown t (prepend_known xs k) P
+    → WhereKnown t (prepend_known xs k) (λ x y. P x y × (y ≡ []))
+at_end None k xs P none end p = tt
+at_end (Some x) (Some z) xs P none end p = (p, ap (λ ys. ys ++ z) none ∙ end)
+at_end (Some x) None xs P none end p = p
+
 module _ (text known before now after : Option (List ℕ)) (bytes : List ℕ) (is_ended : Bool) (summary : Summary) (scene : Scene) (waiting : List ℕ)
     (so_far : IsSoFar text (prepend_known bytes known) before now is_ended summary scene waiting) (none : bytes ≡ []) (end : IsAtEnd known) where
-  -- nothing is left
-  at_end : (t : Option (List ℕ)) (P : List ℕ → List ℕ → Type 0) → WhereKnown t (prepend_known bytes known) P → WhereKnown t (prepend_known bytes known) (λ x y. P x y × (y ≡ []))
-  at_end t P p = nothing_left t known end bytes none P p
-    where
-      nothing_left : (t k : Option (List ℕ)) → IsAtEnd k → (xs : List ℕ) → xs ≡ [] → (P : List ℕ → List ℕ → Type 0) → WhereKnown t (prepend_known xs k) P → WhereKnown t (prepend_known xs k) (λ x y. P x y × (y ≡ []))
-      nothing_left None k end xs none P p = tt
-      nothing_left (Some x) (Some z) end xs none P p = (p, ap (λ (ys : List ℕ). ys ++ z) none ∙ end)
-      nothing_left (Some x) None end xs none P p = p
-
   pub ran_all : Appends now after waiting → Ran text known before after (Ok summary)
   ran_all out =
       WhereKnown-if text (prepend_known bytes known) _ _
-      (λ t rest run.
-      let told = run.0 in
-      let all = all_run t rest is_ended summary scene told.0 told.1 run.1 in
-      (Appends-as before after told.0 (output t) all.0 (written_out before now after waiting told.0 told.2 out), all.1, all.2))
-      (at_end text _ so_far)
+      (λ t rest run. let all = all_run run.0.1 run.1 in (Appends-as before after run.0.0 (output t) all.0 (written_out after run.0.2 out), all.1, all.2))
+      (at_end text known bytes _ none end so_far)
 
   pub ran_short : IsCut now after waiting → Ran text known before after (Err Write)
   ran_short cut =
       WhereKnown-if text (prepend_known bytes known) _ _
-      (λ t rest run.
-      let told = run.0 in
-      let all = all_run t rest is_ended summary scene told.0 told.1 run.1 in
-      cut_short before now after waiting told.0 told.2 cut [] (output t) (sym (append-nil told.0 ∙ all.0)))
-      (at_end text _ so_far)
+      (λ t rest run. cut_short after run.0.2 cut [] (output t) (sym (append-nil run.0.0 ∙ (all_run run.0.1 run.1).0)))
+      (at_end text known bytes _ none end so_far)

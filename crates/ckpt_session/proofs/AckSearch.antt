@@ -1,21 +1,16 @@
 -- The search for a subtask among acknowledgements in subtask order.
-use Rattle.std.proofs.Common.{◌≡◌, ℕ, ◌+◌, ◌<◌, ◌≤◌, length, get_or, Bool, true, false, List, [], ◌∷◌, Result, Ok, Err, sym, ⊎_elim, arith}
+use Rattle.ckpt_session.proofs.Names.{◌≡◌, ℕ, ◌+◌, ◌<◌, ◌≤◌, length, get_or, Bool, true, false, List, [], ◌∷◌, Result, Ok, Err, sym, ⊎_elim, arith, list_any, IsBinarySearchResult, IsSearchInRange}
+use Rattle.ckpt_session.proofs.Names.{IsSortedBy, cases_Bool, cases_lt, SubtaskId, Acked, same_subtask}
 use Rattle.std.specs.declared.cmp.Ordering.{Ordering}
 use Rattle.std.specs.declared.cmp.Ordering.TheVariants.{Less, Equal, Greater}
 use Rattle.std.specs.Ordering.{is_lt, nat_cmp, on, then_cmp}
 use Rattle.std.specs.Cmp.{IsTotalOrder}
 use Rattle.std.specs.Result.{is_ok}
-use Rattle.std.specs.List.{list_any}
-use Rattle.std.specs.List.Sorted.{IsBinarySearchResult, IsSearchInRange, IsSortedBy}
-use Rattle.std.proofs.lemmas.Bool.{cases_Bool, cases_lt}
 use Rattle.std.proofs.lemmas.Bool.Decides.{nat_tests}
 use Rattle.std.proofs.lemmas.Cmp.{nat_cmp_total, then_total, on_total}
 use Rattle.std.proofs.lemmas.List.Folds.{list_any_none}
 use Rattle.std.proofs.lemmas.List.Sorted.{searchable_from_sorted}
-use Rattle.ckpt_ids.specs.declared.subtask.SubtaskId.{SubtaskId}
-use Rattle.ckpt_ids.specs.declared.ack.Acked.{Acked}
 use Rattle.ckpt_ids.specs.Acknowledged.{is_before, acknowledges_before, AreInSubtaskOrder}
-use Rattle.ckpt_ids.specs.Shapes.{same_subtask}
 use Rattle.ckpt_ids.proofs.OrderedLemmas.{IsInOrder-at, IsIn-get_or, list_any-from_IsIn}
 
 -- by vertex, then by index, as `Ord` compares
@@ -38,12 +33,14 @@ abbrev is_of : SubtaskId → Acked → Bool
 is_of s a = same_subtask s a.subtask
 
 -- what a binary search returns
-pub found_by_search : (acks : List Acked) (s : SubtaskId) (r : Result ℕ ℕ) → AreInSubtaskOrder acks → IsSearchInRange r (length acks) → IsBinarySearchResult (λ a. by_subtask a.subtask s) acks r → is_ok r ≡ list_any (λ a. same_subtask s a.subtask) acks
+pub found_by_search : (acks : List Acked) (s : SubtaskId) (r : Result ℕ ℕ) → AreInSubtaskOrder acks → IsSearchInRange r (length acks) → IsBinarySearchResult (λ a. by_subtask a.subtask s) acks r
+    → is_ok r ≡ list_any (λ a. same_subtask s a.subtask) acks
 found_by_search [] s (Ok place) order within found = absurd (omega (arith, within))
 found_by_search (x ∷ acks) s (Ok place) order within found =
     sym (list_any-from_IsIn (is_of s) (get_or (x ∷ acks) place x) (x ∷ acks) (IsIn-get_or (x ∷ acks) place x within) (equal s (get_or (x ∷ acks) place x).subtask (found x)))
 found_by_search acks s (Err place) order within found =
-    let sorted : IsSortedBy (λ a b. is_lt (by_subtask a.subtask b.subtask)) acks = λ k d from below. not_less (get_or acks k d).subtask (get_or acks (k + 1) d).subtask (IsInOrder-at acknowledges_before acks k (k + 1) d order (omega arith) below) in
+    let sorted : IsSortedBy (λ a b. is_lt (by_subtask a.subtask b.subtask)) acks =
+    λ k d from below. not_less (get_or acks k d).subtask (get_or acks (k + 1) d).subtask (IsInOrder-at acknowledges_before acks k (k + 1) d order (omega arith) below) in
     let parts = found (searchable_from_sorted by_subtask-total (λ (a : Acked). a.subtask) acks s sorted) in
     sym (list_any_none (is_of s) acks (λ k d inside.
     ⊎_elim

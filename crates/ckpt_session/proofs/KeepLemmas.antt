@@ -1,17 +1,7 @@
 -- What a line that prints something leaves of the configuration and of the shape: both stay.
-use Rattle.std.proofs.Common.{◌≡◌, ℕ, Bool, true, false, cond, List, refl}
-use Rattle.std.specs.Prelude.{Option, Some, None, is_some, nat_le, Result, Ok, Err, OnErr}
-use Rattle.std.proofs.lemmas.Bool.{both_ways}
-use Rattle.ckpt_ids.specs.declared.limits.TheConstants.{MOMENTS_END}
-use Rattle.ckpt_ids.specs.declared.call.Call.{Call}
-use Rattle.ckpt_ids.specs.Configuration.{Configuration}
-use Rattle.ckpt_ids.specs.Shapes.{is_shape}
-use Rattle.ckpt_model.specs.State.{State}
-use Rattle.ckpt_lines.specs.declared.line.Line.{Line}
+use Rattle.ckpt_session.proofs.Names.{◌≡◌, ℕ, Bool, true, false, cond, List, refl, Option, Some, None, is_some, nat_le, Result, Ok, Err, OnErr, both_ways, MOMENTS_END, Call, Configuration, is_shape}
+use Rattle.ckpt_session.proofs.Names.{State, Line, AllLine, is_said, Scene, Done, configured, shaped, started, called, all_called, obeyed}
 use Rattle.ckpt_lines.specs.declared.line.Line.TheVariants as line
-use Rattle.ckpt_session.specs.declared.all.AllLine.{AllLine}
-use Rattle.ckpt_session.specs.ScriptTexts.{is_said}
-use Rattle.ckpt_session.specs.Sessions.{Scene, Done, configured, shaped, started, called, all_called, obeyed}
 
 abbrev Keeps : Scene → Done → Type 0
 Keeps scene d = is_said d.1 ≡ true → (d.0.config ≡ scene.config) × (d.0.shape ≡ scene.shape)

@@ -1,18 +1,7 @@
 -- What lines enter, one part after the other.
-use Rattle.std.proofs.Common.{◌≡◌, ℕ, List, [], ◌∷◌, ◌++◌, refl, sym, ap, subst, ◌∙◌, append_assoc, append-nil}
-use Rattle.std.specs.Prelude.{Some, Ok, Result}
-use Rattle.std.proofs.lemmas.List.Elements.{All-append, All-cons, All-nil}
-use Rattle.ckpt_ids.specs.declared.call.Call.{Call}
-use Rattle.ckpt_ids.specs.declared.call.Call.TheVariants.{Show}
-use Rattle.ckpt_locked.specs.declared.book.Entry.{Entry}
-use Rattle.ckpt_locked.specs.declared.limits.TheConstants.{MOST_SEATS}
-use Rattle.ckpt_model.specs.State.{State}
-use Rattle.ckpt_locked.specs.Books.{History, entered}
-use Rattle.ckpt_locked.specs.Seats.{SeatsBelow}
-use Rattle.ckpt_lines.specs.declared.fault.LineFault.{LineFault}
-use Rattle.ckpt_lines.specs.declared.line.Line.{Line}
+use Rattle.ckpt_session.proofs.Names.{◌≡◌, ℕ, List, [], ◌∷◌, ◌++◌, refl, sym, ap, subst, ◌∙◌, append_assoc, append-nil, Some, Ok, Result, All-append, All-cons, All-nil, Call, Show, Entry}
+use Rattle.ckpt_session.proofs.Names.{MOST_SEATS, State, History, entered, SeatsBelow, LineFault, Line, Asks, EntersAll, EntersFor, Enters, Staged, by_line, entries_after}
 use Rattle.ckpt_lines.specs.declared.line.Line.TheVariants as line
-use Rattle.ckpt_session.specs.Seating.{Asks, EntersAll, EntersFor, Enters, Staged, by_line, entries_after}
 
 abbrev IsShow : ℕ → Entry → Type 0
 IsShow id e = e ≡ by_line (Show id)
@@ -66,5 +55,6 @@ unfolding EntersFor Enters
 enters_call read call old new says e = rw says e
 
 -- the call of a line is entered
-pub entered_by_line : (old : Staged) (m : State) (book new : History) (call : Call) → old.scene.core ≡ Some m → old.entries ≡ book.entries → new ≡ entered book MOST_SEATS call → new.entries ≡ entries_after old call
+pub entered_by_line : (old : Staged) (m : State) (book new : History) (call : Call) → old.scene.core ≡ Some m → old.entries ≡ book.entries → new ≡ entered book MOST_SEATS call
+    → new.entries ≡ entries_after old call
 entered_by_line old m book new call core entries made = rw (core, entries) (ap (λ (h : History). h.entries) made)

@@ -1,19 +1,9 @@
 -- What a Show returns for a pending record.
-use Rattle.std.proofs.Common.{◌≡◌, ℕ, Bool, true, false, ◌&&◌, cond, eqb, refl, sym, ap, ◌∙◌, ⊎_elim}
-use Rattle.std.specs.Prelude.{Option, Some, None}
-use Rattle.std.specs.Option.{option_map}
-use Rattle.std.proofs.lemmas.Bool.{cases_Bool, and_parts, eqb-true, both_ways, not-true}
-use Rattle.ckpt_ids.specs.declared.call.Call.TheVariants.{Show}
-use Rattle.ckpt_ids.specs.Ordered.{IsIn}
-use Rattle.ckpt_ids.specs.Records.{Record, metadata_of}
-use Rattle.ckpt_model.specs.State.{State, is_pending, record_of}
-use Rattle.ckpt_model.specs.Refusals.{refusal, pending_of}
-use Rattle.ckpt_model.specs.Soundness.{IsSound}
-use Rattle.ckpt_model.specs.Steps.{Stepped, step, effect, show}
+use Rattle.ckpt_session.proofs.Names.{◌≡◌, ℕ, Bool, true, false, ◌&&◌, cond, eqb, refl, sym, ap, ◌∙◌, ⊎_elim, Option, Some, None, option_map, cases_Bool, and_parts, eqb-true, both_ways, not-true}
+use Rattle.ckpt_session.proofs.Names.{Show, IsIn, Record, metadata_of, State, is_pending, record_of, refusal, pending_of, IsSound, Stepped, step, effect, show, pending_metadata, shown_pending}
 use Rattle.ckpt_model.proofs.Records.Counts.{IsIn-from_find}
 use Rattle.ckpt_model.proofs.Histories.Choice.{found}
 use Rattle.ckpt_model.proofs.Reordering.MissingFiles.{pending_record}
-use Rattle.ckpt_session.specs.AllLines.{pending_metadata, shown_pending}
 
 -- a Show changes nothing
 step-show : (m : State) (id : ℕ) (o : Option Record) → record_of m id ≡ o → step m (Show id) ≡ (m, show o)
@@ -51,9 +41,11 @@ shown_is m id sound = by_record (record_of m id) refl
     by_record None e =
         answered None e ∙ sym (ap (option_map metadata_of) (none_pending m id sound (λ r f. let no : ◌≡◌ {A = Option Record} None (Some r) = sym e ∙ f in absurd cc)))
     by_record (Some r) e =
-        let done : r.done ≡ true → shown_pending (step m (Show id)).1 ≡ pending_metadata m id = λ (d : r.done ≡ true).
-        let none : pending_of m.records id ≡ None = none_pending m id sound (λ s f. let same : ◌≡◌ {A = Option Record} (Some r) (Some s) = sym e ∙ f in let it : r ≡ s = cc in ap (λ (x : Record). x.done) (sym it) ∙ d) in
-        answered (Some r) e ∙ ap (λ (b : Bool). cond b None (Some (metadata_of r))) d ∙ sym (ap (option_map metadata_of) none) in
-        let pending : r.done ≡ false → shown_pending (step m (Show id)).1 ≡ pending_metadata m id = λ (d : r.done ≡ false).
-        answered (Some r) e ∙ ap (λ (b : Bool). cond b None (Some (metadata_of r))) d ∙ sym (ap (option_map metadata_of) (pending_record m id r e d)) in
-        ⊎_elim done pending (cases_Bool r.done)
+        ⊎_elim
+        (λ (d : r.done ≡ true).
+        let none : pending_of m.records id ≡ None = none_pending m id sound (λ s f.
+        let same : ◌≡◌ {A = Option Record} (Some r) (Some s) = sym e ∙ f in let it : r ≡ s = cc in ap (λ (x : Record). x.done) (sym it) ∙ d) in
+        answered (Some r) e ∙ ap (λ (b : Bool). cond b None (Some (metadata_of r))) d ∙ sym (ap (option_map metadata_of) none))
+        (λ (d : r.done ≡ false).
+        answered (Some r) e ∙ ap (λ (b : Bool). cond b None (Some (metadata_of r))) d ∙ sym (ap (option_map metadata_of) (pending_record m id r e d)))
+        (cases_Bool r.done)

@@ -1,35 +1,14 @@
 -- The calls of an `all` line have the same outcome whether a team makes them or one caller makes them in order.
-use Rattle.std.proofs.Common.{◌≡◌, ℕ, ◌+◌, ◌%◌, ◌^◌, ◌<◌, ◌≤◌, length, Bool, true, false, not, cond, eqb, ltb, List, [], ◌∷◌, map, refl, sym, ap, subst, ◌∙◌, ⊎_elim}
-use Rattle.std.specs.Prelude.{filter, count_by, Option, Some, None}
-use Rattle.std.specs.List.{enumerate_from}
-use Rattle.std.specs.Option.{option_map}
-use Rattle.std.proofs.lemmas.Bool.{le-ltb, cond-false}
-use Rattle.ckpt_ids.specs.declared.ack.Metadata.{Metadata}
-use Rattle.ckpt_ids.specs.declared.call.Call.{Call}
-use Rattle.ckpt_ids.specs.declared.reply.Answer.{Answer}
-use Rattle.ckpt_ids.specs.declared.subtask.SubtaskId.{SubtaskId}
-use Rattle.ckpt_ids.specs.Ordered.{IsIn}
-use Rattle.ckpt_ids.specs.Records.{Record, metadata_of}
-use Rattle.ckpt_model.specs.State.{State}
-use Rattle.ckpt_model.specs.Steps.{step}
-use Rattle.ckpt_model.specs.Soundness.{IsSound}
-use Rattle.ckpt_model.specs.Refusals.{pending_of}
-use Rattle.ckpt_model.specs.Histories.{replay, answers}
-use Rattle.ckpt_model.specs.Interleavings.{of_seat}
-use Rattle.ckpt_model.proofs.Reordering.DealtCalls.{SeatsFrom, seated_answers, all_missing, ComesToTheSame, dealt_calls}
-use Rattle.ckpt_locked.specs.declared.book.Entry.{Entry}
-use Rattle.ckpt_locked.specs.Books.{History, calls_of, entered, answer_to, state_of_book}
-use Rattle.ckpt_locked.specs.Seats.{calls_by, answers_by, SeatsBelow}
-use Rattle.ckpt_workers.specs.declared.team.Made.{Made}
-use Rattle.ckpt_workers.specs.Teams.{IsTeamwork, is_accepted}
-use Rattle.ckpt_session.specs.declared.all.AllLine.{AllLine}
-use Rattle.ckpt_session.specs.declared.outcome.ScriptRefusal.TheVariants.{FilesUsedUp}
-use Rattle.ckpt_session.specs.declared.outcome.Outcome.{Outcome}
-use Rattle.ckpt_session.specs.declared.outcome.Outcome.TheVariants.{Refused}
-use Rattle.ckpt_answers.specs.MetadataTexts.{missing_subtasks}
-use Rattle.ckpt_session.specs.AllLines.{Obeyed, pending_metadata, acks_for, acknowledged, told, all_of, IsAsInOrder}
+use Rattle.ckpt_session.proofs.Names.{◌≡◌, ℕ, ◌+◌, ◌%◌, ◌^◌, ◌<◌, ◌≤◌, length, Bool, true, false, not, cond, eqb, ltb, List, [], ◌∷◌, map, refl, sym, ap, subst, ◌∙◌, ⊎_elim, filter, count_by}
+use Rattle.ckpt_session.proofs.Names.{Option, Some, None, enumerate_from, option_map, le-ltb, cond-false, Metadata, Call, Answer, SubtaskId, IsIn, Record, metadata_of, State, step, IsSound}
+use Rattle.ckpt_session.proofs.Names.{pending_of, replay, answers, of_seat, Entry, History, calls_of, entered, answer_to, state_of_book, calls_by, answers_by, SeatsBelow, IsTeamwork, is_accepted}
+use Rattle.ckpt_session.proofs.Names.{AllLine, FilesUsedUp, Refused, missing_subtasks, Obeyed, pending_metadata, acks_for, acknowledged, all_of, IsAsInOrder}
 use Rattle.ckpt_session.proofs.BookLemmas.{state_of_book-more, state_of_book-entered}
 use Rattle.ckpt_session.proofs.ShownLemmas.{its_record}
+use Rattle.ckpt_model.proofs.Reordering.DealtCalls.{SeatsFrom, seated_answers, all_missing, ComesToTheSame, dealt_calls}
+use Rattle.ckpt_workers.specs.declared.team.Made.{Made}
+use Rattle.ckpt_session.specs.declared.outcome.Outcome.{Outcome}
+use Rattle.ckpt_session.specs.AllLines.{told}
 
 -- the calls of entries, each with its seat
 abbrev seated_calls : List Entry → List (ℕ × Call)
@@ -42,8 +21,7 @@ seated_calls-calls (e ∷ es) = ap (λ cs. e.call ∷ cs) (seated_calls-calls es
 seats_from : (n : ℕ) (es : List Entry) → SeatsBelow n es → SeatsFrom n (seated_calls es)
 seats_from n [] h x there = absurd there
 seats_from n (e ∷ es) h x there =
-    let P : ℕ × Call → Type 0 = λ y. y.0 < n in
-    let later : IsIn x (seated_calls es) → P x = λ k. seats_from n es h.1 x k in
+    let P : ℕ × Call → Type 0 = λ y. y.0 < n in let later : IsIn x (seated_calls es) → P x = λ k. seats_from n es h.1 x k in
     ⊎_elim (λ (same : x ≡ (e.seat, e.call)). subst P (sym same) h.0) later there
 
 map-cond : {X Y : Type 0} (f : X → Y) (b : Bool) (x : X) (xs : List X) → map f (cond b (x ∷ xs) xs) ≡ cond b (f x ∷ map f xs) (map f xs)
@@ -73,10 +51,10 @@ calls_of_record : (line : AllLine) (r : Record) → acks_for line (missing_subta
 unfolding acks_for missing_subtasks
 calls_of_record line r = refl
 
-as_in_order : (h : History) (line : AllLine) (r : Record) (calls : List Call) (made : Made) → IsSound (state_of_book h) → pending_of (state_of_book h).records line.id ≡ Some r → calls ≡ all_missing line.moment line.id line.first r → 1 ≤ line.threads → IsTeamwork h calls line.threads made → IsAsInOrder (state_of_book h) calls made
+as_in_order : (h : History) (line : AllLine) (r : Record) (calls : List Call) (made : Made) → IsSound (state_of_book h) → pending_of (state_of_book h).records line.id ≡ Some r
+    → calls ≡ all_missing line.moment line.id line.first r → 1 ≤ line.threads → IsTeamwork h calls line.threads made → IsAsInOrder (state_of_book h) calls made
 as_in_order h line r calls made sound pending are some work =
-    let m : State = state_of_book h in
-    let its = its_record m line.id r sound pending in
+    let m : State = state_of_book h in let its = its_record m line.id r sound pending in
     let order : List (ℕ × Call) = seated_calls work.new in
     let law : ComesToTheSame m (all_missing line.moment line.id line.first r) order work.answers =
     dealt_calls m line.moment line.id line.first line.threads r order work.answers sound its.0 its.1 some (seats_from line.threads work.new work.seats)
@@ -90,7 +68,9 @@ as_in_order h line r calls made sound pending are some work =
       completed = work.completed_is ∙ sym same.completed;
     }
 
-pub team_as_in_order : (h : History) (line : AllLine) (metadata : Metadata) (missing : List SubtaskId) (made : Made) → IsSound (state_of_book h) → pending_metadata (state_of_book h) line.id ≡ Some metadata → missing ≡ missing_subtasks metadata → 1 ≤ line.threads → IsTeamwork h (acks_for line missing) line.threads made → IsAsInOrder (state_of_book h) (acks_for line missing) made
+pub team_as_in_order : (h : History) (line : AllLine) (metadata : Metadata) (missing : List SubtaskId) (made : Made) → IsSound (state_of_book h)
+    → pending_metadata (state_of_book h) line.id ≡ Some metadata → missing ≡ missing_subtasks metadata → 1 ≤ line.threads → IsTeamwork h (acks_for line missing) line.threads made
+    → IsAsInOrder (state_of_book h) (acks_for line missing) made
 team_as_in_order h line metadata missing made sound shown are some work = by_pending (pending_of (state_of_book h).records line.id) refl
   where
     by_pending : (o : Option Record) → pending_of (state_of_book h).records line.id ≡ o → IsAsInOrder (state_of_book h) (acks_for line missing) made
@@ -101,12 +81,14 @@ team_as_in_order h line metadata missing made sound shown are some work = by_pen
         as_in_order h line r (acks_for line missing) made sound e (ap (acks_for line) (are ∙ ap missing_subtasks (sym same)) ∙ calls_of_record line r) some work
 
 -- what the line leaves and prints, from what the team made
-pub acknowledged_is : (m after : State) (line : AllLine) (metadata : Metadata) (missing : List SubtaskId) (made : Made) (outcome : Outcome) → missing ≡ missing_subtasks metadata → line.first + length missing ≤ 2 ^ 64 → IsAsInOrder m (acks_for line missing) made → after ≡ state_of_book made.book → outcome ≡ told (state_of_book made.book) line made.accepted made.refused made.completed → ◌≡◌ {A = Obeyed} (after, outcome) (all_of m line (Some metadata))
+pub acknowledged_is : (m after : State) (line : AllLine) (metadata : Metadata) (missing : List SubtaskId) (made : Made) (outcome : Outcome) → missing ≡ missing_subtasks metadata
+    → line.first + length missing ≤ 2 ^ 64 → IsAsInOrder m (acks_for line missing) made → after ≡ state_of_book made.book
+    → outcome ≡ told (state_of_book made.book) line made.accepted made.refused made.completed → ◌≡◌ {A = Obeyed} (after, outcome) (all_of m line (Some metadata))
 unfolding all_of
 acknowledged_is m after line metadata missing made outcome are few order state says =
     let calls : List Call = acks_for line missing in
     let same : List SubtaskId → Obeyed = λ missing. acknowledged m line (acks_for line missing) in
-    let fits : ltb (2 ^ 64) (line.first + length (missing_subtasks metadata)) ≡ false = le-ltb (2 ^ 64) (line.first + length (missing_subtasks metadata)) (subst (λ (xs : List SubtaskId). line.first + length xs ≤ 2 ^ 64) are few) in
+    let fits = le-ltb (2 ^ 64) (line.first + length (missing_subtasks metadata)) (subst (λ (xs : List SubtaskId). line.first + length xs ≤ 2 ^ 64) are few) in
     ap (λ (s : State). (s, outcome)) (state ∙ order.state)
     ∙ ap (λ (o : Outcome). (replay m calls, o))
     (says

@@ -12,7 +12,7 @@ pub use Rattle.ckpt_pending.specs.Acknowledging.{IsDone}
 pub use Rattle.ckpt_store.specs.Storing.{AreDone, AreRising, IsAbove, IsStored, Stored, by_id, has_id, has_savepoint, id_of, record_of}
 pub use Rattle.std.proofs.Common.{Bool, Bor, Err, IfErr, IfOk, IfSome, List, None, Ok, OnErr, OnOk, Option, Result, Some, [], ap, arith, drop, false, get_or, inr, leb, length, length-append, ltb, not}
 pub use Rattle.std.proofs.Common.{refl, rules, subst, suc, sym, true, zero, ℕ, ⊎_elim, ◌&&◌, ◌++◌, ◌+◌, ◌-◌, ◌<◌, ◌^◌, ◌∙◌, ◌∷◌, ◌≡◌, ◌≤◌}
-pub use Rattle.std.proofs.lemmas.Bool.{both_ways, cases_Bool, eq-eqb, le-leb, lt-leb, lt-ltb, ltb-false, ltb-true, ne_eqb, or_right}
+pub use Rattle.std.proofs.lemmas.Bool.{both_ways, eq-eqb, le-leb, lt-leb, lt-ltb, ltb-false, ltb-true, ne_eqb, or_right}
 pub use Rattle.std.proofs.lemmas.List.Filters.{length-filter_both}
 pub use Rattle.std.proofs.lemmas.List.Sorted.{IsPartitionPoint-from_clause}
 pub use Rattle.std.proofs.lemmas.Option.{slice_get-get_or, slice_get_past}
@@ -21,3 +21,4 @@ pub use Rattle.std.specs.List.Sorted.{IsPartitionPoint, IsPartitionedBy}
 pub use Rattle.std.specs.Option.{is_some, option_copied}
 pub use Rattle.std.specs.Prelude.{filter, slice_get}
 pub use Rattle.std.specs.Result.{is_ok}
+pub use Rattle.std.proofs.lemmas.Grind.{common_steps}

@@ -1,9 +1,8 @@
 -- A store stays one through each change.
-use Rattle.ckpt_store.proofs.Names.{◌≡◌, ℕ, ◌+◌, ◌-◌, ◌^◌, ◌<◌, ◌≤◌, Bool, true, false, not, List, [], ◌∷◌, ◌++◌, length, drop, refl, sym, ap, subst, ◌∙◌, inr, ⊎_elim, arith, ◌&&◌, Option, Some, None}
-use Rattle.ckpt_store.proofs.Names.{IfSome, length-append, filter, slice_get, list_any, find, cases_Bool, both_ways, lt-ltb, eq-eqb, or_right, length-filter_both, Kind, IsIn, put, LiesAt, Record}
-use Rattle.ckpt_store.proofs.Names.{IsIn-append_cases, IsIn-put_cases, IsIn-from_filter, IsInOrder-append, IsInOrder-filter, IsInOrder-put_between, list_any-from_IsIn, find-none, some_at}
-use Rattle.ckpt_store.proofs.Names.{numbers_in_order, IsDone, list_any-put, list_any-filter, list_any_same, Stored, IsStored, by_id, AreRising, AreDone, IsAbove, has_id, id_of, has_savepoint}
-use Rattle.ckpt_store.proofs.Names.{record_of}
+use Rattle.ckpt_store.proofs.Names.{common_steps, ◌≡◌, ℕ, ◌+◌, ◌-◌, ◌^◌, ◌<◌, ◌≤◌, Bool, true, false, not, List, [], ◌∷◌, ◌++◌, length, drop, refl, ap, ◌∙◌, inr, ⊎_elim, arith, ◌&&◌, Option, Some}
+use Rattle.ckpt_store.proofs.Names.{None, IfSome, length-append, filter, slice_get, list_any, find, lt-ltb, or_right, length-filter_both, Kind, IsIn, put, LiesAt, Record, IsIn-append_cases}
+use Rattle.ckpt_store.proofs.Names.{IsIn-put_cases, IsIn-from_filter, IsInOrder-append, IsInOrder-filter, IsInOrder-put_between, list_any-from_IsIn, find-none, some_at, numbers_in_order, IsDone}
+use Rattle.ckpt_store.proofs.Names.{list_any-put, list_any-filter, list_any_same, Stored, IsStored, by_id, AreRising, AreDone, IsAbove, has_id, id_of, has_savepoint, record_of}
 use Rattle.ckpt_store.proofs.RowLemmas.{find-place}
 use Rattle.ckpt_ids.proofs.OrderedLemmas.{only_one}
 use Rattle.std.proofs.lemmas.Bool.Decides.{nat_tests}
@@ -16,7 +15,7 @@ AreRising-push row done a above =
     IsInOrder-append by_id row (done ∷ []) a (tt, tt) (λ x y h k. rw (only_one y done k) (lt-ltb x.id done.id (above x h)))
 
 AreDone-push : (k : Kind) (row : List Record) (done : Record) → AreDone k row → IsDone done → done.kind ≡ k → AreDone k (row ++ done ∷ [])
-AreDone-push k row done a d e = λ r h. ⊎_elim (λ m. a r m) (λ m. rw (only_one r done m) (d, e)) (IsIn-append_cases r row (done ∷ []) h)
+AreDone-push k row done a d e = λ r h. grind (arith, common_steps, a r, IsIn-append_cases r row (done ∷ []) h)
 
 pub AreRising-drop : (row : List Record) → AreRising row → AreRising (drop 1 row)
 AreRising-drop [] a = tt
@@ -48,50 +47,29 @@ IsStored-spare s spare h = grind arith
 -- row is what stays of the checkpoints
 pub IsStored-complete : (s : Stored) (row : List Record) (done : Record) (spare : ℕ) → IsStored s → AreRising row → ((r : Record) → IsIn r row → IsIn r s.checkpoints) → length row + 1 ≤ s.retained
     → IsDone done → done.kind ≡ kind.Checkpoint → IsAbove s.checkpoints done.id → IsStored (record s { checkpoints = row ++ done ∷ []; base = None; spare = spare })
-IsStored-complete s row done spare h rises within few d e above = record {
-  retained_from = h.retained_from;
-  retained_to = h.retained_to;
-  few = (let l : length (row ++ done ∷ []) ≡ length row + 1 = length-append row (done ∷ []) in omega arith);
-  checkpoints_rise = AreRising-push row done rises (λ r m. above r (within r m));
-  checkpoints_done = AreDone-push kind.Checkpoint row done (λ r m. h.checkpoints_done r (within r m)) d e;
-  savepoints_rise = h.savepoints_rise;
-  savepoints_done = h.savepoints_done;
-  savepoints_fit = h.savepoints_fit;
-  base_is_savepoint = tt;
-}
+IsStored-complete s row done spare h rises within few d e above =
+    let l : length (row ++ done ∷ []) ≡ length row + 1 = length-append row (done ∷ []) in
+    let rise : AreRising (row ++ done ∷ []) = AreRising-push row done rises (λ r m. above r (within r m)) in
+    let all : AreDone kind.Checkpoint (row ++ done ∷ []) = AreDone-push kind.Checkpoint row done (λ r m. h.checkpoints_done r (within r m)) d e in
+    grind arith
 
 pub IsStored-drop : (s : Stored) (spare : ℕ) → IsStored s → IsStored (record s { checkpoints = drop 1 s.checkpoints; spare = spare })
-IsStored-drop s spare h = record {
-  retained_from = h.retained_from;
-  retained_to = h.retained_to;
-  few = (let few : length s.checkpoints ≤ s.retained = h.few in omega (arith, length-drop_one s.checkpoints));
-  checkpoints_rise = AreRising-drop s.checkpoints h.checkpoints_rise;
-  checkpoints_done = λ r m. h.checkpoints_done r (IsIn-from_drop r s.checkpoints m);
-  savepoints_rise = h.savepoints_rise;
-  savepoints_done = h.savepoints_done;
-  savepoints_fit = h.savepoints_fit;
-  base_is_savepoint = h.base_is_savepoint;
-}
+IsStored-drop s spare h =
+    let rise : AreRising (drop 1 s.checkpoints) = AreRising-drop s.checkpoints h.checkpoints_rise in
+    let done : AreDone kind.Checkpoint (drop 1 s.checkpoints) = λ r m. h.checkpoints_done r (IsIn-from_drop r s.checkpoints m) in
+    grind (arith, length-drop_one s.checkpoints)
 
 pub IsStored-add : (s : Stored) (done : Record) (spare : ℕ) → IsStored s → IsDone done → done.kind ≡ kind.Savepoint → has_savepoint s done.id ≡ false → length s.savepoints + 1 < 2 ^ 32
     → IsStored (record s { savepoints = put by_id done s.savepoints; spare = spare })
 IsStored-add s done spare h d e absent few =
     let turns : (r : Record) → IsIn r s.savepoints → by_id r done ≡ false → by_id done r ≡ true = λ r m t.
-    let other : r.id ≡ done.id → ⊥ = λ same. both_ways (has_savepoint s done.id) absent (list_any-from_IsIn (has_id done.id) r s.savepoints m (eq-eqb r.id done.id same)) in
-    ⊎_elim (λ u. u) (λ u. absurd (other (numbers_in_order.total r.id done.id t u))) (cases_Bool (by_id done r)) in
+    grind (arith, common_steps, list_any-from_IsIn (has_id done.id) r s.savepoints m, numbers_in_order.total r.id done.id t) in
     let stays : (id : ℕ) → s.base ≡ Some id → has_savepoint s id ≡ true → list_any (has_id id) (put by_id done s.savepoints) ≡ true = λ id q there.
     list_any-put (has_id id) by_id done s.savepoints ∙ or_right (has_id id done) (list_any (has_id id) s.savepoints) there in
-    record {
-      retained_from = h.retained_from;
-      retained_to = h.retained_to;
-      few = h.few;
-      checkpoints_rise = h.checkpoints_rise;
-      checkpoints_done = h.checkpoints_done;
-      savepoints_rise = IsInOrder-put_between by_id (λ x y z. numbers_in_order.transitive x.id y.id z.id) done s.savepoints turns h.savepoints_rise;
-      savepoints_done = λ r m. ⊎_elim (λ same. rw same (d, e)) (λ k. h.savepoints_done r k) (IsIn-put_cases by_id done r s.savepoints m);
-      savepoints_fit = omega (arith, length-put done s.savepoints);
-      base_is_savepoint = IfSome_map s.base (λ id. has_savepoint s id ≡ true) (λ id. list_any (has_id id) (put by_id done s.savepoints) ≡ true) stays h.base_is_savepoint;
-    }
+    let rise : AreRising (put by_id done s.savepoints) = IsInOrder-put_between by_id (λ x y z. numbers_in_order.transitive x.id y.id z.id) done s.savepoints turns h.savepoints_rise in
+    let all : AreDone kind.Savepoint (put by_id done s.savepoints) = λ r m. ⊎_elim (λ same. rw same (d, e)) (λ k. h.savepoints_done r k) (IsIn-put_cases by_id done r s.savepoints m) in
+    let base = IfSome_map s.base (λ id. has_savepoint s id ≡ true) (λ id. list_any (has_id id) (put by_id done s.savepoints) ≡ true) stays h.base_is_savepoint in
+    grind (arith, length-put done s.savepoints)
 
 twice : (b : Bool) → b ≡ not (not b)
 twice true = refl
@@ -103,29 +81,15 @@ IsStored-dispose s id spare h unused =
     let stays : (b : ℕ) → s.base ≡ Some b → has_savepoint s b ≡ true → list_any (has_id b) (filter keep s.savepoints) ≡ true = λ b e there.
     let ne : b ≡ id → ⊥ = λ same. unused (e ∙ ap (λ x. Some x) same) in
     list_any-filter (has_id b) keep s.savepoints ∙ list_any_same (λ r. has_id b r && keep r) (has_id b) s.savepoints (λ r. grind (arith, nat_tests)) ∙ there in
-    record {
-      retained_from = h.retained_from;
-      retained_to = h.retained_to;
-      few = h.few;
-      checkpoints_rise = h.checkpoints_rise;
-      checkpoints_done = h.checkpoints_done;
-      savepoints_rise = IsInOrder-filter by_id keep s.savepoints h.savepoints_rise;
-      savepoints_done = λ r m. h.savepoints_done r (IsIn-from_filter keep r s.savepoints m).0;
-      savepoints_fit = omega (arith, h.savepoints_fit, length-filter_both keep (has_id id) (λ r. twice (has_id id r)) s.savepoints);
-      base_is_savepoint = IfSome_map s.base (λ b. has_savepoint s b ≡ true) (λ b. list_any (has_id b) (filter keep s.savepoints) ≡ true) stays h.base_is_savepoint;
-    }
+    let rise : AreRising (filter keep s.savepoints) = IsInOrder-filter by_id keep s.savepoints h.savepoints_rise in
+    let all : AreDone kind.Savepoint (filter keep s.savepoints) = λ r m. h.savepoints_done r (IsIn-from_filter keep r s.savepoints m).0 in
+    let base = IfSome_map s.base (λ b. has_savepoint s b ≡ true) (λ b. list_any (has_id b) (filter keep s.savepoints) ≡ true) stays h.base_is_savepoint in
+    grind (arith, length-filter_both keep (has_id id) (λ r. twice (has_id id r)) s.savepoints)
 
 -- what is found
 
 pub record_of_place : (s : Stored) (id place : ℕ) → AreRising s.checkpoints → LiesAt id_of id s.checkpoints place → slice_get s.checkpoints place ≡ record_of s id
-record_of_place s id place a h =
-    let q = some_at s.checkpoints place h.0 in
-    let P : Option Record → Type 0 = λ o. o ≡ elim o [ Some r ↦ Some r | None ↦ find (has_id id) s.savepoints ] in
-    let Q : Option Record → Type 0 = λ o. slice_get s.checkpoints place ≡ elim o [ Some r ↦ Some r | None ↦ find (has_id id) s.savepoints ] in
-    let at : P (slice_get s.checkpoints place) = subst P (sym q.1) refl in
-    subst Q (find-place id s.checkpoints place a h) at
+record_of_place s id place a h = grind (arith, common_steps, find-place id s.checkpoints place a h, some_at s.checkpoints place h.0)
 
 pub record_of_later : (s : Stored) (id : ℕ) → list_any (has_id id) s.checkpoints ≡ false → find (has_id id) s.savepoints ≡ record_of s id
-record_of_later s id h =
-    let Q : Option Record → Type 0 = λ o. find (has_id id) s.savepoints ≡ elim o [ Some r ↦ Some r | None ↦ find (has_id id) s.savepoints ] in
-    subst Q (sym (find-none (has_id id) s.checkpoints h)) refl
+record_of_later s id h = grind (arith, common_steps, find-none (has_id id) s.checkpoints h)

@@ -61,7 +61,8 @@ says_forfeit : (term : ℕ) (names : List ℕ) → Fits term → Each Fits names
 unfolding term_line_of term_keyword_of term_row forfeit_row
 says_forfeit term names fits all order = record {
   words = codes "forfeit" ∷ decimal term ∷ map decimal names;
-  written = next (codes "forfeit") (decimal term ++ flat_map (λ n. 32 ∷ decimal n) names) (decimal term ∷ map decimal names) (plain_by (codes "forfeit") refl) (each_next decimal (decimal term) names (plain_number term fits) (plain_numbers names all));
+  written = next (codes "forfeit") (decimal term ++ flat_map (λ n. 32 ∷ decimal n) names) (decimal term ∷ map decimal names) (plain_by (codes "forfeit") refl)
+      (each_next decimal (decimal term) names (plain_number term fits) (plain_numbers names all));
   is = rw (number_place-decimal term (map decimal names) fits, each-numbers names all, stays names order) refl;
 }
 
@@ -77,7 +78,8 @@ says_in term c fits call_fits =
     let said : Says (script.Call c) (call_text c) = says_call c call_fits in
     record {
       words = codes "in" ∷ decimal term ∷ said.words;
-      written = next (codes "in") (decimal term ++ 32 ∷ call_text c) (decimal term ∷ said.words) (plain_by (codes "in") refl) (next (decimal term) (call_text c) said.words (plain_number term fits) said.written);
+      written = next (codes "in") (decimal term ++ 32 ∷ call_text c) (decimal term ∷ said.words) (plain_by (codes "in") refl)
+          (next (decimal term) (call_text c) said.words (plain_number term fits) said.written);
       is = rw (number_place-decimal term said.words fits, some_words c said.words said.is) refl;
     }
 

@@ -12,7 +12,8 @@ abbrev pub is_absent : List ℕ → ℕ → Bool
 is_absent names f = not (list_any (λ g. eqb f g) names)
 
 -- what a search among the ranges says of a name
-pub absent_is : (spans read : List Span) (names : List ℕ) (name : ℕ) (r : Option (ℕ × Span)) → read ≡ spans → names_in spans ≡ names → IfSome r (λ found. HasAt read found.0 found.1 name) → (r ≡ None → list_any (in_span name) read ≡ false) → is_absent names name ≡ not (is_some r)
+pub absent_is : (spans read : List Span) (names : List ℕ) (name : ℕ) (r : Option (ℕ × Span)) → read ≡ spans → names_in spans ≡ names → IfSome r (λ found. HasAt read found.0 found.1 name)
+    → (r ≡ None → list_any (in_span name) read ≡ false) → is_absent names name ≡ not (is_some r)
 absent_is spans read names name r same its some none =
     ap (λ (ns : List ℕ). is_absent ns name) (sym its) ∙ ap (λ (xs : List Span). is_absent (names_in xs) name) (sym same) ∙ ap not (in_spans name read ∙ sym (found_is read name r some none))
 

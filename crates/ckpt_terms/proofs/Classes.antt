@@ -21,9 +21,12 @@ use Rattle.ckpt_terms.proofs.Fences.{always, replay_later}
 -- garbage, by its three parts
 pub garbage_from : (m : Fenced) (f : ℕ) → (IsOpen m f → ⊥) → is_known m.core f ≡ false → is_garbage m f ≡ true
 garbage_from m f closed unknown =
-    let below : ltb f m.next_name ≡ true = ⊎_elim (λ (e : ltb f m.next_name ≡ true). e) (λ (e : ltb f m.next_name ≡ false). absurd (closed (inr (ltb-false f m.next_name e)))) (cases_Bool (ltb f m.next_name)) in
-    let spent : is_unspent m f ≡ false = ⊎_elim (λ (e : is_unspent m f ≡ true). absurd (closed (inl (IsIn-from_test f m.unspent e)))) (λ (e : is_unspent m f ≡ false). e) (cases_Bool (is_unspent m f)) in
-    and_from (ltb f m.next_name && not (is_unspent m f)) (not (is_known m.core f)) (and_from (ltb f m.next_name) (not (is_unspent m f)) below (not_from_false (is_unspent m f) spent)) (not_from_false (is_known m.core f) unknown)
+    let below : ltb f m.next_name ≡ true =
+    ⊎_elim (λ (e : ltb f m.next_name ≡ true). e) (λ (e : ltb f m.next_name ≡ false). absurd (closed (inr (ltb-false f m.next_name e)))) (cases_Bool (ltb f m.next_name)) in
+    let spent : is_unspent m f ≡ false =
+    ⊎_elim (λ (e : is_unspent m f ≡ true). absurd (closed (inl (IsIn-from_test f m.unspent e)))) (λ (e : is_unspent m f ≡ false). e) (cases_Bool (is_unspent m f)) in
+    and_from (ltb f m.next_name && not (is_unspent m f)) (not (is_known m.core f)) (and_from (ltb f m.next_name) (not (is_unspent m f)) below (not_from_false (is_unspent m f) spent))
+    (not_from_false (is_known m.core f) unknown)
 
 garbage_parts : (m : Fenced) (f : ℕ) → is_garbage m f ≡ true → (IsOpen m f → ⊥) × (is_known m.core f ≡ false)
 garbage_parts m f h =
@@ -41,7 +44,8 @@ garbage_later : (m n : Fenced) (f : ℕ) → IsLater m n → is_garbage m f ≡ 
 garbage_later m n f l h =
     let g = garbage_parts m f h in
     garbage_from n f (λ o. g.0 (l.still_open f o))
-    (⊎_elim (λ (e : is_known n.core f ≡ true). ⊎_elim (λ (k : is_known m.core f ≡ true). absurd (both_ways (is_known m.core f) g.1 k)) (λ (o : IsOpen m f). absurd (g.0 o)) (l.known f e)) (λ (e : is_known n.core f ≡ false). e) (cases_Bool (is_known n.core f)))
+    (⊎_elim (λ (e : is_known n.core f ≡ true). ⊎_elim (λ (k : is_known m.core f ≡ true). absurd (both_ways (is_known m.core f) g.1 k)) (λ (o : IsOpen m f). absurd (g.0 o)) (l.known f e))
+    (λ (e : is_known n.core f ≡ false). e) (cases_Bool (is_known n.core f)))
 
 pub garbage_for_good : (o : Opening) (first : ℕ) (before calls : List FencedCall) → CanFence o first → AreFencedCalls before → AreFencedCalls calls → GarbageForGood o first before calls
 garbage_for_good o first before calls c a b f h =
@@ -53,7 +57,8 @@ deletable_parts : (m : Fenced) (f : ℕ) → IsFenced m → may_be_deleted m f �
 deletable_parts m f i h =
     ⊎_elim
     (λ (k : is_garbage m f ≡ true). let g = garbage_parts m f k in (g.0, (or_parts (is_present (uses m.core.records) f) (in_outbox m.core f) g.1).0))
-    (λ (k : list_any (λ g. eqb f g) m.core.taken ≡ true). let out : IsIn f (m.core.waiting ++ m.core.taken) = IsIn-append_right f m.core.waiting m.core.taken (IsIn-from_test f m.core.taken k) in (known_closed m f i (known-from_outbox m.core f out), (outbox_of i.core).unused f out))
+    (λ (k : list_any (λ g. eqb f g) m.core.taken ≡ true). let out : IsIn f (m.core.waiting ++ m.core.taken) = IsIn-append_right f m.core.waiting m.core.taken (IsIn-from_test f m.core.taken k) in
+    (known_closed m f i (known-from_outbox m.core f out), (outbox_of i.core).unused f out))
     (or_cases (is_garbage m f) (list_any (λ g. eqb f g) m.core.taken) h)
 
 pub deletions_are_safe : (o : Opening) (first : ℕ) (before calls : List FencedCall) → CanFence o first → AreFencedCalls before → AreFencedCalls calls → DeletionsAreSafe o first before calls
@@ -63,7 +68,10 @@ deletions_are_safe o first before calls c a b f h =
     let i : IsFenced m = always o first before c a in
     let d = deletable_parts m f i h in
     let l : IsLater m n = replay_later m calls b i in
-    let absent : is_present (uses n.core.records) f ≡ false = ⊎_elim (λ (e : is_present (uses n.core.records) f ≡ true). ⊎_elim (λ (k : is_present (uses m.core.records) f ≡ true). absurd (both_ways (is_present (uses m.core.records) f) d.1 k)) (λ (o : IsOpen m f). absurd (d.0 o)) (l.present f e)) (λ (e : is_present (uses n.core.records) f ≡ false). e) (cases_Bool (is_present (uses n.core.records) f)) in
+    let absent : is_present (uses n.core.records) f ≡ false =
+    ⊎_elim (λ (e : is_present (uses n.core.records) f ≡ true).
+    ⊎_elim (λ (k : is_present (uses m.core.records) f ≡ true). absurd (both_ways (is_present (uses m.core.records) f) d.1 k)) (λ (o : IsOpen m f). absurd (d.0 o)) (l.present f e))
+    (λ (e : is_present (uses n.core.records) f ≡ false). e) (cases_Bool (is_present (uses n.core.records) f)) in
     let none : count (uses n.core.records) f ≤ 0 = ltb-false 0 (count (uses n.core.records) f) absent in
     omega arith
 
@@ -99,20 +107,23 @@ unknown_never m f h =
     omega arith
 
 -- the six classes
-pub classes : (m : Fenced) (f : ℕ) → IsFenced m → one_if (leb m.next_name f) + times f m.unspent + one_if (is_present (uses m.core.records) f) + times f m.core.waiting + times f m.core.taken + one_if (is_garbage m f) ≡ 1
+pub classes : (m : Fenced) (f : ℕ) → IsFenced m
+    → one_if (leb m.next_name f) + times f m.unspent + one_if (is_present (uses m.core.records) f) + times f m.core.waiting + times f m.core.taken + one_if (is_garbage m f) ≡ 1
 classes m f i =
     let out : List ℕ = m.core.waiting ++ m.core.taken in
     let p : Bool = is_present (uses m.core.records) f in
     let g : Bool = is_garbage m f in
     let both : times f out ≡ times f m.core.waiting + times f m.core.taken = times-append f m.core.waiting m.core.taken in
     let Goal : Type 0 = one_if (leb m.next_name f) + times f m.unspent + one_if p + times f m.core.waiting + times f m.core.taken + one_if g ≡ 1 in
-    let garbage_not : (is_garbage m f ≡ true → ⊥) → one_if g ≡ 0 = λ (no : is_garbage m f ≡ true → ⊥). one_if-false g (⊎_elim (λ (e : g ≡ true). absurd (no e)) (λ (e : g ≡ false). e) (cases_Bool g)) in
+    let garbage_not : (is_garbage m f ≡ true → ⊥) → one_if g ≡ 0 =
+    λ (no : is_garbage m f ≡ true → ⊥). one_if-false g (⊎_elim (λ (e : g ≡ true). absurd (no e)) (λ (e : g ≡ false). e) (cases_Bool g)) in
     let held : IsIn f m.unspent → times f m.unspent ≡ 1 = λ (h : IsIn f m.unspent). times_once f m.unspent (AreDistinct-from_order numbers_in_order m.unspent i.ascending) h in
     let new : leb m.next_name f ≡ true → Goal = λ (e : leb m.next_name f ≡ true).
     let from : m.next_name ≤ f = leb-true m.next_name f e in
     let one : one_if (leb m.next_name f) ≡ 1 = one_if-true (leb m.next_name f) e in
     let none : times f m.unspent ≡ 0 = times_none f m.unspent (λ k. let b : f < m.next_name = i.reserved f k in absurd (omega arith)) in
-    let unknown : is_known m.core f ≡ false = ⊎_elim (λ (k : is_known m.core f ≡ true). absurd (known_closed m f i k (inr from))) (λ (k : is_known m.core f ≡ false). k) (cases_Bool (is_known m.core f)) in
+    let unknown : is_known m.core f ≡ false =
+    ⊎_elim (λ (k : is_known m.core f ≡ true). absurd (known_closed m f i k (inr from))) (λ (k : is_known m.core f ≡ false). k) (cases_Bool (is_known m.core f)) in
     let rest : one_if p + times f out ≡ 0 = unknown_never m f unknown in
     let last : one_if g ≡ 0 = garbage_not (λ k. (garbage_parts m f k).0 (inr from)) in
     omega arith in

@@ -44,15 +44,19 @@ one_counted spans end held s c from some =
     record {
       ranges = record {
         some = All-append IsSome_range spans (s ∷ []) c.ranges.some (All-cons IsSome_range s [] some (All-nil IsSome_range));
-        ascending = subst IsAscendingSet (sym its) (IsInOrder-append ltb (names_in spans) (row s) c.ranges.ascending (row_ascends s.from (s.to - s.from)) (λ x y h k. let b : x < end = c.below x h in let d : s.from ≤ y = (row-bounds s.from s.to y k).0 in lt-ltb x y (omega arith)));
+        ascending = subst IsAscendingSet (sym its)
+            (IsInOrder-append ltb (names_in spans) (row s) c.ranges.ascending (row_ascends s.from (s.to - s.from))
+            (λ x y h k. let b : x < end = c.below x h in let d : s.from ≤ y = (row-bounds s.from s.to y k).0 in lt-ltb x y (omega arith)));
       };
       names = omega arith;
       most = omega arith;
-      below = λ f h. ⊎_elim (λ (k : IsIn f (names_in spans)). let b : f < end = c.below f k in omega arith) (λ (k : IsIn f (row s)). (row-bounds s.from s.to f k).1) (IsIn-append_cases f (names_in spans) (row s) (subst (Has f) its h));
+      below = λ f h. ⊎_elim (λ (k : IsIn f (names_in spans)). let b : f < end = c.below f k in omega arith) (λ (k : IsIn f (row s)). (row-bounds s.from s.to f k).1)
+          (IsIn-append_cases f (names_in spans) (row s) (subst (Has f) its h));
       greatest = λ _. subst (Has (s.to - 1)) (sym its) (IsIn-append_right (s.to - 1) (names_in spans) (row s) (row-from_bounds s.from s.to (s.to - 1) (omega arith) (omega arith)));
     }
 
-pub more_counted : (xs : List Span) (i end held : ℕ) (d : Span) → i < length xs → AreCounted (take i xs) end held → end ≤ (get_or xs i d).from → (get_or xs i d).from < (get_or xs i d).to → AreCounted (take (i + 1) xs) (get_or xs i d).to (held + ((get_or xs i d).to - (get_or xs i d).from))
+pub more_counted : (xs : List Span) (i end held : ℕ) (d : Span) → i < length xs → AreCounted (take i xs) end held → end ≤ (get_or xs i d).from → (get_or xs i d).from < (get_or xs i d).to
+    → AreCounted (take (i + 1) xs) (get_or xs i d).to (held + ((get_or xs i d).to - (get_or xs i d).from))
 more_counted xs i end held d within c from some =
     let s : Span = get_or xs i d in
     let Is : List Span → Type 0 = λ ys. AreCounted ys s.to (held + (s.to - s.from)) in

@@ -90,7 +90,8 @@ pub record IsTested (m : Fenced) : Type 0 where
 
 pub tested_fenced : (m : Fenced) → IsTested m → IsSound m.core → IsFenced m
 tested_fenced m t sound =
-    let its : (f : ℕ) → is_known m.core f ≡ true → (ltb f m.next_name ≡ true) × (not (is_unspent m f) ≡ true) = λ f h. and_parts (ltb f m.next_name) (not (is_unspent m f)) (known_spent m t.files f h) in
+    let its : (f : ℕ) → is_known m.core f ≡ true → (ltb f m.next_name ≡ true) × (not (is_unspent m f) ≡ true) =
+    λ f h. and_parts (ltb f m.next_name) (not (is_unspent m f)) (known_spent m t.files f h) in
     record {
       core = sound;
       term_from = t.term_from;
@@ -99,7 +100,8 @@ tested_fenced m t sound =
       names_to = t.names_to;
       known = λ f h. ltb-true f m.next_name (its f h).0;
       reserved = t.reserved;
-      apart = λ f h. ⊎_elim (λ (k : is_known m.core f ≡ true). absurd (both_ways (not (is_unspent m f)) (not_from_true (is_unspent m f) (test-from_IsIn f m.unspent h)) (its f k).1)) (λ (k : is_known m.core f ≡ false). k) (cases_Bool (is_known m.core f));
+      apart = λ f h. ⊎_elim (λ (k : is_known m.core f ≡ true). absurd (both_ways (not (is_unspent m f)) (not_from_true (is_unspent m f) (test-from_IsIn f m.unspent h)) (its f k).1))
+          (λ (k : is_known m.core f ≡ false). k) (cases_Bool (is_known m.core f));
       ascending = t.ascending;
       ended = t.ended;
     }
@@ -109,10 +111,12 @@ pub fenced_tested : (m : Fenced) → IsFenced m → all_are_spent m ≡ true
 fenced_tested m i = spent_known m (λ f h. and_from (ltb f m.next_name) (not (is_unspent m f)) (lt-ltb f m.next_name (i.known f h)) (not_from_false (is_unspent m f) (free f h)))
   where
     free : (f : ℕ) → is_known m.core f ≡ true → is_unspent m f ≡ false
-    free f h = ⊎_elim (λ (k : is_unspent m f ≡ true). absurd (both_ways (is_known m.core f) (i.apart f (IsIn-from_test f m.unspent k)) h)) (λ (k : is_unspent m f ≡ false). k) (cases_Bool (is_unspent m f))
+    free f h = ⊎_elim (λ (k : is_unspent m f ≡ true). absurd (both_ways (is_known m.core f) (i.apart f (IsIn-from_test f m.unspent k)) h)) (λ (k : is_unspent m f ≡ false). k)
+        (cases_Bool (is_unspent m f))
 
 -- what is saved is the state with the fetched files in ascending order
-pub saved_is : (m : Fenced) (core : State) (term next : ℕ) (names : List ℕ) → core ≡ settled m.core → term ≡ m.term → next ≡ m.next_name → names ≡ m.unspent → layer core term next names ≡ fenced_settled m
+pub saved_is : (m : Fenced) (core : State) (term next : ℕ) (names : List ℕ) → core ≡ settled m.core → term ≡ m.term → next ≡ m.next_name → names ≡ m.unspent
+    → layer core term next names ≡ fenced_settled m
 saved_is m core term next names a b c d =
     ap (λ (k : State). layer k term next names) a ∙ ap (λ (t : ℕ). layer (settled m.core) t next names) b ∙ ap (λ (n : ℕ). layer (settled m.core) m.term n names) c
     ∙ ap (λ (xs : List ℕ). layer (settled m.core) m.term m.next_name xs) d

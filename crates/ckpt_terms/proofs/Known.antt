@@ -42,7 +42,8 @@ pub known_after : (m : State) (call : Call) (f : ℕ) → IsSound m → is_known
 known_after m call f s h =
     let n : State = (step m call).0 in
     let Goal : Type 0 = (is_known m f ≡ true) ⊎ IsIn f (registered_by m call) in
-    let present : (is_present (uses m.records) f ≡ true) ⊎ IsIn f (registered_by m call) → Goal = ⊎_elim (λ (k : is_present (uses m.records) f ≡ true). inl (known-from_present m f k)) (λ (k : IsIn f (registered_by m call)). inr k) in
+    let present : (is_present (uses m.records) f ≡ true) ⊎ IsIn f (registered_by m call) → Goal =
+    ⊎_elim (λ (k : is_present (uses m.records) f ≡ true). inl (known-from_present m f k)) (λ (k : IsIn f (registered_by m call)). inr k) in
     let handed : IsIn f (handed_by m call) → Goal = λ (k : IsIn f (handed_by m call)).
     let some : 0 < times f (handed_by m call) = times-from_IsIn f (handed_by m call) k in
     present (went_in (is_present (uses m.records) f) f (registered_by m call) _ ((step_settled m call s).even f) (omega arith)) in

@@ -7,7 +7,8 @@ use Rattle.ckpt_ids.specs.declared.ack.Acked.{Acked}
 use Rattle.ckpt_ids.specs.Ascending.{ascending}
 use Rattle.ckpt_ids.specs.Ordered.{IsIn}
 use Rattle.ckpt_ids.specs.Records.{Record, uses, is_present}
-use Rattle.ckpt_ids.proofs.OrderedLemmas.{IsIn-append_left, IsIn-append_right, IsIn-flat_map, IsIn-from_in_order, IsIn-in_order, IsIn-from_list_any, IsIn-from_test, list_any-from_IsIn, list_any-none, fails-from_list_any}
+use Rattle.ckpt_ids.proofs.OrderedLemmas.{IsIn-append_left, IsIn-append_right, IsIn-flat_map, IsIn-from_in_order, IsIn-in_order, IsIn-from_list_any, IsIn-from_test, list_any-from_IsIn, list_any-none}
+use Rattle.ckpt_ids.proofs.OrderedLemmas.{fails-from_list_any}
 use Rattle.ckpt_model.specs.declared.image.Image.{Image}
 use Rattle.ckpt_model.specs.Images.{record_in, settled, state_in}
 use Rattle.ckpt_model.specs.State.{State, is_known, in_outbox}
@@ -43,7 +44,8 @@ any_used first r =
     ∙ ap (λ (b : Bool). b || list_any (leb first) r.pins) (any_flat (leb first) (λ (a : Acked). a.files) r.acks)
 
 -- of an image
-pub in_image : (i : Image) (first : ℕ) → has_known_from (state_in i) first ≡ (list_any (λ s. list_any (leb first) (files_by (record_in s))) i.records.items || (list_any (leb first) i.waiting || list_any (leb first) i.taken))
+pub in_image : (i : Image) (first : ℕ)
+    → has_known_from (state_in i) first ≡ (list_any (λ s. list_any (leb first) (files_by (record_in s))) i.records.items || (list_any (leb first) i.waiting || list_any (leb first) i.taken))
 in_image i first =
     in_parts (state_in i) first
     ∙ ap (λ (b : Bool). b || (list_any (leb first) i.waiting || list_any (leb first) i.taken))
@@ -65,7 +67,8 @@ known_there : (m : State) (f : ℕ) → is_known m f ≡ true → IsIn f (known_
 known_there m f h =
     let used : List ℕ = flat_map files_by m.records in
     ⊎_elim
-    (λ (k : is_present (uses m.records) f ≡ true). let g : IsHeld f m.records = IsHeld-from_present f m.records k in IsIn-append_left f used (m.waiting ++ m.taken) (IsIn-flat_map files_by g.0 f m.records g.1 (held_file f g.0 g.2)))
+    (λ (k : is_present (uses m.records) f ≡ true). let g : IsHeld f m.records = IsHeld-from_present f m.records k in
+    IsIn-append_left f used (m.waiting ++ m.taken) (IsIn-flat_map files_by g.0 f m.records g.1 (held_file f g.0 g.2)))
     (λ (k : in_outbox m f ≡ true). IsIn-append_right f used (m.waiting ++ m.taken) (IsIn-from_test f (m.waiting ++ m.taken) k))
     (or_cases (is_present (uses m.records) f) (in_outbox m f) h)
 

@@ -13,7 +13,8 @@ use Rattle.ckpt_rules.specs.declared.hold.Hold.{Hold}
 use Rattle.ckpt_rules.specs.declared.hold.Hold.TheVariants.{Interval, AtOnce, Pause, Go}
 use Rattle.ckpt_model.specs.State.{State, is_checkpoint, is_expired, drop}
 use Rattle.ckpt_model.specs.Refusals.{is_cancelled, moment_of, pending_of}
-use Rattle.ckpt_model.specs.Steps.{Stepped, with_records, replaced, superseded, dropped_by, pending_checkpoints, failures_with, fails_the_job, triggered, failed_over, start_or_hold, after_expiry, tick, completed_with, acknowledged_in, ack, decline, decline_pending, dropping, dispose, restore, restarted, cancel, take_files, show, effect, at_moment, step}
+use Rattle.ckpt_model.specs.Steps.{Stepped, with_records, replaced, superseded, dropped_by, pending_checkpoints, failures_with, fails_the_job, triggered, failed_over, start_or_hold, after_expiry}
+use Rattle.ckpt_model.specs.Steps.{tick, completed_with, acknowledged_in, ack, decline, decline_pending, dropping, dispose, restore, restarted, cancel, take_files, show, effect, at_moment, step}
 use Rattle.ckpt_model.proofs.Answering.StepCases.{step_by}
 use Rattle.ckpt_terms.specs.Fencing.{ends_the_term, is_accepted}
 
@@ -77,7 +78,8 @@ show_goes_on : (m : State) (o : Option Record) → GoesOn m (m, show o)
 show_goes_on m o e = e
 
 -- the mode after a call that is accepted
-effect_goes_on : (m : State) (call : Call) → is_cancelled (effect (at_moment m (moment_of call)) call).0.mode ≡ true → (is_cancelled m.mode ≡ true) ⊎ ((is_accepted (effect (at_moment m (moment_of call)) call).1 && ends_the_term call) ≡ true)
+effect_goes_on : (m : State) (call : Call) → is_cancelled (effect (at_moment m (moment_of call)) call).0.mode ≡ true
+    → (is_cancelled m.mode ≡ true) ⊎ ((is_accepted (effect (at_moment m (moment_of call)) call).1 && ends_the_term call) ≡ true)
 unfolding effect triggered dispose dropping drop take_files cancel
 effect_goes_on m (Tick now) e = inl (tick_goes_on (record m { latest = max now m.latest }) e)
 effect_goes_on m (Savepoint now) e = inl e
@@ -94,4 +96,5 @@ effect_goes_on m (Count file) e = inl e
 
 -- a job that has ended for good after a call had ended before it, or the call ended it
 pub cancelled_by : (m : State) (call : Call) → is_cancelled (step m call).0.mode ≡ true → (is_cancelled m.mode ≡ true) ⊎ ((is_accepted (step m call).1 && ends_the_term call) ≡ true)
-cancelled_by m call = step_by m call (λ (x : Stepped). is_cancelled x.0.mode ≡ true → (is_cancelled m.mode ≡ true) ⊎ ((is_accepted x.1 && ends_the_term call) ≡ true)) (λ why _ e. inl e) (λ _ e. effect_goes_on m call e)
+cancelled_by m call =
+    step_by m call (λ (x : Stepped). is_cancelled x.0.mode ≡ true → (is_cancelled m.mode ≡ true) ⊎ ((is_accepted x.1 && ends_the_term call) ≡ true)) (λ why _ e. inl e) (λ _ e. effect_goes_on m call e)

@@ -53,18 +53,21 @@ none_again m [] gone a i c = tt
 none_again m (Reserve term count ∷ calls) gone a i c =
     let call : FencedCall = Reserve term count in
     let P : FencedStepped → Type 0 = λ x. NoneAgain gone m.core (passed call x.1 ++ core_calls x.0 calls) in
-    fenced_step_by m call P (λ _. none_again m calls gone a.1 i c) (λ e. none_again (made m call).0 calls gone a.1 (made_keeps m call a.0 e i) (closed_later m (made m call).0 gone (made_later m call i e) c))
+    fenced_step_by m call P (λ _. none_again m calls gone a.1 i c)
+    (λ e. none_again (made m call).0 calls gone a.1 (made_keeps m call a.0 e i) (closed_later m (made m call).0 gone (made_later m call i e) c))
 none_again m (Forfeit term names ∷ calls) gone a i c =
     let call : FencedCall = Forfeit term names in
     let P : FencedStepped → Type 0 = λ x. NoneAgain gone m.core (passed call x.1 ++ core_calls x.0 calls) in
-    fenced_step_by m call P (λ _. none_again m calls gone a.1 i c) (λ e. none_again (made m call).0 calls gone a.1 (made_keeps m call a.0 e i) (closed_later m (made m call).0 gone (made_later m call i e) c))
+    fenced_step_by m call P (λ _. none_again m calls gone a.1 i c)
+    (λ e. none_again (made m call).0 calls gone a.1 (made_keeps m call a.0 e i) (closed_later m (made m call).0 gone (made_later m call i e) c))
 none_again m (Make term its ∷ calls) gone a i c =
     let call : FencedCall = Make term its in
     let n : Fenced = (made m call).0 in
     let P : FencedStepped → Type 0 = λ x. NoneAgain gone m.core (passed call x.1 ++ core_calls x.0 calls) in
     fenced_step_by m call P (λ _. none_again m calls gone a.1 i c) (λ e. (
       λ f h k. c f h (inl (fresh_unspent m term its f e (new_fresh m.core its f k))),
-      none_again n calls (gone ++ deleted_by m.core its) a.1 (made_keeps m call a.0 e i) (closed_later m n (gone ++ deleted_by m.core its) (made_later m call i e) (closed_with_deleted m its gone i c)),
+      none_again n calls (gone ++ deleted_by m.core its) a.1 (made_keeps m call a.0 e i)
+          (closed_later m n (gone ++ deleted_by m.core its) (made_later m call i e) (closed_with_deleted m its gone i c)),
     ))
 
 -- the law
@@ -75,4 +78,4 @@ issued_once o first calls c a =
     let h = history m calls a in
     let none : NoneAgain [] (opened o) its = none_again m calls [] a (opening_fenced o first c) (λ f k. absurd k) in
     let At : State → Type 0 = λ n. (f : ℕ) → IsIn f (along handed_by (opened o) its) ↔ (IsIn f (along registered_by (opened o) its) × (count (uses n.records) f ≡ 0)) in
-    record { core = h.1; none_again = none; handed = subst At (sym h.1) (handed o its c.core h.0 none) }
+    record { made = h.0; core = h.1; none_again = none; handed = subst At (sym h.1) (handed o its c.core h.0 none) }

@@ -1,5 +1,6 @@
 -- Where a name is in ranges, and what is left of them without it.
-use Rattle.std.proofs.Common.{◌≡◌, ℕ, zero, suc, ◌+◌, ◌-◌, ◌<◌, ◌≤◌, true, false, not, ◌||◌, ltb, leb, eqb, List, [], ◌∷◌, ◌++◌, take, drop, get_or, set, length, refl, sym, ap, subst, ◌∙◌, inl, ⊎_elim, arith, length-append}
+use Rattle.std.proofs.Common.{◌≡◌, ℕ, zero, suc, ◌+◌, ◌-◌, ◌<◌, ◌≤◌, true, false, not, ◌||◌, ltb, leb, eqb, List, [], ◌∷◌, ◌++◌, take, drop, get_or, set, length, refl, sym, ap, subst, ◌∙◌, inl}
+use Rattle.std.proofs.Common.{⊎_elim, arith, length-append}
 use Rattle.std.specs.Prelude.{Option, Some, None, is_some, IfSome}
 use Rattle.std.specs.List.{All, list_any, range_with_len}
 use Rattle.std.proofs.lemmas.Bool.{cases_Bool, both_ways, ne_eqb, and_from, le-leb, lt-ltb, and_parts, ltb-true, ltb-false, leb-true}
@@ -13,7 +14,8 @@ use Rattle.ckpt_ids.proofs.OrderedLemmas.{IsIn-append_right, IsIn-append_left, C
 use Rattle.ckpt_terms.specs.declared.names.Span.{Span}
 use Rattle.ckpt_terms.specs.Fencing.{without_all}
 use Rattle.ckpt_terms.specs.Spans.{row, in_span, names_in, AreRanges, AreKept, HasAt, IsCut}
-use Rattle.ckpt_terms.proofs.SpanLemmas.{span, row-from_bounds, row_empty, row_split, in_spans, added_rises, added_is, without-append, without_below, without_above, without_itself, append_rises, rises_behind, ranges_at}
+use Rattle.ckpt_terms.proofs.SpanLemmas.{span, row-from_bounds, row_empty, row_split, in_spans, added_rises, added_is, without-append, without_below, without_above, without_itself, append_rises}
+use Rattle.ckpt_terms.proofs.SpanLemmas.{rises_behind, ranges_at}
 
 -- each range has a name
 abbrev pub HaveNames : List Span → Type 0
@@ -76,13 +78,18 @@ ends_rise xs a i j d h l =
 
 -- a name that is not in a range
 ends_below : (name : ℕ) (s : Span) → s.to ≤ name → in_span name s ≡ false
-ends_below name s h = ⊎_elim (λ (e : in_span name s ≡ true). let l : name < s.to = ltb-true name s.to (and_parts (leb s.from name) (ltb name s.to) e).1 in absurd (omega arith)) (λ (e : in_span name s ≡ false). e) (cases_Bool (in_span name s))
+ends_below name s h =
+    ⊎_elim (λ (e : in_span name s ≡ true). let l : name < s.to = ltb-true name s.to (and_parts (leb s.from name) (ltb name s.to) e).1 in absurd (omega arith)) (λ (e : in_span name s ≡ false). e)
+    (cases_Bool (in_span name s))
 
 begins_above : (name : ℕ) (s : Span) → name < s.from → in_span name s ≡ false
-begins_above name s h = ⊎_elim (λ (e : in_span name s ≡ true). let l : s.from ≤ name = leb-true s.from name (and_parts (leb s.from name) (ltb name s.to) e).0 in absurd (omega arith)) (λ (e : in_span name s ≡ false). e) (cases_Bool (in_span name s))
+begins_above name s h =
+    ⊎_elim (λ (e : in_span name s ≡ true). let l : s.from ≤ name = leb-true s.from name (and_parts (leb s.from name) (ltb name s.to) e).0 in absurd (omega arith)) (λ (e : in_span name s ≡ false). e)
+    (cases_Bool (in_span name s))
 
 -- the first range that does not end below the name is the only one that may have it
-pub none_has : (xs : List Span) (i name : ℕ) (d : Span) → AreRanges xs → ((k : ℕ) → k < i → (get_or xs k d).to ≤ name) → (i < length xs → (name < (get_or xs i d).to) × (in_span name (get_or xs i d) ≡ false)) → list_any (in_span name) xs ≡ false
+pub none_has : (xs : List Span) (i name : ℕ) (d : Span) → AreRanges xs → ((k : ℕ) → k < i → (get_or xs k d).to ≤ name)
+    → (i < length xs → (name < (get_or xs i d).to) × (in_span name (get_or xs i d) ≡ false)) → list_any (in_span name) xs ≡ false
 none_has xs i name d a below at = list_any_none (in_span name) xs (All-from_get_or (λ s. in_span name s ≡ false) xs d each)
   where
     each : (k : ℕ) → k < length xs → in_span name (get_or xs k d) ≡ false
@@ -93,7 +100,8 @@ none_has xs i name d a below at = list_any_none (in_span name) xs (All-from_get_
         let h : i ≤ k = ltb-false k i e in
         let here = at (omega arith) in
         ⊎_elim
-        (λ (f : ltb i k ≡ true). let t : name < (get_or xs i d).to = here.0 in let b : (get_or xs i d).to ≤ (get_or xs k d).from = ends_before xs d a.some a.ascending i k (ltb-true i k f) l in begins_above name (get_or xs k d) (omega arith))
+        (λ (f : ltb i k ≡ true). let t : name < (get_or xs i d).to = here.0 in let b : (get_or xs i d).to ≤ (get_or xs k d).from = ends_before xs d a.some a.ascending i k (ltb-true i k f) l in
+        begins_above name (get_or xs k d) (omega arith))
         (λ (f : ltb i k ≡ false). let g : k ≤ i = ltb-false i k f in let same : k ≡ i = omega arith in rw same here.1)
         (cases_Bool (ltb i k)))
         (cases_Bool (ltb k i))
@@ -102,7 +110,9 @@ none_has xs i name d a below at = list_any_none (in_span name) xs (All-from_get_
 without_one : (name : ℕ) (before after : List ℕ) → IsAscendingSet (before ++ name ∷ after) → without_all (name ∷ []) (before ++ name ∷ after) ≡ before ++ after
 without_one name before after a =
     let up : IsAscendingSet (name ∷ after) = rises_behind before (name ∷ after) a in
-    let low : without_all (name ∷ []) before ≡ before = without_above (name ∷ []) before (λ y g i k. let b : y < name = append_rises before (name ∷ after) y name a i (inl refl) in ⊎_elim (λ (e : g ≡ name). let s : g ≡ name = e in omega arith) (λ (n : IsIn g []). absurd n) k) in
+    let low : without_all (name ∷ []) before ≡ before =
+    without_above (name ∷ []) before
+    (λ y g i k. let b : y < name = append_rises before (name ∷ after) y name a i (inl refl) in ⊎_elim (λ (e : g ≡ name). let s : g ≡ name = e in omega arith) (λ (n : IsIn g []). absurd n) k) in
     let rest : without_all (name ∷ []) after ≡ without_all [] after = without_below name [] after (λ y i. ltb-true name y (ComesBefore-at ltb name y after up.0 i)) in
     let high : without_all (name ∷ []) (name ∷ after) ≡ after = without_itself name [] after ∙ rest ∙ without_above [] after (λ y g i k. absurd k) in
     without-append (name ∷ []) before (name ∷ after) ∙ ap (λ xs. xs ++ without_all (name ∷ []) (name ∷ after)) low ∙ ap (λ xs. before ++ xs) high
@@ -135,14 +145,17 @@ cut_by xs ys i name d h in_it a some e =
     }
 
 -- the range is gone
-pub cut_out : (xs : List Span) (i name : ℕ) (d : Span) → i < length xs → in_span name (get_or xs i d) ≡ true → AreRanges xs → name ≤ (get_or xs i d).from → (get_or xs i d).to ≤ name + 1 → IsCut xs (take i xs ++ drop (i + 1) xs) name
+pub cut_out : (xs : List Span) (i name : ℕ) (d : Span) → i < length xs → in_span name (get_or xs i d) ≡ true → AreRanges xs → name ≤ (get_or xs i d).from → (get_or xs i d).to ≤ name + 1
+    → IsCut xs (take i xs ++ drop (i + 1) xs) name
 cut_out xs i name d h in_it a low high =
     let s : Span = get_or xs i d in
     let front : List ℕ = names_in (take i xs) in
     let back : List ℕ = names_in (drop (i + 1) xs) in
     let e : names_in (take i xs ++ drop (i + 1) xs) ≡ cut_names xs i d name =
-    names_append (take i xs) (drop (i + 1) xs) ∙ ap (λ zs. front ++ (zs ++ back)) (sym (row_empty (name + 1) s.to high)) ∙ ap (λ zs. front ++ (zs ++ (row (span (name + 1) s.to) ++ back))) (sym (row_empty s.from name low)) in
-    cut_by xs (take i xs ++ drop (i + 1) xs) i name d h in_it a (All-append (λ s. s.from < s.to) (take i xs) (drop (i + 1) xs) (All-take (λ s. s.from < s.to) i xs a.some) (All-drop (λ s. s.from < s.to) (i + 1) xs a.some)) e
+    names_append (take i xs) (drop (i + 1) xs) ∙ ap (λ zs. front ++ (zs ++ back)) (sym (row_empty (name + 1) s.to high))
+    ∙ ap (λ zs. front ++ (zs ++ (row (span (name + 1) s.to) ++ back))) (sym (row_empty s.from name low)) in
+    cut_by xs (take i xs ++ drop (i + 1) xs) i name d h in_it a
+    (All-append (λ s. s.from < s.to) (take i xs) (drop (i + 1) xs) (All-take (λ s. s.from < s.to) i xs a.some) (All-drop (λ s. s.from < s.to) (i + 1) xs a.some)) e
 
 names_set : (xs : List Span) (i : ℕ) (y : Span) → i < length xs → names_in (set xs i y) ≡ names_in (take i xs) ++ (row y ++ names_in (drop (i + 1) xs))
 names_set xs i y h =
@@ -150,7 +163,8 @@ names_set xs i y h =
     ap names_in (set_split xs i y h) ∙ names_append (take i xs) (y ∷ drop (suc i) xs) ∙ ap (λ k. names_in (take i xs) ++ (row y ++ names_in (drop k xs))) n
 
 -- the name was the last of the range
-pub cut_last : (xs : List Span) (i name : ℕ) (d : Span) → i < length xs → in_span name (get_or xs i d) ≡ true → AreRanges xs → (get_or xs i d).from < name → (get_or xs i d).to ≤ name + 1 → IsCut xs (set xs i (span (get_or xs i d).from name)) name
+pub cut_last : (xs : List Span) (i name : ℕ) (d : Span) → i < length xs → in_span name (get_or xs i d) ≡ true → AreRanges xs → (get_or xs i d).from < name → (get_or xs i d).to ≤ name + 1
+    → IsCut xs (set xs i (span (get_or xs i d).from name)) name
 cut_last xs i name d h in_it a low high =
     let s : Span = get_or xs i d in
     let y : Span = span s.from name in
@@ -159,7 +173,8 @@ cut_last xs i name d h in_it a low high =
     cut_by xs (set xs i y) i name d h in_it a (All-set (λ s. s.from < s.to) xs i y low a.some) e
 
 -- it was the first
-pub cut_first : (xs : List Span) (i name : ℕ) (d : Span) → i < length xs → in_span name (get_or xs i d) ≡ true → AreRanges xs → name ≤ (get_or xs i d).from → name + 1 < (get_or xs i d).to → IsCut xs (set xs i (span (name + 1) (get_or xs i d).to)) name
+pub cut_first : (xs : List Span) (i name : ℕ) (d : Span) → i < length xs → in_span name (get_or xs i d) ≡ true → AreRanges xs → name ≤ (get_or xs i d).from → name + 1 < (get_or xs i d).to
+    → IsCut xs (set xs i (span (name + 1) (get_or xs i d).to)) name
 cut_first xs i name d h in_it a low high =
     let s : Span = get_or xs i d in
     let y : Span = span (name + 1) s.to in
@@ -168,7 +183,8 @@ cut_first xs i name d h in_it a low high =
     cut_by xs (set xs i y) i name d h in_it a (All-set (λ s. s.from < s.to) xs i y high a.some) e
 
 -- it was between two others
-pub cut_between : (xs : List Span) (i name : ℕ) (d : Span) → i < length xs → in_span name (get_or xs i d) ≡ true → AreRanges xs → (get_or xs i d).from < name → name + 1 < (get_or xs i d).to → IsCut xs (take i (set xs i (span (name + 1) (get_or xs i d).to)) ++ span (get_or xs i d).from name ∷ drop i (set xs i (span (name + 1) (get_or xs i d).to))) name
+pub cut_between : (xs : List Span) (i name : ℕ) (d : Span) → i < length xs → in_span name (get_or xs i d) ≡ true → AreRanges xs → (get_or xs i d).from < name → name + 1 < (get_or xs i d).to
+    → IsCut xs (take i (set xs i (span (name + 1) (get_or xs i d).to)) ++ span (get_or xs i d).from name ∷ drop i (set xs i (span (name + 1) (get_or xs i d).to))) name
 cut_between xs i name d h in_it a low high =
     let s : Span = get_or xs i d in
     let y : Span = span s.from name in
@@ -202,7 +218,8 @@ absent_stays xs name none =
     let names : List ℕ = names_in xs in
     let absent : list_any (λ g. eqb name g) names ≡ false = in_spans name xs ∙ none in
     let In : ℕ → Type 0 = λ z. IsIn z names in
-    sym (filter-all (λ f. not (list_any (λ g. eqb f g) (name ∷ []))) names (λ y h. ap (λ b. not (b || false)) (ne_eqb y name (λ e. both_ways (list_any (λ g. eqb name g) names) absent (test-from_IsIn name names (subst In e h))))))
+    sym (filter-all (λ f. not (list_any (λ g. eqb f g) (name ∷ []))) names
+    (λ y h. ap (λ b. not (b || false)) (ne_eqb y name (λ e. both_ways (list_any (λ g. eqb name g) names) absent (test-from_IsIn name names (subst In e h))))))
 
 -- the range at the place
 is_there : (xs : List Span) (i name : ℕ) (s : Span) → HasAt xs i s name → in_span name (get_or xs i s) ≡ true
@@ -218,7 +235,8 @@ at_place xs i name d within it =
     record { within = within; there = λ e. get_or_any xs i e d within; from = leb-true s.from name its.0; to = ltb-true name s.to its.1 }
 
 -- a range that was found
-pub found_is : (xs : List Span) (name : ℕ) (r : Option (ℕ × Span)) → IfSome r (λ found. HasAt xs found.0 found.1 name) → (r ≡ None → list_any (in_span name) xs ≡ false) → is_some r ≡ list_any (in_span name) xs
+pub found_is : (xs : List Span) (name : ℕ) (r : Option (ℕ × Span)) → IfSome r (λ found. HasAt xs found.0 found.1 name) → (r ≡ None → list_any (in_span name) xs ≡ false)
+    → is_some r ≡ list_any (in_span name) xs
 found_is xs name None some none = sym (none refl)
 found_is xs name (Some found) some none = sym (list_any_at (in_span name) xs found.0 found.1 some.within (is_there xs found.0 name found.1 some))
 
@@ -241,7 +259,8 @@ begun_later xs i name s h a =
     let P : Span → Type 0 = λ t. name ≤ t.from → name + 1 < t.to → IsCut xs (set xs i (span (name + 1) t.to)) name in
     subst P (h.there s) (cut_first xs i name s h.within (is_there xs i name s h) a)
 
-pub split_at : (xs : List Span) (i name : ℕ) (s : Span) → HasAt xs i s name → AreRanges xs → s.from < name → name + 1 < s.to → IsCut xs (take i (set xs i (span (name + 1) s.to)) ++ span s.from name ∷ drop i (set xs i (span (name + 1) s.to))) name
+pub split_at : (xs : List Span) (i name : ℕ) (s : Span) → HasAt xs i s name → AreRanges xs → s.from < name → name + 1 < s.to
+    → IsCut xs (take i (set xs i (span (name + 1) s.to)) ++ span s.from name ∷ drop i (set xs i (span (name + 1) s.to))) name
 split_at xs i name s h a =
     let P : Span → Type 0 = λ t. t.from < name → name + 1 < t.to → IsCut xs (take i (set xs i (span (name + 1) t.to)) ++ span t.from name ∷ drop i (set xs i (span (name + 1) t.to))) name in
     subst P (h.there s) (cut_between xs i name s h.within (is_there xs i name s h) a)
@@ -260,7 +279,8 @@ two_more xs i name s h a low high =
     omega arith
 
 -- an added range
-pub added : (spans : List Span) (first count held len room held2 room2 : ℕ) → AreKept spans held len room → ((f : ℕ) → IsIn f (names_in spans) → f < first) → 0 < count → held2 ≡ held + count → held2 + len + 1 ≤ room2 + room2 → AreKept (spans ++ span first (first + count) ∷ []) held2 (len + 1) room2
+pub added : (spans : List Span) (first count held len room held2 room2 : ℕ) → AreKept spans held len room → ((f : ℕ) → IsIn f (names_in spans) → f < first) → 0 < count → held2 ≡ held + count
+    → held2 + len + 1 ≤ room2 + room2 → AreKept (spans ++ span first (first + count) ∷ []) held2 (len + 1) room2
 added spans first count held len room held2 room2 k above some is fits =
     let new : Span = span first (first + count) in
     let P : Span → Type 0 = λ s. s.from < s.to in

@@ -143,7 +143,8 @@ settled_fenced m sound i = record {
   names_to = i.names_to;
   known = λ f h. i.known f (settled_known m.core f h);
   reserved = i.reserved;
-  apart = λ f h. ⊎_elim (λ (k : is_known (settled m.core) f ≡ true). absurd (both_ways (is_known m.core f) (i.apart f h) (settled_known m.core f k))) (λ (k : is_known (settled m.core) f ≡ false). k) (cases_Bool (is_known (settled m.core) f));
+  apart = λ f h. ⊎_elim (λ (k : is_known (settled m.core) f ≡ true). absurd (both_ways (is_known m.core f) (i.apart f h) (settled_known m.core f k))) (λ (k : is_known (settled m.core) f ≡ false). k)
+      (cases_Bool (is_known (settled m.core) f));
   ascending = i.ascending;
   ended = i.ended;
 }

@@ -63,8 +63,12 @@ row_split from to name l r =
 in_one : (f : ℕ) (s : Span) → list_any (λ g. eqb f g) (row s) ≡ in_span f s
 in_one f s =
     ⊎_elim
-    (λ (e : in_span f s ≡ true). let p = and_parts (leb s.from f) (ltb f s.to) e in list_any-from_IsIn (λ g. eqb f g) f (row s) (row-from_bounds s.from s.to f (leb-true s.from f p.0) (ltb-true f s.to p.1)) (eq-eqb f f refl) ∙ sym e)
-    (λ (e : in_span f s ≡ false). list_any-none (λ g. eqb f g) (row s) (λ g h. let b : (s.from ≤ g) × (g < s.to) = row-bounds s.from s.to g h in ne_eqb f g (λ same. both_ways (in_span f s) e (subst (λ x. in_span x s ≡ true) (sym same) (and_from (leb s.from g) (ltb g s.to) (le-leb s.from g b.0) (lt-ltb g s.to b.1))))) ∙ sym e)
+    (λ (e : in_span f s ≡ true). let p = and_parts (leb s.from f) (ltb f s.to) e in
+    list_any-from_IsIn (λ g. eqb f g) f (row s) (row-from_bounds s.from s.to f (leb-true s.from f p.0) (ltb-true f s.to p.1)) (eq-eqb f f refl) ∙ sym e)
+    (λ (e : in_span f s ≡ false).
+    list_any-none (λ g. eqb f g) (row s)
+    (λ g h. let b : (s.from ≤ g) × (g < s.to) = row-bounds s.from s.to g h in
+    ne_eqb f g (λ same. both_ways (in_span f s) e (subst (λ x. in_span x s ≡ true) (sym same) (and_from (leb s.from g) (ltb g s.to) (le-leb s.from g b.0) (lt-ltb g s.to b.1))))) ∙ sym e)
     (cases_Bool (in_span f s))
 
 pub in_spans : (f : ℕ) (spans : List Span) → list_any (λ g. eqb f g) (names_in spans) ≡ list_any (in_span f) spans
@@ -82,11 +86,14 @@ without-append gone (x ∷ xs) ys =
 
 -- one that is below all of them
 pub without_below : (g : ℕ) (gone ys : List ℕ) → ((y : ℕ) → IsIn y ys → g < y) → without_all (g ∷ gone) ys ≡ without_all gone ys
-without_below g gone ys above = filter-same (λ f. not (list_any (λ x. eqb f x) (g ∷ gone))) (λ f. not (list_any (λ x. eqb f x) gone)) ys (λ y h. let b : g < y = above y h in ap (λ t. not (t || list_any (λ x. eqb y x) gone)) (ne_eqb y g (λ e. absurd (omega arith))))
+without_below g gone ys above =
+    filter-same (λ f. not (list_any (λ x. eqb f x) (g ∷ gone))) (λ f. not (list_any (λ x. eqb f x) gone)) ys
+    (λ y h. let b : g < y = above y h in ap (λ t. not (t || list_any (λ x. eqb y x) gone)) (ne_eqb y g (λ e. absurd (omega arith))))
 
 -- those that are all above
 pub without_above : (gone ys : List ℕ) → ((y g : ℕ) → IsIn y ys → IsIn g gone → y < g) → without_all gone ys ≡ ys
-without_above gone ys below = filter-all (λ f. not (list_any (λ x. eqb f x) gone)) ys (λ y h. ap not (list_any-none (λ x. eqb y x) gone (λ g k. let b : y < g = below y g h k in ne_eqb y g (λ e. absurd (omega arith)))))
+without_above gone ys below =
+    filter-all (λ f. not (list_any (λ x. eqb f x) gone)) ys (λ y h. ap not (list_any-none (λ x. eqb y x) gone (λ g k. let b : y < g = below y g h k in ne_eqb y g (λ e. absurd (omega arith)))))
 
 pub without_itself : (g : ℕ) (gone ys : List ℕ) → without_all (g ∷ gone) (g ∷ ys) ≡ without_all (g ∷ gone) ys
 without_itself g gone ys = let e : eqb g g ≡ true = eq-eqb g g refl in rw e refl
@@ -105,10 +112,13 @@ rises_behind [] ys a = a
 rises_behind (x ∷ xs) ys a = rises_behind xs ys a.1
 
 -- an added range
-pub added_rises : (spans : List Span) (first count : ℕ) → IsAscendingSet (names_in spans) → ((f : ℕ) → IsIn f (names_in spans) → f < first) → IsAscendingSet (names_in (spans ++ span first (first + count) ∷ []))
+pub added_rises : (spans : List Span) (first count : ℕ) → IsAscendingSet (names_in spans) → ((f : ℕ) → IsIn f (names_in spans) → f < first)
+    → IsAscendingSet (names_in (spans ++ span first (first + count) ∷ []))
 added_rises spans first count a above =
     let its : List ℕ = row (span first (first + count)) in
-    subst IsAscendingSet (sym (names_push spans (span first (first + count)))) (IsInOrder-append ltb (names_in spans) its a (row_ascends first ((first + count) - first)) (λ x y h k. let b : x < first = above x h in let d : first ≤ y = (row-bounds first (first + count) y k).0 in lt-ltb x y (omega arith)))
+    subst IsAscendingSet (sym (names_push spans (span first (first + count))))
+    (IsInOrder-append ltb (names_in spans) its a (row_ascends first ((first + count) - first))
+    (λ x y h k. let b : x < first = above x h in let d : first ≤ y = (row-bounds first (first + count) y k).0 in lt-ltb x y (omega arith)))
 
 pub added_is : (spans : List Span) (first count : ℕ) → names_in (spans ++ span first (first + count) ∷ []) ≡ names_in spans ++ range_with_len first count
 added_is spans first count = let e : (first + count) - first ≡ count = omega arith in names_push spans (span first (first + count)) ∙ ap (λ n. names_in spans ++ range_with_len first n) e

@@ -19,13 +19,15 @@ use Rattle.ckpt_terms.specs.declared.call.FencedCall.TheVariants.{Reserve, Forfe
 use Rattle.ckpt_terms.specs.declared.call.FencedRefusal.{FencedRefusal}
 use Rattle.ckpt_terms.specs.declared.call.FencedRefusal.TheVariants.{OldTerm, Ended, BadCount, NamesUsedUp, TermsUsedUp}
 use Rattle.ckpt_terms.specs.declared.call.FencedAnswer.TheVariants as answer
-use Rattle.ckpt_terms.specs.Fencing.{Fenced, is_unspent, is_of_task, fresh_of, ends_the_term, is_accepted, not_reserved, fence, without_all, unspent_after, after_call, FencedStepped, made, unless_fenced, fenced_step}
+use Rattle.ckpt_terms.specs.Fencing.{Fenced, is_unspent, is_of_task, fresh_of, ends_the_term, is_accepted, not_reserved, fence, without_all, unspent_after, after_call, FencedStepped, made}
+use Rattle.ckpt_terms.specs.Fencing.{unless_fenced, fenced_step}
 use Rattle.ckpt_terms.specs.FencedLaws.{IsFencedCall, IsFenced}
 use Rattle.ckpt_terms.proofs.Modes.{cancelled_by}
 use Rattle.ckpt_terms.proofs.Known.{present_after, known_after, registered_fresh}
 
 -- what holds of a refusal by the layer and of a call that is made holds of the step
-pub fenced_step_by : (m : Fenced) (call : FencedCall) (P : FencedStepped → Type 0) → ((why : FencedRefusal) → P (m, answer.Fenced why)) → (fence m call ≡ None → P (made m call)) → P (fenced_step m call)
+pub fenced_step_by : (m : Fenced) (call : FencedCall) (P : FencedStepped → Type 0) → ((why : FencedRefusal) → P (m, answer.Fenced why)) → (fence m call ≡ None → P (made m call))
+    → P (fenced_step m call)
 unfolding fenced_step
 fenced_step_by m call P refused accepted = by_fence (fence m call) refl
   where
@@ -79,7 +81,9 @@ pub term_fits : (m : Fenced) (term : ℕ) (call : Call) → fence m (Make term c
 term_fits m term call e ends =
     let a = none_else (is_of_task call && not (eqb term m.term)) OldTerm _ e in
     let b = none_else (ends_the_term call && leb (2 ^ 62) m.term) TermsUsedUp _ a.1 in
-    leb-false (2 ^ 62) m.term (⊎_elim (λ (k : leb (2 ^ 62) m.term ≡ true). absurd (both_ways (ends_the_term call && leb (2 ^ 62) m.term) b.0 (and_from (ends_the_term call) (leb (2 ^ 62) m.term) ends k))) (λ (k : leb (2 ^ 62) m.term ≡ false). k) (cases_Bool (leb (2 ^ 62) m.term)))
+    leb-false (2 ^ 62) m.term
+    (⊎_elim (λ (k : leb (2 ^ 62) m.term ≡ true). absurd (both_ways (ends_the_term call && leb (2 ^ 62) m.term) b.0 (and_from (ends_the_term call) (leb (2 ^ 62) m.term) ends k)))
+    (λ (k : leb (2 ^ 62) m.term ≡ false). k) (cases_Bool (leb (2 ^ 62) m.term)))
 
 -- what holds of no names, of all and of some holds of those that are unspent after a call
 pub unspent_by : (m : Fenced) (call : Call) (s : Stepped) (P : List ℕ → Type 0) → P [] → P m.unspent → ((p : ℕ → Bool) → P (filter p m.unspent)) → P (after_call m call s).unspent
@@ -97,7 +101,8 @@ fresh_spent m call s f accepted fresh =
     let In : List ℕ → Type 0 = λ xs. IsIn f xs → ⊥ in
     let keep : ℕ → Bool = λ g. not (list_any (λ h. eqb g h) (fresh_of call)) in
     cond_both (is_accepted s.1) (unspent_after m.unspent call) m.unspent In
-    (λ _. cond_both (ends_the_term call) [] (filter keep m.unspent) In (λ _ k. absurd k) (λ _ k. both_ways (keep f) (ap not (test-from_IsIn f (fresh_of call) fresh)) (IsIn-from_filter keep f m.unspent k).1))
+    (λ _. cond_both (ends_the_term call) [] (filter keep m.unspent) In (λ _ k. absurd k)
+    (λ _ k. both_ways (keep f) (ap not (test-from_IsIn f (fresh_of call) fresh)) (IsIn-from_filter keep f m.unspent k).1))
     (λ no. absurd (both_ways (is_accepted s.1) no accepted))
 
 -- a name that a file may still get
@@ -128,7 +133,8 @@ in_row a zero f h = absurd h
 in_row a (suc n) f h =
     ⊎_elim
     (λ (e : f ≡ a). (omega arith, omega arith))
-    (λ (k : IsIn f (range_with_len (a + 1) n)). let i : (a + 1 ≤ f) × (f < (a + 1) + n) = in_row (a + 1) n f k in let l : a + 1 ≤ f = i.0 in let r : f < (a + 1) + n = i.1 in (omega arith, omega arith))
+    (λ (k : IsIn f (range_with_len (a + 1) n)). let i : (a + 1 ≤ f) × (f < (a + 1) + n) = in_row (a + 1) n f k in let l : a + 1 ≤ f = i.0 in let r : f < (a + 1) + n = i.1 in
+    (omega arith, omega arith))
     h
 
 pub row_ascends : (a n : ℕ) → IsAscendingSet (range_with_len a n)
@@ -141,7 +147,9 @@ reserve_later m term count = record {
   term = omega arith;
   still_open = λ f h.
       ⊎_elim
-      (λ (k : IsIn f (m.unspent ++ range_with_len m.next_name count)). ⊎_elim (λ (i : IsIn f m.unspent). inl i) (λ (i : IsIn f (range_with_len m.next_name count)). inr (in_row m.next_name count f i).0) (IsIn-append_cases f m.unspent (range_with_len m.next_name count) k))
+      (λ (k : IsIn f (m.unspent ++ range_with_len m.next_name count)).
+      ⊎_elim (λ (i : IsIn f m.unspent). inl i) (λ (i : IsIn f (range_with_len m.next_name count)). inr (in_row m.next_name count f i).0)
+      (IsIn-append_cases f m.unspent (range_with_len m.next_name count) k))
       (λ (k : m.next_name + count ≤ f). let le : m.next_name ≤ f = omega arith in inr le)
       h;
   known = λ f h. inl h;
@@ -162,8 +170,10 @@ make_later : (m : Fenced) (term : ℕ) (call : Call) → IsFenced m → fence m 
 make_later m term call i e = record {
   term = let s : Stepped = step m.core call in cond_both (is_accepted s.1 && ends_the_term call) (m.term + 1) m.term (λ t. m.term ≤ t) (λ _. omega arith) (λ _. omega arith);
   still_open = λ f h. ⊎_elim (λ (k : IsIn f (after_call m call (step m.core call)).unspent). inl (unspent_before m call (step m.core call) f k)) (λ (k : m.next_name ≤ f). inr k) h;
-  known = λ f h. ⊎_elim (λ (k : is_known m.core f ≡ true). inl k) (λ (k : IsIn f (registered_by m.core call)). inr (inl (fresh_unspent m term call f e (registered_fresh m.core call f k).0))) (known_after m.core call f i.core h);
-  present = λ f h. ⊎_elim (λ (k : is_present (uses m.core.records) f ≡ true). inl k) (λ (k : IsIn f (registered_by m.core call)). inr (inl (fresh_unspent m term call f e (registered_fresh m.core call f k).0))) (present_after m.core call f i.core h);
+  known = λ f h. ⊎_elim (λ (k : is_known m.core f ≡ true). inl k) (λ (k : IsIn f (registered_by m.core call)). inr (inl (fresh_unspent m term call f e (registered_fresh m.core call f k).0)))
+      (known_after m.core call f i.core h);
+  present = λ f h. ⊎_elim (λ (k : is_present (uses m.core.records) f ≡ true). inl k)
+      (λ (k : IsIn f (registered_by m.core call)). inr (inl (fresh_unspent m term call f e (registered_fresh m.core call f k).0))) (present_after m.core call f i.core h);
 }
 
 pub made_later : (m : Fenced) (call : FencedCall) → IsFenced m → fence m call ≡ None → IsLater m (made m call).0
@@ -183,13 +193,17 @@ reserve_keeps m term count e i =
       names_from = let h : 1 ≤ m.next_name = i.names_from in omega arith;
       names_to = reserve_fits m term count e;
       known = λ f h. let b : f < m.next_name = i.known f h in omega arith;
-      reserved = λ f h. ⊎_elim (λ (k : IsIn f m.unspent). let b : f < m.next_name = i.reserved f k in omega arith) (λ (k : IsIn f row). (in_row m.next_name count f k).1) (IsIn-append_cases f m.unspent row h);
+      reserved = λ f h. ⊎_elim (λ (k : IsIn f m.unspent). let b : f < m.next_name = i.reserved f k in omega arith) (λ (k : IsIn f row). (in_row m.next_name count f k).1)
+          (IsIn-append_cases f m.unspent row h);
       apart = λ f h.
           ⊎_elim
           (λ (k : IsIn f m.unspent). i.apart f k)
-          (λ (k : IsIn f row). ⊎_elim (λ (t : is_known m.core f ≡ true). let b : f < m.next_name = i.known f t in let l : m.next_name ≤ f = (in_row m.next_name count f k).0 in absurd (omega arith)) (λ (t : is_known m.core f ≡ false). t) (cases_Bool (is_known m.core f)))
+          (λ (k : IsIn f row).
+          ⊎_elim (λ (t : is_known m.core f ≡ true). let b : f < m.next_name = i.known f t in let l : m.next_name ≤ f = (in_row m.next_name count f k).0 in absurd (omega arith))
+          (λ (t : is_known m.core f ≡ false). t) (cases_Bool (is_known m.core f)))
           (IsIn-append_cases f m.unspent row h);
-      ascending = IsInOrder-append ltb m.unspent row i.ascending (row_ascends m.next_name count) (λ x y h k. let b : x < m.next_name = i.reserved x h in let l : m.next_name ≤ y = (in_row m.next_name count y k).0 in lt-ltb x y (omega arith));
+      ascending = IsInOrder-append ltb m.unspent row i.ascending (row_ascends m.next_name count)
+          (λ x y h k. let b : x < m.next_name = i.reserved x h in let l : m.next_name ≤ y = (in_row m.next_name count y k).0 in lt-ltb x y (omega arith));
       ended = λ t. absurd (both_ways (is_cancelled m.core.mode) (reserve_runs m term count e) t);
     }
 
@@ -217,21 +231,26 @@ make_keeps m term call c fits i =
     record {
       core = step_keeps m.core call c i.core;
       term_from = let h : 1 ≤ m.term = i.term_from in cond_both (is_accepted s.1 && ends_the_term call) (m.term + 1) m.term (λ t. 1 ≤ t) (λ _. omega arith) (λ _. h);
-      term_to = cond_both (is_accepted s.1 && ends_the_term call) (m.term + 1) m.term (λ t. t ≤ 2 ^ 62) (λ e. let h : m.term < 2 ^ 62 = term_fits m term call fits (and_parts (is_accepted s.1) (ends_the_term call) e).1 in omega arith) (λ _. i.term_to);
+      term_to = cond_both (is_accepted s.1 && ends_the_term call) (m.term + 1) m.term (λ t. t ≤ 2 ^ 62)
+          (λ e. let h : m.term < 2 ^ 62 = term_fits m term call fits (and_parts (is_accepted s.1) (ends_the_term call) e).1 in omega arith) (λ _. i.term_to);
       names_from = i.names_from;
       names_to = i.names_to;
-      known = λ f h. ⊎_elim (λ (k : is_known m.core f ≡ true). i.known f k) (λ (k : IsIn f (registered_by m.core call)). i.reserved f (fresh_unspent m term call f fits (registered_fresh m.core call f k).0)) (known_after m.core call f i.core h);
+      known = λ f h. ⊎_elim (λ (k : is_known m.core f ≡ true). i.known f k)
+          (λ (k : IsIn f (registered_by m.core call)). i.reserved f (fresh_unspent m term call f fits (registered_fresh m.core call f k).0)) (known_after m.core call f i.core h);
       reserved = λ f h. i.reserved f (unspent_before m call s f h);
       apart = λ f h.
           ⊎_elim
-          (λ (t : is_known n.core f ≡ true). ⊎_elim (λ (k : is_known m.core f ≡ true). absurd (both_ways (is_known m.core f) (i.apart f (unspent_before m call s f h)) k)) (λ (k : IsIn f (registered_by m.core call)). absurd (spent f h k)) (known_after m.core call f i.core t))
+          (λ (t : is_known n.core f ≡ true).
+          ⊎_elim (λ (k : is_known m.core f ≡ true). absurd (both_ways (is_known m.core f) (i.apart f (unspent_before m call s f h)) k))
+          (λ (k : IsIn f (registered_by m.core call)). absurd (spent f h k)) (known_after m.core call f i.core t))
           (λ (t : is_known n.core f ≡ false). t)
           (cases_Bool (is_known n.core f));
       ascending = unspent_by m call s IsAscendingSet tt i.ascending (λ p. IsInOrder-filter ltb p m.unspent i.ascending);
       ended = λ t.
           ⊎_elim
           (λ (k : is_cancelled m.core.mode ≡ true). unspent_by m call s (λ xs. xs ≡ []) refl (i.ended k) (λ p. ap (filter p) (i.ended k)))
-          (λ (k : (is_accepted s.1 && ends_the_term call) ≡ true). let parts = and_parts (is_accepted s.1) (ends_the_term call) k in cond-true (is_accepted s.1) (unspent_after m.unspent call) m.unspent parts.0 ∙ cond-true (ends_the_term call) [] (without_all (fresh_of call) m.unspent) parts.1)
+          (λ (k : (is_accepted s.1 && ends_the_term call) ≡ true). let parts = and_parts (is_accepted s.1) (ends_the_term call) k in
+          cond-true (is_accepted s.1) (unspent_after m.unspent call) m.unspent parts.0 ∙ cond-true (ends_the_term call) [] (without_all (fresh_of call) m.unspent) parts.1)
           (cancelled_by m.core call t);
     }
 

@@ -10,7 +10,8 @@ use Rattle.ckpt_terms.specs.declared.call.FencedCall.TheVariants.{Reserve, Forfe
 use Rattle.ckpt_terms.specs.declared.call.FencedRefusal.{FencedRefusal}
 use Rattle.ckpt_terms.specs.declared.call.FencedRefusal.TheVariants.{OldTerm}
 use Rattle.ckpt_terms.specs.declared.call.FencedAnswer.TheVariants as answer
-use Rattle.ckpt_terms.specs.Fencing.{is_garbage, Fenced, fenced, is_of_task, ends_the_term, is_accepted, has_ended, fence, unspent_after, without_all, fresh_of, made, FencedStepped, fenced_step, fenced_replay}
+use Rattle.ckpt_terms.specs.Fencing.{is_garbage, Fenced, fenced, is_of_task, ends_the_term, is_accepted, has_ended, fence, unspent_after, without_all, fresh_of, made, FencedStepped, fenced_step}
+use Rattle.ckpt_terms.specs.Fencing.{fenced_replay}
 use Rattle.ckpt_terms.specs.FencedLaws.{CanFence, AreFencedCalls, IsFenced, is_from_task, term_of, ZombiesAreFenced, SweepIsExact, CancelledIsSwept}
 use Rattle.ckpt_terms.proofs.Stepping.{fenced_step_by, fenced_off, IsOpen}
 use Rattle.ckpt_terms.proofs.Fences.{always, step_fenced, replay_later}
@@ -20,8 +21,11 @@ use Rattle.ckpt_terms.proofs.Classes.{garbage_from}
 made_ended : (m : Fenced) (call : FencedCall) → has_ended call (made m call).1 ≡ true → (((made m call).0).term ≡ m.term + 1) × (((made m call).0).unspent ≡ [])
 made_ended m (Make term end) h =
     let s : Stepped = step m.core end in
-    let a = and_parts (is_accepted s.1) (ends_the_term end) h in
-    (cond-true (is_accepted s.1 && ends_the_term end) (m.term + 1) m.term h, cond-true (is_accepted s.1) (unspent_after m.unspent end) m.unspent a.0 ∙ cond-true (ends_the_term end) [] (without_all (fresh_of end) m.unspent) a.1)
+    let a = and_parts (is_accepted s.1) (ends_the_term end) h in (
+      cond-true (is_accepted s.1 && ends_the_term end) (m.term + 1) m.term h,
+      cond-true (is_accepted s.1) (unspent_after m.unspent end) m.unspent a.0
+          ∙ cond-true (ends_the_term end) [] (without_all (fresh_of end) m.unspent) a.1,
+    )
 made_ended m call h = absurd (both_ways (has_ended call (made m call).1) refl h)
 
 none_ended : (m : Fenced) (call : FencedCall) (why : FencedRefusal) → has_ended call (answer.Fenced why) ≡ false
@@ -29,7 +33,8 @@ none_ended m (Make term end) why = refl
 none_ended m call why = refl
 
 ended : (m : Fenced) (call : FencedCall) → has_ended call (fenced_step m call).1 ≡ true → (((fenced_step m call).0).term ≡ m.term + 1) × (((fenced_step m call).0).unspent ≡ [])
-ended m call = fenced_step_by m call (λ (x : FencedStepped). has_ended call x.1 ≡ true → ((x.0).term ≡ m.term + 1) × ((x.0).unspent ≡ [])) (λ why h. absurd (both_ways (has_ended call (answer.Fenced why)) (none_ended m call why) h)) (λ _ h. made_ended m call h)
+ended m call = fenced_step_by m call (λ (x : FencedStepped). has_ended call x.1 ≡ true → ((x.0).term ≡ m.term + 1) × ((x.0).unspent ≡ []))
+    (λ why h. absurd (both_ways (has_ended call (answer.Fenced why)) (none_ended m call why) h)) (λ _ h. made_ended m call h)
 
 -- a task of another term is fenced
 other_term : (term its : ℕ) → term < its → not (eqb term its) ≡ true

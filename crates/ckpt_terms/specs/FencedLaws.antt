@@ -8,7 +8,7 @@ use Rattle.ckpt_model.specs.State.{Opening, opened, is_known}
 use Rattle.ckpt_model.specs.Refusals.{is_cancelled}
 use Rattle.ckpt_model.specs.Histories.{replay}
 use Rattle.ckpt_model.specs.Soundness.{IsSound, IsCall}
-use Rattle.ckpt_model.specs.Laws.{CanOpen, NoneAgain, along, handed_by, registered_by}
+use Rattle.ckpt_model.specs.Laws.{AreCalls, CanOpen, NoneAgain, along, handed_by, registered_by}
 use Rattle.ckpt_terms.specs.declared.call.TheConstants.{LAST_TERM, NAMES_END}
 use Rattle.ckpt_terms.specs.declared.call.FencedCall.{FencedCall}
 use Rattle.ckpt_terms.specs.declared.call.FencedCall.TheVariants.{Reserve, Forfeit, Make}
@@ -73,9 +73,10 @@ DeletionsAreSafe o first before calls =
     let m : Fenced = fenced_replay (fenced o first) before in
     (f : ℕ) → may_be_deleted m f ≡ true → count (uses (fenced_replay m calls).core.records) f ≡ 0
 
--- The calls that reach the coordinator never report a deleted file as new again. So, with no premise, a file was handed
--- out exactly if it was registered and no live record uses it.
+-- The calls that reach the coordinator are a history of it, so each law of plain calls holds of them. They never report a
+-- deleted file as new again. So, with no premise, a file was handed out exactly if it was registered and no live record uses it.
 pub record IssuedOnce (o : Opening) (first : ℕ) (calls : List FencedCall) : Type 0 where
+  pub made : AreCalls (core_calls (fenced o first) calls)
   pub core : (fenced_replay (fenced o first) calls).core ≡ replay (opened o) (core_calls (fenced o first) calls)
   pub none_again : NoneAgain [] (opened o) (core_calls (fenced o first) calls)
   pub handed : (f : ℕ) → IsIn f (along handed_by (opened o) (core_calls (fenced o first) calls)) ↔ (IsIn f (along registered_by (opened o) (core_calls (fenced o first) calls)) × (count (uses (fenced_replay (fenced o first) calls).core.records) f ≡ 0))

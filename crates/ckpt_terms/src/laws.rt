@@ -28,8 +28,8 @@ pub fn deletions_are_safe()
     ensures { (o : Opening) (first : ℕ) (before calls : List FencedCall) → CanGoOn o first before calls → DeletionsAreSafe o first before calls }
 {}
 
-/// No deleted file is reported to the coordinator as new again, so a file was handed out exactly
-/// when it was registered and no live record uses it.
+/// The calls that reach the coordinator are a history of it. No deleted file is reported to it as
+/// new again, so a file was handed out exactly when it was registered and no live record uses it.
 pub fn issued_once()
     ensures { (o : Opening) (first : ℕ) (calls : List FencedCall) → CanFence o first → AreFencedCalls calls → IssuedOnce o first calls }
 {}

@@ -1,9 +1,7 @@
 -- Shares and reports may go to another thread.
-use denote.Param.Send.{IsSend, sendable}
-use Rattle.std.proofs.Crossing.{crosses}
+use Rattle.ckpt_workers.proofs.Names.{IsSend, crosses, pass_send, sendable}
 use Rattle.ckpt_ids.specs.contracts.call.Call as Call
 use Rattle.ckpt_ids.specs.contracts.reply.Answer as Answer
-use Rattle.ckpt_locked.proofs.Crossings.{pass_send}
 use Rattle.ckpt_workers.specs.contracts.shares.Report as Report
 use Rattle.ckpt_workers.specs.contracts.shares.Share as Share
 

@@ -1,12 +1,7 @@
 -- Lists that are dealt out, one member at a time, and read in turn.
-use Rattle.std.proofs.Common.{◌≡◌, ℕ, ◌+◌, ◌/◌, ◌%◌, ◌<◌, ◌≢◌, cond, eq-eqb, ne_eqb, List, [], ◌∷◌, ◌++◌, length, get_or, set, take, refl, sym, ap, ◌∙◌, subst, map, arith, append-nil, length-append, All}
-use mathlib.Core.Logic.{dite}
-use native.Mathlib.Decide.{ℕ_discrete}
-use Rattle.std.proofs.lemmas.List.{get_or-map, get_or-set_same, get_or-set_other, length-map, length-set, map-set, take_more, take_all}
-use Rattle.std.proofs.lemmas.List.Elements.{All-get_or}
-use Rattle.std.proofs.Math.Nat.{mod-lt}
-use Rattle.ckpt_workers.specs.Deals.{IsDeal, IsDealOf, turns_of}
-use Rattle.ckpt_workers.specs.Teams.{dealt_to}
+use Rattle.ckpt_workers.proofs.Names.{All, All-get_or, IsDeal, IsDealOf, List, [], ap, append-nil, arith, cond, dealt_to, dite, eq-eqb, get_or, get_or-map, get_or-set_other, get_or-set_same, length}
+use Rattle.ckpt_workers.proofs.Names.{length-append, length-map, length-set, map, map-set, mod-lt, ne_eqb, refl, set, subst, sym, take, take_all, take_more, turns_of, ℕ, ℕ_discrete, ◌%◌, ◌++◌, ◌+◌}
+use Rattle.ckpt_workers.proofs.Names.{◌/◌, ◌<◌, ◌∙◌, ◌∷◌, ◌≡◌, ◌≢◌}
 use Rattle.ckpt_workers.proofs.Dealing.{dealt_to-push, in_turn, length-dealt_to, turns_of-here}
 
 module _ {A : Type 0} where
@@ -23,28 +18,17 @@ module _ {A : Type 0} where
   IsDeal-none hands none = λ k below. All-get_or (λ l. l ≡ []) hands k [] below none
 
   -- the next member goes to the hand whose turn it is
-  pub IsDeal-push : (hands : List (List A)) (xs : List A) (x : A) (seat : ℕ) → seat ≡ length xs % length hands → 0 < length hands → IsDeal hands xs → IsDeal (set hands seat (get_or hands seat [] ++ x ∷ [])) (xs ++ x ∷ [])
+  pub IsDeal-push : (hands : List (List A)) (xs : List A) (x : A) (seat : ℕ) → seat ≡ length xs % length hands → 0 < length hands → IsDeal hands xs
+      → IsDeal (set hands seat (get_or hands seat [] ++ x ∷ [])) (xs ++ x ∷ [])
   IsDeal-push hands xs x seat at some deal = λ k below.
-      let same : length (set hands seat (get_or hands seat [] ++ x ∷ [])) ≡ length hands = length-set hands seat (get_or hands seat [] ++ x ∷ []) in
-      let small : length xs % length hands < length hands = mod-lt (length xs) some in
-      one k (omega arith) (omega arith) ∙ ap (λ n. dealt_to n k (xs ++ x ∷ [])) (sym same)
-    where
-      one : (k : ℕ) → k < length hands → seat < length hands → get_or (set hands seat (get_or hands seat [] ++ x ∷ [])) k [] ≡ dealt_to (length hands) k (xs ++ x ∷ [])
-      one k below within =
-          dite (ℕ_discrete k seat)
-          (λ e.
-          ap (λ i. get_or (set hands seat (get_or hands seat [] ++ x ∷ [])) i []) e
-          ∙ get_or-set_same hands seat (get_or hands seat [] ++ x ∷ []) [] within
-          ∙ ap (λ i. get_or hands i [] ++ x ∷ []) (sym e)
-          ∙ ap (λ l. l ++ x ∷ []) (deal k below)
-          ∙ ap (λ l. dealt_to (length hands) k xs ++ l) (sym (in_turn_here (length hands) (length xs) k x (sym at ∙ sym e)))
-          ∙ sym (dealt_to-push (length hands) k xs x))
-          (λ ne.
-          get_or-set_other hands seat k (get_or hands seat [] ++ x ∷ []) [] ne
-          ∙ deal k below
-          ∙ sym (append-nil (dealt_to (length hands) k xs))
-          ∙ ap (λ l. dealt_to (length hands) k xs ++ l) (sym (in_turn_not (length hands) (length xs) k x (λ e. ne (sym e ∙ sym at))))
-          ∙ sym (dealt_to-push (length hands) k xs x))
+      let n = length hands in
+      let same : length (set hands seat (get_or hands seat [] ++ x ∷ [])) ≡ n = length-set hands seat (get_or hands seat [] ++ x ∷ []) in
+      let small : length xs % n < n = mod-lt (length xs) some in
+      let mine : k < n = omega arith in
+      rw same
+      (dite (ℕ_discrete k seat)
+      (λ e. rw (← e, get_or-set_same hands k (get_or hands k [] ++ x ∷ []) [] mine, deal k mine, dealt_to-push n k xs x, in_turn_here n (length xs) k x (sym at ∙ sym e)))
+      (λ ne. rw (get_or-set_other hands seat k (get_or hands seat [] ++ x ∷ []) [] ne, deal k mine, dealt_to-push n k xs x, in_turn_not n (length xs) k x (λ e. ne (sym e ∙ sym at)), append-nil)))
 
   -- the same, if the hands are part of something else
   pub IsDeal-given : {S : Type 0} (held : S → List A) (shares : List S) (place n : ℕ) (xs : List A) (x : A) (old new : S) → 0 < length shares → n ≡ length shares → place ≡ length xs
@@ -71,29 +55,21 @@ module _ {A : Type 0} where
       → length xs / length hands < length (get_or hands (length xs % length hands) [])
       → x ≡ get_or (get_or hands (length xs % length hands) []) (length xs / length hands) d
       → IsRead hands xs → IsRead hands (xs ++ x ∷ [])
-  IsRead-push hands xs x d some within is read = λ k below. one k below
-    where
-      one : (k : ℕ) → k < length hands → dealt_to (length hands) k (xs ++ x ∷ []) ≡ take (length (dealt_to (length hands) k (xs ++ x ∷ []))) (get_or hands k [])
-      one k below =
-          dite (ℕ_discrete (length xs % length hands) k)
-          (λ e.
-          let n = length hands in
-          let at = length xs / n in
-          let hand = get_or hands (length xs % n) [] in
-          let here : get_or hands k [] ≡ hand = ap (λ i. get_or hands i []) (sym e) in
-          let turns : length (dealt_to n k xs) ≡ at = length-dealt_to n k xs below ∙ ap (λ i. turns_of n i (length xs)) (sym e) ∙ turns_of-here n (length xs) some in
-          let all : dealt_to n k (xs ++ x ∷ []) ≡ dealt_to n k xs ++ x ∷ [] = dealt_to-push n k xs x ∙ ap (λ l. dealt_to n k xs ++ l) (in_turn_here n (length xs) k x e) in
-          let long : length (dealt_to n k (xs ++ x ∷ [])) ≡ at + 1 = ap length all ∙ length-push (dealt_to n k xs) x ∙ ap (λ i. i + 1) turns in
-          all
-          ∙ ap (λ l. l ++ x ∷ []) (read k below ∙ ap (λ i. take i (get_or hands k [])) turns ∙ ap (take at) here)
-          ∙ ap (λ y. take at hand ++ y ∷ []) is
-          ∙ sym (take_more hand at d within)
-          ∙ ap (λ l. take (at + 1) l) (sym here)
-          ∙ ap (λ i. take i (get_or hands k [])) (sym long))
-          (λ ne.
-          let n = length hands in
-          let all : dealt_to n k (xs ++ x ∷ []) ≡ dealt_to n k xs = dealt_to-push n k xs x ∙ ap (λ l. dealt_to n k xs ++ l) (in_turn_not n (length xs) k x ne) ∙ append-nil (dealt_to n k xs) in
-          all ∙ read k below ∙ ap (λ l. take (length l) (get_or hands k [])) (sym all))
+  IsRead-push hands xs x d some within is read = λ k below.
+      let n = length hands in
+      dite (ℕ_discrete (length xs % n) k)
+      (λ e.
+      let at = length xs / n in
+      let hand = get_or hands (length xs % n) [] in
+      let here : get_or hands k [] ≡ hand = ap (λ i. get_or hands i []) (sym e) in
+      let turns : length (dealt_to n k xs) ≡ at = length-dealt_to n k xs below ∙ ap (λ i. turns_of n i (length xs)) (sym e) ∙ turns_of-here n (length xs) some in
+      let all : dealt_to n k (xs ++ x ∷ []) ≡ dealt_to n k xs ++ x ∷ [] = dealt_to-push n k xs x ∙ rw (in_turn_here n (length xs) k x e) in
+      let long : length (dealt_to n k xs ++ x ∷ []) ≡ at + 1 = omega (arith, turns, length-push (dealt_to n k xs) x) in
+      let old : dealt_to n k xs ≡ take at hand = read k below ∙ rw (turns, here) in
+      rw (all, long, here, take_more hand at d within, old, ← is))
+      (λ ne.
+      let all : dealt_to n k (xs ++ x ∷ []) ≡ dealt_to n k xs = dealt_to-push n k xs x ∙ rw (in_turn_not n (length xs) k x ne, append-nil) in
+      rw all (read k below))
 
   -- if all were read, they are what was dealt out
   pub IsRead-all : (hands : List (List A)) (xs : List A) (count : ℕ) → length xs ≡ count → IsDealOf hands count → IsRead hands xs → IsDeal hands xs

@@ -1,14 +1,9 @@
 -- Members of a list that are dealt out in turn.
-use Rattle.std.proofs.Common.{◌≡◌, ℕ, ◌+◌, ◌-◌, ◌*◌, ◌/◌, ◌%◌, ◌<◌, ◌≤◌, ◌≢◌, Bool, true, false, cond, zero, suc, eqb, eq-eqb, ne_eqb, List, [], ◌∷◌, ◌++◌, length, refl, sym, ap, ◌∙◌, ◌⊎◌, ⊎_elim, arith, length-append}
-use Rattle.std.specs.Prelude.{map, filter}
-use Rattle.std.specs.List.{enumerate_from}
-use Rattle.std.proofs.lemmas.List.{map-append}
-use Rattle.std.proofs.lemmas.List.Elements.{filter-append}
-use Rattle.std.proofs.lemmas.Nat.{div-mul-add, div-add-mod'}
-use Rattle.std.proofs.lemmas.Bool.{cases_order}
-use Rattle.std.proofs.Math.Nat.{suc-mul, mod-lt}
+use Rattle.std.proofs.lemmas.Grind.{common_steps}
+use Rattle.ckpt_workers.proofs.Names.{List, [], ap, arith, cases_order, cond, enumerate_from, eq-eqb, eqb, filter, filter-append, length, length-append, map, map-append, mod-lt, ne_eqb, refl, suc}
+use Rattle.ckpt_workers.proofs.Names.{suc-mul, sym, turns_of, zero, ℕ, ⊎_elim, ◌%◌, ◌*◌, ◌++◌, ◌+◌, ◌-◌, ◌/◌, ◌<◌, ◌∙◌, ◌∷◌, ◌≡◌, ◌≢◌, ◌≤◌, ◌⊎◌}
 use Rattle.std.proofs.Math.Numerals.{add-one}
-use Rattle.ckpt_workers.specs.Deals.{turns_of}
+use Rattle.std.proofs.lemmas.Nat.{div-add-mod', div-mul-add}
 
 quotient : (n q s m : ℕ) → s < n → m ≡ q * n + s → m / n ≡ q
 quotient n q s m small e = ap (λ x. x / n) e ∙ div-mul-add q n s small
@@ -26,22 +21,15 @@ turns_of-next n k m below =
     by_order : (q r : ℕ) → q * n + r ≡ m → r < n → (r ≡ k) ⊎ ((r < k) ⊎ (k < r)) → turns_of n k (m + 1) ≡ turns_of n k m + cond (eqb r k) 1 0
     by_order q r parts small order =
         ⊎_elim
-        (λ same.
-        let now : turns_of n k m ≡ q = quotient n q (n - 1) (m + (n - 1 - k)) (omega arith) (omega arith) in
-        let next : turns_of n k (m + 1) ≡ q + 1 = quotient_next n q 0 (m + 1 + (n - 1 - k)) (omega arith) (omega arith) in
-        next ∙ ap (λ x. x + 1) (sym now) ∙ ap (λ b. turns_of n k m + cond b 1 0) (sym (eq-eqb r k same)))
-        (λ other.
+        (λ same. rw (quotient n q (n - 1) (m + (n - 1 - k)) (omega arith) (omega arith), quotient_next n q 0 (m + 1 + (n - 1 - k)) (omega arith) (omega arith), eq-eqb r k same))
+        (λ (other : (r < k) ⊎ (k < r)).
         ⊎_elim
-        (λ less.
-        let now : turns_of n k m ≡ q = quotient n q (r + (n - 1 - k)) (m + (n - 1 - k)) (omega arith) (omega arith) in
-        let next : turns_of n k (m + 1) ≡ q = quotient n q (r + (n - k)) (m + 1 + (n - 1 - k)) (omega arith) (omega arith) in
+        (λ (less : r < k).
+        let apart : r ≢ k = λ e. absurd (omega arith) in
+        rw (ne_eqb r k apart, quotient n q (r + (n - 1 - k)) (m + (n - 1 - k)) (omega arith) (omega arith), quotient n q (r + (n - k)) (m + 1 + (n - 1 - k)) (omega arith) (omega arith)) (omega arith))
+        (λ (more : k < r).
         let differ : r ≢ k = λ e. absurd (omega arith) in
-        next ∙ sym now ∙ omega arith ∙ ap (λ b. turns_of n k m + cond b 1 0) (sym (ne_eqb r k differ)))
-        (λ more.
-        let now : turns_of n k m ≡ q + 1 = quotient_next n q (r - 1 - k) (m + (n - 1 - k)) (omega arith) (omega arith) in
-        let next : turns_of n k (m + 1) ≡ q + 1 = quotient_next n q (r - k) (m + 1 + (n - 1 - k)) (omega arith) (omega arith) in
-        let differ : r ≢ k = λ e. absurd (omega arith) in
-        next ∙ sym now ∙ omega arith ∙ ap (λ b. turns_of n k m + cond b 1 0) (sym (ne_eqb r k differ)))
+        rw (ne_eqb r k differ, quotient_next n q (r - 1 - k) (m + (n - 1 - k)) (omega arith) (omega arith), quotient_next n q (r - k) (m + 1 + (n - 1 - k)) (omega arith) (omega arith)) (omega arith))
         other)
         order
 
@@ -85,18 +73,10 @@ module _ {A : Type 0} where
       ap (λ l. (n, x) ∷ l) (enumerate_from-append (n + 1) xs ys ∙ ap (λ k. enumerate_from (n + 1) xs ++ enumerate_from k ys) next)
 
   pub dealt_from-append : (n threads seat : ℕ) (xs ys : List A) → dealt_from n threads seat (xs ++ ys) ≡ dealt_from n threads seat xs ++ dealt_from (n + length xs) threads seat ys
-  dealt_from-append n threads seat xs ys =
-      let mine : ℕ × A → Bool = λ p. eqb (p.0 % threads) seat in
-      ap (λ (l : List (ℕ × A)). map (λ (p : ℕ × A). p.1) (filter mine l)) (enumerate_from-append n xs ys)
-      ∙ ap (map (λ (p : ℕ × A). p.1)) (filter-append mine (enumerate_from n xs) (enumerate_from (n + length xs) ys))
-      ∙ map-append (λ (p : ℕ × A). p.1) (filter mine (enumerate_from n xs)) (filter mine (enumerate_from (n + length xs) ys))
+  dealt_from-append n threads seat xs ys = simp (enumerate_from-append, filter-append, map-append)
 
   dealt_from-one : (n threads seat : ℕ) (x : A) → dealt_from n threads seat (x ∷ []) ≡ in_turn threads seat n x
-  dealt_from-one n threads seat x = by_test (eqb (n % threads) seat)
-    where
-      by_test : (b : Bool) → map (λ (p : ℕ × A). p.1) (cond b ((n, x) ∷ []) []) ≡ cond b (x ∷ []) []
-      by_test true = refl
-      by_test false = refl
+  dealt_from-one n threads seat x = grind (arith, common_steps)
 
   -- one more at the end
   pub dealt_to-push : (threads seat : ℕ) (xs : List A) (x : A) → dealt_from 0 threads seat (xs ++ x ∷ []) ≡ dealt_from 0 threads seat xs ++ in_turn threads seat (length xs) x
@@ -106,30 +86,18 @@ module _ {A : Type 0} where
 
   -- one more at the start
   pub dealt_from-cons : (n threads seat : ℕ) (x : A) (xs : List A) → dealt_from n threads seat (x ∷ xs) ≡ in_turn threads seat n x ++ dealt_from (n + 1) threads seat xs
-  dealt_from-cons n threads seat x xs =
-      dealt_from-append n threads seat (x ∷ []) xs
-      ∙ ap (λ l. l ++ dealt_from (n + 1) threads seat xs) (dealt_from-one n threads seat x)
+  dealt_from-cons n threads seat x xs = dealt_from-append n threads seat (x ∷ []) xs ∙ ap (λ l. l ++ dealt_from (n + 1) threads seat xs) (dealt_from-one n threads seat x)
 
   length-in_turn : (n k m : ℕ) (x : A) → length (in_turn n k m x) ≡ cond (eqb (m % n) k) 1 0
-  length-in_turn n k m x = by_test (eqb (m % n) k)
-    where
-      by_test : (b : Bool) → length (cond b (x ∷ []) []) ≡ cond b 1 0
-      by_test true = refl
-      by_test false = refl
+  length-in_turn n k m x = grind (arith, common_steps)
 
   length-dealt_from : (m n k : ℕ) (xs : List A) → k < n → length (dealt_from m n k xs) + turns_of n k m ≡ turns_of n k (m + length xs)
-  length-dealt_from m n k [] below = let e : m ≡ m + length {A = A} [] = omega arith in let same : turns_of n k m ≡ turns_of n k (m + length {A = A} []) = ap (turns_of n k) e in omega (arith, same)
+  length-dealt_from m n k [] below = let same : turns_of n k m ≡ turns_of n k (m + length {A = A} []) = ap (turns_of n k) (omega arith) in omega (arith, same)
   length-dealt_from m n k (x ∷ xs) below =
-      let e : m + 1 + length xs ≡ m + length (x ∷ xs) = omega arith in
-      omega (
-        arith,
-        ap length (dealt_from-cons m n k x xs),
-        length-append (in_turn n k m x) (dealt_from (m + 1) n k xs),
-        length-in_turn n k m x,
-        turns_of-next n k m below,
-        length-dealt_from (m + 1) n k xs below,
-        ap (turns_of n k) e,
-      )
+      let same : turns_of n k (m + 1 + length xs) ≡ turns_of n k (m + length (x ∷ xs)) = ap (turns_of n k) (omega arith) in
+      let cut = ap length (dealt_from-cons m n k x xs) ∙ length-append (in_turn n k m x) (dealt_from (m + 1) n k xs) in
+      omega (arith, same, cut, length-in_turn n k m x, turns_of-next n k m below, length-dealt_from (m + 1) n k xs below)
 
   pub length-dealt_to : (n k : ℕ) (xs : List A) → k < n → length (dealt_from 0 n k xs) ≡ turns_of n k (length xs)
-  length-dealt_to n k xs below = let e : 0 + length xs ≡ length xs = omega arith in omega (arith, length-dealt_from 0 n k xs below, turns_of-none n k below, ap (turns_of n k) e)
+  length-dealt_to n k xs below =
+      let same : turns_of n k (0 + length xs) ≡ turns_of n k (length xs) = ap (turns_of n k) (omega arith) in omega (arith, same, length-dealt_from 0 n k xs below, turns_of-none n k below)

@@ -1,6 +1,5 @@
 -- Reports, if none is missing.
-use Rattle.std.proofs.Common.{◌≡◌, ℕ, ◌<◌, List, [], ◌∷◌, zero, suc, get_or, subst, sym}
-use Rattle.std.specs.Prelude.{map, Ok, Err, Result, IfOk}
+use Rattle.ckpt_workers.proofs.Names.{Err, IfOk, List, Ok, Result, [], get_or, map, subst, suc, sym, zero, ℕ, ◌<◌, ◌∷◌, ◌≡◌}
 
 at_place : {R : Type 0} (E : Type 0) (P : R → Type 0) (reports : List R) (i : ℕ) (r : R) → IfOk {E = E} (get_or (map (λ (x : R). Ok x) reports) i (Ok r)) P → P (get_or reports i r)
 at_place E P [] i r p = p

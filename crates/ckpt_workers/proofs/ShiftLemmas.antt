@@ -1,11 +1,7 @@
 -- Calls made one after the other.
-use Rattle.std.proofs.Common.{◌≡◌, List, [], ◌∷◌, ◌++◌, refl, sym, ap, ◌∙◌, append_assoc, append-nil}
-use Rattle.std.proofs.lemmas.List.{map-append}
-use Rattle.ckpt_ids.specs.declared.call.Call.{Call}
-use Rattle.ckpt_ids.specs.declared.reply.Answer.{Answer}
-use Rattle.ckpt_locked.specs.Locks.{Hand, Made}
-use Rattle.std.specs.Prelude.{Option, Some, None}
-use Rattle.ckpt_workers.specs.Shifts.{CallsOn, Exchange, IsAsked, IsShift, MadeAll, calls_in}
+use Rattle.ckpt_workers.proofs.Names.{Answer, Call, CallsOn, Exchange, Hand, IsShift, List, MadeAll, [], ap, append-nil, append_assoc, calls_in, map-append, refl, sym}
+use Rattle.ckpt_workers.proofs.Names.{◌++◌, ◌∙◌, ◌∷◌, ◌≡◌}
+use Rattle.ckpt_locked.specs.Locks.{Made}
 
 pub MadeAll-push : (old : Hand) (told : List Exchange) (mid : Hand) (t : Exchange) (new : Hand) → MadeAll old told mid → Made mid t.call new t.answer → MadeAll old (told ++ t ∷ []) new
 MadeAll-push old [] mid t new all one = (new, subst_hand all one, refl)
@@ -17,7 +13,8 @@ MadeAll-push old (x ∷ rest) mid t new all one = (all.0, all.1, MadeAll-push al
 pub IsShift-none : (hand : Hand) → IsShift hand [] hand
 IsShift-none hand = record { same = (refl, refl); own = sym (append-nil hand.own); made = refl }
 
-pub IsShift-push : (old : Hand) (told : List Exchange) (mid : Hand) (call : Call) (answer : Answer) (new : Hand) → IsShift old told mid → Made mid call new answer → IsShift old (told ++ record { call = call; answer = answer } ∷ []) new
+pub IsShift-push : (old : Hand) (told : List Exchange) (mid : Hand) (call : Call) (answer : Answer) (new : Hand) → IsShift old told mid → Made mid call new answer
+    → IsShift old (told ++ record { call = call; answer = answer } ∷ []) new
 IsShift-push old told mid call answer new shift made =
     let t : Exchange = record { call = call; answer = answer } in
     record {
@@ -57,10 +54,6 @@ calls_same old new e = rw e (calls_none old)
 
 pub calls_one : (old : Hand) (call : Call) (new : Hand) (answer : Answer) → Made old call new answer → CallsOn old new
 calls_one old call new answer made = record { told = _; shift = IsShift-push old [] old call answer new (IsShift-none old) made }
-
-pub calls_asked : (old : Hand) (call : Call) (new : Hand) (answer : Option Answer) → IsAsked old call new answer → CallsOn old new
-calls_asked old call new None asked = calls_same old new asked
-calls_asked old call new (Some answer) asked = calls_one old call new answer asked
 
 -- one part of the work after the other
 pub calls_then : (old mid new : Hand) → CallsOn old mid → CallsOn mid new → CallsOn old new

@@ -1,17 +1,10 @@
 -- A task, order by order.
-use Rattle.std.proofs.Common.{◌≡◌, ◌+◌, cond, [], ◌∷◌, ◌++◌, refl, sym, ◌∙◌, subst, All}
-use Rattle.std.specs.Prelude.{Option, Some, None}
-use Rattle.std.proofs.lemmas.List.{map-append}
-use Rattle.std.proofs.lemmas.List.Elements.{All-push}
-use Rattle.ckpt_ids.specs.declared.call.Call.{Call}
-use Rattle.ckpt_ids.specs.declared.reply.Answer.{Answer}
-use Rattle.ckpt_locked.specs.Locks.{Hand}
-use Rattle.ckpt_workers.specs.declared.task.Tally.{Tally}
-use Rattle.ckpt_workers.specs.Orders.{IsOrder}
-use Rattle.ckpt_workers.specs.Shifts.{Exchange, IsAsked, IsShift, calls_in, capped}
-use Rattle.ckpt_workers.specs.Tasks.{IsTasked, answers, is_late, is_other, is_taken_in}
+use Rattle.ckpt_workers.proofs.Names.{All, All-push, Answer, Call, Exchange, Hand, IsAsked, IsShift, IsTasked, None, Option, Some, [], answers, calls_in, capped, cond, is_late, is_other, is_taken_in}
+use Rattle.ckpt_workers.proofs.Names.{map-append, refl, subst, sym, ◌++◌, ◌+◌, ◌∙◌, ◌∷◌, ◌≡◌}
 use Rattle.ckpt_workers.proofs.ShiftLemmas.{IsShift-push}
 use Rattle.ckpt_workers.proofs.TallyLemmas.{capped-push}
+use Rattle.ckpt_workers.specs.Orders.{IsOrder}
+use Rattle.ckpt_workers.specs.declared.task.Tally.{Tally}
 
 pub IsTasked-push : (old hand new : Hand) (was is : Tally) (call : Call) (answer : Option Answer)
     → IsTasked old hand was → IsOrder call → IsAsked hand call new answer

@@ -1,22 +1,12 @@
 -- The work of a team, call by call.
-use Rattle.std.proofs.Common.{◌≡◌, ℕ, ◌+◌, ◌%◌, ◌<◌, cond, eqb, List, [], ◌∷◌, ◌++◌, length, refl, sym, ap, ◌∙◌, arith, append_assoc, append-nil, length-append}
-use Rattle.std.specs.Prelude.{not, count_by, Option, Some, None}
-use Rattle.std.specs.Option.{option_or}
-use Rattle.std.proofs.lemmas.List.{map-append}
-use Rattle.ckpt_ids.specs.Counting.{one_if}
-use Rattle.ckpt_ids.proofs.CountLemmas.{count_by_push}
-use Rattle.ckpt_ids.specs.declared.call.Call.{Call}
-use Rattle.ckpt_ids.specs.declared.reply.Answer.{Answer}
-use Rattle.ckpt_locked.specs.declared.book.Entry.{Entry}
-use Rattle.ckpt_locked.specs.Books.{History, answer_to, calls_of, entered}
-use Rattle.ckpt_locked.specs.Seats.{answers_by, calls_by}
-use Rattle.ckpt_locked.proofs.SeatLists.{below-push}
-use Rattle.ckpt_workers.specs.declared.team.Made.{Made}
-use Rattle.ckpt_workers.specs.Teams.{IsOneMore, IsTally, IsTeamwork, dealt_to, is_accepted}
-use Rattle.ckpt_model.specs.Interleavings.{completed_by, first_completed}
-use Rattle.ckpt_workers.proofs.Dealing.{dealt_to-push, in_turn}
-use Rattle.ckpt_workers.proofs.SeatLemmas.{after, after-nil, after-append, answers_by-append, calls_by-append}
+use Rattle.ckpt_workers.proofs.Names.{Answer, Call, Entry, History, IsOneMore, IsTally, IsTeamwork, List, None, Option, Some, [], answer_to, ap, append-nil, append_assoc, arith, calls_by, calls_of}
+use Rattle.ckpt_workers.proofs.Names.{cond, count_by_push, entered, is_accepted, length, length-append, map-append, mod-lt, not, one_if, option_or, refl, sym, ℕ, ◌%◌, ◌++◌, ◌+◌, ◌<◌, ◌∙◌, ◌∷◌, ◌≡◌}
+use Rattle.ckpt_workers.proofs.Dealing.{dealt_to-push}
+use Rattle.ckpt_workers.proofs.SeatLemmas.{after, after-append, after-nil, answers_by-append, calls_by-append}
 use Rattle.ckpt_workers.proofs.TallyLemmas.{opposite}
+use Rattle.ckpt_locked.proofs.SeatLists.{below-push}
+use Rattle.ckpt_model.specs.Interleavings.{completed_by, first_completed}
+use Rattle.ckpt_workers.specs.declared.team.Made.{Made}
 
 -- new is old with one more answer
 pub record IsCounted (old new : Made) (answer : Answer) : Type 0 where
@@ -40,8 +30,8 @@ first_completed-push (x ∷ xs) a =
 -- one more answer at the end
 pub IsTally-push : (old new : Made) (answers : List Answer) (a : Answer) → IsTally old answers → IsCounted old new a → IsTally new (answers ++ a ∷ [])
 IsTally-push old new answers a tally counted = record {
-  accepted = let was : old.accepted ≡ count_by is_accepted answers = tally.accepted in let is : new.accepted ≡ old.accepted + one_if (is_accepted a) = counted.accepted in omega (arith, count_by_push is_accepted answers a);
-  refused = let was : old.refused ≡ count_by (λ x. not (is_accepted x)) answers = tally.refused in let is : new.refused ≡ old.refused + cond (is_accepted a) 0 1 = counted.refused in omega (arith, count_by_push (λ x. not (is_accepted x)) answers a, opposite (is_accepted a));
+  accepted = omega (arith, tally.accepted, counted.accepted, count_by_push is_accepted answers a);
+  refused = omega (arith, tally.refused, counted.refused, count_by_push (λ x. not (is_accepted x)) answers a, opposite (is_accepted a));
   completed = counted.completed ∙ ap (λ o. option_or o (completed_by a)) tally.completed ∙ sym (first_completed-push answers a);
 }
 
@@ -69,39 +59,26 @@ pub in_order-push : (old : History) (calls : List Call) (before made : Made) (ca
     → calls_of before.book.entries ≡ calls_of old.entries ++ calls → IsOneMore before seat call made
     → calls_of made.book.entries ≡ calls_of old.entries ++ (calls ++ call ∷ [])
 in_order-push old calls before made call seat was more =
-    let e : Entry = record { seat = seat; call = call } in
-    ap (λ (h : History). calls_of h.entries) more.book
-    ∙ map-append (λ (x : Entry). x.call) before.book.entries (e ∷ [])
-    ∙ ap (λ l. l ++ call ∷ []) was
-    ∙ append_assoc (calls_of old.entries) calls (call ∷ [])
+    ap (λ (h : History). calls_of h.entries) more.book ∙ map-append (λ (x : Entry). x.call) before.book.entries (record { seat = seat; call = call } ∷ []) ∙ rw (was, append_assoc)
 
 -- one more call, entered with the seat of its place
 pub IsTeamwork-push : (old : History) (calls : List Call) (threads : ℕ) (before made : Made) (call : Call) (seat : ℕ)
-    → 0 < threads → seat ≡ length calls % threads → IsTeamwork old calls threads before → IsOneMore before seat call made
-    → IsTeamwork old (calls ++ call ∷ []) threads made
+    → 0 < threads → seat ≡ length calls % threads → IsTeamwork old calls threads before → IsOneMore before seat call made → IsTeamwork old (calls ++ call ∷ []) threads made
 IsTeamwork-push old calls threads before made call seat some at h more =
     let answer : Answer = answer_to before.book call in
     let e : Entry = record { seat = length calls % threads; call = call } in
     let here : before.book ≡ after old h.new = h.book_is in
-    let counted : IsCounted before made answer = record { accepted = more.accepted; refused = more.refused; completed = more.completed } in
-    let tally : IsTally before h.answers = record { accepted = h.accepted_is; refused = h.refused_is; completed = h.completed_is } in
-    let pushed : IsTally made (h.answers ++ answer ∷ []) = IsTally-push before made h.answers answer tally counted in
-    let same : length h.answers ≡ length calls = h.one_each in
-    let below : length calls % threads < threads = omega arith in
+    let pushed : IsTally made (h.answers ++ answer ∷ []) = IsTally-push before made h.answers answer (record { accepted = h.accepted_is; refused = h.refused_is; completed = h.completed_is })
+    (record { accepted = more.accepted; refused = more.refused; completed = more.completed }) in
     let told_here : answer_to (after old h.new) call ≡ answer = ap (λ (g : History). answer_to g call) (sym here) in
     record {
       new = h.new ++ e ∷ [];
       book_is = more.book ∙ ap (λ k. entered before.book k call) at ∙ ap (λ (g : History). entered g (length calls % threads) call) here ∙ after-append old h.new (e ∷ []);
-      seats = below-push threads h.new e h.seats below;
+      seats = below-push threads h.new e h.seats (mod-lt (length calls) some);
       calls_are = λ k small. calls_by-append k h.new (e ∷ []) ∙ ap (λ l. l ++ calls_by k (e ∷ [])) (h.calls_are k small) ∙ sym (dealt_to-push threads k calls call);
       answers = h.answers ++ answer ∷ [];
-      one_each = omega (arith, length-append h.answers (answer ∷ []), length-append calls (call ∷ []));
-      answers_are = λ k small.
-          answers_by-append k old h.new (e ∷ [])
-          ∙ ap (λ l. l ++ answers_by k (after old h.new) (e ∷ [])) (h.answers_are k small)
-          ∙ ap (λ a. dealt_to threads k h.answers ++ cond (eqb (length calls % threads) k) (a ∷ []) []) told_here
-          ∙ ap (λ n. dealt_to threads k h.answers ++ in_turn threads k n answer) (sym same)
-          ∙ sym (dealt_to-push threads k h.answers answer);
+      one_each = omega (arith, h.one_each, length-append h.answers (answer ∷ []), length-append calls (call ∷ []));
+      answers_are = λ k small. answers_by-append k old h.new (e ∷ []) ∙ rw (h.answers_are k small, told_here, ← h.one_each) (sym (dealt_to-push threads k h.answers answer));
       accepted_is = pushed.accepted;
       refused_is = pushed.refused;
       completed_is = pushed.completed;

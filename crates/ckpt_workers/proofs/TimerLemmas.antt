@@ -1,18 +1,13 @@
 -- A timer, tick by tick.
-use Rattle.std.proofs.Common.{◌≡◌, ℕ, ◌+◌, cond, List, [], ◌∷◌, ◌++◌, refl, sym, ap, ◌∙◌, subst, append_assoc, append-nil}
-use Rattle.std.specs.Prelude.{map, not, Option, Some, None, is_some}
-use Rattle.std.proofs.lemmas.List.{map-append}
-use Rattle.std.proofs.lemmas.Grind.{flat_map-append}
-use Rattle.ckpt_ids.specs.declared.call.Call.TheVariants.{Tick}
-use Rattle.ckpt_ids.specs.declared.reply.Answer.{Answer}
-use Rattle.ckpt_locked.specs.Locks.{Hand}
-use Rattle.ckpt_workers.specs.declared.timer.TimerTally.{TimerTally}
-use Rattle.ckpt_workers.specs.Shifts.{Exchange, IsAsked, IsShift, capped}
-use Rattle.ckpt_workers.specs.Timers.{Beat, IsTimed, is_refused, tick_told, ticks_told}
+use Rattle.ckpt_workers.proofs.Names.{Answer, Beat, Exchange, Hand, IsAsked, IsShift, IsTimed, List, None, Option, Some, Tick, [], ap, append-nil, append_assoc, capped, cond, is_refused, is_some, map}
+use Rattle.ckpt_workers.proofs.Names.{map-append, not, refl, subst, sym, tick_told, ticks_told, ℕ, ◌++◌, ◌+◌, ◌∙◌, ◌∷◌, ◌≡◌}
 use Rattle.ckpt_workers.proofs.ShiftLemmas.{IsShift-push}
 use Rattle.ckpt_workers.proofs.TallyLemmas.{capped-push}
+use Rattle.ckpt_workers.specs.declared.timer.TimerTally.{TimerTally}
+use Rattle.std.proofs.lemmas.Grind.{flat_map-append}
 
-shift_more : (old : Hand) (told : List Exchange) (mid new : Hand) (now : ℕ) (answer : Option Answer) → IsShift old told mid → IsAsked mid (Tick now) new answer → IsShift old (told ++ tick_told now answer) new
+shift_more : (old : Hand) (told : List Exchange) (mid new : Hand) (now : ℕ) (answer : Option Answer) → IsShift old told mid → IsAsked mid (Tick now) new answer
+    → IsShift old (told ++ tick_told now answer) new
 shift_more old told mid new now None shift asked = subst (λ (l : List Exchange). IsShift old l new) (sym (append-nil told)) (subst (IsShift old told) (sym asked) shift)
 shift_more old told mid new now (Some answer) shift asked = IsShift-push old told mid (Tick now) answer new shift asked
 

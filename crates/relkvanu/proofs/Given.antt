@@ -37,7 +37,7 @@ take_brings m n = takes_some m n (never_refused m n)
 pub take_at_most : (m : State) (n : ℕ) → length (files_in (step m (call.Take n)).1) ≤ n
 take_at_most m n = subst (λ (k : ℕ). k ≤ n) (sym (take_brings m n)) (omega arith)
 
-whole : (k : Machine) → k ≡ machine_of (core_in k) (names_in k)
+pub whole : (k : Machine) → k ≡ machine_of (core_in k) (names_in k)
 whole (Plain m) = refl
 whole (Fenced m) = refl
 

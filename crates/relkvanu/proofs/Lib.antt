@@ -3,4 +3,5 @@ pub mod BoxWords
 pub mod Given
 pub mod Openings
 pub mod SayingLemmas
+pub mod Unmade
 pub mod Words

@@ -132,7 +132,7 @@ asks_itself : (asked : Asked) → asked_by (line_of_asked asked) ≡ Ok asked
 asks_itself (ask.Fence first) = refl
 asks_itself (ask.Call call) = refl
 
--- the bytes that are read as the line that asks for what is given ask for it
-pub says_back : (given : Result Asked ℕ) (written : List ℕ) (answer : Answer) → ReadsBack given written answer → SaysBack given written answer
+-- a line that is read as the one that asks for what is given asks for it
+pub says_back : (given : Result Asked ℕ) (line : List ℕ) (answer : Answer) → ReadsBack given line answer → SaysBack given line answer
 unfolding said
-says_back given written answer reads = λ asked is done. rw (reads asked is done) (asks_itself asked)
+says_back given line answer reads = λ asked is done. rw (reads asked is done) (asks_itself asked)

@@ -12,7 +12,7 @@ use Rattle.ckpt_model.specs.State.{State}
 use Rattle.ckpt_model.specs.Steps.{step}
 use Rattle.relkvanu.specs.declared.answer.Answer.{Answer}
 use Rattle.relkvanu.specs.declared.handle.Handle.{Handle}
-use Rattle.relkvanu.specs.Told.{told, is_closed, bad_argument, no_memory, out_of_memory}
+use Rattle.relkvanu.specs.Told.{answer_told, is_closed, bad_argument, no_memory, out_of_memory}
 
 -- a closed handle stays closed, and says so
 abbrev pub StaysClosed : Option State → Option State → Answer → Type 0
@@ -20,12 +20,12 @@ StaysClosed old new answer = old ≡ None → (answer ≡ is_closed) × (new ≡
 
 -- the coordinator makes the step and returns its answer, however much memory there is
 abbrev pub IsMade : Option State → Option State → Call → Answer → Type 0
-IsMade old new call answer = (m : State) → old ≡ Some m → (new ≡ Some (step m call).0) × (answer ≡ told (step m call).1)
+IsMade old new call answer = (m : State) → old ≡ Some m → (new ≡ Some (step m call).0) × (answer ≡ answer_told (step m call).1)
 
 -- the coordinator makes the step and returns its answer, unless memory ran out
 abbrev pub IsAnswered : Option State → Option State → Call → Answer → Type 0
 IsAnswered old new call answer =
-    (m : State) → old ≡ Some m → answer.code ≢ no_memory → (new ≡ Some (step m call).0) × (answer ≡ told (step m call).1)
+    (m : State) → old ≡ Some m → answer.code ≢ no_memory → (new ≡ Some (step m call).0) × (answer ≡ answer_told (step m call).1)
 
 -- the same, if the handle has no names
 abbrev pub IsMadePlainly : Handle → Handle → Call → Answer → Type 0
@@ -36,7 +36,7 @@ IsAnsweredPlainly old new call answer = old.names ≡ None → IsAnswered old.va
 
 -- a step that a core has made, and its answer
 abbrev pub IsStepTold : State → State → Call → Answer → Type 0
-IsStepTold old new call answer = answer.code ≢ no_memory → (new ≡ (step old call).0) × (answer ≡ told (step old call).1)
+IsStepTold old new call answer = answer.code ≢ no_memory → (new ≡ (step old call).0) × (answer ≡ answer_told (step old call).1)
 
 -- the bad argument because of which no call is made, unless memory ran out
 abbrev pub IsWhyNoCall : Result Call ℕ → Answer → Type 0

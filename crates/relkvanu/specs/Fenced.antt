@@ -20,7 +20,7 @@ use Rattle.relkvanu.specs.declared.answer.Answer.{Answer}
 use Rattle.relkvanu.specs.declared.handle.Handle.{Handle}
 use Rattle.relkvanu.specs.Buffers.{StandsInFront}
 use Rattle.relkvanu.specs.Calls.{ack_of}
-use Rattle.relkvanu.specs.Told.{answer, bad_argument, done, no_memory, out_of_memory, told, too_short_for}
+use Rattle.relkvanu.specs.Told.{answer, answer_told, bad_argument, done, no_memory, out_of_memory, too_short_for}
 
 -- the code of a call that a term or the names refuse
 abbrev pub fenced : ℕ → ℕ → Answer
@@ -51,7 +51,7 @@ fenced_refusal_told (why.NeverReserved file) = fenced 7 file
 abbrev pub fenced_told : ℕ → FencedAnswer → Answer
 fenced_told count (answered.Reserved first) = done 56 first count
 fenced_told count answered.Forfeited = done 57 0 0
-fenced_told count (answered.Made term its) = told its
+fenced_told count (answered.Made term its) = answer_told its
 fenced_told count (answered.Fenced why) = fenced_refusal_told why
 
 -- how many names a call asks for

@@ -6,6 +6,7 @@ pub mod Fenced
 pub mod Images
 pub mod Kept
 pub mod Lines
+pub mod Making
 pub mod Names
 pub mod Naming
 pub mod Opening

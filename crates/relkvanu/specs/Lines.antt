@@ -24,17 +24,17 @@ use Rattle.relkvanu.specs.declared.handle.Handle.{Handle}
 use Rattle.relkvanu.specs.Asking.{fault_told, said}
 use Rattle.relkvanu.specs.Buffers.{files_in, show_told, StandsInFront}
 use Rattle.relkvanu.specs.Fenced.{call_step, fence_step, machine_in, no_names, term_step, term_wants}
-use Rattle.relkvanu.specs.Told.{done, no_memory, told, too_short}
+use Rattle.relkvanu.specs.Told.{answer_told, done, no_memory, too_short}
 
 -- a take fetches nothing if the buffer has too few places
 abbrev pub fetched : State → ℕ → Stepped → State × Answer
-fetched m places s = if nat_lt places (length (files_in s.1)) then (m, too_short (length (files_in s.1))) else (s.0, told s.1)
+fetched m places s = if nat_lt places (length (files_in s.1)) then (m, too_short (length (files_in s.1))) else (s.0, answer_told s.1)
 
 -- the state and the answer of a line's call, if the buffer has this many places for files; there is no buffer for JSON
 unfoldable pub call_made : State → ℕ → Call → State × Answer
 call_made m places (call.Take most) = fetched m places (step m (call.Take most))
 call_made m places (call.Show id) = (m, show_told (step m (call.Show id)).1 0)
-call_made m places call = ((step m call).0, told (step m call).1)
+call_made m places call = ((step m call).0, answer_told (step m call).1)
 
 -- the state and the answer of a coordinator, whose names stay
 abbrev pub core_step : Machine → State × Answer → Machine × Answer

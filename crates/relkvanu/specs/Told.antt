@@ -110,9 +110,10 @@ refusal_told refusal.NotTaken = refused 13 0
 refusal_told refusal.NoSuchRecord = refused 14 0
 refusal_told refusal.IdsUsedUp = refused 15 0
 
-abbrev pub told : ids.Answer → Answer
-told (Done reply) = reply_told reply
-told (Refused why) = refusal_told why
+-- the answer of a coordinator
+abbrev pub answer_told : ids.Answer → Answer
+answer_told (Done reply) = reply_told reply
+answer_told (Refused why) = refusal_told why
 
 abbrev pub fault_told : CoreFault → Answer
 fault_told (fault.Refused why) = refusal_told why

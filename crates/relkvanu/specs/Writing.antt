@@ -1,5 +1,5 @@
 -- The lines that are written for a C program: the line of a call, and the lines of an opening.
-use Rattle.std.specs.Prelude.{◌≡◌, ◌≢◌, ℕ, ◌==◌, nat_lt, if◌then◌else◌, List, [], ◌∷◌, ◌++◌, get_or, length, take, Option, Some, None, Result, Ok, Err}
+use Rattle.std.specs.Prelude.{◌≡◌, ◌≢◌, ℕ, ◌==◌, nat_lt, if◌then◌else◌, List, [], ◌∷◌, ◌++◌, get_or, length, Option, Some, None, Result, Ok, Err}
 use Rattle.ckpt_ids.specs.Ascending.{ascending}
 use Rattle.ckpt_ids.specs.declared.call.Call.{Call}
 use Rattle.ckpt_ids.specs.declared.call.Call.TheVariants as call
@@ -84,15 +84,13 @@ abbrev pub call_line_text : Result Asked ℕ → List ℕ
 call_line_text (Ok asked) = asked_text asked
 call_line_text (Err what) = []
 
--- the bytes that were written ask for the same
+-- the line that was written asks for the same
 abbrev pub SaysBack : Result Asked ℕ → List ℕ → Answer → Type 0
-SaysBack given written answer =
-    (asked : Asked) → given ≡ Ok asked → answer.code ≡ 0 → said (take answer.a written) ≡ Ok asked
+SaysBack given line answer = (asked : Asked) → given ≡ Ok asked → answer.code ≡ 0 → said line ≡ Ok asked
 
--- the bytes that were written are read as the line that asks for it
+-- it is read as the line that asks for it
 abbrev pub ReadsBack : Result Asked ℕ → List ℕ → Answer → Type 0
-ReadsBack given written answer =
-    (asked : Asked) → given ≡ Ok asked → answer.code ≡ 0 → term_reading (take answer.a written) ≡ Ok (line_of_asked asked)
+ReadsBack given line answer = (asked : Asked) → given ≡ Ok asked → answer.code ≡ 0 → term_reading line ≡ Ok (line_of_asked asked)
 
 abbrev pub newline : List ℕ
 newline = 10 ∷ []

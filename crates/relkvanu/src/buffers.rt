@@ -9,7 +9,7 @@ ghost use Rattle.ckpt_answers.specs.MetadataTexts.{metadata_bytes};
 ghost use Rattle.relkvanu.specs.Buffers.{BringsFiles, BringsJson, IsShowTold, StandsInFront, files_in, files_of_reply, json_in, json_of_reply};
 ghost use Rattle.relkvanu.specs.Buffers.{json_told, show_reply_told, show_told};
 ghost use Rattle.relkvanu.specs.Calls.{HasNoNumbers, IsAnswered, IsStepTold, StaysAsItWas, StaysClosed, WantsMemory};
-ghost use Rattle.relkvanu.specs.Told.{no_memory, reply_told, told};
+ghost use Rattle.relkvanu.specs.Told.{answer_told, no_memory, reply_told};
 ghost use Rattle.ckpt_terms.specs.Machines.{core_in, names_in};
 
 use crate::answer::Answer;
@@ -92,7 +92,7 @@ pub(crate) fn take_from(machine: &mut Machine, most: u64, files: &mut [u64]) -> 
 /// Condition: the buffer has a place for each.
 fn with_files(answer: &Told, files: &mut [u64]) -> Answer
     requires fits { length (files_in answer.now) ≤ length files.old }
-    ensures told { result ≡ told answer.now }
+    ensures told { result ≡ answer_told answer.now }
     ensures code { result.code ≢ no_memory }
     ensures front { StandsInFront (files_in answer.now) files.old files.new }
     ensures kept { result.code ≢ 0 → files.new ≡ files.old }

@@ -4,7 +4,7 @@ ghost use Rattle.std.specs.Prelude.{◌≡◌, ◌≢◌, ◌<◌, ◌≤◌, le
 ghost use Rattle.relkvanu.specs.Buffers.{StandsInFront};
 ghost use Rattle.relkvanu.specs.Fenced.{fence_told, fenced, fenced_refusal_told, fenced_told, has_names, no_names};
 ghost use Rattle.relkvanu.specs.Names.{fenced_name};
-ghost use Rattle.relkvanu.specs.Told.{no_memory, told};
+ghost use Rattle.relkvanu.specs.Told.{answer_told, no_memory};
 ghost use Rattle.ckpt_terms.specs.declared.machine.FenceFault.TheVariants as fault;
 
 use crate::answer::{Answer, FENCED};
@@ -74,7 +74,7 @@ impl Answer {
 
     /// The coordinator's answer.
     pub(crate) fn of_told(answer: &Told) -> Answer
-        ensures told { result ≡ told answer.now }
+        ensures told { result ≡ answer_told answer.now }
         ensures code { result.code ≢ no_memory }
     {
         match answer {

@@ -15,6 +15,7 @@ mod fencing;
 mod handle;
 mod images;
 mod lines;
+mod making;
 mod names;
 mod opening;
 mod plain_calls;

@@ -12,7 +12,7 @@ ghost use Rattle.relkvanu.specs.Asking.{said};
 ghost use Rattle.relkvanu.specs.Buffers.{StandsInFront, files_in};
 ghost use Rattle.relkvanu.specs.Calls.{HasNoNumbers, StaysAsItWas, StaysClosed};
 ghost use Rattle.relkvanu.specs.Fenced.{IsHandled, IsTaken};
-ghost use Rattle.relkvanu.specs.Lines.{BringsLineFiles, IsCallTold, IsLineAnswered, IsLineTold, LineWantsMemory, call_files, call_wants, is_free_line};
+ghost use Rattle.relkvanu.specs.Lines.{BringsLineFiles, IsCallTold, IsLineAnswered, IsLineTold, LineWantsMemory, asked_step, call_files, call_wants, is_free_line};
 ghost use Rattle.relkvanu.specs.Lines.{line_call_step, line_number, line_numbers, line_step, named_step, named_wants, numbers_told, plain_step};
 ghost use Rattle.relkvanu.specs.Lines.{said_files, said_wants, says_numbers, says_told};
 ghost use Rattle.relkvanu.specs.Told.{no_memory};
@@ -100,6 +100,28 @@ fn make_line(alloc: Global, machine: &mut Machine, line: &[u8], files: &mut [u64
         Ok(Asked::Fence { first }) => fence_machine(alloc, machine, first),
         Ok(Asked::Call(call)) => make_call(alloc, machine, &call, files),
         Err(answer) => answer,
+    }
+}
+
+/// Makes what is asked for. `make_line` takes it apart itself, which costs a line less.
+pub(crate) fn make_asked(
+    alloc: Global,
+    machine: &mut Machine,
+    asked: &Asked,
+    files: &mut [u64],
+) -> Answer
+    ensures answered { IsLineTold machine.old machine.new (Ok asked.now) (length files.old) result }
+    ensures handled { IsTaken (λ k. asked_step k (length files.old) asked.now) machine.old machine.new result }
+    ensures front { result.code ≡ 0 → StandsInFront (said_files (core_in machine.old) (Ok asked.now)) files.old files.new }
+    ensures kept { result.code ≢ 0 → files.new ≡ files.old }
+    ensures memory { result.code ≡ no_memory → said_wants machine.old (Ok asked.now) ≡ true }
+    ensures numbers { HasNoNumbers result }
+    ensures names { is_free_line (Ok asked.now) ≡ true → names_in machine.new ≡ names_in machine.old }
+    ensures unchanged { result.code ≡ no_memory → machine.new ≡ machine.old }
+{
+    match asked {
+        Asked::Fence { first } => fence_machine(alloc, machine, *first),
+        Asked::Call(call) => make_call(alloc, machine, call, files),
     }
 }
 

@@ -1,6 +1,6 @@
 //! Writes lines of a log into a caller's buffer: the line of a call, and the lines of an opening.
 
-ghost use Rattle.std.specs.Prelude.{◌≡◌, ◌≢◌, ◌≤◌, None, Ok, Err, IsOk, IfOk, IfErr, length, string_bytes};
+ghost use Rattle.std.specs.Prelude.{◌≡◌, ◌≢◌, ◌≤◌, None, Ok, Err, IsOk, IfOk, IfErr, length, take, string_bytes};
 ghost use Rattle.ckpt_lines.specs.declared.limits.TheConstants.{LONGEST_LINE};
 ghost use Rattle.ckpt_lines.specs.declared.line.Line.TheVariants as line;
 ghost use Rattle.ckpt_lines.specs.CallTexts.{IsReadAs, config_text, job_text, line_of_config, start_text};
@@ -93,8 +93,8 @@ pub extern "C" fn relkvanu_call_line(
 ) -> Answer
     ensures told { result.code ≢ no_memory → result ≡ call_line_told (given call.entry.now first.now second.now) (length line.old) }
     ensures front { result.code ≡ 0 → StandsInFront (call_line_text (given call.entry.now first.now second.now)) line.old line.new }
-    ensures read { ReadsBack (given call.entry.now first.now second.now) line.new result }
-    ensures said { SaysBack (given call.entry.now first.now second.now) line.new result }
+    ensures read { ReadsBack (given call.entry.now first.now second.now) (take result.a line.new) result }
+    ensures said { SaysBack (given call.entry.now first.now second.now) (take result.a line.new) result }
     ensures kept { result.code ≢ 0 → line.new ≡ line.old }
     ensures memory { result.code ≡ no_memory → IsOk (given call.entry.now first.now second.now) }
     ensures numbers { HasNoNumbers result }
@@ -110,7 +110,8 @@ pub extern "C" fn relkvanu_call_line(
 }
 
 /// The line that asks for this.
-fn text_of(alloc: Global, asked: &Asked) -> Result<String, AllocError>
+#[inline(always)]
+pub(crate) fn text_of(alloc: Global, asked: &Asked) -> Result<String, AllocError>
     ensures text { IfOk result (λ text. string_bytes text ≡ asked_text asked.now) }
     ensures read { IfOk result (λ text. IsTermReadAs (line_of_asked asked.now) (string_bytes text)) }
 {
@@ -122,7 +123,8 @@ fn text_of(alloc: Global, asked: &Asked) -> Result<String, AllocError>
 
 /// What the fields and the lists ask for, or the answer if they ask for nothing.
 #[tactic(auto, unfolding(crate::specs::Writing::given))]
-fn asked_of(
+#[inline(always)]
+pub(crate) fn asked_of(
     alloc: Global,
     fields: &CallFields,
     first: &[u64],

@@ -10,21 +10,19 @@ use Rattle.ckpt_outbox.specs.Queues as queues
 abbrev pub unknown_in : Parts → List ℕ → List ℕ
 unknown_in p fresh = filter (λ f. not (is_known_in p f)) fresh
 
-known_same : (p : Parts) (f : ℕ) → AreTied p → is_known_in p f ≡ is_known (state_of p) f
-unfolding state_of
-known_same p f tied = ap (λ us. is_present us f || queues.is_known p.outbox f) tied.uses_are
-
 unknown_same : (p : Parts) (now : ℕ) (fresh : List ℕ) → AreTied p → filter (λ f. not (is_known (record (state_of p) { latest = max now p.clock.latest }) f)) fresh ≡ unknown_in p fresh
 unfolding state_of
-unknown_same p now fresh tied = filter-same (λ f. not (is_known (state_of p) f)) (λ f. not (is_known_in p f)) fresh (λ f h. ap not (sym (known_same p f tied)))
+unknown_same p now fresh tied = filter-same (λ f. not (is_known (state_of p) f)) (λ f. not (is_known_in p f)) fresh
+    (λ f h. ap not (sym (ap (λ us. is_present us f || queues.is_known p.outbox f) tied.uses_are)))
 
 late_step : (p : Parts) (now id : ℕ) (subtask : SubtaskId) (fresh reused : List ℕ) → AreTied p → IsAccepted p (Ack now id subtask fresh reused) → pending_of (state_of p).records id ≡ None →
-    step (state_of p) (Ack now id subtask fresh reused) ≡ (record (state_of p) { latest = max now p.clock.latest; waiting = p.outbox.waiting ++ unknown_in p fresh }, Done (reply.AckLate (length (unknown_in p fresh))))
+    step (state_of p) (Ack now id subtask fresh reused) ≡
+    (record (state_of p) { latest = max now p.clock.latest; waiting = p.outbox.waiting ++ unknown_in p fresh }, Done (reply.AckLate (length (unknown_in p fresh))))
 unfolding state_of ack
 late_step p now id subtask fresh reused tied accepted ended = grind (arith, common_steps, ack_step, unknown_same)
 
-pub late_wants : (p : Parts) (now id : ℕ) (subtask : SubtaskId) (fresh reused : List ℕ) → AreTied p → IsAccepted p (Ack now id subtask fresh reused) → pending_of (state_of p).records id ≡ None → 0 < length (unknown_in p fresh) →
-    may_want_memory (state_of p) (Ack now id subtask fresh reused) ≡ true
+pub late_wants : (p : Parts) (now id : ℕ) (subtask : SubtaskId) (fresh reused : List ℕ) → AreTied p → IsAccepted p (Ack now id subtask fresh reused) → pending_of (state_of p).records id ≡ None →
+    0 < length (unknown_in p fresh) → may_want_memory (state_of p) (Ack now id subtask fresh reused) ≡ true
 late_wants p now id subtask fresh reused tied accepted ended some = grind (arith, common_steps, late_step, lt-ltb)
 
 pub unknown_counted : (p : Parts) (fresh : List ℕ) → 0 < count_by (λ f. not (is_known_in p f)) fresh → 0 < length (unknown_in p fresh)
@@ -43,27 +41,15 @@ unknown_new p fresh files is f h =
 abbrev late : Parts → ℕ → List ℕ → ℕ → Parts
 late p now files spare = record p { outbox = record p.outbox { waiting = p.outbox.waiting ++ files; spare = spare }; clock = record p.clock { latest = max now p.clock.latest } }
 
-late_is : (p : Parts) (now id : ℕ) (subtask : SubtaskId) (fresh reused : List ℕ) (spare : ℕ) → AreSound p → IsAccepted p (Ack now id subtask fresh reused) → pending_of (state_of p).records id ≡ None → present_in p.registry ≤ spare →
-    Answers p (late p now (unknown_in p fresh) spare) (Ack now id subtask fresh reused) (reply.AckLate (length (unknown_in p fresh)))
+pub late_answers : (p o : Parts) (now id : ℕ) (subtask : SubtaskId) (fresh reused files : List ℕ) (n : ℕ) (clock : Moments) → AreSound p → IsAccepted p (Ack now id subtask fresh reused) →
+    pending_of (state_of p).records id ≡ None → files ≡ unknown_in p fresh → o ≡ record p { outbox = record p.outbox { waiting = p.outbox.waiting ++ files; spare = o.outbox.spare } } →
+    present_in p.registry ≤ o.outbox.spare → clock ≡ record o.clock { latest = max now o.clock.latest } → n ≡ length files → Answers p (record o { clock = clock }) (Ack now id subtask fresh reused)
+    (reply.AckLate n)
 unfolding state_of
-late_is p now id subtask fresh reused spare sound accepted ended room = record {
-  step_is = late_step p now id subtask fresh reused sound.tied accepted ended;
-  tied = record {
-    uses_are = sound.tied.uses_are;
-    retained = sound.tied.retained;
-    tolerable = sound.tied.tolerable;
-    spare = room;
-    room = sound.tied.room;
-  };
-  none_ended = sound.none_ended;
-}
-
-pub late_answers : (p o : Parts) (now id : ℕ) (subtask : SubtaskId) (fresh reused files : List ℕ) (n : ℕ) (clock : Moments) → AreSound p → IsAccepted p (Ack now id subtask fresh reused) → pending_of (state_of p).records id ≡ None →
-    files ≡ unknown_in p fresh → o ≡ record p { outbox = record p.outbox { waiting = p.outbox.waiting ++ files; spare = o.outbox.spare } } → present_in p.registry ≤ o.outbox.spare →
-    clock ≡ record o.clock { latest = max now o.clock.latest } → n ≡ length files →
-    Answers p (record o { clock = clock }) (Ack now id subtask fresh reused) (reply.AckLate n)
 late_answers p o now id subtask fresh reused files n clock sound accepted ended is put room seen counted =
-    let spare : ℕ = o.outbox.spare in
-    let same : record o { clock = clock } ≡ late p now (unknown_in p fresh) spare =
-    rw (seen, put, is) in
-    rw same (rw (counted ∙ ap length is) (late_is p now id subtask fresh reused spare sound accepted ended room))
+    let same : record o { clock = clock } ≡ late p now (unknown_in p fresh) o.outbox.spare = rw (seen, put, is) in
+    rw same (rw (counted ∙ ap length is) (record {
+      step_is = late_step p now id subtask fresh reused sound.tied accepted ended;
+      tied = record { uses_are = sound.tied.uses_are; retained = sound.tied.retained; tolerable = sound.tied.tolerable; spare = room; room = sound.tied.room };
+      none_ended = sound.none_ended;
+    }))

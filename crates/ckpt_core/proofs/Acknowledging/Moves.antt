@@ -1,15 +1,12 @@
 -- What an acknowledgement and a completion do to the records in rising number, and to their uses.
-use Rattle.ckpt_core.proofs.Names.{triples, ◌≡◌, ℕ, true, false, cond, eqb, List, ◌++◌, map, refl, sym, ap, subst, ◌∙◌, ◌⊎◌, inl, inr, ⊎_elim, filter, flat_map, map-append, cases_Bool, both_ways}
-use Rattle.ckpt_core.proofs.Names.{eqb-true, eqb-false, eq-eqb, ne_eqb, and_parts, Acked, SubtaskId, put_ack, acknowledges_before, IsIn, IsInOrder, in_order, in_order_once, Record, Use, Holder}
-use Rattle.ckpt_core.proofs.Names.{Subtask, Pin, use_before, uses, uses_of, acknowledged, IsIn-append_cases, IsIn-append_left, IsIn-append_right, IsIn-map, IsIn-from_map, IsIn-flat_map}
 use Rattle.ckpt_core.proofs.Names.{IsIn-from_flat_map, IsIn-filter, IsIn-from_filter, IsInOrder-filter, IsInOrder-in_order_once, IsIn-in_order_once, IsIn-from_in_order_once, IsIn-put, IsIn-put_itself}
 use Rattle.ckpt_core.proofs.Names.{IsIn-put_cases, same_from_members, uses_in_order, id_before, replaced, is_pin, pins, pins_of, with_pins, grouped, records_of, map_same, map_itself, map-map}
-use Rattle.ckpt_core.proofs.Names.{common_steps, arith}
-use Rattle.ckpt_core.proofs.Records.Grouped.{in_order-map}
-use Rattle.ckpt_core.proofs.Using.Order.{from_holds}
+use Rattle.ckpt_core.proofs.Names.{Subtask, Pin, use_before, uses, uses_of, acknowledged, IsIn-append_cases, IsIn-append_left, IsIn-append_right, IsIn-map, IsIn-from_map, IsIn-flat_map}
+use Rattle.ckpt_core.proofs.Names.{eqb-true, eqb-false, eq-eqb, ne_eqb, and_parts, Acked, SubtaskId, put_ack, acknowledges_before, IsIn, IsInOrder, in_order, in_order_once, Record, Use, Holder}
+use Rattle.ckpt_core.proofs.Names.{triples, ◌≡◌, ℕ, true, false, cond, eqb, List, ◌++◌, map, refl, sym, ap, subst, ◌∙◌, ◌⊎◌, inl, inr, ⊎_elim, filter, flat_map, map-append, cases_Bool, both_ways}
+use Rattle.ckpt_core.proofs.{Names.common_steps, Names.arith, Records.Grouped.in_order-map, Using.Order.from_holds}
 
 -- uses of a subtask more leave the pins
-
 pub pins-more : (us added : List Use) (id : ℕ) → IsInOrder use_before us → ((u : Use) → IsIn u added → is_pin u.holder ≡ false) → pins_of (in_order_once use_before (us ++ added)) id ≡ pins_of us id
 pins-more us added id order no_pin =
     let us' : List Use = in_order_once use_before (us ++ added) in
@@ -17,13 +14,10 @@ pins-more us added id order no_pin =
     let k = IsIn-from_filter (pins id) u us' h in
     ⊎_elim (λ a. IsIn-filter (pins id) u us a k.1) (λ b. absurd (both_ways (is_pin u.holder) (no_pin u b) (and_parts (eqb u.id id) (is_pin u.holder) k.1).1))
     (IsIn-append_cases u us added (IsIn-from_in_order_once use_before u (us ++ added) k.0)) in
-    let back : (u : Use) → IsIn u (filter (pins id) us) → IsIn u (filter (pins id) us') = λ u h.
-    let k = IsIn-from_filter (pins id) u us h in
-    IsIn-filter (pins id) u us' (IsIn-in_order_once uses_in_order u (us ++ added) (IsIn-append_left u us added k.0)) k.1 in
-    ap (λ ws. map (λ u. u.file) ws)
-    (same_from_members uses_in_order (filter (pins id) us') (filter (pins id) us)
-    (IsInOrder-filter use_before (pins id) us' (IsInOrder-in_order_once uses_in_order (us ++ added)))
-    (IsInOrder-filter use_before (pins id) us order) forth back)
+    let back : (u : Use) → IsIn u (filter (pins id) us) → IsIn u (filter (pins id) us') = λ u h. let k = IsIn-from_filter (pins id) u us h in IsIn-filter (pins id) u us'
+    (IsIn-in_order_once uses_in_order u (us ++ added) (IsIn-append_left u us added k.0)) k.1 in
+    ap (λ ws. map (λ u. u.file) ws) (same_from_members uses_in_order (filter (pins id) us') (filter (pins id) us) (IsInOrder-filter use_before (pins id) us'
+    (IsInOrder-in_order_once uses_in_order (us ++ added))) (IsInOrder-filter use_before (pins id) us order) forth back)
 
 pub no_pin-holds : (id : ℕ) (s : SubtaskId) (files : List ℕ) (u : Use) → IsIn u (triples id (Subtask s) files) → is_pin u.holder ≡ false
 no_pin-holds id s files u h = ap is_pin (from_holds id (Subtask s) files u h).1
@@ -44,26 +38,22 @@ pinned_instead : (us : List Use) (r s : Record) → with_pins us (with_instead r
 pinned_instead us r s = grind (arith, common_steps)
 
 -- an acknowledgement of the pending record with the number of r: r is that record with it
-pub ack_groups : (us added : List Use) (pending checkpoints savepoints : List Record) (r : Record) → IsInOrder use_before us → ((u : Use) → IsIn u added → is_pin u.holder ≡ false) → ((s : Record) → IsIn s (checkpoints ++ savepoints) → s.id ≡ r.id → ⊥) →
-    records_of (in_order_once use_before (us ++ added)) (replaced pending r) checkpoints savepoints ≡ replaced (records_of us pending checkpoints savepoints) (with_pins us r)
+pub ack_groups : (us added : List Use) (pending checkpoints savepoints : List Record) (r : Record) → IsInOrder use_before us → ((u : Use) → IsIn u added → is_pin u.holder ≡ false) →
+    ((s : Record) → IsIn s (checkpoints ++ savepoints) → s.id ≡ r.id → ⊥) → records_of (in_order_once use_before (us ++ added)) (replaced pending r) checkpoints savepoints ≡ replaced
+    (records_of us pending checkpoints savepoints) (with_pins us r)
 ack_groups us added pending checkpoints savepoints r order no_pin apart =
     let us' : List Use = in_order_once use_before (us ++ added) in
     let r' : Record = with_pins us r in
     let same : (s : Record) → with_pins us' s ≡ with_pins us s = λ s. ap (λ fs. record s { pins = fs }) (pins-more us added s.id order no_pin) in
-    let each : (s : Record) → IsIn s pending → with_pins us' (with_instead r s) ≡ with_instead r' (with_pins us s) = λ s h.
-    same (with_instead r s) ∙ pinned_instead us r s in
-    let first : map (with_pins us') (replaced pending r) ≡ replaced (map (with_pins us) pending) r' =
-    map-map (with_pins us') (with_instead r) pending ∙ map_same (λ s. with_pins us' (with_instead r s)) (λ s. with_instead r' (with_pins us s)) pending each ∙ sym (map-map (with_instead r') (with_pins us) pending) in
-    let others : checkpoints ++ savepoints ≡ replaced (checkpoints ++ savepoints) r' =
-    sym (map_itself (with_instead r') (checkpoints ++ savepoints) (λ s h. with_instead-other r' s (apart s h))) in
-    let whole : grouped us' (replaced pending r) checkpoints savepoints ≡ replaced (grouped us pending checkpoints savepoints) r' =
-    ap (λ a. a ++ (checkpoints ++ savepoints)) first
-    ∙ ap (λ b. replaced (map (with_pins us) pending) r' ++ b) others
-    ∙ sym (map-append (with_instead r') (map (with_pins us) pending) (checkpoints ++ savepoints)) in
+    let each : (s : Record) → IsIn s pending → with_pins us' (with_instead r s) ≡ with_instead r' (with_pins us s) = λ s h. same (with_instead r s) ∙ pinned_instead us r s in
+    let first : map (with_pins us') (replaced pending r) ≡ replaced (map (with_pins us) pending) r' = map-map (with_pins us') (with_instead r) pending
+    ∙ map_same (λ s. with_pins us' (with_instead r s)) (λ s. with_instead r' (with_pins us s)) pending each ∙ sym (map-map (with_instead r') (with_pins us) pending) in
+    let others : checkpoints ++ savepoints ≡ replaced (checkpoints ++ savepoints) r' = sym (map_itself (with_instead r') (checkpoints ++ savepoints) (λ s h. with_instead-other r' s (apart s h))) in
+    let whole : grouped us' (replaced pending r) checkpoints savepoints ≡ replaced (grouped us pending checkpoints savepoints) r' = ap (λ a. a ++ (checkpoints ++ savepoints)) first
+    ∙ ap (λ b. replaced (map (with_pins us) pending) r' ++ b) others ∙ sym (map-append (with_instead r') (map (with_pins us) pending) (checkpoints ++ savepoints)) in
     ap (in_order id_before) whole ∙ in_order-map (with_instead r') (id-with_instead r') (grouped us pending checkpoints savepoints)
 
 -- the uses after it
-
 pub replaced_members : (rs : List Record) (r z : Record) → IsIn z (replaced rs r) → (z ≡ r) ⊎ (IsIn z rs × (z.id ≡ r.id → ⊥))
 replaced_members rs r z h = grind (arith, common_steps, IsIn-from_map, cases_Bool, eqb-false)
 
@@ -101,10 +91,9 @@ use_when_acked r a u h =
 same_holds : (id : ℕ) (h : Holder) (xs ys : List ℕ) (u : Use) → ((f : ℕ) → IsIn f xs → IsIn f ys) → IsIn u (triples id h xs) → IsIn u (triples id h ys)
 same_holds id h xs ys u same k = grind (arith, common_steps, IsIn-from_map, IsIn-map, triples)
 
-pub ack_uses : (rs : List Record) (r : Record) (s : SubtaskId) (named files : List ℕ) → IsIn r rs → ((q : Record) → IsIn q rs → q.id ≡ r.id → q ≡ r) →
-    ((f : ℕ) → IsIn f named → IsIn f files) → ((f : ℕ) → IsIn f files → IsIn f named) →
-    IsInOrder use_before (uses (replaced rs (acknowledged r s files))) →
-    in_order_once use_before (uses rs ++ triples r.id (Subtask s) named) ≡ uses (replaced rs (acknowledged r s files))
+pub ack_uses : (rs : List Record) (r : Record) (s : SubtaskId) (named files : List ℕ) → IsIn r rs → ((q : Record) → IsIn q rs → q.id ≡ r.id → q ≡ r) → ((f : ℕ) → IsIn f named → IsIn f files) →
+    ((f : ℕ) → IsIn f files → IsIn f named) → IsInOrder use_before (uses (replaced rs (acknowledged r s files))) → in_order_once use_before (uses rs ++ triples r.id (Subtask s) named) ≡ uses
+    (replaced rs (acknowledged r s files))
 ack_uses rs r s named files there one forth back order =
     let a : Acked = record { subtask = s; files = files } in
     let r' : Record = acknowledged r s files in

@@ -1,28 +1,22 @@
 -- What an accepted acknowledgement of a pending record may rely on.
-use Rattle.ckpt_core.proofs.Names.{triples, ◌≡◌, ℕ, zero, suc, ◌+◌, ◌-◌, ◌^◌, ◌<◌, ◌≤◌, true, false, cond, eqb, ltb, List, [], ◌∷◌, ◌++◌, length, refl, sym, ap, subst, ◌∙◌, ⊎_elim, arith, Option}
+use Rattle.ckpt_core.proofs.Names.{AreSound, IsAccepted, records_in, state_of, acked, pending_of, IsSound, id_before, in_outbox, IsAcceptedAck, accepted_ack, new_subtask, IsIn-from_find, find_agree}
 use Rattle.ckpt_core.proofs.Names.{Some, None, find, option_map, IsSome, eqb-true, or_parts, Ack, SubtaskId, IsIn, IsInOrder, LiesAt, Record, Use, Subtask, Pin, count, is_present, uses, uses_of}
 use Rattle.ckpt_core.proofs.Names.{has_acknowledged, acknowledged, is_subtask, IsIn-append_cases, IsIn-from_flat_map, IsInOrder-map, IsPending, IsEachOnce, HasNoUse, IsStored, id_of, Parts, with_pins}
-use Rattle.ckpt_core.proofs.Names.{AreSound, IsAccepted, records_in, state_of, acked, pending_of, IsSound, id_before, in_outbox, IsAcceptedAck, accepted_ack, new_subtask, IsIn-from_find, find_agree}
 use Rattle.ckpt_core.proofs.Names.{same_record, IsAcking, acking, has_its_own, common_steps, uses_of_acks}
-use Rattle.ckpt_core.proofs.Ending.Drops.{apart_in, groups_of}
-use Rattle.ckpt_core.proofs.Records.Lookups.{has_number, pending_of-groups, find-map}
-use Rattle.ckpt_core.proofs.Triggering.TriggerParts.{live_records}
-use Rattle.ckpt_core.proofs.Using.Order.{from_holds, id_of_acks, use_of_record}
-use Rattle.ckpt_core.proofs.Using.CountBound.{count-records}
+use Rattle.ckpt_core.proofs.Names.{triples, ◌≡◌, ℕ, zero, suc, ◌+◌, ◌-◌, ◌^◌, ◌<◌, ◌≤◌, true, false, cond, eqb, ltb, List, [], ◌∷◌, ◌++◌, length, refl, sym, ap, subst, ◌∙◌, ⊎_elim, arith, Option}
+use Rattle.ckpt_core.proofs.{Ending.Drops.apart_in, Ending.Drops.groups_of, Records.Lookups.has_number, Records.Lookups.pending_of-groups, Records.Lookups.find-map}
+use Rattle.ckpt_core.proofs.{Triggering.TriggerParts.live_records, Using.CountBound.count-records, Using.Order.from_holds, Using.Order.id_of_acks, Using.Order.use_of_record}
 
 some_from : {X : Type 0} (o : Option X) → IsSome o → (x : X) × (o ≡ Some x)
 some_from (Some x) h = (x, refl)
 some_from None h = absurd (cc)
 
 -- the record of this number, with its pins
-pub found_pending : (p : Parts) (id : ℕ) → IsSound (state_of p) → ((r : Record) → IsIn r p.pending → IsPending r) → IsStored p.store
-    → pending_of (state_of p).records id ≡ option_map (with_pins p.registry) (find (has_number id) p.pending)
-unfolding state_of
-found_pending p id sound pending stored = pending_of-groups id p.registry p.pending p.store.checkpoints p.store.savepoints (apart_in p sound) (groups_of p pending stored)
-
 pub found_record : (p : Parts) (id : ℕ) (r : Record) → IsSound (state_of p) → ((r : Record) → IsIn r p.pending → IsPending r) → IsStored p.store → find (has_number id) p.pending ≡ Some r
     → pending_of (state_of p).records id ≡ Some (with_pins p.registry r)
-found_record p id r sound pending stored e = found_pending p id sound pending stored ∙ ap (option_map (with_pins p.registry)) e
+unfolding state_of
+found_record p id r sound pending stored e =
+    pending_of-groups id p.registry p.pending p.store.checkpoints p.store.savepoints (apart_in p sound) (groups_of p pending stored) ∙ ap (option_map (with_pins p.registry)) e
 
 -- a subtask that has not acknowledged holds nothing
 subtask_holder : (s t : SubtaskId) → Subtask s ≡ Subtask t → s ≡ t
@@ -47,27 +41,20 @@ pub record CanTake (p : Parts) (now id : ℕ) (subtask : SubtaskId) (fresh reuse
   pub below : (f : ℕ) → IsIn f reused → count p.registry f < 2 ^ 32 - 1
   pub unused : HasNoUse p.registry id (Subtask subtask)
 
-count_limit : (p : Parts) (f : ℕ) → AreSound p → count p.registry f < 2 ^ 32 - 1
-unfolding state_of
-count_limit p f sound = omega (arith, ap (λ us. count us f) sound.tied.uses_are, live_records p sound.sound, count-records f (records_in p) sound.sound.records.each)
-
 no_use : (p : Parts) (q : Record) (id : ℕ) (s : SubtaskId) → AreSound p → IsIn q (state_of p).records → q.id ≡ id → has_acknowledged q s ≡ false → HasNoUse p.registry id (Subtask s)
 unfolding state_of
 no_use p q id s sound there its new u h same holder =
     let x = IsIn-from_flat_map uses_of u (records_in p) (rw sound.tied.uses_are at h) in
     not_used q s u new (rw (same_record x.0 q (records_in p) sound.sound.records.in_order x.1 there (sym (use_of_record x.0 u x.2) ∙ same ∙ sym its)) at x.2) holder
 
-pub can_take : (p : Parts) (now id : ℕ) (subtask : SubtaskId) (fresh reused : List ℕ) → AreSound p → IsAccepted p (Ack now id subtask fresh reused) → ((r : Record) → IsIn r p.pending → IsPending r)
-    → IsStored p.store → IsSome (find (has_number id) p.pending)
-    → CanTake p now id subtask fresh reused
+pub can_take : (p : Parts) (now id : ℕ) (subtask : SubtaskId) (fresh reused : List ℕ) → AreSound p → IsAccepted p (Ack now id subtask fresh reused) → ((r : Record) → IsIn r p.pending → IsPending r) →
+    IsStored p.store → IsSome (find (has_number id) p.pending) → CanTake p now id subtask fresh reused
 unfolding state_of
 can_take p now id subtask fresh reused sound accepted pending stored there =
     let at = some_from _ there in
-    let r : Record = at.0 in
-    let e : find (has_number id) p.pending ≡ Some r = at.1 in
     let a : IsAcceptedAck (state_of p) now id subtask fresh reused = accepted_ack (state_of p) now id subtask fresh reused accepted in
-    let q : Record = with_pins p.registry r in
-    let k : IsAcking (state_of p) q subtask fresh reused = acking (state_of p) now id subtask fresh reused q a (found_record p id r sound.sound pending stored e) in
+    let q : Record = with_pins p.registry at.0 in
+    let k : IsAcking (state_of p) q subtask fresh reused = acking (state_of p) now id subtask fresh reused q a (found_record p id at.0 sound.sound pending stored at.1) in
     let present : (f : ℕ) → is_present p.registry f ≡ is_present (uses (records_in p)) f = λ f. ap (λ us. is_present us f) sound.tied.uses_are in
     record {
       few = a.few;
@@ -78,12 +65,11 @@ can_take p now id subtask fresh reused sound accepted pending stored there =
       fresh_absent = λ f h. present f ∙ (or_parts (is_present (uses (records_in p)) f) (in_outbox (state_of p) f) (k.unknown f h)).0;
       reused_present = λ f h. present f ∙ k.present f h;
       each_once = k.once;
-      below = λ f h. count_limit p f sound;
-      unused = no_use p q id subtask sound k.there (eqb-true r.id id (IsIn-from_find (has_number id) r p.pending e).1) k.first;
+      below = λ f h. omega (arith, ap (λ us. count us f) sound.tied.uses_are, live_records p sound.sound, count-records f (records_in p) sound.sound.records.each);
+      unused = no_use p q id subtask sound k.there (eqb-true at.0.id id (IsIn-from_find (has_number id) at.0 p.pending at.1).1) k.first;
     }
 
 -- the record after it
-
 ack_id : (id : ℕ) (s : SubtaskId) (files : List ℕ) (r : Record) → (cond (has_number id r) (acknowledged r s files) r).id ≡ r.id
 ack_id id s files r = grind (arith, common_steps)
 
@@ -91,8 +77,7 @@ pub found_acked : (id : ℕ) (s : SubtaskId) (files : List ℕ) (r : Record) (rs
     → find (has_number id) (acked id s files rs) ≡ Some (acknowledged r s files)
 found_acked id s files r rs e =
     let ack : Record → Record = λ q. cond (has_number id q) (acknowledged q s files) q in
-    find-map (has_number id) ack rs
-    ∙ ap (option_map ack) (find_agree (λ q. has_number id (ack q)) (has_number id) rs (λ q h. ap (λ i. eqb i id) (ack_id id s files q)) ∙ e)
+    find-map (has_number id) ack rs ∙ ap (option_map ack) (find_agree (λ q. has_number id (ack q)) (has_number id) rs (λ q h. ap (λ i. eqb i id) (ack_id id s files q)) ∙ e)
     ∙ ap (λ b. Some (cond b (acknowledged r s files) r)) (IsIn-from_find (has_number id) r rs e).1
 
 -- it lies where it lay
@@ -116,9 +101,9 @@ pub record IsFoundAcked (id : ℕ) (s : SubtaskId) (rs : List Record) : Type 0 w
 pub is_found_acked : (id : ℕ) (s : SubtaskId) (files : List ℕ) (rs new : List Record) → IsSome (find (has_number id) rs) → new ≡ acked id s files rs → IsFoundAcked id s new
 is_found_acked id s files rs new there is =
     let at = some_from _ there in
-    let r : Record = at.0 in
-    let found : find (has_number id) new ≡ Some (acknowledged r s files) = ap (find (has_number id)) is ∙ found_acked id s files r rs at.1 in
+    let found : find (has_number id) new ≡ Some (acknowledged at.0 s files) = ap (find (has_number id)) is ∙ found_acked id s files at.0 rs at.1 in
     record {
       there = rw found refl;
-      acknowledged = λ q h. let same : acknowledged r s files ≡ q = let both : Some (acknowledged r s files) ≡ Some q = sym found ∙ h in cc in ap (λ x. has_acknowledged x s) (sym same) ∙ has_its_own r s files;
+      acknowledged = λ q h. let same : acknowledged at.0 s files ≡ q = let both : Some (acknowledged at.0 s files) ≡ Some q = sym found ∙ h in cc in ap (λ x. has_acknowledged x s) (sym same)
+          ∙ has_its_own at.0 s files;
     }

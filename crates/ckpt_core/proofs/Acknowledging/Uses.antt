@@ -1,12 +1,10 @@
 -- If one of the records has an acknowledgement more, their uses are in order; and how many files they name.
-use Rattle.ckpt_core.proofs.Names.{◌≡◌, ℕ, suc, ◌+◌, ◌≤◌, Bool, true, false, not, ◌&&◌, ltb, List, [], ◌∷◌, map, length, refl, sym, ap, ◌∙◌, arith, filter, ltb-true, eqb-true, not-true, and_from}
-use Rattle.ckpt_core.proofs.Names.{and_parts, length-filter, count_by-le-length, length-filter_both, ascending_set, IsIn, put_once, Use, is_present, numbers_in_order, IsIn-map, IsIn-from_map}
 use Rattle.ckpt_core.proofs.Names.{IsIn-filter, IsIn-from_filter, IsInOrder-filter, IsInOrder-in_order_once, IsIn-in_order_once, IsIn-from_in_order_once, same_from_members, present_in}
-use Rattle.ckpt_core.proofs.Names.{IsIn-from_counted, common_steps}
-use Rattle.ckpt_core.proofs.Ending.HandOut.{present-from_use}
+use Rattle.ckpt_core.proofs.Names.{and_parts, length-filter, count_by-le-length, length-filter_both, ascending_set, IsIn, put_once, Use, is_present, numbers_in_order, IsIn-map, IsIn-from_map}
+use Rattle.ckpt_core.proofs.Names.{◌≡◌, ℕ, suc, ◌+◌, ◌≤◌, Bool, true, false, not, ◌&&◌, ltb, List, [], ◌∷◌, map, length, refl, sym, ap, ◌∙◌, arith, filter, ltb-true, eqb-true, not-true, and_from}
+use Rattle.ckpt_core.proofs.{Ending.HandOut.present-from_use, Names.IsIn-from_counted, Names.common_steps}
 
 -- how many files are in use after an acknowledgement
-
 length-put_once : (x : ℕ) (xs : List ℕ) → length (put_once ltb x xs) ≤ suc (length xs)
 length-put_once x [] = omega arith
 length-put_once x (y ∷ xs) = grind (arith, common_steps, length-put_once x xs)
@@ -31,7 +29,8 @@ use_from_present : (f : ℕ) (us : List Use) → is_present us f ≡ true → (u
 use_from_present f us h = grind (arith, common_steps, IsIn-from_counted, eqb-true, ltb-true)
 
 -- each file of the uses after was in use before, or is one of the fresh
-pub present_more : (before after : List Use) (fresh : List ℕ) → ((u : Use) → IsIn u before → IsIn u after) → ((u : Use) → IsIn u after → is_present before u.file ≡ false → IsIn u.file fresh) → present_in after ≤ present_in before + length fresh
+pub present_more : (before after : List Use) (fresh : List ℕ) → ((u : Use) → IsIn u before → IsIn u after) → ((u : Use) → IsIn u after → is_present before u.file ≡ false → IsIn u.file fresh) →
+    present_in after ≤ present_in before + length fresh
 present_more before after fresh kept new =
     let old : ℕ → Bool = is_present before in
     let is_new : ℕ → Bool = λ f. not (old f) in
@@ -58,6 +57,7 @@ present_more before after fresh kept new =
     let both = and_parts (is_new f) (is_present after f) (IsIn-from_filter (λ g. is_new g && is_present after g) f (ascending_set fresh) h).1 in
     let u = use_from_present f after both.1 in
     IsIn-filter is_new f all (file_there f u.0 after u.1 u.2) both.0) in
+    let both : ℕ → Bool = λ f. is_new f && is_present after f in
     let few : length (filter is_new all) ≤ length fresh =
-    omega (arith, ap length second, length-filter (λ f. is_new f && is_present after f) (ascending_set fresh), count_by-le-length (λ f. is_new f && is_present after f) (ascending_set fresh), length-ascending_set fresh) in
+    omega (arith, ap length second, length-filter both (ascending_set fresh), count_by-le-length both (ascending_set fresh), length-ascending_set fresh) in
     omega (arith, ap length first, length-filter_both old is_new (λ f. refl) all)

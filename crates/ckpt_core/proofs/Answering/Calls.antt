@@ -1,10 +1,8 @@
 -- The parts after an accepted call, and that only calls that may take memory run out of it.
-use Rattle.ckpt_core.proofs.Names.{◌≡◌, ℕ, true, List, refl, ◌∙◌, Option, Some, None, Result, Ok, Err, IfOk, OnErr, Call, Savepoint, Restore, Take, Show, Target, Reply, Record, Parts, answer_wants}
-use Rattle.ckpt_core.proofs.Names.{may_want_memory, AreSound, Answers, Stays, moment_of, no_record, refusal, IsCall, State, record_of, at_moment, effect, restore, show, take_files, step_keeps}
-use Rattle.ckpt_core.proofs.Names.{step_accepted, first_row-none, common_steps, arith}
+use Rattle.ckpt_core.proofs.Names.{moment_of, no_record, refusal, IsCall, State, record_of, at_moment, effect, show, step_keeps, step_accepted, first_row-none, common_steps, arith}
+use Rattle.ckpt_core.proofs.Names.{◌≡◌, ℕ, true, refl, ◌∙◌, Option, Some, None, Result, Ok, Err, IfOk, OnErr, Call, Show, Reply, Record, Parts, answer_wants, may_want_memory, AreSound, Answers, Stays}
 
 -- after a call
-
 pub sound_answered : (old new : Parts) (call : Call) (reply : Reply) → IsCall call → AreSound old → Answers old new call reply → AreSound new
 sound_answered old new call reply c s a = grind (arith, common_steps, step_keeps)
 
@@ -22,18 +20,6 @@ sound_after old new call (Err error) c s a h = sound_unchanged old new s h
 wants_as_effect : (m : State) (call : Call) → refusal m call ≡ None → may_want_memory m call ≡ answer_wants call (effect (at_moment m (moment_of call)) call).1
 wants_as_effect m call e = grind (arith, common_steps, step_accepted)
 
-pub savepoint_wants : (m : State) (now : ℕ) → refusal m (Savepoint now) ≡ None → may_want_memory m (Savepoint now) ≡ true
-unfolding effect
-savepoint_wants m now e = wants_as_effect m (Savepoint now) e
-
-pub restore_wants : (m : State) (now : ℕ) (target : Target) (shape : List ℕ) → refusal m (Restore now target (Some shape)) ≡ None → may_want_memory m (Restore now target (Some shape)) ≡ true
-unfolding effect restore
-restore_wants m now target shape e = wants_as_effect m (Restore now target (Some shape)) e
-
-pub take_wants : (m : State) (most : ℕ) → refusal m (Take most) ≡ None → may_want_memory m (Take most) ≡ true
-unfolding effect take_files
-take_wants m most e = wants_as_effect m (Take most) e
-
 shown : (id : ℕ) (o : Option Record) → no_record o ≡ None → answer_wants (Show id) (show o) ≡ true
 shown id None h = absurd (cc)
 shown id (Some r) h = refl
@@ -48,7 +34,7 @@ unfolding effect
 show_wants m id e = wants_as_effect m (Show id) e ∙ shown id (record_of m id) (accepted_show m id e)
 
 -- of an accepted call, whatever the answer
-pub wants_here : {A E : Type 0} (result : Result A E) (m : State) (call same : Call) → call ≡ same → refusal m call ≡ None → (refusal m same ≡ None → may_want_memory m same ≡ true) →
+pub wants_here : {A E : Type 0} (result : Result A E) (m : State) (call same : Call) → call ≡ same → refusal m call ≡ None → answer_wants same (effect (at_moment m (moment_of same)) same).1 ≡ true →
     OnErr result (may_want_memory m call ≡ true)
 wants_here (Ok reply) m call same e accepted h = tt
-wants_here (Err error) m call same e accepted h = grind (arith, common_steps)
+wants_here (Err error) m call same e accepted h = rw e (wants_as_effect m same (rw e at accepted) ∙ h)

@@ -1,11 +1,9 @@
 -- Calls that read, and those that move a file in the outbox.
-use Rattle.ckpt_core.proofs.Names.{◌≡◌, ℕ, List, [], ◌∷◌, ◌++◌, take, refl, sym, ap, ◌∙◌, arith, Option, Some, None, find, IsSome, option_map, option_or, Metadata, NoSuchRecord, Done, IsInOrder}
 use Rattle.ckpt_core.proofs.Names.{Record, count, metadata_of, Queues, Parts, with_pins, grouped, Answers, AreTied, AreSound, IsAccepted, records_in, state_of, refusal, no_record, id_before, State}
 use Rattle.ckpt_core.proofs.Names.{record_of, Stepped, effect, take_files, show, step_accepted, row_last, common_steps}
+use Rattle.ckpt_core.proofs.Names.{◌≡◌, ℕ, List, [], ◌∷◌, ◌++◌, take, refl, sym, ap, ◌∙◌, arith, Option, Some, None, find, IsSome, option_map, option_or, Metadata, NoSuchRecord, Done, IsInOrder}
+use Rattle.ckpt_core.proofs.Records.{GroupLookups.record_of-groups, Grouped.apart-from_in_order, Lookups.has_number}
 use Rattle.ckpt_model.specs.Steps.{without}
-use Rattle.ckpt_core.proofs.Records.Grouped.{apart-from_in_order}
-use Rattle.ckpt_core.proofs.Records.GroupLookups.{record_of-groups}
-use Rattle.ckpt_core.proofs.Records.Lookups.{has_number}
 use Rattle.std.specs.Prelude as prelude
 use Rattle.ckpt_ids.specs.declared.call.Call.TheVariants as call
 use Rattle.ckpt_ids.specs.declared.reply.Reply.TheVariants as reply
@@ -26,8 +24,8 @@ pub deleted_answers : (p : Parts) (file : ℕ) (outbox : Queues) → AreSound p 
 unfolding state_of effect
 deleted_answers p file outbox sound accepted is = grind (arith, common_steps, step_accepted, tied_with)
 
-pub undeleted_answers : (p : Parts) (file : ℕ) (outbox : Queues) → AreSound p → IsAccepted p (call.Undeleted file) → outbox ≡ record p.outbox { waiting = p.outbox.waiting ++ file ∷ []; taken = without file p.outbox.taken } →
-    Answers p (record p { outbox = outbox }) (call.Undeleted file) (reply.Undeleted file)
+pub undeleted_answers : (p : Parts) (file : ℕ) (outbox : Queues) → AreSound p → IsAccepted p (call.Undeleted file) →
+    outbox ≡ record p.outbox { waiting = p.outbox.waiting ++ file ∷ []; taken = without file p.outbox.taken } → Answers p (record p { outbox = outbox }) (call.Undeleted file) (reply.Undeleted file)
 unfolding state_of effect
 undeleted_answers p file outbox sound accepted is = grind (arith, common_steps, step_accepted, tied_with)
 
@@ -36,7 +34,6 @@ unfolding state_of effect
 counted_answers p file n sound accepted is = grind (arith, common_steps, step_accepted)
 
 -- the metadata of a record
-
 either : (a b : Option Record) → elim a as (λ _. Option Record) [ Some r ↦ Some r | None ↦ b ] ≡ option_or a b
 either (Some r) b = refl
 either None b = refl
@@ -63,8 +60,8 @@ pending_metadata p id r metadata order there is = ap (option_map metadata_of) (p
 pub stored_record : (p : Parts) (id : ℕ) → IsInOrder id_before (records_in p) → find (has_number id) p.pending ≡ None → record_of (state_of p) id ≡ storing.record_of p.store id
 stored_record p id order none = record_there p id order ∙ ap (λ o. option_or (option_map (with_pins p.registry) o) (storing.record_of p.store id)) none
 
-pub stored_metadata : (p : Parts) (id : ℕ) (r : Record) (metadata : Metadata) → IsInOrder id_before (records_in p) → find (has_number id) p.pending ≡ None → storing.record_of p.store id ≡ Some r → metadata ≡ metadata_of r →
-    option_map metadata_of (record_of (state_of p) id) ≡ Some metadata
+pub stored_metadata : (p : Parts) (id : ℕ) (r : Record) (metadata : Metadata) → IsInOrder id_before (records_in p) → find (has_number id) p.pending ≡ None → storing.record_of p.store id ≡ Some r →
+    metadata ≡ metadata_of r → option_map metadata_of (record_of (state_of p) id) ≡ Some metadata
 stored_metadata p id r metadata order none there is = grind (arith, common_steps, stored_record)
 
 -- a show is refused exactly if there is no such record
@@ -85,6 +82,7 @@ shown : (m : State) (o : Option Record) (metadata : Metadata) → option_map met
 shown m (Some r) metadata e = let same : metadata_of r ≡ metadata = cc in ap (λ k. (let x : Stepped = (m, Done (reply.Shown k)) in x)) same
 shown m None metadata e = absurd (cc)
 
-pub shown_answers : (p : Parts) (id : ℕ) (metadata : Metadata) → AreSound p → IsAccepted p (call.Show id) → option_map metadata_of (record_of (state_of p) id) ≡ Some metadata → Answers p p (call.Show id) (reply.Shown metadata)
+pub shown_answers : (p : Parts) (id : ℕ) (metadata : Metadata) → AreSound p → IsAccepted p (call.Show id) → option_map metadata_of (record_of (state_of p) id) ≡ Some metadata →
+    Answers p p (call.Show id) (reply.Shown metadata)
 unfolding effect
 shown_answers p id metadata sound accepted is = grind (arith, common_steps, shown, step_accepted)

@@ -1,13 +1,11 @@
 -- A file that is named twice, in ascending lists: it is its own neighbour, or is in both lists.
-use Rattle.ckpt_core.proofs.Names.{◌≡◌, ℕ, zero, suc, ◌+◌, ◌<◌, ◌≤◌, Bool, true, false, not, ◌||◌, ltb, eqb, List, [], ◌∷◌, ◌++◌, length, get_or, refl, sym, subst, arith, MatchBool, Result, add-one}
+use Rattle.ckpt_core.proofs.Names.{AreDistinct-left, AreDistinct-right, AreDistinct-apart, AreDistinct-from_order, IsIn-from_test, test-from_IsIn, ascending_at, numbers_in_order, times-from_IsIn}
 use Rattle.ckpt_core.proofs.Names.{IsBinarySearchResult, nat_cmp, is_ok, list_any, both_ways, eq-eqb, ltb-false, or_parts, or_cases, or_left, or_right, true_from_ne_false, false_from_ne_true}
 use Rattle.ckpt_core.proofs.Names.{ltb-true, lt-ltb, AreDistinct, IsAscending, IsAscendingSet, ComesBefore-at, ComesBefore-from, IsIn-from_list_any, list_any-from_IsIn, AreDistinct-append}
-use Rattle.ckpt_core.proofs.Names.{AreDistinct-left, AreDistinct-right, AreDistinct-apart, AreDistinct-from_order, IsIn-from_test, test-from_IsIn, ascending_at, numbers_in_order, times-from_IsIn}
-use Rattle.ckpt_core.proofs.Names.{IsIn-from_times, has_repeats, distinct-from_test, times-from_search, common_steps}
-use Rattle.ckpt_core.proofs.Records.GroupLookups.{same_tests}
+use Rattle.ckpt_core.proofs.Names.{◌≡◌, ℕ, zero, suc, ◌+◌, ◌<◌, ◌≤◌, Bool, true, false, not, ◌||◌, ltb, eqb, List, [], ◌∷◌, ◌++◌, length, get_or, refl, sym, subst, arith, MatchBool, Result, add-one}
+use Rattle.ckpt_core.proofs.{Names.IsIn-from_times, Names.has_repeats, Names.distinct-from_test, Names.times-from_search, Names.common_steps, Records.GroupLookups.same_tests}
 
 -- the test of repeats
-
 pub test-from_distinct : (xs : List ℕ) → AreDistinct xs → has_repeats xs ≡ false
 test-from_distinct [] a = refl
 test-from_distinct (x ∷ xs) a = grind (arith, common_steps, IsIn-from_test, false_from_ne_true, test-from_distinct xs a.1)
@@ -28,28 +26,24 @@ repeat_at (x ∷ y ∷ ys) zero lt e = or_left (list_any (λ z. eqb x z) (y ∷ 
 repeat_at (x ∷ y ∷ ys) (suc k) lt e = or_right (list_any (λ z. eqb x z) (y ∷ ys)) (has_repeats (y ∷ ys)) (repeat_at (y ∷ ys) k (omega arith) e)
 
 -- what a comparison of all neighbours says of an ascending list
-pub repeats-from_adjacent : (xs : List ℕ) (r : Bool) → IsAscending xs →
-    MatchBool r ((k d : ℕ) → k + 1 < length xs → true ≡ ltb (get_or xs k d) (get_or xs (k + 1) d)) ((k : ℕ) × (k + 1 < length xs) × ((d : ℕ) → false ≡ ltb (get_or xs k d) (get_or xs (k + 1) d))) →
-    not r ≡ has_repeats xs
+pub repeats-from_adjacent : (xs : List ℕ) (r : Bool) → IsAscending xs → MatchBool r ((k d : ℕ) → k + 1 < length xs → true ≡ ltb (get_or xs k d) (get_or xs (k + 1) d))
+    ((k : ℕ) × (k + 1 < length xs) × ((d : ℕ) → false ≡ ltb (get_or xs k d) (get_or xs (k + 1) d))) → not r ≡ has_repeats xs
 repeats-from_adjacent xs true a h =
-    let next : (k d : ℕ) → suc k < length xs → true ≡ ltb (get_or xs k d) (get_or xs (suc k) d) = λ k d lt.
-    let At : ℕ → Type 0 = λ n. true ≡ ltb (get_or xs k d) (get_or xs n d) in
-    subst At (add-one k) (h k d (omega arith)) in
+    let next : (k d : ℕ) → suc k < length xs → true ≡ ltb (get_or xs k d) (get_or xs (suc k) d) = λ k d lt. let At : ℕ → Type 0 = λ n. true ≡ ltb (get_or xs k d) (get_or xs n d) in subst At
+    (add-one k) (h k d (omega arith)) in
     sym (test-from_distinct xs (AreDistinct-from_order numbers_in_order xs (set-from_adjacent xs next)))
 repeats-from_adjacent xs false a h =
-    let k : ℕ = h.0 in
-    let lt : suc k < length xs = omega (arith, h.1) in
-    let not_below : false ≡ ltb (get_or xs k 0) (get_or xs (suc k) 0) = rw (add-one k) at (h.2 0) in
-    let above : get_or xs (suc k) 0 ≤ get_or xs k 0 = ltb-false (get_or xs k 0) (get_or xs (suc k) 0) (sym not_below) in
-    let below : get_or xs k 0 ≤ get_or xs (suc k) 0 = ascending_at xs a k (suc k) (omega arith) lt in
-    sym (repeat_at xs k lt (omega arith))
+    let lt : suc h.0 < length xs = omega (arith, h.1) in
+    let not_below : false ≡ ltb (get_or xs h.0 0) (get_or xs (suc h.0) 0) = rw (add-one h.0) at (h.2 0) in
+    let above : get_or xs (suc h.0) 0 ≤ get_or xs h.0 0 = ltb-false (get_or xs h.0 0) (get_or xs (suc h.0) 0) (sym not_below) in
+    let below : get_or xs h.0 0 ≤ get_or xs (suc h.0) 0 = ascending_at xs a h.0 (suc h.0) (omega arith) lt in
+    sym (repeat_at xs h.0 lt (omega arith))
 
 -- what a binary search returns
 pub among-from_search : (xs : List ℕ) (x : ℕ) (r : Result ℕ ℕ) → IsAscending xs → IsBinarySearchResult (λ y. nat_cmp y x) xs r → is_ok r ≡ list_any (λ f. eqb x f) xs
 among-from_search xs x r a h = grind (arith, common_steps, IsIn-from_test, IsIn-from_times, lt-ltb, ltb-true, same_tests, test-from_IsIn, times-from_IsIn, times-from_search)
 
 -- two lists
-
 repeats_left : (xs ys : List ℕ) → has_repeats xs ≡ true → has_repeats (xs ++ ys) ≡ true
 repeats_left xs ys e = true_from_ne_false (has_repeats (xs ++ ys)) (λ f. both_ways (has_repeats xs) (test-from_distinct xs (AreDistinct-left xs ys (distinct-from_test (xs ++ ys) f))) e)
 
@@ -75,9 +69,7 @@ repeats_across xs ys v false is e shared = grind (arith, common_steps, no_repeat
 
 -- a test that is made if another failed
 pub or_first : (a b v : Bool) → a ≡ true → v ≡ true → v ≡ (a || b)
-or_first true b v e h = h
-or_first false b v e h = absurd (both_ways false refl e)
+or_first a b v e h = grind (arith, common_steps)
 
 pub or_second : (a b v : Bool) → a ≡ false → v ≡ b → v ≡ (a || b)
-or_second true b v e h = absurd (both_ways true e refl)
-or_second false b v e h = h
+or_second a b v e h = grind (arith, common_steps)

@@ -1,5 +1,5 @@
 -- What the completion of a record may rely on.
-use Rattle.ckpt_core.proofs.Names.{◌≡◌, ℕ, ◌+◌, ◌<◌, ◌≤◌, ◌^◌, max, true, false, eqb, List, [], ◌++◌, length, sym, ap, subst, ◌∙◌, ⊎_elim, arith, Some, find, vec_capacity, eqb-true, eq-eqb, ltb-true}
+use Rattle.ckpt_core.proofs.Names.{◌≡◌, ℕ, ◌+◌, ◌<◌, ◌≤◌, ◌^◌, max, true, false, eqb, List, [], ◌++◌, length, sym, ap, ◌∙◌, ⊎_elim, arith, Some, find, vec_capacity, eqb-true, eq-eqb, ltb-true}
 use Rattle.ckpt_core.proofs.Names.{or_parts, not_from_true, false_from_ne_true, length-map, length-filter, Ack, SubtaskId, ascending, IsIn, IsInOrder, Record, Use, Subtask, count, is_present, missing}
 use Rattle.ckpt_core.proofs.Names.{uses, IsIn-append_cases, IsIn-append_right, IsIn-from_list_any, IsIn-from_in_order_once, is_known, IsPending, triples, Stored, IsAbove, IsStored, has_id}
 use Rattle.ckpt_core.proofs.Names.{has_savepoint, LiesAt, id_of, Parts, IsMissing, with_pins, AreSound, AreTied, IsAccepted, records_in, state_of, present_in, id_before, in_outbox, IsAcking, with_ack}
@@ -32,49 +32,46 @@ pub record IsLast (p then : Parts) (now id : ℕ) (s : SubtaskId) (fresh reused 
 
 -- before it is taken out
 -- the record lies where it lay, and the order is the same
-pub lies_taken : {id place : ℕ} (p then : Parts) (now : ℕ) (s : SubtaskId) (fresh reused : List ℕ) → LiesAt id_of id p.pending place → then ≡ taken_in p now id s fresh reused → LiesAt id_of id then.pending place
-lies_taken {id} {place} p then now s fresh reused lies is = subst (λ (x : Parts). LiesAt id_of id x.pending place) (sym is) (lies_acked id s (ascending (fresh ++ reused)) p.pending place lies)
+pub lies_taken : {id place : ℕ} (p then : Parts) (now : ℕ) (s : SubtaskId) (fresh reused : List ℕ) → LiesAt id_of id p.pending place → then ≡ taken_in p now id s fresh reused →
+    LiesAt id_of id then.pending place
+lies_taken {id} {place} p then now s fresh reused lies is = rw is (lies_acked id s (ascending (fresh ++ reused)) p.pending place lies)
 
-pub order_taken : (id : ℕ) (p then : Parts) (now : ℕ) (s : SubtaskId) (fresh reused : List ℕ) → IsInOrder id_before p.pending → then ≡ taken_in p now id s fresh reused → IsInOrder id_before then.pending
-order_taken id p then now s fresh reused order is = subst (λ (x : Parts). IsInOrder id_before x.pending) (sym is) (acked_in_order id s (ascending (fresh ++ reused)) p.pending order)
+pub order_taken : (id : ℕ) (p then : Parts) (now : ℕ) (s : SubtaskId) (fresh reused : List ℕ) → IsInOrder id_before p.pending → then ≡ taken_in p now id s fresh reused →
+    IsInOrder id_before then.pending
+order_taken id p then now s fresh reused order is = rw is (acked_in_order id s (ascending (fresh ++ reused)) p.pending order)
 
-pub none_missing : {p : Parts} {now id : ℕ} {s : SubtaskId} {fresh reused : List ℕ} {r : Record} (then : Parts) → IsTaking p now id s fresh reused r → missing r ≡ 1 → then ≡ taken_in p now id s fresh reused → IsMissing then.pending id 0
+pub none_missing : {p : Parts} {now id : ℕ} {s : SubtaskId} {fresh reused : List ℕ} {r : Record} (then : Parts) → IsTaking p now id s fresh reused r → missing r ≡ 1 →
+    then ≡ taken_in p now id s fresh reused → IsMissing then.pending id 0
 none_missing {p} {now} {id} {s} {fresh} {reused} {r} then t last is =
-    rw is (record {
-      lacking = with_ack r s fresh reused;
-      found = found_acked id s (ascending (fresh ++ reused)) r p.pending t.found;
-      counted = omega (arith, one_less t);
-    })
+    rw is (record { lacking = with_ack r s fresh reused; found = found_acked id s (ascending (fresh ++ reused)) r p.pending t.found; counted = omega (arith, one_less t) })
 
-pub is_last : {p : Parts} {now id : ℕ} {s : SubtaskId} {fresh reused : List ℕ} {r : Record} (then after : Parts) (done : Record) → IsTaking p now id s fresh reused r → missing r ≡ 1 → present_in p.registry + length fresh ≤ p.outbox.spare → 1 ≤ p.store.spare → then ≡ taken_in p now id s fresh reused →
-    ((q : Record) → find (has_number id) then.pending ≡ Some q → done ≡ record q { done = true }) → after ≡ record then { pending = others id then.pending } → IsLast p after now id s fresh reused r done
+pub is_last : {p : Parts} {now id : ℕ} {s : SubtaskId} {fresh reused : List ℕ} {r : Record} (then after : Parts) (done : Record) → IsTaking p now id s fresh reused r → missing r ≡ 1 →
+    present_in p.registry + length fresh ≤ p.outbox.spare → 1 ≤ p.store.spare → then ≡ taken_in p now id s fresh reused → ((q : Record) → find (has_number id) then.pending ≡ Some q →
+    done ≡ record q { done = true }) → after ≡ record then { pending = others id then.pending } → IsLast p after now id s fresh reused r done
 is_last {p} {now} {id} {s} {fresh} {reused} {r} then after done t last room place is finished out = grind (arith, common_steps, found_acked, has_number, its_number, others, taking, with_ack)
 
--- nothing in use is in the outbox
-taken_unknown : {p : Parts} {now id : ℕ} {s : SubtaskId} {fresh reused : List ℕ} {r : Record} → IsTaking p now id s fresh reused r → (f : ℕ) → is_present (taken_in p now id s fresh reused).registry f ≡ true → is_known p.outbox f ≡ false
-unfolding state_of
-taken_unknown {p} {now} {id} {s} {fresh} {reused} {r} t f h =
-    let k : IsAcking (state_of p) (with_pins p.registry r) s fresh reused = taking t in
-    let us : List Use = (taken_in p now id s fresh reused).registry in
-    let added : List Use = triples id (Subtask s) (fresh ++ reused) in
-    let q = IsIn-from_counted (λ (u : Use). eqb u.file f) us (ltb-true 0 (count us f) h) in
-    let none : (g : ℕ) → is_present p.registry g ≡ true → is_known p.outbox g ≡ false = none_known p t.sound.tied t.sound.sound in
-    let its : is_known p.outbox q.0.file ≡ false =
-    ⊎_elim
-    (λ (a : IsIn q.0 p.registry). none q.0.file (present-from_use q.0 p.registry a))
-    (λ (b : IsIn q.0 added).
-    ⊎_elim (λ c. (or_parts (is_present (uses (records_in p)) q.0.file) (in_outbox (state_of p) q.0.file) (k.unknown q.0.file c)).1)
-    (λ c. none q.0.file (ap (λ vs. is_present vs q.0.file) t.sound.tied.uses_are ∙ k.present q.0.file c))
-    (IsIn-append_cases q.0.file fresh reused (from_holds id (Subtask s) (fresh ++ reused) q.0 b).2))
-    (IsIn-append_cases q.0 p.registry added (IsIn-from_in_order_once _ q.0 (p.registry ++ added) q.1)) in
-    ap (is_known p.outbox) (sym (eqb-true q.0.file f q.2)) ∙ its
+module _ {p : Parts} {now id : ℕ} {s : SubtaskId} {fresh reused : List ℕ} {r : Record} (t : IsTaking p now id s fresh reused r) where
+  abbrev after : Parts
+  after = taken_in p now id s fresh reused
 
--- there are few records
-taken_few : {p : Parts} {now id : ℕ} {s : SubtaskId} {fresh reused : List ℕ} {r : Record} → IsTaking p now id s fresh reused r → length (records_in (taken_in p now id s fresh reused)) ≤ 2064
-taken_few {p} {now} {id} {s} {fresh} {reused} {r} t = grind (arith, common_steps, length-map, live_records, taken_records, with_ack, with_instead)
+  -- nothing in use is in the outbox
+  taken_unknown : (f : ℕ) → is_present after.registry f ≡ true → is_known p.outbox f ≡ false
+  unfolding state_of
+  taken_unknown f h = let k : IsAcking (state_of p) (with_pins p.registry r) s fresh reused = taking t in let added : List Use = triples id (Subtask s) (fresh ++ reused) in
+      let q = IsIn-from_counted (λ (u : Use). eqb u.file f) after.registry (ltb-true 0 (count after.registry f) h) in
+      let none : (g : ℕ) → is_present p.registry g ≡ true → is_known p.outbox g ≡ false = none_known p t.sound.tied t.sound.sound in
+      let its : is_known p.outbox q.0.file ≡ false = ⊎_elim (λ (a : IsIn q.0 p.registry). none q.0.file (present-from_use q.0 p.registry a))
+      (λ (b : IsIn q.0 added). ⊎_elim (λ c. (or_parts (is_present (uses (records_in p)) q.0.file) (in_outbox (state_of p) q.0.file) (k.unknown q.0.file c)).1)
+      (λ c. none q.0.file (ap (λ vs. is_present vs q.0.file) t.sound.tied.uses_are ∙ k.present q.0.file c)) (IsIn-append_cases q.0.file fresh reused
+      (from_holds id (Subtask s) (fresh ++ reused) q.0 b).2)) (IsIn-append_cases q.0 p.registry added (IsIn-from_in_order_once _ q.0 (p.registry ++ added) q.1)) in
+      ap (is_known p.outbox) (sym (eqb-true q.0.file f q.2)) ∙ its
 
-fewer_pending : {p : Parts} {now id : ℕ} {s : SubtaskId} {fresh reused : List ℕ} {r : Record} → IsTaking p now id s fresh reused r → length (others r.id (taken_in p now id s fresh reused).pending) + 1 ≤ length (records_in (taken_in p now id s fresh reused))
-fewer_pending {p} {now} {id} {s} {fresh} {reused} {r} t = grind (arith, common_steps, eq-eqb, fewer, length-filter, length-records_of, not_from_true, taken_there, with_ack)
+  -- there are few records
+  taken_few : length (records_in after) ≤ 2064
+  taken_few = grind (arith, common_steps, length-map, live_records, taken_records, with_ack, with_instead)
+
+  fewer_pending : length (others r.id after.pending) + 1 ≤ length (records_in after)
+  fewer_pending = grind (arith, common_steps, eq-eqb, fewer, length-filter, length-records_of, not_from_true, taken_there, with_ack)
 
 -- what is required of both
 pub record CanComplete (then : Parts) : Type 0 where
@@ -86,41 +83,38 @@ pub record CanComplete (then : Parts) : Type 0 where
   pub few : length then.pending + 1 < 2 ^ 32
   pub few_savepoints : length then.store.savepoints + 1 < 2 ^ 32
 
-pub can_complete : {p then : Parts} {now id : ℕ} {s : SubtaskId} {fresh reused : List ℕ} {r done : Record} → IsLast p then now id s fresh reused r done → CanComplete then
-can_complete {p} {then} {now} {id} {s} {fresh} {reused} {r} {done} l =
-    let t : IsTaking p now id s fresh reused r = l.taking in
-    let after : Parts = taken_in p now id s fresh reused in
-    let tied : AreTied after = taken_tied t l.room in
-    let all : length (records_in after) ≡ length after.pending + (length p.store.checkpoints + length p.store.savepoints) = length-records_of after.registry after.pending p.store.checkpoints p.store.savepoints in
-    rw l.is (record {
-      room = l.place;
-      unknown = taken_unknown t;
-      spare = tied.spare;
-      none_ended = t.sound.none_ended;
-      places = omega (arith, fewer_pending t, tied.room);
-      few = omega (arith, fewer_pending t, taken_few t);
-      few_savepoints = omega (arith, all, taken_few t);
-    })
+module _ {p then : Parts} {now id : ℕ} {s : SubtaskId} {fresh reused : List ℕ} {r done : Record} (l : IsLast p then now id s fresh reused r done) where
+  pub can_complete : CanComplete then
+  can_complete = let t : IsTaking p now id s fresh reused r = l.taking in let after : Parts = taken_in p now id s fresh reused in let tied : AreTied after = taken_tied t l.room in
+      let all : length (records_in after) ≡ length after.pending + (length p.store.checkpoints + length p.store.savepoints) =
+      length-records_of after.registry after.pending p.store.checkpoints p.store.savepoints in rw l.is (record {
+        room = l.place;
+        unknown = taken_unknown t;
+        spare = tied.spare;
+        none_ended = t.sound.none_ended;
+        places = omega (arith, fewer_pending t, tied.room);
+        few = omega (arith, fewer_pending t, taken_few t);
+        few_savepoints = omega (arith, all, taken_few t);
+      })
 
--- of a checkpoint
-pub last_above : {p then : Parts} {now id : ℕ} {s : SubtaskId} {fresh reused : List ℕ} {r done : Record} → IsLast p then now id s fresh reused r done → done.kind ≡ kind.Checkpoint → IsAbove then.store.checkpoints done.id
-last_above {p} {then} {now} {id} {s} {fresh} {reused} {r} {done} l checkpoint = rw l.is (rw l.done_is (its_above l.taking (sym (ap (λ x. x.kind) l.done_is) ∙ checkpoint)))
+  -- of a checkpoint
+  pub last_above : done.kind ≡ kind.Checkpoint → IsAbove then.store.checkpoints done.id
+  last_above checkpoint = rw l.is (rw l.done_is (its_above l.taking (sym (ap (λ x. x.kind) l.done_is) ∙ checkpoint)))
 
--- of a savepoint
-pub last_new : {p then : Parts} {now id : ℕ} {s : SubtaskId} {fresh reused : List ℕ} {r done : Record} → IsLast p then now id s fresh reused r done → has_savepoint then.store done.id ≡ false
-last_new {p} {then} {now} {id} {s} {fresh} {reused} {r} {done} l =
-    ap (λ x. has_savepoint x.store done.id) l.is
-    ∙ ap (λ x. has_savepoint p.store x.id) l.done_is
-    ∙ false_from_ne_true (has_savepoint p.store r.id) (λ (h : has_savepoint p.store r.id ≡ true).
-    let q = IsIn-from_list_any (has_id r.id) p.store.savepoints h in
-    not_done_number l.taking q.0 (IsIn-append_right q.0 p.store.checkpoints p.store.savepoints q.1) (sym (eqb-true q.0.id r.id q.2)))
+  -- of a savepoint
+  pub last_new : has_savepoint then.store done.id ≡ false
+  last_new = ap (λ x. has_savepoint x.store done.id) l.is ∙ ap (λ x. has_savepoint p.store x.id) l.done_is ∙ false_from_ne_true (has_savepoint p.store r.id)
+      (λ (h : has_savepoint p.store r.id ≡ true). let q = IsIn-from_list_any (has_id r.id) p.store.savepoints h in
+      not_done_number l.taking q.0 (IsIn-append_right q.0 p.store.checkpoints p.store.savepoints q.1) (sym (eqb-true q.0.id r.id q.2)))
 
 -- room was made in the outbox, then in the store
-pub made_place : (p q : Parts) (more : ℕ) (store : Stored) → q ≡ record p { outbox = record p.outbox { spare = max (present_in p.registry + more) p.outbox.spare } } → store ≡ record q.store { spare = store.spare } → IsRoomier p (record q { store = store })
+pub made_place : (p q : Parts) (more : ℕ) (store : Stored) → q ≡ record p { outbox = record p.outbox { spare = max (present_in p.registry + more) p.outbox.spare } } →
+    store ≡ record q.store { spare = store.spare } → IsRoomier p (record q { store = store })
 made_place p q more store made kept = grind (arith, common_steps)
 
 -- all that the calls left
-pub last_made : {id : ℕ} (p q then after : Parts) (done : Record) (now : ℕ) (s : SubtaskId) (fresh reused : List ℕ) (more : ℕ) (store : Stored) → AreSound p → IsAccepted p (Ack now id s fresh reused) → (w : IsMissing p.pending id 1) → more ≡ length fresh →
+pub last_made : {id : ℕ} (p q then after : Parts) (done : Record) (now : ℕ) (s : SubtaskId) (fresh reused : List ℕ) (more : ℕ) (store : Stored) → AreSound p →
+    IsAccepted p (Ack now id s fresh reused) → (w : IsMissing p.pending id 1) → more ≡ length fresh →
     q ≡ record p { outbox = record p.outbox { spare = max (present_in p.registry + more) p.outbox.spare } } → store ≡ record q.store { spare = store.spare } → 1 ≤ store.spare →
     ((x : Record) → IsIn x q.pending → IsPending x) → IsInOrder id_before q.pending → IsStored store → then ≡ taken_in (record q { store = store }) now id s fresh reused →
     ((x : Record) → find (has_number id) then.pending ≡ Some x → done ≡ record x { done = true }) → after ≡ record then { pending = others id then.pending } →

@@ -16,9 +16,7 @@ pub present-from_use : (u : Use) (us : List Use) → IsIn u us → is_present us
 present-from_use u us h = lt-ltb 0 (count us u.file) (counted-from_IsIn (λ v. eqb v.file u.file) u us h (eq-eqb u.file u.file refl))
 
 pub present-from_released : (f : ℕ) (before after : List Use) → is_in f (released before after) ≡ true → is_present before f ≡ true
-present-from_released f before after h =
-    let q = before-from_released f before after (IsIn-from_test f (released before after) h) in
-    rw q.2 (present-from_use q.0 before q.1)
+present-from_released f before after h = let q = before-from_released f before after (IsIn-from_test f (released before after) h) in rw q.2 (present-from_use q.0 before q.1)
 
 -- and none is in the outbox, since none that was present is
 pub released_unknown : (before after : List Use) (q : Queues) → ((f : ℕ) → is_present before f ≡ true → is_known q f ≡ false) → (f : ℕ) → is_in f (released before after) ≡ true → is_known q f ≡ false
@@ -30,13 +28,13 @@ pub record CanBePut (files : List ℕ) (q : Queues) : Type 0 where
   pub distinct : AreDistinct files
   pub unknown : (f : ℕ) → is_in f files ≡ true → is_known q f ≡ false
 
-pub can_be_put : (before after : List Use) (q : Queues) (files : List ℕ) → files ≡ released before after → present_in before ≤ q.spare → ((f : ℕ) → is_present before f ≡ true → is_known q f ≡ false) → CanBePut files q
+pub can_be_put : (before after : List Use) (q : Queues) (files : List ℕ) → files ≡ released before after → present_in before ≤ q.spare → ((f : ℕ) → is_present before f ≡ true → is_known q f ≡ false) →
+    CanBePut files q
 can_be_put before after q files is room unknown = grind (arith, common_steps, released_once, released_room, released_unknown)
 
 -- if all uses stay, no file is released
 pub nothing_released : (us : List Use) → released us us ≡ []
 nothing_released us =
     let file : Use → ℕ = λ u. u.file in
-    filter-none (λ f. not (is_present us f)) (ascending_set (map file us)) (λ f h.
-    let q = IsIn-from_map file f us (IsIn-from_in_order_once ltb f (map file us) h) in
-    ap not (ap (is_present us) q.2 ∙ present-from_use q.0 us q.1))
+    filter-none (λ f. not (is_present us f)) (ascending_set (map file us)) (λ f h. let q = IsIn-from_map file f us (IsIn-from_in_order_once ltb f (map file us) h) in ap not
+    (ap (is_present us) q.2 ∙ present-from_use q.0 us q.1))

@@ -5,8 +5,7 @@ use Rattle.ckpt_core.proofs.Names.{IsIn-append_right, IsIn-append_cases, IsInOrd
 use Rattle.ckpt_core.proofs.Names.{AreSoundRecords, is_pending_checkpoint, Joins, common_steps}
 
 with_last : (P : Record → Type 0) (rs : List Record) (r : Record) → ((x : Record) → IsIn x rs → P x) → P r → (x : Record) → IsIn x (rs ++ r ∷ []) → P x
-with_last P rs r old last x h =
-    ⊎_elim (λ (k : IsIn x rs). old x k) (λ (k : IsIn x (r ∷ [])). subst P (sym (only_one x r k)) last) (IsIn-append_cases x rs (r ∷ []) h)
+with_last P rs r old last x h = ⊎_elim (λ (k : IsIn x rs). old x k) (λ (k : IsIn x (r ∷ [])). subst P (sym (only_one x r k)) last) (IsIn-append_cases x rs (r ∷ []) h)
 
 at_most : (p : Record → Bool) (rs : List Record) (r : Record) (n : ℕ) → count_by p rs ≤ n → (p r ≡ true → count_by p rs < n) → count_by p (rs ++ r ∷ []) ≤ n
 at_most p rs r n le lt = grind (arith, common_steps)
@@ -17,7 +16,8 @@ not_both r p d = both_ways r.done (not-true r.done (and_parts (is_pending r) (is
 
 pub joined_records : {o : Opening} {next : ℕ} {rs : List Record} {r : Record} → AreSoundRecords o next rs → Joins o next rs r → AreSoundRecords o next (rs ++ r ∷ [])
 joined_records {o} {next} {rs} {r} s j = record {
-  in_order = IsInOrder-append id_before rs (r ∷ []) s.in_order (tt, tt) (λ x y h k. let P : Record → Type 0 = λ z. id_before x z ≡ true in subst P (sym (only_one y r k)) (lt-ltb x.id r.id (j.above x h)));
+  in_order = IsInOrder-append id_before rs (r ∷ []) s.in_order (tt, tt) (λ x y h k. let P : Record → Type 0 = λ z. id_before x z ≡ true in
+      subst P (sym (only_one y r k)) (lt-ltb x.id r.id (j.above x h)));
   from_first = with_last (λ x. o.first ≤ x.id) rs r s.from_first j.from_first;
   below_next = with_last (λ x. x.id < next) rs r s.below_next j.below_next;
   each = with_last IsRecord rs r s.each j.is_record;
@@ -25,20 +25,15 @@ joined_records {o} {next} {rs} {r} s j = record {
   retained = at_most is_done_checkpoint rs r o.config.retained s.retained j.retained;
   at_once = at_most is_pending_checkpoint rs r (limit o.config) s.at_once j.at_once;
   savepoints_to = at_most (λ x. not (is_checkpoint x)) rs r 1000 s.savepoints_to j.savepoints;
-  newer = λ x y h k p d.
-      let old_done : IsIn y rs → y.id < x.id = λ (i : IsIn y rs).
-      ⊎_elim (λ a. s.newer x y a i p d) (λ a. rw (only_one x r a) (j.above y i)) (IsIn-append_cases x rs (r ∷ []) h) in
-      let new_done : IsIn y (r ∷ []) → y.id < x.id = λ (i : IsIn y (r ∷ [])).
-      let its : is_done_checkpoint r ≡ true = rw (only_one y r i) at d in
+  newer = λ x y h k p d. let old_done : IsIn y rs → y.id < x.id = λ (i : IsIn y rs). ⊎_elim (λ a. s.newer x y a i p d) (λ a. rw (only_one x r a) (j.above y i)) (IsIn-append_cases x rs (r ∷ []) h) in
+      let new_done : IsIn y (r ∷ []) → y.id < x.id = λ (i : IsIn y (r ∷ [])). let its : is_done_checkpoint r ≡ true = rw (only_one y r i) at d in
       ⊎_elim (λ a. absurd (omega (arith, j.newer its, counted-from_IsIn is_pending_checkpoint x rs a p))) (λ a. absurd (not_both r (rw (only_one x r a) at p) its))
-      (IsIn-append_cases x rs (r ∷ []) h) in
-      ⊎_elim old_done new_done (IsIn-append_cases y rs (r ∷ []) k);
+      (IsIn-append_cases x rs (r ∷ []) h) in ⊎_elim old_done new_done (IsIn-append_cases y rs (r ∷ []) k);
 }
 
 before_last : (rs : List Record) (r x : Record) → IsInOrder id_before (rs ++ r ∷ []) → IsIn x rs → id_before x r ≡ true
 before_last [] r x order h = absurd h
-before_last (y ∷ rs) r x order (inl e) =
-    rw e (ComesBefore-at id_before y r (rs ++ r ∷ []) order.0 (IsIn-append_right r rs (r ∷ []) (inl refl)))
+before_last (y ∷ rs) r x order (inl e) = rw e (ComesBefore-at id_before y r (rs ++ r ∷ []) order.0 (IsIn-append_right r rs (r ∷ []) (inl refl)))
 before_last (y ∷ rs) r x order (inr h) = before_last rs r x order.1 h
 
 fewer : (p : Record → Bool) (rs : List Record) (r : Record) (n : ℕ) → count_by p (rs ++ r ∷ []) ≤ n → p r ≡ true → count_by p rs < n
@@ -46,10 +41,8 @@ fewer p rs r n le e = omega (arith, le, count_by-append p rs (r ∷ []), count_b
 
 -- so a record that fails one of these tests makes the list unsound
 pub joins_from_sound : {o : Opening} {next : ℕ} {rs : List Record} {r : Record} → AreSoundRecords o next (rs ++ r ∷ []) → Joins o next rs r
-joins_from_sound {o} {next} {rs} {r} w =
-    let there : IsIn r (rs ++ r ∷ []) = IsIn-append_right r rs (r ∷ []) (inl refl) in
-    let below : (x : Record) → IsIn x rs → x.id < r.id = λ x h. ltb-true x.id r.id (before_last rs r x w.in_order h) in
-    record {
+joins_from_sound {o} {next} {rs} {r} w = let there : IsIn r (rs ++ r ∷ []) = IsIn-append_right r rs (r ∷ []) (inl refl) in
+    let below : (x : Record) → IsIn x rs → x.id < r.id = λ x h. ltb-true x.id r.id (before_last rs r x w.in_order h) in record {
       above = below;
       from_first = w.from_first r there;
       below_next = w.below_next r there;
@@ -58,12 +51,8 @@ joins_from_sound {o} {next} {rs} {r} w =
       retained = λ e. fewer is_done_checkpoint rs r o.config.retained w.retained e;
       at_once = λ e. fewer is_pending_checkpoint rs r (limit o.config) w.at_once e;
       savepoints = λ e. fewer (λ x. not (is_checkpoint x)) rs r 1000 w.savepoints_to e;
-      newer = λ e.
-          let none : 0 < count_by is_pending_checkpoint rs → ⊥ = λ (h : 0 < count_by is_pending_checkpoint rs).
-          let q = IsIn-from_counted is_pending_checkpoint rs h in
-          let older : r.id < q.0.id = w.newer q.0 r (IsIn-append_left q.0 rs (r ∷ []) q.1) there q.2 e in
-          let newer : q.0.id < r.id = below q.0 q.1 in
-          omega arith in
+      newer = λ e. let none : 0 < count_by is_pending_checkpoint rs → ⊥ = λ (h : 0 < count_by is_pending_checkpoint rs). let q = IsIn-from_counted is_pending_checkpoint rs h in
+          let older : r.id < q.0.id = w.newer q.0 r (IsIn-append_left q.0 rs (r ∷ []) q.1) there q.2 e in let newer : q.0.id < r.id = below q.0 q.1 in omega arith in
           ⊎_elim (λ (h : 0 < count_by is_pending_checkpoint rs). absurd (none h)) (λ (h : count_by is_pending_checkpoint rs ≤ 0). omega (arith, h)) (cases_lt 0 (count_by is_pending_checkpoint rs));
     }
 

@@ -21,23 +21,22 @@ some_mapped id rs None live e f = absurd (let g : ◌≡◌ {A = Option Live} (S
 some_mapped id rs (Some r) live e f = let k = IsIn-from_find (is_from id) r rs e in (r, k.0, k.1)
 
 -- if one is found, not all are
-pub not_above_all : (id : ℕ) (rs : List Record) (found : Option Live) (live : Live) → found ≡ option_map live_of (find (is_from id) rs) → found ≡ Some live → ((s : Record) → IsIn s rs → s.id < id) → ⊥
-not_above_all id rs found live e some above =
-    let k = some_mapped id rs (find (is_from id) rs) live refl (sym some ∙ e) in
-    both_ways (is_from id k.0) (le-not id k.0.id (above k.0 k.1)) k.2
+pub not_above_all : (id : ℕ) (rs : List Record) (found : Option Live) (live : Live) → found ≡ option_map live_of (find (is_from id) rs) → found ≡ Some live → ((s : Record) → IsIn s rs → s.id < id) →
+    ⊥
+not_above_all id rs found live e some above = let k = some_mapped id rs (find (is_from id) rs) live refl (sym some ∙ e) in both_ways (is_from id k.0) (le-not id k.0.id (above k.0 k.1)) k.2
   where
     le-not : (a b : ℕ) → b < a → leb a b ≡ false
     le-not a b lt = grind arith
 
 -- how many there are
 
-pub done_checkpoints-groups : (us : List Use) (pending checkpoints savepoints : List Record) → AreGroups pending checkpoints savepoints → count_by is_done_checkpoint (records_of us pending checkpoints savepoints) ≡ length checkpoints
+pub done_checkpoints-groups : (us : List Use) (pending checkpoints savepoints : List Record) → AreGroups pending checkpoints savepoints →
+    count_by is_done_checkpoint (records_of us pending checkpoints savepoints) ≡ length checkpoints
 done_checkpoints-groups us pending checkpoints savepoints groups =
-    let p : Record → Bool = is_done_checkpoint in
-    let none_p : count_by p pending ≡ 0 = count_by-none p pending (λ r h. and_left r.done (is_checkpoint r) (groups.not_done r h)) in
+    let p : Record → Bool = is_done_checkpoint in let none_p : count_by p pending ≡ 0 = count_by-none p pending (λ r h. and_left r.done (is_checkpoint r) (groups.not_done r h)) in
     let none_s : count_by p savepoints ≡ 0 = count_by-none p savepoints (λ r h. and_right r.done (is_checkpoint r) (is_savepoint-kind r (groups.savepoints_done r h).1)) in
-    let all_c : count_by p checkpoints ≡ length checkpoints = count_by-all p checkpoints (λ r h. ap (λ b. b && is_checkpoint r) (groups.checkpoints_done r h).0 ∙ is_checkpoint-kind r (groups.checkpoints_done r h).1) in
-    count_by-records_of p us pending checkpoints savepoints (λ r. refl) ∙ omega arith
+    let all_c : count_by p checkpoints ≡ length checkpoints = count_by-all p checkpoints (λ r h. ap (λ b. b && is_checkpoint r) (groups.checkpoints_done r h).0
+    ∙ is_checkpoint-kind r (groups.checkpoints_done r h).1) in count_by-records_of p us pending checkpoints savepoints (λ r. refl) ∙ omega arith
 
 -- its acknowledgements
 
@@ -45,19 +44,16 @@ made_pending : (s : Saved) (made : Record) → IsMade made s → IsPending made 
 made_pending s made e pending = subst IsPending e pending
 
 pub pending_is_record : (s : Saved) (made : Record) → IsMade made s → IsPending made → 0 < missing made → NamesEachOnce (record_in s) → s.metadata.done ≡ false → IsRecord (record_in s)
-pending_is_record s made e pending lacks once not_done =
-    let m = s.metadata in
-    let p = made_pending s made e pending in
-    record {
-      shape = p.has_shape;
-      acks_in_order = p.in_order;
-      acks_of_subtasks = p.expected;
-      files = once.files;
-      pins = once.pins;
-      pending = λ yes. (rw e at lacks);
-      full = λ is_done. absurd (both_ways m.done not_done is_done);
-      unpinned = λ is_done. absurd (both_ways m.done not_done is_done);
-    }
+pending_is_record s made e pending lacks once not_done = let m = s.metadata in let p = made_pending s made e pending in record {
+  shape = p.has_shape;
+  acks_in_order = p.in_order;
+  acks_of_subtasks = p.expected;
+  files = once.files;
+  pins = once.pins;
+  pending = λ yes. (rw e at lacks);
+  full = λ is_done. absurd (both_ways m.done not_done is_done);
+  unpinned = λ is_done. absurd (both_ways m.done not_done is_done);
+}
 
 -- the state
 
@@ -65,7 +61,8 @@ pub state_done : (p q : Parts) (rs : List Record) → q ≡ with_done p q → re
 unfolding state_of
 state_done p q rs rest e = ap state_of rest ∙ ap (λ xs. record (state_of p) { records = xs }) (ap records_in (sym rest) ∙ e)
 
-pub state_pending : (p q : Parts) (rs : List Record) → q ≡ record p { pending = q.pending; registry = q.registry; outbox = record p.outbox { spare = q.outbox.spare }; ended = q.ended } → records_in q ≡ rs → state_of q ≡ record (state_of p) { records = rs }
+pub state_pending : (p q : Parts) (rs : List Record) → q ≡ record p { pending = q.pending; registry = q.registry; outbox = record p.outbox { spare = q.outbox.spare }; ended = q.ended } →
+    records_in q ≡ rs → state_of q ≡ record (state_of p) { records = rs }
 unfolding state_of
 state_pending p q rs rest e = ap state_of rest ∙ ap (λ xs. record (state_of p) { records = xs }) (ap records_in (sym rest) ∙ e)
 
@@ -81,7 +78,8 @@ not_full s made e lacks is_done ir = grind (arith, common_steps, missing_from_fu
 pub room_savepoint : (o : Opening) (rs : List Record) (r : Record) → is_checkpoint r ≡ false → count_by (λ s. not (is_checkpoint s)) rs < 1000 → HasRoom o rs r
 room_savepoint o rs r its fewer = grind (arith, common_steps)
 
-pub room_done : (o : Opening) (rs : List Record) (r : Record) → is_checkpoint r ≡ true → r.done ≡ true → count_by is_pending_checkpoint rs ≡ 0 → count_by is_done_checkpoint rs < o.config.retained → HasRoom o rs r
+pub room_done : (o : Opening) (rs : List Record) (r : Record) → is_checkpoint r ≡ true → r.done ≡ true → count_by is_pending_checkpoint rs ≡ 0 → count_by is_done_checkpoint rs < o.config.retained →
+    HasRoom o rs r
 room_done o rs r its is_done none fewer = grind (arith, common_steps)
 
 pub room_pending : (o : Opening) (rs : List Record) (r : Record) → is_checkpoint r ≡ true → r.done ≡ false → count_by is_pending_checkpoint rs < limit o.config → HasRoom o rs r

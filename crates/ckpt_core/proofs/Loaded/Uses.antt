@@ -10,8 +10,7 @@ use Rattle.ckpt_ids.specs.declared.numbers.Kind.TheVariants as kind
 -- an acknowledgement that came before is of another subtask
 pub before_in : (before : List Acked) (a b : Acked) → AreInSubtaskOrder (before ++ a ∷ []) → IsIn b before → acknowledges_before b a ≡ true
 before_in [] a b order h = absurd h
-before_in (x ∷ before) a b order (inl e) =
-    rw e (ComesBefore-at acknowledges_before x a (before ++ a ∷ []) order.0 (last before))
+before_in (x ∷ before) a b order (inl e) = rw e (ComesBefore-at acknowledges_before x a (before ++ a ∷ []) order.0 (last before))
   where
     last : (xs : List Acked) → IsIn a (xs ++ a ∷ [])
     last [] = inl refl
@@ -19,49 +18,40 @@ before_in (x ∷ before) a b order (inl e) =
 before_in (x ∷ before) a b order (inr h) = before_in before a b order.1 h
 
 -- the subtask has no use yet
-pub subtask_unused : (old : List Use) (id : ℕ) (before : List Acked) (a : Acked) → ((u : Use) → IsIn u old → u.id < id) → AreInSubtaskOrder (before ++ a ∷ []) → HasNoUse (old ++ uses_of_acks id before) id (Subtask a.subtask)
-subtask_unused old id before a newest order = λ u h same holder.
-    ⊎_elim
-    (λ (k : IsIn u old). absurd (omega (arith, newest u k, same)))
-    (λ (k : IsIn u (uses_of_acks id before)).
-    let q = id_of_acks id before u k in
-    let b : Acked = q.0 in
-    let eq : Subtask b.subtask ≡ Subtask a.subtask = sym q.3 ∙ holder in
-    let its : b.subtask ≡ a.subtask = cc in
+pub subtask_unused : (old : List Use) (id : ℕ) (before : List Acked) (a : Acked) → ((u : Use) → IsIn u old → u.id < id) → AreInSubtaskOrder (before ++ a ∷ []) →
+    HasNoUse (old ++ uses_of_acks id before) id (Subtask a.subtask)
+subtask_unused old id before a newest order = λ u h same holder. ⊎_elim (λ (k : IsIn u old). absurd (omega (arith, newest u k, same))) (λ (k : IsIn u (uses_of_acks id before)).
+    let q = id_of_acks id before u k in let b : Acked = q.0 in let eq : Subtask b.subtask ≡ Subtask a.subtask = sym q.3 ∙ holder in let its : b.subtask ≡ a.subtask = cc in
     both_ways (is_before a.subtask a.subtask) (subtasks_in_order.irreflexive a.subtask) (ap (λ s. is_before s a.subtask) (sym its) ∙ before_in before a b order q.1))
     (IsIn-append_cases u old (uses_of_acks id before) h)
 
 -- and the record pins nothing yet
 pub pins_unused : (old : List Use) (id : ℕ) (acks : List Acked) → ((u : Use) → IsIn u old → u.id < id) → HasNoUse (old ++ uses_of_acks id acks) id Pin
-pins_unused old id acks newest = λ u h same holder.
-    ⊎_elim (λ k. absurd (omega (arith, newest u k, same))) (λ k. let q = id_of_acks id acks u k in let eq : Subtask q.0.subtask ≡ Pin = sym q.3 ∙ holder in absurd (cc))
-    (IsIn-append_cases u old (uses_of_acks id acks) h)
+pins_unused old id acks newest = λ u h same holder. ⊎_elim (λ k. absurd (omega (arith, newest u k, same))) (λ k. let q = id_of_acks id acks u k in
+    let eq : Subtask q.0.subtask ≡ Pin = sym q.3 ∙ holder in absurd (cc)) (IsIn-append_cases u old (uses_of_acks id acks) h)
 
 -- with the pins, all are in order already
-pub whole_in_order : (old : List Use) (id : ℕ) (acks : List Acked) (pins : List ℕ) → IsInOrder use_before old → ((u : Use) → IsIn u old → u.id < id) → AreInSubtaskOrder acks → ((a : Acked) → IsIn a acks → IsAscendingSet a.files) → IsAscendingSet pins
-    → IsInOrder use_before (old ++ uses_held id acks pins)
-whole_in_order old id acks pins order newest acks_order files set =
-    let r : Record = record { id = id; kind = kind.Checkpoint; done = false; shape = []; started = 0; acks = acks; pins = pins } in
-    IsInOrder-append use_before old (uses_held id acks pins) order (record_uses_in_order r acks_order files set)
-    (λ u v h k.
-    let its : v.id ≡ id =
-    ⊎_elim (λ i. (id_of_acks id acks v i).2) (λ i. (from_holds id Pin pins v i).0) (IsIn-append_cases v (uses_of_acks id acks) (triples id Pin pins) k) in
+pub whole_in_order : (old : List Use) (id : ℕ) (acks : List Acked) (pins : List ℕ) → IsInOrder use_before old → ((u : Use) → IsIn u old → u.id < id) → AreInSubtaskOrder acks →
+    ((a : Acked) → IsIn a acks → IsAscendingSet a.files) → IsAscendingSet pins → IsInOrder use_before (old ++ uses_held id acks pins)
+whole_in_order old id acks pins order newest acks_order files set = let r : Record = record { id = id; kind = kind.Checkpoint; done = false; shape = []; started = 0; acks = acks; pins = pins } in
+    IsInOrder-append use_before old (uses_held id acks pins) order (record_uses_in_order r acks_order files set) (λ u v h k.
+    let its : v.id ≡ id = ⊎_elim (λ i. (id_of_acks id acks v i).2) (λ i. (from_holds id Pin pins v i).0) (IsIn-append_cases v (uses_of_acks id acks) (triples id Pin pins) k) in
     earlier_record u v (omega (arith, newest u h, its)))
 
 -- one acknowledgement more
-pub ack_registered : (old : List Use) (id : ℕ) (before : List Acked) (a : Acked) → IsInOrder use_before old → ((u : Use) → IsIn u old → u.id < id) → AreInSubtaskOrder (before ++ a ∷ []) → ((b : Acked) → IsIn b (before ++ a ∷ []) → IsAscendingSet b.files)
-    → in_order_once use_before ((old ++ uses_of_acks id before) ++ triples id (Subtask a.subtask) a.files) ≡ old ++ uses_of_acks id (before ++ a ∷ [])
+pub ack_registered : (old : List Use) (id : ℕ) (before : List Acked) (a : Acked) → IsInOrder use_before old → ((u : Use) → IsIn u old → u.id < id) → AreInSubtaskOrder (before ++ a ∷ []) →
+    ((b : Acked) → IsIn b (before ++ a ∷ []) → IsAscendingSet b.files) → in_order_once use_before ((old ++ uses_of_acks id before) ++ triples id (Subtask a.subtask) a.files)
+    ≡ old ++ uses_of_acks id (before ++ a ∷ [])
 ack_registered old id before a order newest acks_order files =
-    let its : List Use = triples id (Subtask a.subtask) a.files in
-    let of : Acked → List Use = λ b. triples id (Subtask b.subtask) b.files in
+    let its : List Use = triples id (Subtask a.subtask) a.files in let of : Acked → List Use = λ b. triples id (Subtask b.subtask) b.files in
     let more : uses_of_acks id (before ++ a ∷ []) ≡ uses_of_acks id before ++ its = flat_map-append of before (a ∷ []) ∙ ap (λ us. uses_of_acks id before ++ us) (append-nil its) in
     let bare : uses_held id (before ++ a ∷ []) [] ≡ uses_of_acks id (before ++ a ∷ []) = append-nil (uses_of_acks id (before ++ a ∷ [])) in
-    ap (in_order_once use_before) (append_assoc old (uses_of_acks id before) its ∙ ap (λ us. old ++ us) (sym more))
-    ∙ in_order_once-itself (old ++ uses_of_acks id (before ++ a ∷ [])) (rw bare at (whole_in_order old id (before ++ a ∷ []) [] order newest acks_order files tt))
+    ap (in_order_once use_before) (append_assoc old (uses_of_acks id before) its ∙ ap (λ us. old ++ us) (sym more)) ∙ in_order_once-itself (old ++ uses_of_acks id (before ++ a ∷ []))
+    (rw bare at (whole_in_order old id (before ++ a ∷ []) [] order newest acks_order files tt))
 
 -- the pins behind them
-pub pins_registered : (old : List Use) (id : ℕ) (acks : List Acked) (pins : List ℕ) → IsInOrder use_before old → ((u : Use) → IsIn u old → u.id < id) → AreInSubtaskOrder acks → ((a : Acked) → IsIn a acks → IsAscendingSet a.files) → IsAscendingSet pins
-    → in_order_once use_before ((old ++ uses_of_acks id acks) ++ triples id Pin pins) ≡ old ++ uses_held id acks pins
+pub pins_registered : (old : List Use) (id : ℕ) (acks : List Acked) (pins : List ℕ) → IsInOrder use_before old → ((u : Use) → IsIn u old → u.id < id) → AreInSubtaskOrder acks →
+    ((a : Acked) → IsIn a acks → IsAscendingSet a.files) → IsAscendingSet pins → in_order_once use_before ((old ++ uses_of_acks id acks) ++ triples id Pin pins) ≡ old ++ uses_held id acks pins
 pins_registered old id acks pins order newest acks_order files set =
     rw (append_assoc old (uses_of_acks id acks) (triples id Pin pins), in_order_once-itself (old ++ uses_held id acks pins) (whole_in_order old id acks pins order newest acks_order files set))
 
@@ -79,9 +69,9 @@ front_in_order (x ∷ xs) ys order = (front xs ys order.0, front_in_order xs ys 
     front (u ∷ us) vs c = (c.0, front us vs c.1)
 
 pub count_front : (f : ℕ) (old : List Use) (id : ℕ) (acks : List Acked) (i : ℕ) (pins : List ℕ) → count (old ++ uses_of_acks id (take i acks)) f ≤ count (old ++ uses_held id acks pins) f
-count_front f old id acks i pins =
-    let of : Acked → List Use = λ b. triples id (Subtask b.subtask) b.files in
-    let split : uses_of_acks id acks ≡ uses_of_acks id (take i acks) ++ uses_of_acks id (drop i acks) = ap (uses_of_acks id) (sym (take-append-drop i acks)) ∙ flat_map-append of (take i acks) (drop i acks) in
+count_front f old id acks i pins = let of : Acked → List Use = λ b. triples id (Subtask b.subtask) b.files in
+    let split : uses_of_acks id acks ≡ uses_of_acks id (take i acks) ++ uses_of_acks id (drop i acks) = ap (uses_of_acks id) (sym (take-append-drop i acks))
+    ∙ flat_map-append of (take i acks) (drop i acks) in
     omega (arith, ap (λ us. count (old ++ (us ++ triples id Pin pins)) f) split, count_so_far f old (uses_of_acks id (take i acks)) (uses_of_acks id (drop i acks)) (triples id Pin pins))
 
 -- one of the prefix is one of all

@@ -1,11 +1,8 @@
 -- When the first pending record expires: from the least moment at which one started, and the timeout.
-use Rattle.ckpt_core.proofs.Names.{◌≡◌, ℕ, ◌+◌, ◌<◌, ◌≤◌, ◌^◌, Bool, true, false, ◌&&◌, leb, List, ◌++◌, map, refl, sym, ap, ◌∙◌, ⊎_elim, arith, Option, Some, None, list_any, option_map, both_ways}
-use Rattle.ckpt_core.proofs.Names.{leb-true, le-leb, and_parts, and_from, not_from_false, not_from_true, IsIn, Record, Use, IsIn-append_left, IsIn-append_cases, IsIn-map, IsIn-from_map, IsIn-in_order}
 use Rattle.ckpt_core.proofs.Names.{IsIn-from_in_order, IsIn-from_list_any, list_any-from_IsIn, IsPending, IsStored, Parts, with_pins, grouped, records_in, state_of, IsNextExpiry, has_come, IsSound}
-use Rattle.ckpt_core.proofs.Names.{id_before, is_pending, common_steps}
-use Rattle.ckpt_core.proofs.Ending.Drops.{groups_of}
-use Rattle.ckpt_core.proofs.Records.GroupLookups.{same_tests}
-use Rattle.ckpt_core.proofs.Records.Lookups.{AreGroups, done_in}
+use Rattle.ckpt_core.proofs.Names.{leb-true, le-leb, and_parts, and_from, not_from_false, not_from_true, IsIn, Record, Use, IsIn-append_left, IsIn-append_cases, IsIn-map, IsIn-from_map, IsIn-in_order}
+use Rattle.ckpt_core.proofs.Names.{◌≡◌, ℕ, ◌+◌, ◌<◌, ◌≤◌, ◌^◌, Bool, true, false, ◌&&◌, leb, List, ◌++◌, map, refl, sym, ap, ◌∙◌, ⊎_elim, arith, Option, Some, None, list_any, option_map, both_ways}
+use Rattle.ckpt_core.proofs.{Ending.Drops.groups_of, Names.id_before, Names.is_pending, Names.common_steps, Records.GroupLookups.same_tests, Records.Lookups.AreGroups, Records.Lookups.done_in}
 
 -- the moment is when the first of these records started
 abbrev pub TellsLeast : List Record → Option ℕ → Type 0
@@ -29,30 +26,30 @@ pending_there p x h = grind (arith, common_steps, IsIn-append_left, IsIn-in_orde
 -- it is below all moments, so the timeout can be added
 pub started_bound : (p : Parts) (s : ℕ) → IsSound (state_of p) → TellsLeast p.pending (Some s) → s < 2 ^ 62
 unfolding state_of
-started_bound p s sound told =
-    let x = least_in p.pending s told in
-    omega (arith, sound.records.started (with_pins p.registry x.0) (pending_there p x.0 x.1), least_is p.pending s told x.0 x.1)
+started_bound p s sound told = let x = least_in p.pending s told in omega (arith, sound.records.started (with_pins p.registry x.0) (pending_there p x.0 x.1), least_is p.pending s told x.0 x.1)
 
 -- a live record that is pending and too old is one of the pending ones
-expired_from : (p : Parts) → AreGroups p.pending p.store.checkpoints p.store.savepoints → (timeout now : ℕ) (r : Record) → IsIn r (records_in p) → (is_pending r && leb (r.started + timeout) now) ≡ true → (x : Record) × IsIn x p.pending × (x.started + timeout ≤ now)
+expired_from : (p : Parts) → AreGroups p.pending p.store.checkpoints p.store.savepoints → (timeout now : ℕ) (r : Record) → IsIn r (records_in p) →
+    (is_pending r && leb (r.started + timeout) now) ≡ true → (x : Record) × IsIn x p.pending × (x.started + timeout ≤ now)
 expired_from p groups timeout now r h e =
     let us : List Use = p.registry in
     let done : List Record = p.store.checkpoints ++ p.store.savepoints in
     let parts = and_parts (is_pending r) (leb (r.started + timeout) now) e in
     let Found : Type 0 = (x : Record) × IsIn x p.pending × (x.started + timeout ≤ now) in
-    let waits : IsIn r (map (with_pins us) p.pending) → Found = λ (k : IsIn r (map (with_pins us) p.pending)).
-    let q = IsIn-from_map (with_pins us) r p.pending k in
+    let waits : IsIn r (map (with_pins us) p.pending) → Found = λ (k : IsIn r (map (with_pins us) p.pending)). let q = IsIn-from_map (with_pins us) r p.pending k in
     (q.0, q.1, omega (arith, ap (λ x. x.started) q.2, leb-true (r.started + timeout) now parts.1)) in
     let ended : IsIn r done → Found = λ (k : IsIn r done). absurd (both_ways (is_pending r) (not_from_true r.done (done_in groups r k)) parts.0) in
     ⊎_elim waits ended (IsIn-append_cases r (map (with_pins us) p.pending) done (IsIn-from_in_order id_before r (grouped us p.pending p.store.checkpoints p.store.savepoints) h))
 
-pub next_expiry : (p : Parts) (o : Option ℕ) → ((r : Record) → IsIn r p.pending → IsPending r) → IsStored p.store → TellsLeast p.pending o → IsNextExpiry (state_of p) (option_map (λ s. s + p.opened.config.timeout) o)
+pub next_expiry : (p : Parts) (o : Option ℕ) → ((r : Record) → IsIn r p.pending → IsPending r) → IsStored p.store → TellsLeast p.pending o →
+    IsNextExpiry (state_of p) (option_map (λ s. s + p.opened.config.timeout) o)
 unfolding state_of
-next_expiry p None pending stored told = λ now.
-    let timeout : ℕ = p.opened.config.timeout in
+next_expiry p None pending stored told =
+    λ now.
     let groups : AreGroups p.pending p.store.checkpoints p.store.savepoints = groups_of p pending stored in
-    same_tests (list_any (λ r. is_pending r && leb (r.started + timeout) now) (records_in p)) false
-    (λ e. let q = IsIn-from_list_any (λ (r : Record). is_pending r && leb (r.started + timeout) now) (records_in p) e in let x = expired_from p groups timeout now q.0 q.1 q.2 in absurd (none_started p.pending told x.0 x.1))
+    same_tests (list_any (λ r. is_pending r && leb (r.started + p.opened.config.timeout) now) (records_in p)) false
+    (λ e. let q = IsIn-from_list_any (λ (r : Record). is_pending r && leb (r.started + p.opened.config.timeout) now) (records_in p) e in let x = expired_from p groups p.opened.config.timeout now q.0
+    q.1 q.2 in absurd (none_started p.pending told x.0 x.1))
     (λ e. absurd (both_ways false refl e))
 next_expiry p (Some s) pending stored told = λ now.
     let timeout : ℕ = p.opened.config.timeout in

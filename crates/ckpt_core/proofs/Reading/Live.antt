@@ -22,17 +22,13 @@ least_found n r (x ∷ xs) order e s h t =
     let P : Bool → Type 0 = λ b. cond b (Some x) (find (is_from n) xs) ≡ Some r in
     let here : is_from n x ≡ true → Goal = λ (k : is_from n x ≡ true).
     let same : ◌≡◌ {A = Option Record} (Some x) (Some r) = subst P k e in
-    let is : x ≡ r = cc in
-    let number : x.id ≡ r.id = ap (λ q. q.id) is in
+    let is : x ≡ r = cc in let number : x.id ≡ r.id = ap (λ q. q.id) is in
     ⊎_elim
     (λ (j : s ≡ x). let its : s.id ≡ x.id = ap (λ q. q.id) j in let g : Goal = omega arith in g)
     (λ (j : IsIn s xs). let below : x.id < s.id = ltb-true x.id s.id (ComesBefore-at id_before x s xs order.0 j) in let g : Goal = omega arith in g)
     h in
-    let later : is_from n x ≡ false → Goal = λ (k : is_from n x ≡ false).
-    ⊎_elim
-    (λ (j : s ≡ x). absurd (both_ways (is_from n x) k (ap (is_from n) (sym j) ∙ t)))
-    (λ (j : IsIn s xs). least_found n r xs order.1 (subst P k e) s j t)
-    h in
+    let later : is_from n x ≡ false → Goal = λ (k : is_from n x ≡ false). ⊎_elim (λ (j : s ≡ x). absurd (both_ways (is_from n x) k (ap (is_from n) (sym j) ∙ t)))
+    (λ (j : IsIn s xs). least_found n r xs order.1 (subst P k e) s j t) h in
     ⊎_elim here later (cases_Bool (is_from n x))
 
 first_found_in : (n : ℕ) (xs : List Record) (o : Option Record) → IsInOrder id_before xs → find (is_from n) xs ≡ o → IsFirst n xs (option_map live_of o)
@@ -43,13 +39,12 @@ first_found_in n xs (Some r) order e = let k = IsIn-from_find (is_from n) r xs e
 found_is_first : (n : ℕ) (xs : List Record) (o : Option Live) → IsInOrder id_before xs → IsFirst n xs o → o ≡ option_map live_of (find (is_from n) xs)
 found_is_first n xs None order first = sym (ap (option_map live_of) (find-none (is_from n) xs (list_any-none (is_from n) xs first)))
 found_is_first n xs (Some live) order first =
-    let r : Record = first.0.0 in
     let Goal : Type 0 = ◌≡◌ {A = Option Live} (Some live) (option_map live_of (find (is_from n) xs)) in
-    let none : find (is_from n) xs ≡ None → Goal = λ (e : find (is_from n) xs ≡ None). absurd (both_ways (is_from n r) (fails-from_find (is_from n) r xs e first.0.1) first.0.2) in
+    let none : find (is_from n) xs ≡ None → Goal = λ (e : find (is_from n) xs ≡ None). absurd (both_ways (is_from n first.0.0) (fails-from_find (is_from n) first.0.0 xs e first.0.1) first.0.2) in
     let some : (q : Record) → find (is_from n) xs ≡ Some q → Goal = λ q e.
     let k = IsIn-from_find (is_from n) q xs e in
-    let low : q.id ≤ r.id = least_found n q xs order e r first.0.1 first.0.2 in
-    ap (λ l. Some l) (first.0.3 ∙ ap live_of (same_record r q xs order first.0.1 k.0 (omega (arith, ap (λ l. l.id) first.0.3, first.1 q k.0 k.1)))) ∙ sym (ap (option_map live_of) e) in
+    let low : q.id ≤ first.0.0.id = least_found n q xs order e first.0.0 first.0.1 first.0.2 in
+    ap (λ l. Some l) (first.0.3 ∙ ap live_of (same_record first.0.0 q xs order first.0.1 k.0 (omega (arith, ap (λ l. l.id) first.0.3, first.1 q k.0 k.1)))) ∙ sym (ap (option_map live_of) e) in
     elim (find (is_from n) xs) as (λ o. (find (is_from n) xs ≡ o → Goal)) [ None ↦ none | Some q ↦ some q ] refl
 
 -- of two lists it is the sooner one
@@ -78,7 +73,8 @@ first_pinned : (n : ℕ) (us : List Use) (xs : List Record) (o : Option Live) �
 first_pinned n us xs None f = λ r h. let q = IsIn-from_map (with_pins us) r xs h in ap (is_from n) q.2 ∙ f q.0 q.1
 first_pinned n us xs (Some live) f = (
   (with_pins us f.0.0, IsIn-map (with_pins us) f.0.0 xs f.0.1, f.0.2, f.0.3),
-  λ s h t. let q = IsIn-from_map (with_pins us) s xs h in let low : live.id ≤ q.0.id = f.1 q.0 q.1 (ap (is_from n) (sym q.2) ∙ t) in let its : s.id ≡ q.0.id = ap (λ w. w.id) q.2 in let l : live.id ≤ s.id = omega arith in l,
+  λ s h t. let q = IsIn-from_map (with_pins us) s xs h in let low : live.id ≤ q.0.id = f.1 q.0 q.1 (ap (is_from n) (sym q.2) ∙ t) in let its : s.id ≡ q.0.id = ap (λ w. w.id) q.2 in let l : live.id ≤
+      s.id = omega arith in l,
 )
 
 first_in_order : (n : ℕ) (xs : List Record) (o : Option Live) → IsFirst n xs o → IsFirst n (in_order id_before xs) o
@@ -86,9 +82,9 @@ first_in_order n xs None f = λ r h. f r (IsIn-from_in_order id_before r xs h)
 first_in_order n xs (Some live) f = ((f.0.0, IsIn-in_order id_before f.0.0 xs f.0.1, f.0.2, f.0.3), λ s h t. f.1 s (IsIn-from_in_order id_before s xs h) t)
 
 -- the first live record from a number on is the soonest of the groups' first
-pub first_live : (p : Parts) (n : ℕ) (a b c : Option Live) → IsInOrder id_before (records_in p) → IsInOrder id_before p.pending → IsInOrder id_before p.store.checkpoints → IsInOrder id_before p.store.savepoints
-    → a ≡ option_map live_of (find (is_from n) p.pending) → b ≡ option_map live_of (find (is_from n) p.store.checkpoints) → c ≡ option_map live_of (find (is_from n) p.store.savepoints)
-    → sooner a (sooner b c) ≡ option_map live_of (find (is_from n) (records_in p))
+pub first_live : (p : Parts) (n : ℕ) (a b c : Option Live) → IsInOrder id_before (records_in p) → IsInOrder id_before p.pending → IsInOrder id_before p.store.checkpoints →
+    IsInOrder id_before p.store.savepoints → a ≡ option_map live_of (find (is_from n) p.pending) → b ≡ option_map live_of (find (is_from n) p.store.checkpoints) →
+    c ≡ option_map live_of (find (is_from n) p.store.savepoints) → sooner a (sooner b c) ≡ option_map live_of (find (is_from n) (records_in p))
 first_live p n a b c order pending checkpoints savepoints is_a is_b is_c =
     let us : List Use = p.registry in
     let cs : List Record = p.store.checkpoints in
@@ -101,7 +97,6 @@ first_live p n a b c order pending checkpoints savepoints is_a is_b is_c =
     found_is_first n (records_in p) (sooner a (sooner b c)) order (first_in_order n (grouped us p.pending cs ss) (sooner a (sooner b c)) all)
 
 -- places
-
 abbrev pub is_below : ℕ → Record → Bool
 is_below n r = ltb r.id n
 
@@ -121,12 +116,12 @@ one_more n r (x ∷ xs) order e =
     let P : Bool → Type 0 = λ b. cond b (Some x) (find (is_from n) xs) ≡ Some r in
     let here : is_from n x ≡ true → Goal = λ (k : is_from n x ≡ true).
     let same : ◌≡◌ {A = Option Record} (Some x) (Some r) = subst P k e in
-    let is : x ≡ r = cc in
-    let number : x.id ≡ r.id = ap (λ q. q.id) is in
+    let is : x ≡ r = cc in let number : x.id ≡ r.id = ap (λ q. q.id) is in
     let low : n ≤ x.id = leb-true n x.id k in
     let mine : is_below (r.id + 1) x ≡ true = lt-ltb x.id (r.id + 1) (omega arith) in
     let not_mine : is_below n x ≡ false = le-ltb x.id n low in
-    let others : count_by (is_below (r.id + 1)) xs ≡ 0 = count_by-none (is_below (r.id + 1)) xs (λ y h. le-ltb y.id (r.id + 1) (let above : x.id < y.id = ltb-true x.id y.id (ComesBefore-at id_before x y xs order.0 h) in let l : r.id + 1 ≤ y.id = omega arith in l)) in
+    let others : count_by (is_below (r.id + 1)) xs ≡ 0 = count_by-none (is_below (r.id + 1)) xs
+    (λ y h. le-ltb y.id (r.id + 1) (let above : x.id < y.id = ltb-true x.id y.id (ComesBefore-at id_before x y xs order.0 h) in let l : r.id + 1 ≤ y.id = omega arith in l)) in
     let none : count_by (is_below n) xs ≡ 0 = count_by-none (is_below n) xs (λ y h. le-ltb y.id n (all_from n x xs order low y h)) in
     omega (arith, count_by_yes (is_below (r.id + 1)) x xs mine, count_by_no (is_below n) x xs not_mine) in
     let later : is_from n x ≡ false → Goal = λ (k : is_from n x ≡ false).
@@ -144,29 +139,27 @@ past (y ∷ ys) zero e j h = absurd (cc)
 past (y ∷ ys) (suc k) e zero h = absurd (omega arith)
 past (y ∷ ys) (suc k) e (suc j) h = let l : length ys ≤ j = past ys k e j (omega arith) in omega arith
 
--- if none is found, all are below
-none_above : (n : ℕ) (xs : List Record) → IsInOrder id_before xs → slice_get xs (count_by (is_below n) xs) ≡ None → (place : ℕ) → count_by (is_below n) xs ≤ place → slice_get xs place ≡ None
-none_above n xs order e place h = slice_get_past xs place (past xs (count_by (is_below n) xs) e place h)
-
 -- the walk over the places
-
-pub walk_ended : (n place : ℕ) (xs : List Record) (o : Option Live) → IsInOrder id_before xs → count_by (is_below n) xs ≡ place → o ≡ option_map live_of (find (is_from n) xs) → o ≡ option_map live_of (slice_get xs place)
+pub walk_ended : (n place : ℕ) (xs : List Record) (o : Option Live) → IsInOrder id_before xs → count_by (is_below n) xs ≡ place → o ≡ option_map live_of (find (is_from n) xs) →
+    o ≡ option_map live_of (slice_get xs place)
 walk_ended n place xs o order at is = is ∙ ap (option_map live_of) (found_by_count n xs order ∙ ap (slice_get xs) at)
 
 pub none_of : (o : Option Record) → None ≡ option_map live_of o → o ≡ None
 none_of None e = refl
 none_of (Some r) e = absurd (cc)
 
-pub walk_stopped : (n turn place : ℕ) (xs : List Record) → IsInOrder id_before xs → count_by (is_below n) xs ≡ turn → turn < place → None ≡ option_map live_of (find (is_from n) xs) → None ≡ option_map live_of (slice_get xs place)
+pub walk_stopped : (n turn place : ℕ) (xs : List Record) → IsInOrder id_before xs → count_by (is_below n) xs ≡ turn → turn < place → None ≡ option_map live_of (find (is_from n) xs) →
+    None ≡ option_map live_of (slice_get xs place)
 walk_stopped n turn place xs order at further is =
     let none : slice_get xs (count_by (is_below n) xs) ≡ None = sym (found_by_count n xs order) ∙ none_of (find (is_from n) xs) is in
-    sym (ap (option_map live_of) (none_above n xs order none place (omega arith)))
+    sym (ap (option_map live_of) (slice_get_past xs place (past xs (count_by (is_below n) xs) none place (omega arith))))
 
 pub some_of : (live : Live) (o : Option Record) → Some live ≡ option_map live_of o → (r : Record) × (o ≡ Some r) × (live ≡ live_of r)
 some_of live None e = absurd (cc)
 some_of live (Some r) e = (r, refl, let same : live ≡ live_of r = cc in same)
 
-pub walk_goes_on : (n turn : ℕ) (live : Live) (xs : List Record) → IsInOrder id_before xs → count_by (is_below n) xs ≡ turn → Some live ≡ option_map live_of (find (is_from n) xs) → count_by (is_below (live.id + 1)) xs ≡ turn + 1
+pub walk_goes_on : (n turn : ℕ) (live : Live) (xs : List Record) → IsInOrder id_before xs → count_by (is_below n) xs ≡ turn → Some live ≡ option_map live_of (find (is_from n) xs) →
+    count_by (is_below (live.id + 1)) xs ≡ turn + 1
 walk_goes_on n turn live xs order at is = grind (arith, common_steps, one_more, some_of)
 
 -- a live record's number is below all numbers' end

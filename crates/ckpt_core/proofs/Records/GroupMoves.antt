@@ -28,17 +28,15 @@ with_pins_kept keep us r kept = ap (λ fs. record r { pins = fs }) (pins_kept ke
 -- a drop, by number
 
 pub drop_groups : (keep : ℕ → Bool) (us : List Use) (pending checkpoints savepoints : List Record) → AreApart (grouped us pending checkpoints savepoints) →
-    records_of (filter (λ u. keep u.id) us) (filter (λ r. keep r.id) pending) (filter (λ r. keep r.id) checkpoints) (filter (λ r. keep r.id) savepoints) ≡ filter (λ r. keep r.id) (records_of us pending checkpoints savepoints)
-drop_groups keep us pending checkpoints savepoints apart =
-    let keeps : Record → Bool = λ r. keep r.id in
-    let us' : List Use = filter (λ u. keep u.id) us in
-    let each : (r : Record) → IsIn r (filter keeps pending) → with_pins us' r ≡ with_pins us r = λ r h.
-    with_pins_kept (λ u. keep u.id) us r (λ u k p. ap keep (eqb-true u.id r.id (and_parts (eqb u.id r.id) (is_pin u.holder) p).0) ∙ (IsIn-from_filter keeps r pending h).1) in
+    records_of (filter (λ u. keep u.id) us) (filter (λ r. keep r.id) pending) (filter (λ r. keep r.id) checkpoints) (filter (λ r. keep r.id) savepoints)
+    ≡ filter (λ r. keep r.id) (records_of us pending checkpoints savepoints)
+drop_groups keep us pending checkpoints savepoints apart = let keeps : Record → Bool = λ r. keep r.id in let us' : List Use = filter (λ u. keep u.id) us in
+    let each : (r : Record) → IsIn r (filter keeps pending) → with_pins us' r ≡ with_pins us r = λ r h. with_pins_kept (λ u. keep u.id) us r
+    (λ u k p. ap keep (eqb-true u.id r.id (and_parts (eqb u.id r.id) (is_pin u.holder) p).0) ∙ (IsIn-from_filter keeps r pending h).1) in
     let whole : grouped us' (filter keeps pending) (filter keeps checkpoints) (filter keeps savepoints) ≡ filter keeps (grouped us pending checkpoints savepoints) =
     ap (λ a. a ++ (filter keeps checkpoints ++ filter keeps savepoints)) (map_same (with_pins us') (with_pins us) (filter keeps pending) each ∙ sym (filter-map keeps (with_pins us) pending))
-    ∙ ap (λ b. filter keeps (map (with_pins us) pending) ++ b) (sym (filter-append keeps checkpoints savepoints))
-    ∙ sym (filter-append keeps (map (with_pins us) pending) (checkpoints ++ savepoints)) in
-    ap (in_order id_before) whole ∙ in_order-filter keeps (grouped us pending checkpoints savepoints) apart
+    ∙ ap (λ b. filter keeps (map (with_pins us) pending) ++ b) (sym (filter-append keeps checkpoints savepoints)) ∙ sym (filter-append keeps (map (with_pins us) pending)
+    (checkpoints ++ savepoints)) in ap (in_order id_before) whole ∙ in_order-filter keeps (grouped us pending checkpoints savepoints) apart
 
 -- the newest record, with its acknowledgements and pins
 
@@ -52,11 +50,9 @@ pub pins_of-holds : (id : ℕ) (files : List ℕ) → pins_of (triples id Pin fi
 pins_of-holds id [] = refl
 pins_of-holds id (f ∷ files) = grind (arith, common_steps, pins_of-holds id files)
 
-pub trigger_uses : (us : List Use) (id : ℕ) (files : List ℕ) → IsInOrder use_before us → ((u : Use) → IsIn u us → u.id < id) → IsAscendingSet files
-    → in_order_once use_before (us ++ triples id Pin files) ≡ us ++ triples id Pin files
-trigger_uses us id files order older set =
-    in_order_once-itself (us ++ triples id Pin files)
-    (IsInOrder-append use_before us (triples id Pin files) order (holds_in_order id Pin files set)
+pub trigger_uses : (us : List Use) (id : ℕ) (files : List ℕ) → IsInOrder use_before us → ((u : Use) → IsIn u us → u.id < id) → IsAscendingSet files →
+    in_order_once use_before (us ++ triples id Pin files) ≡ us ++ triples id Pin files
+trigger_uses us id files order older set = in_order_once-itself (us ++ triples id Pin files) (IsInOrder-append use_before us (triples id Pin files) order (holds_in_order id Pin files set)
     (λ u v h k. earlier_record u v (let e : v.id ≡ id = (from_holds id Pin files v k).0 in let lt : u.id < id = older u h in omega arith)))
 
 -- an acknowledgement is no pin
@@ -68,20 +64,18 @@ own_pins : (us : List Use) (id : ℕ) (acks : List Acked) (files : List ℕ) →
 own_pins us id acks files older = grind (arith, common_steps, and_left, triples, ne_eqb, no_pins, pins_of-append, pins_of-holds, pins_of-none)
 
 -- the others pin what they pinned
-pub others_keep : (us : List Use) (pending rest : List Record) (x : Record) → IsAbove (map (with_pins us) pending ++ rest) x.id → map (with_pins (us ++ uses_of x)) pending ≡ map (with_pins us) pending
-others_keep us pending rest x newest =
-    map_same (with_pins (us ++ uses_of x)) (with_pins us) pending (λ r h.
+pub others_keep : (us : List Use) (pending rest : List Record) (x : Record) → IsAbove (map (with_pins us) pending ++ rest) x.id →
+    map (with_pins (us ++ uses_of x)) pending ≡ map (with_pins us) pending
+others_keep us pending rest x newest = map_same (with_pins (us ++ uses_of x)) (with_pins us) pending (λ r h.
     let lt : r.id < x.id = newest (with_pins us r) (IsIn-append_left (with_pins us r) (map (with_pins us) pending) rest (IsIn-map (with_pins us) r pending h)) in
-    let not_r : (u : Use) → IsIn u (uses_of x) → pins r.id u ≡ false = λ u k.
-    and_left (eqb u.id r.id) (is_pin u.holder) (ne_eqb u.id r.id (λ e. let i : u.id ≡ x.id = use_of_record x u k in omega arith)) in
-    ap (λ fs. record r { pins = fs }) (pins_of-append us (uses_of x) r.id ∙ ap (λ fs. pins_of us r.id ++ fs) (pins_of-none (uses_of x) r.id not_r) ∙ append-nil (pins_of us r.id)))
+    let not_r : (u : Use) → IsIn u (uses_of x) → pins r.id u ≡ false = λ u k. and_left (eqb u.id r.id) (is_pin u.holder) (ne_eqb u.id r.id (λ e. let i : u.id ≡ x.id = use_of_record x u k in
+    omega arith)) in ap (λ fs. record r { pins = fs }) (pins_of-append us (uses_of x) r.id ∙ ap (λ fs. pins_of us r.id ++ fs) (pins_of-none (uses_of x) r.id not_r) ∙ append-nil (pins_of us r.id)))
 
-pub pending_groups : (us : List Use) (pending checkpoints savepoints : List Record) (x : Record) (files : List ℕ) → ((u : Use) → IsIn u us → u.id < x.id)
-    → IsAbove (grouped us pending checkpoints savepoints) x.id →
-    records_of (us ++ uses_held x.id x.acks files) (pending ++ x ∷ []) checkpoints savepoints ≡ records_of us pending checkpoints savepoints ++ record x { pins = files } ∷ []
+pub pending_groups : (us : List Use) (pending checkpoints savepoints : List Record) (x : Record) (files : List ℕ) → ((u : Use) → IsIn u us → u.id < x.id) →
+    IsAbove (grouped us pending checkpoints savepoints) x.id → records_of (us ++ uses_held x.id x.acks files) (pending ++ x ∷ []) checkpoints savepoints
+    ≡ records_of us pending checkpoints savepoints ++ record x { pins = files } ∷ []
 pending_groups us pending checkpoints savepoints x files older newest =
-    let x' : Record = record x { pins = files } in
-    let us' : List Use = us ++ uses_of x' in
+    let x' : Record = record x { pins = files } in let us' : List Use = us ++ uses_of x' in
     let first : map (with_pins us') (pending ++ x ∷ []) ≡ map (with_pins us) pending ++ x' ∷ [] =
     rw (map-append (with_pins us') pending (x ∷ []), others_keep us pending (checkpoints ++ savepoints) x' newest, own_pins us x.id x.acks files older) in
     rw (first, in_order-newest x' (map (with_pins us) pending) (checkpoints ++ savepoints) newest)

@@ -28,5 +28,5 @@ abbrev pub earlier : ℕ → List Record → List ℕ
 earlier id pending = map (λ r. r.id) (filter (is_before id) pending)
 
 -- the numbers of all records that a completed checkpoint supersedes
-abbrev pub superseded : List Record → Stored → Record → List ℕ
-superseded pending store done = earlier done.id pending ++ surplus store done
+abbrev pub superseded_ids : List Record → Stored → Record → List ℕ
+superseded_ids pending store done = earlier done.id pending ++ surplus store done

@@ -1,9 +1,8 @@
 -- The records that wait for acknowledgements, as a list in rising number.
-use Rattle.std.specs.Prelude.{◌≡◌, ℕ, ◌==◌, true, false, List, map, count_by, if◌then◌else◌}
+use Rattle.std.specs.Prelude.{◌≡◌, ℕ, ◌==◌, List, map, count_by, if◌then◌else◌}
 use Rattle.ckpt_ids.specs.declared.subtask.SubtaskId.{SubtaskId}
 use Rattle.ckpt_ids.specs.Ordered.{IsIn, IsInOrder}
-use Rattle.ckpt_ids.specs.Records.{Record, acknowledged, has_acknowledged}
-use Rattle.ckpt_ids.specs.Shapes.{is_subtask}
+use Rattle.ckpt_ids.specs.Records.{Record, acknowledged}
 use Rattle.ckpt_pending.specs.Acknowledging.{IsPending, without_ack}
 use Rattle.ckpt_model.specs.State.{is_checkpoint}
 use Rattle.ckpt_model.specs.Soundness.{id_before}
@@ -11,10 +10,6 @@ use Rattle.ckpt_model.specs.Soundness.{id_before}
 -- the records after a subtask acknowledged the one of this number
 abbrev pub acked : ℕ → SubtaskId → List ℕ → List Record → List Record
 acked id subtask files rs = map (λ r. if r.id == id then acknowledged r subtask files else r) rs
-
--- the record has this subtask, and waits for it
-abbrev pub Expects : Record → SubtaskId → Type 0
-Expects r subtask = (is_subtask r.shape subtask ≡ true) × (has_acknowledged r subtask ≡ false)
 
 -- the records without the acknowledgement of a subtask in the one of this number
 abbrev pub retracted : ℕ → SubtaskId → List Record → List Record

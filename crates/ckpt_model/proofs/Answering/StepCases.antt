@@ -11,13 +11,15 @@ unfolding step
 step_accepted m call e = ap (unless_refused m call) e
 
 -- what holds of a refusal and of the effect holds of the step
-pub step_by : (m : State) (call : Call) (P : Stepped → Type 0) → ((why : Refusal) → refusal m call ≡ Some why → P (m, Refused why)) → (refusal m call ≡ None → P (effect (at_moment m (moment_of call)) call)) → P (step m call)
+pub step_by : (m : State) (call : Call) (P : Stepped → Type 0) → ((why : Refusal) → refusal m call ≡ Some why → P (m, Refused why))
+    → (refusal m call ≡ None → P (effect (at_moment m (moment_of call)) call)) → P (step m call)
 unfolding step
 step_by m call P refused accepted = grind (arith, common_steps, accepted, refused)
 
 -- a call is not refused if its answer passes a test that no refusal passes
 pub not_refused-from_answer : (passes : Answer → Bool) → ((why : Refusal) → passes (Refused why) ≡ false) → (m : State) (call : Call) → passes (step m call).1 ≡ true → refusal m call ≡ None
-not_refused-from_answer passes fails m call = step_by m call (λ x. passes x.1 ≡ true → refusal m call ≡ None) (λ why _ h. absurd (both_ways (passes (Refused why)) (fails why) h)) (λ accepted _. accepted)
+not_refused-from_answer passes fails m call =
+    step_by m call (λ x. passes x.1 ≡ true → refusal m call ≡ None) (λ why _ h. absurd (both_ways (passes (Refused why)) (fails why) h)) (λ accepted _. accepted)
 
 -- what an accepted acknowledgement does
 pub ack_step : (m : State) (now id : ℕ) (subtask : SubtaskId) (fresh reused : List ℕ) (o : Option Record) → refusal m (Ack now id subtask fresh reused) ≡ None → pending_of m.records id ≡ o →

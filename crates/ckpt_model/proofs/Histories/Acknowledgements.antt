@@ -1,10 +1,10 @@
 -- The acknowledgements of a live record are exactly the accepted ones of its number.
-use Rattle.ckpt_model.proofs.Names.{◌≡◌, ℕ, ◌<◌, ◌≤◌, ◌&&◌, eqb, List, [], ◌∷◌, ◌++◌, refl, sym, ap, subst, ◌∙◌, inl, inr, ⊎_elim, arith, Option, and_from, and_left, and_right, eq-eqb, ne_eqb}
-use Rattle.ckpt_model.proofs.Names.{cond-true, cond-false, append-nil, append_assoc, SubtaskId, Acked, Call, Ack, IsIn, in_order, acknowledges_before, put_ack, ascending, Record, IsIn-in_order, State}
-use Rattle.ckpt_model.proofs.Names.{Opening, opened, step, replay, IsSound, CanOpen, AreCalls, is_ack_taken, along, accepted_by, Acknowledgements, common_steps}
-use Rattle.ckpt_model.proofs.Records.Acknowledged.{new_subtask}
+use Rattle.ckpt_model.proofs.Names.{◌≡◌, ℕ, ◌<◌, ◌≤◌, List, [], ◌∷◌, ◌++◌, refl, sym, ap, ◌∙◌, inl, inr, arith, Option, eq-eqb, ne_eqb, append-nil, append_assoc, SubtaskId, Acked, Call, Ack, IsIn}
+use Rattle.ckpt_model.proofs.Names.{in_order, acknowledges_before, put_ack, ascending, Record, IsIn-in_order, State, Opening, opened, step, replay, IsSound, CanOpen, AreCalls, along, accepted_by}
+use Rattle.ckpt_model.proofs.Names.{Acknowledgements, common_steps}
+use Rattle.ckpt_model.proofs.Records.{new_subtask}
 use Rattle.ckpt_model.proofs.Reordering.ExchangeLemmas.{acks_commute}
-use Rattle.ckpt_model.proofs.Histories.Moves.{IsMoved, IsTriggered, moved_from}
+use Rattle.ckpt_model.proofs.Histories.Moves.{IsMoved, moved_from}
 use Rattle.ckpt_model.proofs.Histories.Takings.{IsTaken, taken_from, taken_id}
 use Rattle.ckpt_model.proofs.Stepping.Changes.{IsPassedOver, IsTakenBy, passed_moves}
 use Rattle.ckpt_model.proofs.Stepping.Walk.{step_is}
@@ -32,49 +32,40 @@ as_before : (so_far : ℕ → List Acked) (id : ℕ) (m : State) (call : Call) �
 as_before so_far id m call none = sym (ap (λ xs. so_far id ++ xs) none ∙ append-nil (so_far id))
 
 -- a call that adds none
-moved_accepted : (m : State) (call : Call) {d : Option ℕ} (so_far : ℕ → List Acked) → ((id : ℕ) → accepted_by id m call ≡ []) → IsMoved m d (step m call).0.records → AreAccepted m so_far → AreAccepted (step m call).0 (and_then so_far m call)
+moved_accepted : (m : State) (call : Call) {d : Option ℕ} (so_far : ℕ → List Acked) → ((id : ℕ) → accepted_by id m call ≡ []) → IsMoved m d (step m call).0.records → AreAccepted m so_far
+    → AreAccepted (step m call).0 (and_then so_far m call)
 moved_accepted m call so_far none i a =
     let same : (id : ℕ) → so_far id ≡ and_then so_far m call id = λ id. as_before so_far id m call (none id) in
-    record {
-      live = λ r h.
-          ⊎_elim
-          (λ (k : IsIn r m.records). a.live r k ∙ ap (in_order acknowledges_before) (same r.id))
-          (λ (k : IsTriggered m r). let from : m.next ≤ r.id = let e : r.id ≡ m.next = k.id in omega arith in k.acks ∙ ap (in_order acknowledges_before) (sym (a.later r.id from) ∙ same r.id))
-          (moved_from i r h);
-      later = λ id h. sym (same id) ∙ a.later id (let up : m.next ≤ ((step m call).0).next = next_rises m call in omega arith);
-    }
+    let up = next_rises m call in
+    record { live = λ r h. grind (arith, common_steps, a.live r, a.later r.id, same r.id, moved_from i r h) steps 1000000; later = λ id h. sym (same id) ∙ a.later id (omega arith) }
 
 -- an acknowledgement that changes no record
-passed_accepted : (m : State) (now id : ℕ) (subtask : SubtaskId) (fresh reused : List ℕ) (so_far : ℕ → List Acked) → IsPassedOver m (step m (Ack now id subtask fresh reused)) → AreAccepted m so_far → AreAccepted (step m (Ack now id subtask fresh reused)).0 (and_then so_far m (Ack now id subtask fresh reused))
-passed_accepted m now id subtask fresh reused so_far i a =
-    let call : Call = Ack now id subtask fresh reused in
-    let its : Acked = record { subtask = subtask; files = ascending (fresh ++ reused) } in
-    moved_accepted m call so_far (λ k. cond-false (eqb id k && is_ack_taken (step m call).1) (its ∷ []) [] (and_right (eqb id k) (is_ack_taken (step m call).1) i.not_taken)) (passed_moves i) a
+passed_accepted : (m : State) (now id : ℕ) (subtask : SubtaskId) (fresh reused : List ℕ) (so_far : ℕ → List Acked) → IsPassedOver m (step m (Ack now id subtask fresh reused)) → AreAccepted m so_far
+    → AreAccepted (step m (Ack now id subtask fresh reused)).0 (and_then so_far m (Ack now id subtask fresh reused))
+passed_accepted m now id subtask fresh reused so_far i a = moved_accepted m (Ack now id subtask fresh reused) so_far (λ k. grind (arith, common_steps, i.not_taken)) (passed_moves i) a
 
 -- an acknowledgement that is taken by a pending record
-taken_accepted : (m : State) (now id : ℕ) (subtask : SubtaskId) (fresh reused : List ℕ) (so_far : ℕ → List Acked) → IsSound m → IsTakenBy m id subtask fresh reused (step m (Ack now id subtask fresh reused)) → AreAccepted m so_far → AreAccepted (step m (Ack now id subtask fresh reused)).0 (and_then so_far m (Ack now id subtask fresh reused))
+taken_accepted : (m : State) (now id : ℕ) (subtask : SubtaskId) (fresh reused : List ℕ) (so_far : ℕ → List Acked) → IsSound m
+    → IsTakenBy m id subtask fresh reused (step m (Ack now id subtask fresh reused)) → AreAccepted m so_far
+    → AreAccepted (step m (Ack now id subtask fresh reused)).0 (and_then so_far m (Ack now id subtask fresh reused))
 taken_accepted m now id subtask fresh reused so_far s i a =
     let call : Call = Ack now id subtask fresh reused in
     let its : Acked = record { subtask = subtask; files = ascending (fresh ++ reused) } in
     let q : Record = i.q in
     let t : IsTaken m.records q its (step m call).0.records = i.taken in
     let there : IsIn q m.records = (i.acking).there in
-    let passes : (k : ℕ) → k ≡ id → accepted_by k m call ≡ its ∷ [] = λ k e. cond-true (eqb id k && is_ack_taken (step m call).1) (its ∷ []) [] (and_from (eqb id k) (is_ack_taken (step m call).1) (eq-eqb id k (sym e)) i.is_taken) in
-    let other : (k : ℕ) → (k ≡ id → ⊥) → accepted_by k m call ≡ [] = λ k ne. cond-false (eqb id k && is_ack_taken (step m call).1) (its ∷ []) [] (and_left (eqb id k) (is_ack_taken (step m call).1) (ne_eqb id k (λ e. ne (sym e)))) in
-    let is_new : (x : Acked) → IsIn x (so_far q.id) → x.subtask ≡ its.subtask → ⊥ = λ x h e.
-    let In : List Acked → Type 0 = λ xs. IsIn x xs in
-    new_subtask q subtask x (i.acking).first (subst In (sym (a.live q there)) (IsIn-in_order acknowledges_before x (so_far q.id) h)) (sym e) in
+    let passes : accepted_by q.id m call ≡ its ∷ [] = grind (arith, common_steps, i.its_id, i.is_taken, eq-eqb) in
+    let other : (k : ℕ) → (k ≡ id → ⊥) → accepted_by k m call ≡ [] = λ k ne. grind (arith, common_steps, ne_eqb id k) in
+    let is_new : (x : Acked) → IsIn x (so_far q.id) → x.subtask ≡ subtask → ⊥ = λ x h e.
+    new_subtask q subtask x (i.acking).first (rw (a.live q there) (IsIn-in_order acknowledges_before x (so_far q.id) h)) (sym e) in
     let new_id : (t.new).id ≡ q.id = taken_id t there in
     let of_new : (t.new).acks ≡ in_order acknowledges_before (and_then so_far m call (t.new).id) =
-    t.acks ∙ ap (put_ack its) (a.live q there) ∙ sym (in_order_push its (so_far q.id) is_new) ∙ ap (λ xs. in_order acknowledges_before (so_far q.id ++ xs)) (sym (passes q.id i.its_id)) ∙ ap (λ k. in_order acknowledges_before (and_then so_far m call k)) (sym new_id) in
-    let Fits : Record → Type 0 = λ r. r.acks ≡ in_order acknowledges_before (and_then so_far m call r.id) in
+    rw (new_id, passes) (t.acks ∙ ap (put_ack its) (a.live q there) ∙ sym (in_order_push its (so_far q.id) is_new)) in
+    let up : m.next ≤ ((step m call).0).next = next_rises m call in
+    let below : q.id < m.next = s.records.below_next q there in
     record {
-      live = λ r h.
-          grind (arith, common_steps, a.live, as_before so_far r.id m call, other r.id, taken_from t r) steps 1000000;
-      later = λ k h.
-          let up : m.next ≤ ((step m call).0).next = next_rises m call in
-          let below : q.id < m.next = s.records.below_next q there in
-          grind (arith, common_steps, as_before, other, a.later) steps 1000000;
+      live = λ r h. grind (arith, common_steps, a.live, as_before so_far r.id m call, other r.id, taken_from t r) steps 1000000;
+      later = λ k h. grind (arith, common_steps, as_before, other, a.later) steps 1000000;
     }
 
 -- each call
@@ -83,12 +74,11 @@ step_accepts m (Ack now id subtask fresh reused) so_far s a = grind (arith, comm
 step_accepts m call so_far s a = grind (arith, common_steps, moved_accepted, step_is)
 
 -- each list of calls
-acks_along : (m : State) (calls : List Call) (so_far : ℕ → List Acked) → IsSound m → AreCalls calls → AreAccepted m so_far → (r : Record) → IsIn r (replay m calls).records → r.acks ≡ in_order acknowledges_before (so_far r.id ++ along (accepted_by r.id) m calls)
-acks_along m [] so_far s c a r h = a.live r h ∙ ap (in_order acknowledges_before) (sym (append-nil (so_far r.id)))
-acks_along m (call ∷ calls) so_far s c a r h =
-    let n : State = (step m call).0 in
-    acks_along n calls (and_then so_far m call) (step_keeps m call c.0 s) c.1 (step_accepts m call so_far s a) r h
-    ∙ ap (in_order acknowledges_before) (append_assoc (so_far r.id) (accepted_by r.id m call) (along (accepted_by r.id) n calls))
+acks_along : (m : State) (calls : List Call) (so_far : ℕ → List Acked) → IsSound m → AreCalls calls → AreAccepted m so_far → (r : Record) → IsIn r (replay m calls).records
+    → r.acks ≡ in_order acknowledges_before (so_far r.id ++ along (accepted_by r.id) m calls)
+acks_along m [] so_far s c a r h = grind (arith, common_steps, a.live r h, append-nil)
+acks_along m (call ∷ calls) so_far s c a r h = let rest = acks_along (step m call).0 calls (and_then so_far m call) (step_keeps m call c.0 s) c.1 (step_accepts m call so_far s a) r h in
+    grind (arith, common_steps, rest, append_assoc)
 
 -- the law
 pub acknowledgements : (o : Opening) (calls : List Call) → CanOpen o → AreCalls calls → Acknowledgements o calls

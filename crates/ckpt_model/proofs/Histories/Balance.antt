@@ -1,16 +1,17 @@
 -- The balance of files over every list of calls, and what became of each.
-use Rattle.ckpt_model.proofs.Names.{common_steps, ◌≡◌, ℕ, ◌+◌, ◌≤◌, true, false, List, [], ◌∷◌, ◌++◌, refl, sym, ap, subst, ◌∙◌, ◌⊎◌, inl, inr, ⊎_elim, arith, cases_Bool, both_ways, ltb-false, le-ltb}
-use Rattle.ckpt_model.proofs.Names.{append-nil, append_assoc, Call, IsIn, uses, count, is_present, IsIn-append_left, IsIn-append_right, IsIn-append_cases, not_in-from_test, State, Opening, opened}
-use Rattle.ckpt_model.proofs.Names.{step, replay, IsSound, CanOpen, AreCalls, along, registered_by, handed_by, deleted_by, new_by, ShareNone, NoneAgain, Balance, Handed, Accounted, UsedNoMore, Outbox}
-use Rattle.ckpt_model.proofs.Names.{one_if, times, times-from_IsIn, IsIn-from_times, times-append, times_at_most_once}
-use Rattle.ckpt_model.proofs.Records.Lists.{outbox_of}
+use Rattle.ckpt_model.proofs.Names.{common_steps, ◌≡◌, ℕ, ◌+◌, ◌≤◌, false, List, [], ◌∷◌, ◌++◌, refl, subst, ◌⊎◌, arith, cases_Bool, both_ways, ltb-false, le-ltb, append-nil, append_assoc, Call, IsIn}
+use Rattle.ckpt_model.proofs.Names.{uses, count, is_present, IsIn-append_left, IsIn-append_right, IsIn-append_cases, not_in-from_test, State, Opening, opened, step, replay, IsSound, CanOpen, AreCalls}
+use Rattle.ckpt_model.proofs.Names.{along, registered_by, handed_by, deleted_by, new_by, ShareNone, NoneAgain, Balance, Handed, Accounted, UsedNoMore, Outbox, one_if, times, times-from_IsIn}
+use Rattle.ckpt_model.proofs.Names.{IsIn-from_times, times-append, times_at_most_once}
+use Rattle.ckpt_model.proofs.Records.{outbox_of}
 use Rattle.ckpt_model.proofs.Histories.Balances.{times_none}
 use Rattle.ckpt_model.proofs.Histories.StepBalances.{step_settled, newly_present}
 use Rattle.ckpt_model.proofs.Soundness.Calls.{step_keeps}
 use Rattle.ckpt_model.proofs.Soundness.Histories.{opening_is_sound, replay_is_sound}
 
 -- from any sound state on
-balance_from : (m : State) (calls : List Call) (f : ℕ) → IsSound m → AreCalls calls → times f (along registered_by m calls) + one_if (is_present (uses m.records) f) ≡ times f (along handed_by m calls) + one_if (is_present (uses (replay m calls).records) f)
+balance_from : (m : State) (calls : List Call) (f : ℕ) → IsSound m → AreCalls calls
+    → times f (along registered_by m calls) + one_if (is_present (uses m.records) f) ≡ times f (along handed_by m calls) + one_if (is_present (uses (replay m calls).records) f)
 balance_from m [] f s a = refl
 balance_from m (call ∷ calls) f s a =
     let n : State = (step m call).0 in
@@ -29,22 +30,19 @@ IsTraced m handed gone = (f : ℕ) → IsIn f handed → IsIn f (m.waiting ++ m.
 -- one call
 step_traces : (m : State) (call : Call) (handed gone : List ℕ) → IsSound m → IsTraced m handed gone → IsTraced (step m call).0 (handed ++ handed_by m call) (gone ++ deleted_by m call)
 step_traces m call handed gone s t f h =
-    let n : State = (step m call).0 in
-    let old : IsIn f handed → (IsIn f (n.waiting ++ n.taken) ⊎ IsIn f (gone ++ deleted_by m call)) = λ (k : IsIn f handed).
-    ⊎_elim
-    (λ (i : IsIn f (m.waiting ++ m.taken)). ⊎_elim (λ (j : IsIn f (n.waiting ++ n.taken)). inl j) (λ (j : IsIn f (deleted_by m call)). inr (IsIn-append_right f gone (deleted_by m call) j)) ((step_settled m call s).stays f i))
-    (λ (i : IsIn f gone). inr (IsIn-append_left f gone (deleted_by m call) i))
-    (t f k) in
-    ⊎_elim old (λ (k : IsIn f (handed_by m call)). inl ((step_settled m call s).out f k)) (IsIn-append_cases f handed (handed_by m call) h)
+    let k = step_settled m call s in
+    let cases = IsIn-append_cases f handed (handed_by m call) h in
+    grind (arith, common_steps, cases, t f, k.stays f, k.out f, IsIn-append_left f gone (deleted_by m call), IsIn-append_right f gone (deleted_by m call)) steps 1000000
 
 -- a list of calls
-traced_along : (m : State) (calls : List Call) (handed gone : List ℕ) → IsSound m → AreCalls calls → IsTraced m handed gone → IsTraced (replay m calls) (handed ++ along handed_by m calls) (gone ++ along deleted_by m calls)
+traced_along : (m : State) (calls : List Call) (handed gone : List ℕ) → IsSound m → AreCalls calls → IsTraced m handed gone
+    → IsTraced (replay m calls) (handed ++ along handed_by m calls) (gone ++ along deleted_by m calls)
 traced_along m [] handed gone s a t f h = grind (arith, common_steps, IsIn-append_left, append-nil) steps 1000000
 traced_along m (call ∷ calls) handed gone s a t f h =
     let n : State = (step m call).0 in
-    let In : List ℕ → Type 0 = λ xs. IsIn f xs in
-    let rest = traced_along n calls (handed ++ handed_by m call) (gone ++ deleted_by m call) (step_keeps m call a.0 s) a.1 (step_traces m call handed gone s t) f (subst In (sym (append_assoc handed (handed_by m call) (along handed_by n calls))) h) in
-    ⊎_elim (λ (k : IsIn f ((replay n calls).waiting ++ (replay n calls).taken)). inl k) (λ (k : IsIn f ((gone ++ deleted_by m call) ++ along deleted_by n calls)). inr (subst In (append_assoc gone (deleted_by m call) (along deleted_by n calls)) k)) rest
+    rw (← append_assoc gone (deleted_by m call) (along deleted_by n calls))
+    (traced_along n calls (handed ++ handed_by m call) (gone ++ deleted_by m call) (step_keeps m call a.0 s) a.1 (step_traces m call handed gone s t) f
+    (rw (append_assoc handed (handed_by m call) (along handed_by n calls)) h))
 
 -- no file deleted so far is present, if none is reported as new again
 abbrev AreGone : State → List ℕ → Type 0
@@ -52,17 +50,15 @@ AreGone m gone = (f : ℕ) → IsIn f gone → is_present (uses m.records) f ≡
 
 -- one call
 step_gone : (m : State) (call : Call) (gone : List ℕ) → IsSound m → ShareNone gone (new_by m call) → AreGone m gone → AreGone (step m call).0 (gone ++ deleted_by m call)
-step_gone m call gone s apart g f h =
-    let n : State = (step m call).0 in
-    let old : IsIn f gone → is_present (uses n.records) f ≡ false = grind (arith, common_steps, both_ways, newly_present m call f s, cases_Bool) steps 1000000 in
-    ⊎_elim old (λ (k : IsIn f (deleted_by m call)). (step_settled m call s).gone f k) (IsIn-append_cases f gone (deleted_by m call) h)
+step_gone m call gone s apart g f h = let cases = IsIn-append_cases f gone (deleted_by m call) h in
+    grind (arith, common_steps, cases, (step_settled m call s).gone f, g f, apart f, both_ways, newly_present m call f s, cases_Bool) steps 1000000
 
 -- a list of calls
 gone_along : (m : State) (calls : List Call) (gone : List ℕ) → IsSound m → AreCalls calls → NoneAgain gone m calls → AreGone m gone → AreGone (replay m calls) (gone ++ along deleted_by m calls)
 gone_along m [] gone s a n g f h = let In : List ℕ → Type 0 = λ xs. IsIn f xs in g f (subst In (append-nil gone) h)
 gone_along m (call ∷ calls) gone s a n g f h =
-    let k : State = (step m call).0 in
-    gone_along k calls (gone ++ deleted_by m call) (step_keeps m call a.0 s) a.1 n.1 (step_gone m call gone s n.0 g) f (rw (append_assoc gone (deleted_by m call) (along deleted_by k calls)) h)
+    gone_along (step m call).0 calls (gone ++ deleted_by m call) (step_keeps m call a.0 s) a.1 n.1 (step_gone m call gone s n.0 g) f
+    (rw (append_assoc gone (deleted_by m call) (along deleted_by (step m call).0 calls)) h)
 
 -- what is counted nowhere is not present
 absent-from_count : (m : State) (f : ℕ) → count (uses m.records) f ≡ 0 → is_present (uses m.records) f ≡ false
@@ -73,38 +69,31 @@ count-from_absent : (m : State) (f : ℕ) → is_present (uses m.records) f ≡ 
 count-from_absent m f e = let none : count (uses m.records) f ≤ 0 = ltb-false 0 (count (uses m.records) f) e in omega arith
 
 -- a registered file that is not present was handed out
-handed-from_registered : (o : Opening) (calls : List Call) (f : ℕ) → CanOpen o → AreCalls calls → IsIn f (along registered_by (opened o) calls) → is_present (uses (replay (opened o) calls).records) f ≡ false → IsIn f (along handed_by (opened o) calls)
+handed-from_registered : (o : Opening) (calls : List Call) (f : ℕ) → CanOpen o → AreCalls calls → IsIn f (along registered_by (opened o) calls)
+    → is_present (uses (replay (opened o) calls).records) f ≡ false → IsIn f (along handed_by (opened o) calls)
 handed-from_registered o calls f c a h e = grind (arith, common_steps, balance o calls c a f, times-from_IsIn f, IsIn-from_times f) steps 1000000
 
 -- a registered file in no use is in the outbox or was deleted
 pub accounted : (o : Opening) (calls : List Call) → CanOpen o → AreCalls calls → Accounted o calls
 accounted o calls c a f h zero_times not_out =
     let m : State = replay (opened o) calls in
-    ⊎_elim
-    (λ (k : IsIn f (m.waiting ++ m.taken)). absurd (not_in-from_test f (m.waiting ++ m.taken) not_out k))
-    (λ (k : IsIn f (along deleted_by (opened o) calls)). k)
-    (traced_along (opened o) calls [] [] (opening_is_sound o c) a (λ f h. absurd h) f (handed-from_registered o calls f c a h (absent-from_count m f zero_times)))
+    let traced = traced_along (opened o) calls [] [] (opening_is_sound o c) a (λ f h. absurd h) f (handed-from_registered o calls f c a h (absent-from_count m f zero_times)) in
+    grind (arith, common_steps, not_in-from_test f (m.waiting ++ m.taken), traced)
 
 -- if no deleted file is reported as new again, what was handed out is what was registered and is in no use
 pub handed : (o : Opening) (calls : List Call) → CanOpen o → AreCalls calls → Handed o calls
 handed o calls c a none f =
     let m : State = replay (opened o) calls in
-    let out : List ℕ = along handed_by (opened o) calls in
-    let in_ : List ℕ = along registered_by (opened o) calls in
-    let absent : IsIn f out → is_present (uses m.records) f ≡ false = λ (h : IsIn f out).
-    ⊎_elim
-    (λ (k : IsIn f (m.waiting ++ m.taken)). (outbox_of (replay_is_sound o calls c a)).unused f k)
-    (λ (k : IsIn f (along deleted_by (opened o) calls)). gone_along (opened o) calls [] (opening_is_sound o c) a none (λ f h. absurd h) f k)
-    (traced_along (opened o) calls [] [] (opening_is_sound o c) a (λ f h. absurd h) f h) in
-    let registered : IsIn f out → IsIn f in_ = λ (h : IsIn f out).
-    IsIn-from_times f in_ (omega (arith, times-from_IsIn f out h, balance o calls c a f)) in
-    (λ (h : IsIn f out). (registered h, count-from_absent m f (absent h)), λ h. handed-from_registered o calls f c a h.0 (absent-from_count m f h.1))
+    let gone = gone_along (opened o) calls [] (opening_is_sound o c) a none (λ f h. absurd h) f in
+    let traced = traced_along (opened o) calls [] [] (opening_is_sound o c) a (λ f h. absurd h) f in
+    let b = outbox_of (replay_is_sound o calls c a) in
+    let back = handed-from_registered o calls f c a in
+    grind (arith, common_steps, b.unused f, gone, traced, balance o calls c a f, times-from_IsIn f, IsIn-from_times f, back, absent-from_count m f, count-from_absent m f) steps 1000000
 
 -- what two lists of calls give, one after the other
 along-append : {X : Type 0} (by : State → Call → List X) (m : State) (before calls : List Call) → along by m (before ++ calls) ≡ along by m before ++ along by (replay m before) calls
 along-append by m [] calls = refl
-along-append by m (call ∷ before) calls =
-    ap (λ xs. by m call ++ xs) (along-append by (step m call).0 before calls) ∙ sym (append_assoc (by m call) (along by (step m call).0 before) (along by (replay (step m call).0 before) calls))
+along-append by m (call ∷ before) calls = grind (arith, common_steps, along-append by (step m call).0 before calls)
 
 -- what was handed out is in no use then or later
 pub used_no_more : (o : Opening) (before calls : List Call) → CanOpen o → AreCalls (before ++ calls) → UsedNoMore o before calls
@@ -115,10 +104,4 @@ pub outbox : (o : Opening) (calls : List Call) → CanOpen o → AreCalls calls 
 outbox o calls c a f =
     let m : State = replay (opened o) calls in
     let b = outbox_of (replay_is_sound o calls c a) in
-    let out : List ℕ = m.waiting ++ m.taken in
-    let Goal : Type 0 = one_if (is_present (uses m.records) f) + times f out ≤ 1 in
-    let in_use : is_present (uses m.records) f ≡ true → Goal = λ (e : is_present (uses m.records) f ≡ true).
-    let one : one_if (is_present (uses m.records) f) ≡ 1 = ap one_if e in
-    let none : times f out ≡ 0 = times_none f out (λ h. both_ways (is_present (uses m.records) f) (b.unused f h) e) in
-    omega arith in
-    grind (arith, common_steps, times_at_most_once f out b.apart, cases_Bool) steps 1000000
+    grind (arith, common_steps, times_none f (m.waiting ++ m.taken), b.unused f, both_ways, times_at_most_once f (m.waiting ++ m.taken) b.apart, cases_Bool) steps 1000000

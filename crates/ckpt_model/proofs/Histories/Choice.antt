@@ -1,15 +1,14 @@
 -- The record that the choice names is live and done.
-use Rattle.ckpt_model.proofs.Names.{◌≡◌, ℕ, true, cond, eqb, List, [], ◌∷◌, refl, subst, ◌⊎◌, ⊎_elim, Option, Some, None, cases_Bool, and_parts, eqb-true, eq-eqb, Call, IsIn, IsInOrder, Record}
-use Rattle.ckpt_model.proofs.Names.{IsIn-from_list_any, State, Opening, opened, is_done_checkpoint, last_checkpoint, choice_from, choice_of, record_of, replay, IsSound, id_before, names, ChoiceIsLive}
-use Rattle.ckpt_model.proofs.Names.{common_steps, arith}
-use Rattle.ckpt_model.proofs.Records.Present.{present-from_IsHeld}
-use Rattle.ckpt_model.proofs.Records.Replacing.{same_record}
+use Rattle.ckpt_model.proofs.Names.{◌≡◌, ℕ, true, cond, eqb, List, [], ◌∷◌, refl, ◌⊎◌, Option, Some, None, cases_Bool, and_parts, eqb-true, Call, IsIn, IsInOrder, Record, IsIn-from_list_any, State}
+use Rattle.ckpt_model.proofs.Names.{Opening, opened, is_done_checkpoint, last_checkpoint, choice_from, choice_of, record_of, replay, IsSound, id_before, names, ChoiceIsLive, common_steps, arith}
+use Rattle.ckpt_model.proofs.Records.{present-from_IsHeld, same_record}
 use Rattle.ckpt_model.proofs.Reordering.ExchangeLemmas.{find-only}
-use Rattle.ckpt_model.proofs.Soundness.Drops.{is_savepoint}
-use Rattle.ckpt_model.proofs.Soundness.Triggers.{held-from_files_of}
+use Rattle.ckpt_model.proofs.Soundness.{is_savepoint, held-from_files_of}
 
 -- the last done checkpoint of a list, from that of its rest
-last_among : (r : Record) (rs : List Record) (id : ℕ) (o : Option ℕ) → ((i : ℕ) → last_checkpoint rs ≡ Some i → (s : Record) × IsIn s rs × (s.id ≡ i) × (is_done_checkpoint s ≡ true)) → last_checkpoint rs ≡ o → elim o [ Some i ↦ Some i | None ↦ cond (is_done_checkpoint r) (Some r.id) None ] ≡ Some id → (s : Record) × IsIn s (r ∷ rs) × (s.id ≡ id) × (is_done_checkpoint s ≡ true)
+last_among : (r : Record) (rs : List Record) (id : ℕ) (o : Option ℕ) → ((i : ℕ) → last_checkpoint rs ≡ Some i → (s : Record) × IsIn s rs × (s.id ≡ i) × (is_done_checkpoint s ≡ true))
+    → last_checkpoint rs ≡ o → elim o [ Some i ↦ Some i | None ↦ cond (is_done_checkpoint r) (Some r.id) None ] ≡ Some id
+    → (s : Record) × IsIn s (r ∷ rs) × (s.id ≡ id) × (is_done_checkpoint s ≡ true)
 last_among r rs id o h4 h5 h6 = grind (arith, common_steps, cases_Bool)
 
 -- the last done checkpoint is one of the records
@@ -23,23 +22,18 @@ names_is last base id h3 = grind (arith, common_steps)
 
 -- a record is found by its number
 pub found : (m : State) (r : Record) → IsInOrder id_before m.records → IsIn r m.records → record_of m r.id ≡ Some r
-found m r order there = find-only (λ x. eqb x.id r.id) r m.records there (eq-eqb r.id r.id refl) (λ y h t. same_record y r m.records order h there (eqb-true y.id r.id t))
+found m r order there = grind (arith, common_steps, find-only (λ x. eqb x.id r.id) r m.records, same_record, eqb-true)
 
 -- the record that the choice of a sound state names
 pub chosen_is_done : (m : State) (id : ℕ) → IsSound m → names (choice_of m) ≡ Some id → (r : Record) × IsIn r m.records × (record_of m id ≡ Some r) × (r.done ≡ true)
 unfolding choice_of
 chosen_is_done m id s e =
-    let Found : Type 0 = (r : Record) × IsIn r m.records × (record_of m id ≡ Some r) × (r.done ≡ true) in
-    let checkpoint : last_checkpoint m.records ≡ Some id → Found = grind (arith, common_steps, last_is_done, found, s.records.in_order, and_parts) in
-    let base : m.base ≡ Some id → Found = λ (h : m.base ≡ Some id).
-    let q = IsIn-from_list_any (is_savepoint id) m.records (s.base id h) in
-    grind (arith, common_steps, and_parts, eqb-true, found, s.records.in_order) in
-    ⊎_elim checkpoint base (names_is (last_checkpoint m.records) m.base id e)
+    let is = names_is (last_checkpoint m.records) m.base id e in
+    grind (arith, common_steps, is, last_is_done m.records id, found m, s.records.in_order, and_parts, s.base id, IsIn-from_list_any (is_savepoint id) m.records, eqb-true) steps 1000000
 
 -- the law, of a sound state
 pub choice_is_live : (o : Opening) (calls : List Call) → IsSound (replay (opened o) calls) → ChoiceIsLive o calls
 choice_is_live o calls s id e =
     let m : State = replay (opened o) calls in
     let q = chosen_is_done m id s e in
-    let same : (r : Record) → ◌≡◌ {A = Option Record} (Some q.0) (Some r) → IsIn r m.records = λ r k. let P : Record → Type 0 = λ x. IsIn x m.records in let e : q.0 ≡ r = cc in subst P e q.1 in
-    (q.0, q.2, q.3, λ f h. present-from_IsHeld f m.records (held-from_files_of f (Some q.0) m.records same h))
+    (q.0, q.2, q.3, λ f h. present-from_IsHeld f m.records (held-from_files_of f (Some q.0) m.records (λ r k. grind (arith, common_steps)) h))

@@ -1,9 +1,8 @@
 -- What a call that is no acknowledgement does to the records: it drops some, and it may trigger one.
-use Rattle.ckpt_model.proofs.Names.{◌≡◌, ℕ, Bool, true, false, not, List, [], ◌∷◌, ◌++◌, map, refl, sym, ap, subst, ◌∙◌, ◌⊎◌, inl, inr, ⊎_elim, Option, Some, None, filter, not_from_false, append-nil}
-use Rattle.ckpt_model.proofs.Names.{append_assoc, map-id, Kind, Call, Dispose, Answer, Refused, IsIn, Record, IsIn-append_left, IsIn-append_cases, State, is_checkpoint, pins_now, common_steps, arith}
-use Rattle.ckpt_model.proofs.Records.Counts.{IsIn-changed, IsIn-from_changed}
-use Rattle.ckpt_model.proofs.Soundness.Acks.{nothing_dropped}
-use Rattle.ckpt_model.proofs.Soundness.Triggers.{new_record}
+use Rattle.ckpt_model.proofs.Names.{◌≡◌, ℕ, Bool, true, false, not, List, [], ◌∷◌, ◌++◌, map, refl, sym, ap, ◌∙◌, ◌⊎◌, inl, Option, Some, None, filter, append-nil, append_assoc, map-id, Kind, Call}
+use Rattle.ckpt_model.proofs.Names.{Dispose, Answer, Refused, IsIn, Record, IsIn-append_left, IsIn-append_cases, State, is_checkpoint, pins_now, common_steps, arith}
+use Rattle.ckpt_model.proofs.Records.{IsIn-changed, IsIn-from_changed}
+use Rattle.ckpt_model.proofs.Soundness.{nothing_dropped, new_record}
 use Rattle.ckpt_model.proofs.Records.Pins.{pins_same}
 
 -- a record that was triggered in a state
@@ -23,13 +22,12 @@ pub record IsMoved (m : State) (disposed : Option ℕ) (after : List Record) : T
 
 -- a record after it was there before, or was triggered
 pub moved_from : {m : State} {disposed : Option ℕ} {after : List Record} → IsMoved m disposed after → (y : Record) → IsIn y after → IsIn y m.records ⊎ IsTriggered m y
-moved_from {m} {disposed} {after} i y h =
-    let left : List Record = map (λ r. r) (filter i.keep m.records) in
-    let old : IsIn y left → IsIn y m.records = λ (k : IsIn y left). let x = IsIn-from_changed (λ (r : Record). r) i.keep y m.records k in let P : Record → Type 0 = λ z. IsIn z m.records in subst P (sym x.3) x.1 in
-    ⊎_elim (λ k. inl (old k)) (λ k. inr (i.triggered y k)) (IsIn-append_cases y left i.new (rw (← i.records) h))
+moved_from {m} {disposed} {after} i y h = let cases = IsIn-append_cases y (map (λ r. r) (filter i.keep m.records)) i.new in
+    grind (arith, common_steps, cases, IsIn-from_changed (λ (r : Record). r) i.keep y m.records, i.records, i.triggered y)
 
 -- a done savepoint is there after, if it is not the one disposed of
-pub savepoint_moved : {m : State} {disposed : Option ℕ} {after : List Record} → IsMoved m disposed after → (r : Record) → IsIn r m.records → r.done ≡ true → is_checkpoint r ≡ false → (disposed ≡ Some r.id → ⊥) → IsIn r after
+pub savepoint_moved : {m : State} {disposed : Option ℕ} {after : List Record} → IsMoved m disposed after → (r : Record) → IsIn r m.records → r.done ≡ true → is_checkpoint r ≡ false
+    → (disposed ≡ Some r.id → ⊥) → IsIn r after
 savepoint_moved {m} {disposed} {after} i r h done savepoint other = grind (arith, common_steps, IsIn-append_left, IsIn-changed)
 
 -- nothing is done to the records
@@ -43,26 +41,28 @@ unmoved m disposed = record {
 }
 
 -- some are dropped, of the done savepoints those of one number at most
-pub dropped_moves : (m : State) (dropped : Record → Bool) (disposed : Option ℕ) → ((r : Record) → IsIn r m.records → r.done ≡ true → is_checkpoint r ≡ false → (dropped r ≡ false) ⊎ (disposed ≡ Some r.id)) → IsMoved m disposed (map (λ r. r) (filter (λ r. not (dropped r)) m.records))
+pub dropped_moves : (m : State) (dropped : Record → Bool) (disposed : Option ℕ)
+    → ((r : Record) → IsIn r m.records → r.done ≡ true → is_checkpoint r ≡ false → (dropped r ≡ false) ⊎ (disposed ≡ Some r.id))
+    → IsMoved m disposed (map (λ r. r) (filter (λ r. not (dropped r)) m.records))
 dropped_moves m dropped disposed other = record {
   keep = λ r. not (dropped r);
   new = [];
-  records = sym (append-nil (map (λ r. r) (filter (λ r. not (dropped r)) m.records)));
+  records = sym (append-nil _);
   triggered = λ y h. absurd h;
-  savepoints = λ r h done savepoint. ⊎_elim (λ (e : dropped r ≡ false). inl (not_from_false (dropped r) e)) (λ (e : disposed ≡ Some r.id). inr e) (other r h done savepoint);
+  savepoints = λ r h done savepoint. grind (arith, common_steps, other r h done savepoint);
 }
 
 -- and then one is triggered, if the number and the choice are those of the state before
-pub triggered_moves : (m k : State) (kind : Kind) (disposed : Option ℕ) → k.next ≡ m.next → pins_now k ≡ pins_now m → IsMoved m disposed k.records → IsMoved m disposed (k.records ++ new_record k kind ∷ [])
+pub triggered_moves : (m k : State) (kind : Kind) (disposed : Option ℕ) → k.next ≡ m.next → pins_now k ≡ pins_now m → IsMoved m disposed k.records
+    → IsMoved m disposed (k.records ++ new_record k kind ∷ [])
 triggered_moves m k kind disposed next pins i =
     let its : Record = new_record k kind in
-    let is_new : IsTriggered m its = record { id = next; pending = refl; acks = refl; pins = pins } in
     record {
       keep = i.keep;
       new = i.new ++ its ∷ [];
-      records = ap (λ rs. rs ++ its ∷ []) i.records ∙ append_assoc (map (λ r. r) (filter i.keep m.records)) i.new (its ∷ []);
-      triggered = λ y h. ⊎_elim (λ (j : IsIn y i.new). i.triggered y j) (⊎_elim (λ (e : y ≡ its). subst (IsTriggered m) (sym e) is_new) (λ (n : ⊥). absurd n)) (IsIn-append_cases y i.new (its ∷ []) h);
       savepoints = i.savepoints;
+      records = ap (λ rs. rs ++ its ∷ []) i.records ∙ append_assoc (map (λ r. r) (filter i.keep m.records)) i.new (its ∷ []);
+      triggered = λ y h. grind (arith, common_steps, i.triggered y, IsIn-append_cases y i.new (its ∷ []) h);
     }
 
 -- the moment does not change what a new record pins
@@ -75,8 +75,8 @@ moves_at m latest disposed after i = record {
   keep = i.keep;
   new = i.new;
   records = i.records;
-  triggered = λ y h. let t = i.triggered y h in record { id = t.id; pending = t.pending; acks = t.acks; pins = t.pins ∙ pins_at m latest };
   savepoints = i.savepoints;
+  triggered = λ y h. let t = i.triggered y h in record { id = t.id; pending = t.pending; acks = t.acks; pins = t.pins ∙ pins_at m latest };
 }
 
 -- the number that a call disposes of, if it is accepted

@@ -14,8 +14,7 @@ next_rises m call = grind (arith, common_steps, step_gives m call) steps 1000000
 -- the numbers given from a state on rise from its next one
 pub numbers_from : (m : State) (calls : List Call) → along given_by m calls ≡ range_with_len m.next (length (along given_by m calls))
 numbers_from m [] = refl
-numbers_from m (call ∷ calls) =
-    grind (arith, common_steps, step_gives, numbers_from (step m call).0 calls)
+numbers_from m (call ∷ calls) = grind (arith, common_steps, step_gives, numbers_from (step m call).0 calls)
 
 -- the law
 pub numbers : (o : Opening) (calls : List Call) → Numbers o calls

@@ -1,13 +1,12 @@
 -- An acknowledgement for a pending record that reuses only files of the choice at its trigger is never refused FileGone.
-use Rattle.ckpt_model.proofs.Names.{◌≡◌, ℕ, ◌+◌, ◌<◌, ◌≤◌, ◌^◌, Bool, false, not, ◌&&◌, ltb, leb, eqb, List, [], ◌∷◌, ◌++◌, length, refl, sym, ◌∙◌, ◌⊎◌, inl, inr, ⊎_elim, arith, find, Option, Some}
-use Rattle.ckpt_model.proofs.Names.{both_ways, and_parts, not-true, eqb-true, SubtaskId, Call, Ack, Refusal, MomentTooLarge, TooManyFiles, RepeatedFile, UnknownCheckpoint, NameTaken, FileGone, IsIn}
-use Rattle.ckpt_model.proofs.Names.{Record, uses, is_present, State, Opening, opened, is_pending, choice_of, chosen, files_of, pins_now, refusal, refuse_if, first_some, has_repeats, pending_of}
-use Rattle.ckpt_model.proofs.Names.{was_not_given, is_foreign, is_repeat, named, where_pending, Stepped, step, replay, IsSound, IsCall, CanOpen, AreCalls, given_by, Pinned, common_steps}
-use Rattle.ckpt_model.proofs.Records.Counts.{IsIn-from_find}
-use Rattle.ckpt_model.proofs.Records.Present.{present-from_IsHeld}
+use Rattle.ckpt_model.proofs.Names.{◌≡◌, ℕ, ◌<◌, Bool, false, not, ◌&&◌, eqb, List, [], ◌∷◌, refl, sym, ◌∙◌, ◌⊎◌, inl, inr, ⊎_elim, arith, find, Option, Some, both_ways, and_parts, not-true, eqb-true}
+use Rattle.ckpt_model.proofs.Names.{SubtaskId, Call, Ack, Refusal, NameTaken, FileGone, IsIn, Record, uses, is_present, State, Opening, opened, is_pending, choice_of, chosen, files_of, pins_now}
+use Rattle.ckpt_model.proofs.Names.{refusal, refuse_if, first_some, pending_of, is_foreign, is_repeat, named, where_pending, step, replay, IsSound, IsCall, CanOpen, AreCalls, given_by, Pinned}
+use Rattle.ckpt_model.proofs.Names.{common_steps}
+use Rattle.ckpt_model.proofs.Records.{IsIn-from_find, present-from_IsHeld}
 use Rattle.ckpt_model.proofs.Histories.Moves.{IsMoved, IsTriggered, moved_from}
 use Rattle.ckpt_model.proofs.Histories.Takings.{taken_from, taken_id}
-use Rattle.ckpt_model.proofs.Stepping.Changes.{IsPassedOver, IsTakenBy, passed_moves}
+use Rattle.ckpt_model.proofs.Stepping.Changes.{IsTakenBy, passed_moves}
 use Rattle.ckpt_model.proofs.Stepping.Walk.{step_is}
 use Rattle.ckpt_model.proofs.Histories.Numbers.{step_gives, next_rises}
 use Rattle.ckpt_model.proofs.Soundness.Calls.{step_keeps}
@@ -29,22 +28,15 @@ moved_came {m} i y h e = ⊎_elim (λ (k : IsIn y m.records). inl (y, k, e, refl
 -- each call
 step_came : (m : State) (call : Call) → IsSound m → Came m (step m call).0.records
 step_came m (Ack now id subtask fresh reused) s y h e =
-    let x : Stepped = step m (Ack now id subtask fresh reused) in
-    let taken : IsTakenBy m id subtask fresh reused x → Came m x.0.records = λ (i : IsTakenBy m id subtask fresh reused x) y h e.
-    let t = i.taken in
-    grind (arith, common_steps, taken_id t, taken_from t y h) steps 1000000 in
-    ⊎_elim (λ (i : IsPassedOver m x). moved_came (passed_moves i)) taken ((step_is m (Ack now id subtask fresh reused)).records s) y h e
+    let taken : IsTakenBy m id subtask fresh reused (step m (Ack now id subtask fresh reused)) → _ = λ i. grind (arith, common_steps, taken_id i.taken, taken_from i.taken y h) steps 1000000 in
+    ⊎_elim (λ i. moved_came (passed_moves i) y h e) taken ((step_is m (Ack now id subtask fresh reused)).records s)
 step_came m call s y h e = moved_came ((step_is m call).records s) y h e
 
 -- the pins stay as long as the record is pending: through one call
 step_has_pins : (m : State) (call : Call) (number : ℕ) (pins : List ℕ) → IsSound m → HasPins m number pins → HasPins (step m call).0 number pins
 step_has_pins m call number pins s p = record {
-  given = let old : number < m.next = p.given in let up : m.next ≤ ((step m call).0).next = next_rises m call in omega arith;
-  has = λ y h e pending.
-      ⊎_elim
-      (λ (k : (x : Record) × IsIn x m.records × (x.done ≡ false) × (y.id ≡ x.id) × (y.pins ≡ x.pins)). k.4 ∙ p.has k.0 k.1 (sym k.3 ∙ e) k.2)
-      (λ (k : IsTriggered m y). let new : y.id ≡ m.next = k.id in let old : number < m.next = p.given in absurd (omega arith))
-      (step_came m call s y h pending);
+  given = omega (arith, p.given, next_rises m call);
+  has = λ y h e pending. ⊎_elim (λ k. k.4 ∙ p.has k.0 k.1 (sym k.3 ∙ e) k.2) (λ (k : IsTriggered m y). absurd (omega (arith, p.given, k.id))) (step_came m call s y h pending);
 }
 
 -- and through a list of calls
@@ -60,15 +52,7 @@ given_is_next m call number e = grind (arith, common_steps, step_gives)
 has_pins_first : (m : State) (call : Call) (number : ℕ) → IsSound m → given_by m call ≡ number ∷ [] → HasPins (step m call).0 number (pins_now m)
 has_pins_first m call number s e =
     let g = given_is_next m call number e in
-    let its : number ≡ m.next = g.0 in
-    record {
-      given = g.1;
-      has = λ y h k pending.
-          ⊎_elim
-          (λ (o : (x : Record) × IsIn x m.records × (x.done ≡ false) × (y.id ≡ x.id) × (y.pins ≡ x.pins)). let old : (o.0).id < m.next = s.records.below_next o.0 o.1 in let same : y.id ≡ (o.0).id = o.3 in absurd (omega arith))
-          (λ (o : IsTriggered m y). o.pins)
-          (step_came m call s y h pending);
-    }
+    record { given = g.1; has = λ y h k pending. ⊎_elim (λ o. absurd (omega (arith, g.0, s.records.below_next o.0 o.1, o.3))) (λ (o : IsTriggered m y). o.pins) (step_came m call s y h pending) }
 
 -- if the row that decides is FileGone
 
@@ -97,29 +81,15 @@ file_gone_is : (o : Option Record) (x : Option ℕ) (f : ℕ) → where_pending 
 file_gone_is o x f h3 = grind (arith, common_steps)
 
 -- of a call that is refused FileGone the record is pending, and the file is one that it reuses and is not present
-pub file_gone_found : (m : State) (now id : ℕ) (subtask : SubtaskId) (fresh reused : List ℕ) (f : ℕ) → refusal m (Ack now id subtask fresh reused) ≡ Some (FileGone f) → (r : Record) × (pending_of m.records id ≡ Some r) × IsIn f reused × (is_present (uses m.records) f ≡ false)
+pub file_gone_found : (m : State) (now id : ℕ) (subtask : SubtaskId) (fresh reused : List ℕ) (f : ℕ) → refusal m (Ack now id subtask fresh reused) ≡ Some (FileGone f)
+    → (r : Record) × (pending_of m.records id ≡ Some r) × IsIn f reused × (is_present (uses m.records) f ≡ false)
 unfolding refusal
 file_gone_found m now id subtask fresh reused f h =
-    let pending : Option Record = pending_of m.records id in
-    let why : Refusal = FileGone f in
     let gone : ℕ → Bool = λ g. not (is_present (uses m.records) g) in
-    let Found : Type 0 = (r : Record) × (pending ≡ Some r) × IsIn f reused × (is_present (uses m.records) f ≡ false) in
-    let found : where_pending pending (named FileGone (find gone reused)) ≡ Some why → Found = λ (e : where_pending pending (named FileGone (find gone reused)) ≡ Some why).
-    let q = file_gone_is pending (find gone reused) f e in
+    let q : (r : Record) × (pending_of m.records id ≡ Some r) × (find gone reused ≡ Some f) =
+    grind (arith, common_steps, this_or_later, this_is_other, foreign_is_other, repeat_is_other, taken_is_other, file_gone_is) steps 1000000 in
     let i = IsIn-from_find gone f reused q.2 in
-    (q.0, q.1, i.0, not-true (is_present (uses m.records) f) i.1) in
-    ⊎_elim (λ e. absurd (this_is_other (leb (2 ^ 62) now) MomentTooLarge why (λ k. cc) e)) (λ h1.
-    ⊎_elim (λ e. absurd (this_is_other (ltb 4096 (length fresh + length reused)) TooManyFiles why (λ k. cc) e)) (λ h2.
-    ⊎_elim (λ e. absurd (this_is_other (has_repeats (fresh ++ reused)) RepeatedFile why (λ k. cc) e)) (λ h3.
-    ⊎_elim (λ e. absurd (this_is_other (was_not_given m id) UnknownCheckpoint why (λ k. cc) e)) (λ h4.
-    ⊎_elim (λ e. absurd (foreign_is_other pending subtask f e)) (λ h5.
-    ⊎_elim (λ e. absurd (repeat_is_other pending subtask f e)) (grind (arith, common_steps, taken_is_other, this_or_later) steps 1000000)
-    (this_or_later (is_repeat pending subtask) _ why h5))
-    (this_or_later (is_foreign pending subtask) _ why h4))
-    (this_or_later (refuse_if (was_not_given m id) UnknownCheckpoint) _ why h3))
-    (this_or_later (refuse_if (has_repeats (fresh ++ reused)) RepeatedFile) _ why h2))
-    (this_or_later (refuse_if (ltb 4096 (length fresh + length reused)) TooManyFiles) _ why h1))
-    (this_or_later (refuse_if (leb (2 ^ 62) now) MomentTooLarge) _ why h)
+    (q.0, q.1, i.0, not-true (is_present (uses m.records) f) i.1)
 
 -- what a new record pins are the files of the choice
 pins_are : (m : State) → pins_now m ≡ files_of (chosen (choice_of m) m)

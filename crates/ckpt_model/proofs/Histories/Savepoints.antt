@@ -1,9 +1,8 @@
 -- A done savepoint stays, unchanged, until an accepted Dispose of its number.
 use Rattle.ckpt_model.proofs.Names.{◌≡◌, ℕ, true, false, ◌&&◌, eqb, List, [], ◌∷◌, ⊎_elim, Some, both_ways, and_from, eq-eqb, none-some, Call, Ack, Dispose, Answer, Done, Refused, IsIn, Record, State}
-use Rattle.ckpt_model.proofs.Names.{Opening, is_checkpoint, Stepped, step, replay, IsSound, CanOpen, AreCalls, is_disposed_by, IsNeverDisposed, Savepoints, common_steps, arith}
+use Rattle.ckpt_model.proofs.Names.{Opening, is_checkpoint, step, replay, IsSound, CanOpen, AreCalls, is_disposed_by, IsNeverDisposed, Savepoints, common_steps, arith}
 use Rattle.ckpt_model.proofs.Histories.Moves.{savepoint_moved, disposed_by}
 use Rattle.ckpt_model.proofs.Histories.Takings.{savepoint_kept}
-use Rattle.ckpt_model.proofs.Stepping.Changes.{IsPassedOver, IsTakenBy}
 use Rattle.ckpt_model.proofs.Stepping.Walk.{step_is}
 use Rattle.ckpt_model.proofs.Soundness.Calls.{step_keeps}
 use Rattle.ckpt_model.proofs.Soundness.Histories.{replay_is_sound}
@@ -21,11 +20,8 @@ disposes_other number id answer h3 h4 = grind (arith, common_steps, and_from, bo
 -- through each call but an accepted Dispose of its number
 savepoint_stays : (m : State) (call : Call) (r : Record) → IsSound m → IsDoneSavepoint m r → is_disposed_by r.id m call ≡ false → IsIn r (step m call).0.records
 savepoint_stays m (Ack now id subtask fresh reused) r s d e =
-    let x : Stepped = step m (Ack now id subtask fresh reused) in
-    ⊎_elim
-    (λ (i : IsPassedOver m x). rw i.records d.there)
-    (λ (i : IsTakenBy m id subtask fresh reused x). savepoint_kept i.taken (i.acking).pending r d.there d.done d.savepoint)
-    ((step_is m (Ack now id subtask fresh reused)).records s)
+    let done = ((step_is m (Ack now id subtask fresh reused)).records s) in
+    ⊎_elim (λ i. rw i.records d.there) (λ i. savepoint_kept i.taken (i.acking).pending r d.there d.done d.savepoint) done
 savepoint_stays m (Dispose id) r s d e = savepoint_moved ((step_is m (Dispose id)).records s) r d.there d.done d.savepoint (disposes_other r.id id (step m (Dispose id)).1 e)
 savepoint_stays m call r s d e = savepoint_moved ((step_is m call).records s) r d.there d.done d.savepoint (none-some r.id)
 

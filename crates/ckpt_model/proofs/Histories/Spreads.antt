@@ -1,14 +1,10 @@
 -- What a drop, a trigger and an acknowledgement put at the end of waiting, and that the files balance.
 use Rattle.ckpt_model.proofs.Names.{◌≡◌, ℕ, Bool, true, not, ltb, List, [], ◌∷◌, ◌++◌, map, refl, sym, ◌⊎◌, inr, ⊎_elim, Option, Some, None, filter, or_parts, append-nil, SubtaskId, Acked, Kind, IsIn}
-use Rattle.ckpt_model.proofs.Names.{ascending, Record, uses, is_present, released, IsIn-append_left, IsIn-append_cases, IsIn-in_order, IsIn-from_in_order, AreDistinct-left, State, is_known, in_outbox}
-use Rattle.ckpt_model.proofs.Names.{kept, drop, pins_now, replaced, with_records, superseded, triggered, ack, IsSound, registered_as, common_steps, arith}
-use Rattle.ckpt_model.proofs.Records.Present.{Holds, Holds-put_ack_new, Holds-put_ack_old, IsHeld, IsHeld-from_present, not_held, Holds-put_ack}
-use Rattle.ckpt_model.proofs.Records.Replacing.{put_in, IsReplacing, put_in_replaces}
-use Rattle.ckpt_model.proofs.Soundness.Drops.{held_before_filter}
-use Rattle.ckpt_model.proofs.Soundness.Triggers.{new_record, held-from_pins}
-use Rattle.ckpt_model.proofs.Soundness.Acks.{IsAcking, with_ack, held_before_kept}
-use Rattle.ckpt_model.proofs.Soundness.Completions.{having, completed}
-use Rattle.ckpt_model.proofs.Records.Held.{held_after_put, held_by_put, held_beside_put}
+use Rattle.ckpt_model.proofs.Names.{ascending, Record, uses, is_present, IsIn-append_left, IsIn-append_cases, IsIn-in_order, IsIn-from_in_order, AreDistinct-left, State, is_known, in_outbox, drop}
+use Rattle.ckpt_model.proofs.Names.{replaced, with_records, superseded, triggered, ack, IsSound, registered_as, common_steps, arith}
+use Rattle.ckpt_model.proofs.Records.{Holds, Holds-put_ack_new, Holds-put_ack_old, IsHeld, IsHeld-from_present, not_held, Holds-put_ack, put_in, IsReplacing, put_in_replaces, held_after_put}
+use Rattle.ckpt_model.proofs.Records.{held_by_put, held_beside_put}
+use Rattle.ckpt_model.proofs.Soundness.{held_before_filter, new_record, held-from_pins, IsAcking, with_ack, held_before_kept, having, completed}
 use Rattle.ckpt_model.proofs.Histories.Balances.{IsEven, even_same, even_then, even_behind, even_held, even_dropped, even_added}
 
 -- from these records and this outbox to the state after, with these files registered
@@ -25,35 +21,27 @@ unspread m = record { out = []; waits = sym (append-nil m.waiting); fetched = re
 -- a drop
 pub drop_spreads : (m : State) (dropped : Record → Bool) → IsSpread m.records m.waiting m.taken (drop m dropped None) []
 unfolding drop
-drop_spreads m dropped =
-    let left : List Record = map (λ r. r) (filter (λ r. not (dropped r)) m.records) in
-    record {
-      out = released (uses m.records) (uses left);
-      waits = refl;
-      fetched = refl;
-      even = even_dropped m.records left (held_before_filter (λ r. not (dropped r)) m.records);
-    }
+drop_spreads m dropped = record { out = _; waits = refl; fetched = refl; even = even_dropped m.records _ (held_before_filter (λ r. not (dropped r)) m.records) }
 
 -- a trigger, of a record that pins files that are held
-pub trigger_spreads : (k : State) (kind : Kind) (due : ℕ) (rs : List Record) (waiting taken : List ℕ) → IsSpread rs waiting taken k [] → IsSpread rs waiting taken (record (triggered k kind) { due = due }) []
+pub trigger_spreads : (k : State) (kind : Kind) (due : ℕ) (rs : List Record) (waiting taken : List ℕ) → IsSpread rs waiting taken k []
+    → IsSpread rs waiting taken (record (triggered k kind) { due = due }) []
 unfolding triggered
 trigger_spreads k kind due rs waiting taken d =
     let new : Record = new_record k kind in
-    let forth : (f : ℕ) → IsHeld f k.records → IsHeld f (k.records ++ new ∷ []) = λ f h. (h.0, IsIn-append_left h.0 k.records (new ∷ []) h.1, h.2) in
-    let its : (f : ℕ) → Holds f new → IsHeld f k.records = λ f. ⊎_elim (λ a. absurd a.1) (λ (p : IsIn f (pins_now k)). held-from_pins k f p) in
-    let back : (f : ℕ) → IsHeld f (k.records ++ new ∷ []) → IsHeld f k.records = λ f h.
-    grind (arith, common_steps, its f, IsIn-append_cases h.0 k.records (new ∷ []) h.1) steps 1000000 in
     record {
       out = d.out;
       waits = d.waits;
       fetched = d.fetched;
-      even = even_behind rs k.records (k.records ++ new ∷ []) [] d.out d.even (even_held k.records (k.records ++ new ∷ []) forth back);
+      even = even_behind rs k.records (k.records ++ new ∷ []) [] d.out d.even (even_held k.records (k.records ++ new ∷ []) (λ f h. (h.0, IsIn-append_left h.0 k.records (new ∷ []) h.1, h.2)) (λ f h.
+          grind (arith, common_steps, held-from_pins k f, IsIn-append_cases h.0 k.records (new ∷ []) h.1) steps 1000000));
     }
 
 -- acknowledgements
 
 -- a record with one acknowledgement more, done or not, holds its files and what it held
-even_acked : (m : State) (q : Record) (subtask : SubtaskId) (fresh reused : List ℕ) (done : Bool) → IsSound m → IsAcking m q subtask fresh reused → IsEven m.records (map (put_in (record (with_ack q subtask fresh reused) { done = done })) m.records) fresh []
+even_acked : (m : State) (q : Record) (subtask : SubtaskId) (fresh reused : List ℕ) (done : Bool) → IsSound m → IsAcking m q subtask fresh reused
+    → IsEven m.records (map (put_in (record (with_ack q subtask fresh reused) { done = done })) m.records) fresh []
 even_acked m q subtask fresh reused done s a =
     let files : List ℕ = ascending (fresh ++ reused) in
     let its : Acked = record { subtask = subtask; files = files } in
@@ -71,26 +59,28 @@ even_acked m q subtask fresh reused done s a =
     (λ f h. ⊎_elim (λ (k : Holds f c). named f k) (λ (k : IsHeld f rs). inr k) (held_after_put f rs q c p h))
 
 -- one that leaves the record pending
-pub pending_spreads : (m : State) (q : Record) (subtask : SubtaskId) (fresh reused : List ℕ) → IsSound m → IsAcking m q subtask fresh reused → IsSpread m.records m.waiting m.taken (with_records m (replaced m.records (with_ack q subtask fresh reused))) fresh
+pub pending_spreads : (m : State) (q : Record) (subtask : SubtaskId) (fresh reused : List ℕ) → IsSound m → IsAcking m q subtask fresh reused
+    → IsSpread m.records m.waiting m.taken (with_records m (replaced m.records (with_ack q subtask fresh reused))) fresh
 pending_spreads m q subtask fresh reused s a = grind (arith, common_steps, append-nil m.waiting, even_acked m q subtask fresh reused q.done s a) steps 1000000
 
 -- one that completes it, whatever else is set
-pub completed_spreads : (m : State) (q : Record) (subtask : SubtaskId) (fresh reused : List ℕ) (failures : ℕ) (completed_at base : Option ℕ) → IsSound m → IsAcking m q subtask fresh reused → IsSpread m.records m.waiting m.taken (record (drop (having m (completed q subtask fresh reused)) (superseded (having m (completed q subtask fresh reused)) (completed q subtask fresh reused)) (Some q.id)) { failures = failures; completed = completed_at; base = base }) fresh
+pub completed_spreads : (m : State) (q : Record) (subtask : SubtaskId) (fresh reused : List ℕ) (failures : ℕ) (completed_at base : Option ℕ) → IsSound m → IsAcking m q subtask fresh reused
+    → IsSpread m.records m.waiting m.taken
+    (record (drop (having m (completed q subtask fresh reused)) (superseded (having m (completed q subtask fresh reused)) (completed q subtask fresh reused))
+    (Some q.id)) { failures = failures; completed = completed_at; base = base }) fresh
 unfolding drop
 completed_spreads m q subtask fresh reused failures completed_at base s a =
     let c : Record = completed q subtask fresh reused in
-    let gone : Record → Bool = superseded (having m c) c in
     let between : List Record = map (put_in c) m.records in
-    let left : List Record = kept gone (Some c.id) between in
-    let out : List ℕ = released (uses between) (uses left) in
     record {
-      out = out;
+      out = _;
       waits = refl;
       fetched = refl;
-      even = even_then m.records between left fresh out (even_acked m q subtask fresh reused true s a) (even_dropped between left (held_before_kept gone (Some c.id) between));
+      even = even_then m.records between _ fresh _ (even_acked m q subtask fresh reused true s a) (even_dropped between _ (held_before_kept (superseded (having m c) c) (Some c.id) between));
     }
 
 -- a late one
-pub late_spreads : (m : State) (subtask : SubtaskId) (fresh reused : List ℕ) → IsSpread m.records m.waiting m.taken (ack m None subtask fresh reused).0 (registered_as (ack m None subtask fresh reused).1 fresh (filter (λ f. not (is_known m f)) fresh))
+pub late_spreads : (m : State) (subtask : SubtaskId) (fresh reused : List ℕ)
+    → IsSpread m.records m.waiting m.taken (ack m None subtask fresh reused).0 (registered_as (ack m None subtask fresh reused).1 fresh (filter (λ f. not (is_known m f)) fresh))
 unfolding ack
 late_spreads m subtask fresh reused = grind (arith, common_steps)

@@ -1,7 +1,6 @@
 -- What one step registers, hands out and deletes, and which files are present after it.
-use Rattle.ckpt_model.proofs.Names.{◌≡◌, ℕ, ◌+◌, ◌<◌, Bool, true, not, [], sym, ap, ◌∙◌, ◌⊎◌, inl, inr, ⊎_elim, arith, filter, cond-true, Call, Ack, IsIn, uses, is_present, State, is_known, step}
-use Rattle.ckpt_model.proofs.Names.{IsSound, is_ack_taken, registered_by, handed_by, deleted_by, new_by, one_if, times, IsIn-from_times, common_steps}
-use Rattle.ckpt_model.proofs.Stepping.Changes.{IsPassedOver, IsTakenBy}
+use Rattle.ckpt_model.proofs.Names.{◌≡◌, ℕ, ◌+◌, ◌<◌, Bool, true, not, ◌⊎◌, arith, filter, Call, Ack, IsIn, uses, is_present, State, is_known, step, IsSound, registered_by, handed_by, deleted_by}
+use Rattle.ckpt_model.proofs.Names.{new_by, one_if, times, IsIn-from_times, common_steps}
 use Rattle.ckpt_model.proofs.Stepping.Files.{IsSettled}
 use Rattle.ckpt_model.proofs.Stepping.Walk.{registered_taken, step_is}
 
@@ -17,16 +16,9 @@ present_before a b c n k h5 h6 = grind (arith, common_steps)
 pub newly_present : (m : State) (call : Call) (f : ℕ) → IsSound m → is_present (uses (step m call).0.records) f ≡ true → IsIn f (new_by m call) ⊎ (is_present (uses m.records) f ≡ true)
 newly_present m (Ack now id subtask fresh reused) f s h =
     let call : Call = Ack now id subtask fresh reused in
-    let Goal : Type 0 = IsIn f (new_by m call) ⊎ (is_present (uses m.records) f ≡ true) in
-    let passed : IsPassedOver m (step m call) → Goal = λ (i : IsPassedOver m (step m call)). inr (ap (λ rs. is_present (uses rs) f) (sym i.records) ∙ h) in
-    let taken : IsTakenBy m id subtask fresh reused (step m call) → Goal = λ (i : IsTakenBy m id subtask fresh reused (step m call)).
-    let registered : registered_by m call ≡ fresh = registered_taken (step m call).1 fresh (filter (λ g. not (is_known m g)) fresh) i.is_taken in
-    let new : new_by m call ≡ fresh = cond-true (is_ack_taken (step m call).1) fresh [] i.is_taken in
-    ⊎_elim
-    (λ (k : 0 < times f (registered_by m call)). inl (rw (← (registered ∙ sym new)) (IsIn-from_times f (registered_by m call) k)))
-    (λ (k : is_present (uses m.records) f ≡ true). inr k)
-    (present_before (is_present (uses m.records) f) (is_present (uses (step m call).0.records) f) true (times f (registered_by m call)) (times f (handed_by m call)) ((step_settled m call s).even f) h) in
-    ⊎_elim passed taken ((step_is m call).records s)
-newly_present m call f s h =
-    ⊎_elim (λ (k : 0 < 0). absurd (omega arith)) (λ (k : is_present (uses m.records) f ≡ true). inr k)
-    (present_before (is_present (uses m.records) f) (is_present (uses (step m call).0.records) f) true 0 (times f (handed_by m call)) ((step_settled m call s).even f) h)
+    let b = present_before (is_present (uses m.records) f) (is_present (uses (step m call).0.records) f) true (times f (registered_by m call)) (times f (handed_by m call))
+    ((step_settled m call s).even f) h in
+    grind (arith, common_steps, (step_is m call).records s, registered_taken (step m call).1 fresh (filter (λ g. not (is_known m g)) fresh), IsIn-from_times f fresh) steps 1000000
+newly_present m call f s h = let before =
+    present_before (is_present (uses m.records) f) (is_present (uses (step m call).0.records) f) true 0 (times f (handed_by m call)) ((step_settled m call s).even f) h in
+    grind (arith, common_steps, before)

@@ -1,10 +1,8 @@
 -- What an acknowledgement that is accepted for a pending record does to the records: it puts one in the place of that record, and a completion drops some.
 use Rattle.ckpt_model.proofs.Names.{◌≡◌, ℕ, Bool, true, false, List, [], ◌++◌, map, refl, sym, ◌⊎◌, filter, both_ways, SubtaskId, Acked, IsIn, put_ack, ascending, Record, State, is_checkpoint}
 use Rattle.ckpt_model.proofs.Names.{replaced, IsSound, common_steps, arith}
-use Rattle.ckpt_model.proofs.Records.Counts.{IsIn-changed, IsIn-from_changed}
-use Rattle.ckpt_model.proofs.Records.Replacing.{put_in, IsReplacing, put_in_replaces, unpinned_replaces}
-use Rattle.ckpt_model.proofs.Soundness.Acks.{IsAcking, with_ack, nothing_dropped}
-use Rattle.ckpt_model.proofs.Soundness.Completions.{completed, ending, staying, left_by, left_is}
+use Rattle.ckpt_model.proofs.Records.{IsIn-changed, IsIn-from_changed, put_in, IsReplacing, put_in_replaces, unpinned_replaces}
+use Rattle.ckpt_model.proofs.Soundness.{IsAcking, with_ack, nothing_dropped, completed, ending, staying, left_by, left_is}
 
 -- one acknowledgement more in a pending record
 pub record IsTaken (rs : List Record) (q : Record) (a : Acked) (after : List Record) : Type 0 where
@@ -26,11 +24,13 @@ pub taken_id : {rs : List Record} {q : Record} {a : Acked} {after : List Record}
 taken_id {rs} {q} {a} {after} i there = grind (arith, common_steps)
 
 -- a done savepoint is there after
-pub savepoint_kept : {rs : List Record} {q : Record} {a : Acked} {after : List Record} → IsTaken rs q a after → q.done ≡ false → (r : Record) → IsIn r rs → r.done ≡ true → is_checkpoint r ≡ false → IsIn r after
+pub savepoint_kept : {rs : List Record} {q : Record} {a : Acked} {after : List Record} → IsTaken rs q a after → q.done ≡ false → (r : Record) → IsIn r rs → r.done ≡ true → is_checkpoint r ≡ false
+    → IsIn r after
 savepoint_kept {rs} {q} {a} {after} i pending r h done savepoint = grind (arith, common_steps, IsIn-changed, both_ways)
 
 -- the record is pending still
-pub taken_pending : (m : State) (q : Record) (subtask : SubtaskId) (fresh reused : List ℕ) → IsSound m → IsAcking m q subtask fresh reused → IsTaken m.records q (record { subtask = subtask; files = ascending (fresh ++ reused) }) (replaced m.records (with_ack q subtask fresh reused))
+pub taken_pending : (m : State) (q : Record) (subtask : SubtaskId) (fresh reused : List ℕ) → IsSound m → IsAcking m q subtask fresh reused
+    → IsTaken m.records q (record { subtask = subtask; files = ascending (fresh ++ reused) }) (replaced m.records (with_ack q subtask fresh reused))
 taken_pending m q subtask fresh reused s a =
     let w : Record = with_ack q subtask fresh reused in
     record {
@@ -49,7 +49,8 @@ not_superseded : (m : State) (q c r : Record) → IsReplacing (put_in c) q c m.r
 not_superseded m q c r g pending h done savepoint = grind (arith, common_steps)
 
 -- the record is completed
-pub taken_completed : (m : State) (q : Record) (subtask : SubtaskId) (fresh reused : List ℕ) → IsSound m → IsAcking m q subtask fresh reused → IsTaken m.records q (record { subtask = subtask; files = ascending (fresh ++ reused) }) (left_by m (completed q subtask fresh reused))
+pub taken_completed : (m : State) (q : Record) (subtask : SubtaskId) (fresh reused : List ℕ) → IsSound m → IsAcking m q subtask fresh reused
+    → IsTaken m.records q (record { subtask = subtask; files = ascending (fresh ++ reused) }) (left_by m (completed q subtask fresh reused))
 taken_completed m q subtask fresh reused s a =
     let c : Record = completed q subtask fresh reused in
     record {

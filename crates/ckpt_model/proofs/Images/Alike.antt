@@ -1,17 +1,17 @@
 -- No answer depends on the order in which files were fetched.
-use Rattle.ckpt_model.proofs.Names.{◌≡◌, ℕ, ◌+◌, max, Bool, true, false, not, ◌&&◌, ◌||◌, cond, ltb, eqb, List, [], ◌∷◌, ◌++◌, take, refl, sym, ap, subst, ◌∙◌, ⊎_elim, count_by, Option, Some, None}
-use Rattle.ckpt_model.proofs.Names.{list_any, cases_Bool, both_ways, SubtaskId, Kind, Target, Call, Tick, Savepoint, Ack, Decline, Dispose, Restore, Cancel, Take, Deleted, Undeleted, Show, Count}
-use Rattle.ckpt_model.proofs.Names.{Choice, Done, Refusal, ascending, times, IsIn, Record, missing, uses, is_present, IsAscending-ascending, same_from_times, times-ascending, times-append}
-use Rattle.ckpt_model.proofs.Names.{times-filter, IsIn-append_left, IsIn-append_right, IsIn-append_cases, IsIn-in_order, IsIn-from_in_order, filter-same, list_any-from_IsIn, IsIn-from_list_any, Hold}
-use Rattle.ckpt_model.proofs.Names.{hold, State, is_checkpoint, is_known, in_outbox, is_expired, drop, choice_of, chosen, files_of, pins_now, refusal, moment_of, pending_of, Stepped, with_records}
-use Rattle.ckpt_model.proofs.Names.{dropped_by, triggered, failed_over, pending_checkpoints, start_or_hold, after_expiry, tick, replaced, superseded, cleared, completed_with, acknowledged_in, ack}
-use Rattle.ckpt_model.proofs.Names.{dropping, decline_pending, decline, dispose, restarted, restore, cancel, take_files, without, effect, at_moment, unless_refused, step, answers, AreAlike, GoesOnAs}
+use Rattle.ckpt_model.proofs.Names.{◌≡◌, ℕ, ◌+◌, max, Bool, true, false, not, ◌&&◌, ◌||◌, cond, ltb, eqb, List, [], ◌∷◌, ◌++◌, take, refl, sym, ap, subst, ◌∙◌, count_by, Option, Some, None, list_any}
+use Rattle.ckpt_model.proofs.Names.{cases_Bool, both_ways, SubtaskId, Kind, Target, Call, Tick, Savepoint, Ack, Decline, Dispose, Restore, Cancel, Take, Deleted, Undeleted, Show, Count, Choice, Done}
+use Rattle.ckpt_model.proofs.Names.{Refusal, ascending, times, IsIn, Record, missing, uses, is_present, IsAscending-ascending, same_from_times, times-ascending, times-append, times-filter}
+use Rattle.ckpt_model.proofs.Names.{IsIn-append_left, IsIn-append_right, IsIn-append_cases, IsIn-in_order, IsIn-from_in_order, filter-same, list_any-from_IsIn, IsIn-from_list_any, Hold, hold, State}
+use Rattle.ckpt_model.proofs.Names.{is_checkpoint, is_known, in_outbox, is_expired, drop, choice_of, chosen, files_of, pins_now, refusal, moment_of, pending_of, Stepped, with_records, dropped_by}
+use Rattle.ckpt_model.proofs.Names.{triggered, failed_over, pending_checkpoints, start_or_hold, after_expiry, tick, replaced, superseded, cleared, completed_with, acknowledged_in, ack, dropping}
+use Rattle.ckpt_model.proofs.Names.{decline_pending, decline, dispose, restarted, restore, cancel, take_files, without, effect, at_moment, unless_refused, step, answers, AreAlike, GoesOnAs}
 use Rattle.ckpt_model.proofs.Names.{common_steps, arith}
 use Rattle.std.specs.Prelude as prelude
 use Rattle.ckpt_ids.specs.declared.numbers.Kind.TheVariants as kind
 use Rattle.ckpt_ids.specs.declared.reply.TickEnd.TheVariants as end
 use Rattle.ckpt_ids.specs.declared.reply.Reply.TheVariants as reply
-use Rattle.ckpt_model.proofs.Records.Counts.{find_agree}
+use Rattle.ckpt_model.proofs.Records.{find_agree}
 
 -- the same files, in whatever order
 abbrev Same : List ℕ → List ℕ → Type 0
@@ -49,9 +49,9 @@ with_taken m t = record m { taken = t }
 
 same_outbox : (m : State) (t u : List ℕ) → Same t u → (f : ℕ) → in_outbox (with_taken m t) f ≡ in_outbox (with_taken m u) f
 same_outbox m t u e f =
-    let behind : (a b : List ℕ) → Same a b → (z : ℕ) → IsIn z (m.waiting ++ a) → IsIn z (m.waiting ++ b) = λ a b s z h.
-    ⊎_elim (λ (k : IsIn z m.waiting). IsIn-append_left z m.waiting b k) (λ (k : IsIn z a). IsIn-append_right z m.waiting b (in_same a b s z k)) (IsIn-append_cases z m.waiting a h) in
-    same_any (λ g. eqb f g) (m.waiting ++ t) (m.waiting ++ u) (behind t u e) (behind u t (sym e))
+    same_any (λ g. eqb f g) (m.waiting ++ t) (m.waiting ++ u)
+    (λ z h. grind (arith, common_steps, IsIn-append_left z m.waiting u, IsIn-append_right z m.waiting u, in_same t u e z, IsIn-append_cases z m.waiting t h))
+    (λ z h. grind (arith, common_steps, IsIn-append_left z m.waiting t, IsIn-append_right z m.waiting t, in_same u t (sym e) z, IsIn-append_cases z m.waiting u h))
 
 same_known : (m : State) (t u : List ℕ) → Same t u → (f : ℕ) → is_known (with_taken m t) f ≡ is_known (with_taken m u) f
 same_known m t u e f = ap (λ b. is_present (uses m.records) f || b) (same_outbox m t u e f)
@@ -95,9 +95,8 @@ tick_frame m t =
     let late : ℕ = count_by (λ r. expired r && is_checkpoint r) m.records in
     let counted : State = record m { failures = m.failures + late } in
     let k : State = drop counted expired None in
-    either t (ltb 0 late && ltb m.opening.config.tolerable (m.failures + late))
-    (failed_over counted, Done (reply.Ticked (dropped_by m expired) end.Failed)) (after_expiry k (dropped_by m expired))
-    (framed t (failed_over counted, Done (reply.Ticked (dropped_by m expired) end.Failed))) (after_expiry (with_taken k t) (dropped_by m expired))
+    either t (ltb 0 late && ltb m.opening.config.tolerable (m.failures + late)) (failed_over counted, _) (after_expiry k (dropped_by m expired)) _
+    (after_expiry (with_taken k t) (dropped_by m expired))
     refl (start_frame k t (dropped_by m expired) (hold k.opening.config k.due k.completed k.latest (pending_checkpoints k)))
 
 cleared_frame : (m : State) (t : List ℕ) (r : Record) → cleared (with_taken m t) r ≡ with_taken (cleared m r) t
@@ -137,7 +136,8 @@ late_both : (m : State) (t u : List ℕ) (subtask : SubtaskId) (fresh reused : L
 unfolding ack
 late_both m t u subtask fresh reused e = grind (arith, common_steps, filter-same, same_known)
 
-ack_both : (m : State) (t u : List ℕ) (o : Option Record) (subtask : SubtaskId) (fresh reused : List ℕ) → Same t u → Both (ack (with_taken m t) o subtask fresh reused) (ack (with_taken m u) o subtask fresh reused)
+ack_both : (m : State) (t u : List ℕ) (o : Option Record) (subtask : SubtaskId) (fresh reused : List ℕ) → Same t u
+    → Both (ack (with_taken m t) o subtask fresh reused) (ack (with_taken m u) o subtask fresh reused)
 unfolding ack
 ack_both m t u None subtask fresh reused e = late_both m t u subtask fresh reused e
 ack_both m t u (Some r) subtask fresh reused e = grind (arith, common_steps, acknowledged_frame, both_framed)
@@ -149,7 +149,8 @@ effect_both m t u (Tick now) e = let n : State = record m { latest = max now m.l
 effect_both m t u (Savepoint now) e =
     let n : State = record m { latest = max now m.latest } in
     let say : State → Stepped = λ s. (s, Done (reply.SavepointTriggered m.next)) in
-    both_framed t u (say (triggered (with_taken n t) kind.Savepoint)) (say (triggered (with_taken n u) kind.Savepoint)) (say (triggered n kind.Savepoint)) e (ap say (triggered_frame n t kind.Savepoint)) (ap say (triggered_frame n u kind.Savepoint))
+    both_framed t u (say (triggered (with_taken n t) kind.Savepoint)) (say (triggered (with_taken n u) kind.Savepoint)) (say (triggered n kind.Savepoint)) e
+    (ap say (triggered_frame n t kind.Savepoint)) (ap say (triggered_frame n u kind.Savepoint))
 effect_both m t u (Ack now id subtask fresh reused) e = ack_both (record m { latest = max now m.latest }) t u (pending_of m.records id) subtask fresh reused e
 effect_both m t u (Decline now id subtask) e =
     let n : State = record m { latest = max now m.latest } in

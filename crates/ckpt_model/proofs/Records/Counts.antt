@@ -12,7 +12,8 @@ count_by-le p q [] f = grind (arith, common_steps)
 count_by-le {X} p q (x ∷ xs) f = grind (arith, common_steps, count_by-le p q xs)
 
 -- of what a filter keeps and a change makes of it, no more pass than passed some test before
-pub count_by-changed : {X Y : Type 0} (t : Y → Bool) (s : X → Bool) (f : X → Y) (keep : X → Bool) (xs : List X) → ((x : X) → IsIn x xs → keep x ≡ true → t (f x) ≡ true → s x ≡ true) → count_by t (map f (filter keep xs)) ≤ count_by s xs
+pub count_by-changed : {X Y : Type 0} (t : Y → Bool) (s : X → Bool) (f : X → Y) (keep : X → Bool) (xs : List X) → ((x : X) → IsIn x xs → keep x ≡ true → t (f x) ≡ true → s x ≡ true)
+    → count_by t (map f (filter keep xs)) ≤ count_by s xs
 count_by-changed t s f keep [] h = grind (arith, common_steps)
 count_by-changed {X} {Y} t s f keep (x ∷ xs) h = grind (arith, common_steps, count_by-changed t s f keep xs)
 
@@ -37,7 +38,7 @@ fails-from_find {X} p x (y ∷ xs) e h = grind (arith, common_steps, fails-from_
 -- a change of elements that are kept
 pub map_same : {X Y : Type 0} (f g : X → Y) (xs : List X) → ((x : X) → IsIn x xs → f x ≡ g x) → map f xs ≡ map g xs
 map_same f g [] e = refl
-map_same {X} {Y} f g (x ∷ xs) e = ap (λ y. y ∷ map f xs) (e x (inl refl)) ∙ ap (λ ys. g x ∷ ys) (map_same f g xs (λ y h. e y (inr h)))
+map_same f g (x ∷ xs) e = grind (arith, common_steps, e, map_same f g xs)
 
 -- a change that leaves each element
 pub map_itself : {X : Type 0} (f : X → X) (xs : List X) → ((x : X) → IsIn x xs → f x ≡ x) → map f xs ≡ xs

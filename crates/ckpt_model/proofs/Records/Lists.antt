@@ -1,9 +1,9 @@
 -- What holds of a coordinator's records as a list, and that filtering, changing and appending keep it.
-use Rattle.ckpt_model.proofs.Names.{◌≡◌, ◌≢◌, ℕ, ◌+◌, ◌<◌, ◌≤◌, ◌^◌, Bool, true, false, not, ◌&&◌, ltb, leb, List, [], ◌∷◌, ◌++◌, map, refl, sym, ap, subst, ◌∙◌, ⊎_elim, arith, count_by, Some, filter}
-use Rattle.ckpt_model.proofs.Names.{cases_Bool, both_ways, and_parts, and_left, and_right, not-true, ltb-true, lt-ltb, le-ltb, leb-false, Kind, IsIn, IsInOrder, ComesBefore, AreDistinct}
-use Rattle.ckpt_model.proofs.Names.{IsWithinLimits, Record, uses, is_present, IsShape, IsIn-append_cases, IsInOrder-append, IsInOrder-filter, IsInOrder-map, ComesBefore-at, IsIn-from_test}
-use Rattle.ckpt_model.proofs.Names.{test-from_IsIn, limit, Running, State, Opening, is_checkpoint, is_done_checkpoint, is_done_savepoint, IsSound, IsRecord, id_before, count_by-append, count_by_yes}
-use Rattle.ckpt_model.proofs.Names.{count_by_no, count_by-same, common_steps}
+use Rattle.ckpt_model.proofs.Names.{◌≡◌, ◌≢◌, ℕ, ◌+◌, ◌<◌, ◌≤◌, ◌^◌, Bool, true, false, not, ◌&&◌, ltb, leb, List, [], ◌∷◌, ◌++◌, map, refl, sym, ap, ◌∙◌, arith, count_by, Some, filter, cases_Bool}
+use Rattle.ckpt_model.proofs.Names.{both_ways, and_parts, and_right, not-true, ltb-true, lt-ltb, le-ltb, leb-false, Kind, IsIn, IsInOrder, ComesBefore, AreDistinct, IsWithinLimits, Record, uses}
+use Rattle.ckpt_model.proofs.Names.{is_present, IsShape, IsIn-append_cases, IsInOrder-append, IsInOrder-filter, IsInOrder-map, ComesBefore-at, IsIn-from_test, test-from_IsIn, limit, Running, State}
+use Rattle.ckpt_model.proofs.Names.{Opening, is_checkpoint, is_done_checkpoint, is_done_savepoint, IsSound, IsRecord, id_before, count_by-append, count_by_yes, count_by_no, count_by-same}
+use Rattle.ckpt_model.proofs.Names.{common_steps}
 use Rattle.ckpt_ids.specs.declared.numbers.Kind.TheVariants as kind
 pub use Rattle.ckpt_model.specs.Soundness.{AreSoundRecords, is_pending_checkpoint}
 use Rattle.ckpt_model.proofs.Records.Counts.{count_by-le, count_by-changed, IsIn-from_changed}
@@ -34,10 +34,7 @@ pub record IsSoundHead (m : State) : Type 0 where
 
 -- a sound state's outbox
 pub outbox_of : {m : State} → IsSound m → IsSoundOutbox m.records m.waiting m.taken
-outbox_of {m} s = record {
-  unused = λ f h. s.unused f (test-from_IsIn f (m.waiting ++ m.taken) h);
-  apart = s.apart;
-}
+outbox_of {m} s = record { unused = λ f h. s.unused f (test-from_IsIn f (m.waiting ++ m.taken) h); apart = s.apart }
 
 -- a state is sound if its parts are
 pub sound_from : (m : State) → IsSoundHead m → AreSoundRecords m.opening m.next m.records → IsSoundOutbox m.records m.waiting m.taken → IsSound m
@@ -75,23 +72,22 @@ pending_checkpoint_before before after k h = grind (arith, common_steps)
 -- and one that keeps the numbers keeps the order
 pub in_order-changed : (h : Record → Record) (q : Record → Bool) (rs : List Record) → ((r : Record) → (h r).id ≡ r.id) → IsInOrder id_before rs → IsInOrder id_before (map h (filter q rs))
 in_order-changed h q rs same a =
-    let keeps : (x y : Record) → id_before x y ≡ true → id_before (h x) (h y) ≡ true = λ x y e. let less : x.id < y.id = ltb-true x.id y.id e in lt-ltb (h x).id (h y).id (omega (arith, same x, same y)) in
-    IsInOrder-map id_before id_before h (filter q rs) keeps (IsInOrder-filter id_before q rs a)
+    IsInOrder-map id_before id_before h (filter q rs) (λ x y e. lt-ltb (h x).id (h y).id (omega (arith, same x, same y, ltb-true x.id y.id e))) (IsInOrder-filter id_before q rs a)
 
 -- what filtering and changing leaves
-pub changed_records : {o : Opening} {next : ℕ} {rs : List Record} (h : Record → Record) (q : Record → Bool) → AreSoundRecords o next rs → ((r : Record) → (h r).id ≡ r.id) → ((r : Record) → IsIn r rs → IsKept r (h r)) → ((r : Record) → IsIn r rs → q r ≡ true → IsRecord (h r)) → count_by is_done_checkpoint (map h (filter q rs)) ≤ o.config.retained → ((r s : Record) → IsIn r rs → IsIn s rs → q r ≡ true → q s ≡ true → is_pending_checkpoint (h r) ≡ true → is_done_checkpoint (h s) ≡ true → s.id < r.id) → AreSoundRecords o next (map h (filter q rs))
+pub changed_records : {o : Opening} {next : ℕ} {rs : List Record} (h : Record → Record) (q : Record → Bool) → AreSoundRecords o next rs → ((r : Record) → (h r).id ≡ r.id)
+    → ((r : Record) → IsIn r rs → IsKept r (h r)) → ((r : Record) → IsIn r rs → q r ≡ true → IsRecord (h r)) → count_by is_done_checkpoint (map h (filter q rs)) ≤ o.config.retained
+    → ((r s : Record) → IsIn r rs → IsIn s rs → q r ≡ true → q s ≡ true → is_pending_checkpoint (h r) ≡ true → is_done_checkpoint (h s) ≡ true → s.id < r.id)
+    → AreSoundRecords o next (map h (filter q rs))
 changed_records {o} {next} {rs} h q a same kept each retained newer = record {
   in_order = in_order-changed h q rs same a.in_order;
-  from_first = λ r k. let p = IsIn-from_changed h q r rs k in let e : r.id ≡ (h p.0).id = ap (λ x. x.id) p.3 in omega (arith, same p.0, a.from_first p.0 p.1);
-  below_next = λ r k. let p = IsIn-from_changed h q r rs k in let e : r.id ≡ (h p.0).id = ap (λ x. x.id) p.3 in omega (arith, same p.0, a.below_next p.0 p.1);
-  each = λ r k. let p = IsIn-from_changed h q r rs k in subst IsRecord (sym p.3) (each p.0 p.1 p.2);
-  started = λ r k. let p = IsIn-from_changed h q r rs k in let e : r.started ≡ (h p.0).started = ap (λ x. x.started) p.3 in omega (arith, (kept p.0 p.1).started, a.started p.0 p.1);
   retained = retained;
-  at_once =
-      omega (arith, a.at_once, count_by-changed is_pending_checkpoint is_pending_checkpoint h q rs (λ x k _ t. pending_checkpoint_before x (h x) (kept x k) t));
-  savepoints_to =
-      let savepoint : Record → Bool = λ r. not (is_checkpoint r) in
-      omega (arith, a.savepoints_to, count_by-changed savepoint savepoint h q rs (λ x k _ t. ap not (sym (same_checkpoint x (h x) (kept x k))) ∙ t));
+  from_first = λ r k. grind (arith, common_steps, IsIn-from_changed h q r rs k, same, a.from_first);
+  below_next = λ r k. grind (arith, common_steps, IsIn-from_changed h q r rs k, same, a.below_next);
+  each = λ r k. let p = IsIn-from_changed h q r rs k in rw p.3 (each p.0 p.1 p.2);
+  started = λ r k. let p = IsIn-from_changed h q r rs k in rw p.3 (omega (arith, (kept p.0 p.1).started, a.started p.0 p.1));
+  at_once = omega (arith, a.at_once, count_by-changed is_pending_checkpoint is_pending_checkpoint h q rs (λ x k _ t. pending_checkpoint_before x (h x) (kept x k) t));
+  savepoints_to = omega (arith, a.savepoints_to, count_by-changed (λ r. not (is_checkpoint r)) (λ r. not (is_checkpoint r)) h q rs (λ x k _ t. ap not (sym (same_checkpoint x (h x) (kept x k))) ∙ t));
   newer = grind (arith, common_steps, IsIn-from_changed, newer, same);
 }
 
@@ -103,20 +99,20 @@ filtered_records {o} {next} {rs} q a =
     changed_records itself q a (λ r. refl) (λ r k. record { kind = refl; started = refl; pending = λ e. e }) (λ r k _. a.each r k) (omega (arith, a.retained)) (λ r s j k _ _ p d. a.newer r s j k p d)
 
 -- one pending record more, with the next number
-pub appended_records : {o : Opening} {next : ℕ} {rs : List Record} (r : Record) → AreSoundRecords o next rs → o.first ≤ next → r.id ≡ next → r.done ≡ false → IsRecord r → r.started < 2 ^ 62 → count_by is_pending_checkpoint (rs ++ r ∷ []) ≤ limit o.config → count_by (λ s. not (is_checkpoint s)) (rs ++ r ∷ []) ≤ 1000 → AreSoundRecords o (next + 1) (rs ++ r ∷ [])
+pub appended_records : {o : Opening} {next : ℕ} {rs : List Record} (r : Record) → AreSoundRecords o next rs → o.first ≤ next → r.id ≡ next → r.done ≡ false → IsRecord r → r.started < 2 ^ 62
+    → count_by is_pending_checkpoint (rs ++ r ∷ []) ≤ limit o.config → count_by (λ s. not (is_checkpoint s)) (rs ++ r ∷ []) ≤ 1000 → AreSoundRecords o (next + 1) (rs ++ r ∷ [])
 appended_records {o} {next} {rs} r a first id done each started at_once savepoints_to =
-    let late : (x y : Record) → IsIn x rs → IsIn y (r ∷ []) → id_before x y ≡ true = λ x y j k. ⊎_elim (λ (e : y ≡ r). let f : y.id ≡ r.id = ap (λ z. z.id) e in lt-ltb x.id y.id (omega (arith, a.below_next x j))) (λ (n : ⊥). absurd n) k in
+    let late : (x y : Record) → IsIn x rs → IsIn y (r ∷ []) → id_before x y ≡ true = λ x y j k. grind (arith, common_steps, a.below_next x j) in
     record {
       in_order = IsInOrder-append id_before rs (r ∷ []) a.in_order (tt, tt) late;
-      from_first = λ x k. ⊎_elim (a.from_first x) (⊎_elim (λ (e : x ≡ r). let f : x.id ≡ r.id = ap (λ z. z.id) e in omega arith) (λ (n : ⊥). absurd n)) (IsIn-append_cases x rs (r ∷ []) k);
-      below_next = λ x k. ⊎_elim (λ (j : IsIn x rs). omega (arith, a.below_next x j)) (⊎_elim (λ (e : x ≡ r). let f : x.id ≡ r.id = ap (λ z. z.id) e in omega arith) (λ (n : ⊥). absurd n)) (IsIn-append_cases x rs (r ∷ []) k);
-      each = λ x k. ⊎_elim (a.each x) (⊎_elim (λ (e : x ≡ r). subst IsRecord (sym e) each) (λ (n : ⊥). absurd n)) (IsIn-append_cases x rs (r ∷ []) k);
-      started = λ x k. ⊎_elim (a.started x) (⊎_elim (λ (e : x ≡ r). let f : x.started ≡ r.started = ap (λ z. z.started) e in omega arith) (λ (n : ⊥). absurd n)) (IsIn-append_cases x rs (r ∷ []) k);
-      retained = let none : is_done_checkpoint r ≡ false = and_left r.done (is_checkpoint r) done in omega (arith, count_by-append is_done_checkpoint rs (r ∷ []), count_by_no is_done_checkpoint r [] none, a.retained);
       at_once = at_once;
       savepoints_to = savepoints_to;
-      newer = λ x y j k p d.
-          grind (arith, common_steps, a.newer, a.below_next, IsIn-append_cases x rs (r ∷ []) j, IsIn-append_cases y rs (r ∷ []) k, both_ways r.done done, and_parts y.done);
+      from_first = λ x k. grind (arith, common_steps, a.from_first x, IsIn-append_cases x rs (r ∷ []) k);
+      below_next = λ x k. grind (arith, common_steps, a.below_next x, IsIn-append_cases x rs (r ∷ []) k);
+      each = λ x k. grind (arith, common_steps, a.each x, each, IsIn-append_cases x rs (r ∷ []) k);
+      started = λ x k. grind (arith, common_steps, a.started x, IsIn-append_cases x rs (r ∷ []) k);
+      retained = grind (arith, common_steps, a.retained, count_by-append is_done_checkpoint rs (r ∷ []), count_by_no is_done_checkpoint r []);
+      newer = λ x y j k p d. grind (arith, common_steps, a.newer, a.below_next, IsIn-append_cases x rs (r ∷ []) j, IsIn-append_cases y rs (r ∷ []) k, both_ways r.done done, and_parts y.done);
     }
 
 -- the newest that pass a test
@@ -140,11 +136,10 @@ later_rest p x r rs h = grind (arith, common_steps)
 -- of those that pass, the ones with fewer than n later ones are n at most
 pub newest_at_most : (p : Record → Bool) (n : ℕ) (rs : List Record) → IsInOrder id_before rs → count_by (λ r. p r && not (leb n (later p r rs))) rs ≤ n
 newest_at_most p n [] a = omega arith
-newest_at_most p n (x ∷ rs) a =
-    let test : Record → Bool = λ r. p r && not (leb n (later p r (x ∷ rs))) in
-    let test_rest : Record → Bool = λ r. p r && not (leb n (later p r rs)) in
-    let same : (r : Record) → IsIn r rs → test r ≡ test_rest r = λ r h. let less : x.id < r.id = ltb-true x.id r.id (ComesBefore-at id_before x r rs a.0 h) in ap (λ k. p r && not (leb n k)) (later_rest p x r rs (omega arith)) in
-    let tail : count_by test rs ≡ count_by test_rest rs = count_by-same test test_rest rs same in
-    let rest : count_by test_rest rs ≤ n = newest_at_most p n rs a.1 in
-    let fewer : count_by test_rest rs ≤ count_by p rs = count_by-le test_rest p rs (λ r h t. (and_parts (p r) (not (leb n (later p r rs))) t).0) in
-    grind (arith, common_steps, not-true, and_parts, leb-false, count_by_yes, later_first, count_by_no, cases_Bool)
+newest_at_most p n (x ∷ xs) a =
+    let test : Record → Bool = λ r. p r && not (leb n (later p r (x ∷ xs))) in
+    let test_rest : Record → Bool = λ r. p r && not (leb n (later p r xs)) in
+    let tail : count_by test xs ≡ count_by test_rest xs =
+    count_by-same test test_rest xs (λ r h. let less = ltb-true x.id r.id (ComesBefore-at id_before x r xs a.0 h) in rw (later_rest p x r xs (omega arith)) refl) in
+    let fewer : count_by test_rest xs ≤ count_by p xs = count_by-le test_rest p xs (λ r h t. (and_parts (p r) _ t).0) in
+    grind (arith, common_steps, newest_at_most p n xs a.1, not-true, and_parts, leb-false, count_by_yes, later_first, count_by_no, cases_Bool)

@@ -11,20 +11,17 @@ last_stays q [] keeps = refl
 last_stays q (r ∷ rs) keeps = grind (arith, common_steps, keeps, both_ways, and_parts, cases_Bool, last_stays q rs)
 
 -- it reads the base, the last done checkpoint and the record of the choice alone
-pub pins_same : (m k : State) → k.base ≡ m.base → last_checkpoint k.records ≡ last_checkpoint m.records → ((id : ℕ) → names (choice_of m) ≡ Some id → record_of k id ≡ record_of m id) → pins_now k ≡ pins_now m
+pub pins_same : (m k : State) → k.base ≡ m.base → last_checkpoint k.records ≡ last_checkpoint m.records → ((id : ℕ) → names (choice_of m) ≡ Some id → record_of k id ≡ record_of m id)
+    → pins_now k ≡ pins_now m
 unfolding pins_now choice_of
 pins_same m k base last same = grind (arith, common_steps)
 
 -- so it stays if no done record is dropped
-pub pins_stay : (m k : State) (q : Record → Bool) → IsSound m → k.base ≡ m.base → k.records ≡ map (λ r. r) (filter q m.records) → ((r : Record) → IsIn r m.records → r.done ≡ true → q r ≡ true) → pins_now k ≡ pins_now m
+pub pins_stay : (m k : State) (q : Record → Bool) → IsSound m → k.base ≡ m.base → k.records ≡ map (λ r. r) (filter q m.records) → ((r : Record) → IsIn r m.records → r.done ≡ true → q r ≡ true)
+    → pins_now k ≡ pins_now m
 pins_stay m k q s base records keeps =
-    let left : List Record = map (λ r. r) (filter q m.records) in
     let order : IsInOrder id_before k.records = rw records (in_order-changed (λ r. r) q m.records (λ r. refl) s.records.in_order) in
-    let same : (id : ℕ) → names (choice_of m) ≡ Some id → record_of k id ≡ record_of m id = λ id e.
+    pins_same m k base (ap last_checkpoint records ∙ last_stays q m.records keeps) (λ id e.
     let c = chosen_is_done m id s e in
-    let there : IsIn c.0 k.records = rw records (IsIn-changed (λ (r : Record). r) q c.0 m.records c.1 (keeps c.0 c.1 c.3)) in
-    ap (record_of k) (sym (is_its_id m id c.0 c.2)) ∙ found k c.0 order there ∙ sym c.2 in
-    pins_same m k base (ap last_checkpoint records ∙ last_stays q m.records keeps) same
-  where
-    is_its_id : (m : State) (id : ℕ) (r : Record) → record_of m id ≡ Some r → r.id ≡ id
-    is_its_id m id r e = eqb-true r.id id (IsIn-from_find (λ x. eqb x.id id) r m.records e).1
+    let its : (c.0).id ≡ id = eqb-true (c.0).id id (IsIn-from_find (λ x. eqb x.id id) c.0 m.records c.2).1 in
+    ap (record_of k) (sym its) ∙ found k c.0 order (rw records (IsIn-changed (λ (r : Record). r) q c.0 m.records c.1 (keeps c.0 c.1 c.3))) ∙ sym c.2)

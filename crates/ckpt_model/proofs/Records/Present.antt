@@ -1,7 +1,7 @@
 -- A file is present exactly if some record holds it, for an acknowledgement or as a pin.
-use Rattle.ckpt_model.proofs.Names.{◌≡◌, ℕ, Bool, true, false, eqb, List, map, refl, ◌⊎◌, inl, inr, ⊎_elim, flat_map, cases_Bool, both_ways, eqb-true, eq-eqb, ltb-true, lt-ltb, Acked, IsIn}
-use Rattle.ckpt_model.proofs.Names.{acknowledges_before, put_ack, Record, Use, Subtask, Pin, uses, uses_of, count, is_present, IsIn-append_left, IsIn-append_right, IsIn-append_cases, IsIn-map}
-use Rattle.ckpt_model.proofs.Names.{IsIn-from_map, IsIn-flat_map, IsIn-from_flat_map, IsIn-put_cases, IsIn-put, IsIn-put_itself, counted-from_IsIn, IsIn-from_counted, common_steps, arith}
+use Rattle.ckpt_model.proofs.Names.{◌≡◌, ℕ, true, false, eqb, List, map, refl, ◌⊎◌, inl, inr, ⊎_elim, flat_map, cases_Bool, both_ways, eqb-true, eq-eqb, ltb-true, Acked, IsIn, acknowledges_before}
+use Rattle.ckpt_model.proofs.Names.{put_ack, Record, Use, Subtask, Pin, uses, uses_of, is_present, IsIn-append_left, IsIn-append_right, IsIn-append_cases, IsIn-map, IsIn-from_map, IsIn-flat_map}
+use Rattle.ckpt_model.proofs.Names.{IsIn-from_flat_map, IsIn-put_cases, IsIn-put, IsIn-put_itself, counted-from_IsIn, IsIn-from_counted, common_steps, arith}
 
 -- a record holds a file
 abbrev pub Holds : ℕ → Record → Type 0
@@ -34,9 +34,8 @@ IsHeld-from_present f records h = grind (arith, common_steps, ltb-true, IsIn-fro
 -- a held file is present
 pub present-from_IsHeld : (f : ℕ) (records : List Record) → IsHeld f records → is_present (uses records) f ≡ true
 present-from_IsHeld f records h =
-    let of_file : Use → Bool = λ u. eqb u.file f in
     let q = use-from_Holds f h.0 h.2 in
-    lt-ltb 0 (count (uses records) f) (counted-from_IsIn of_file q.0 (uses records) (IsIn-flat_map uses_of h.0 q.0 records h.1 q.1) (eq-eqb (q.0).file f q.2))
+    grind (arith, common_steps, counted-from_IsIn (λ (u : Use). eqb u.file f) q.0 (uses records) (IsIn-flat_map uses_of h.0 q.0 records h.1 q.1), eq-eqb)
 
 -- a file that is not present is held by none
 pub not_held : (f : ℕ) (records : List Record) → is_present (uses records) f ≡ false → IsHeld f records → ⊥
@@ -44,7 +43,8 @@ not_held f records e h = both_ways (is_present (uses records) f) e (present-from
 
 -- a file that none holds is not present
 pub absent-from_not_held : (f : ℕ) (records : List Record) → (IsHeld f records → ⊥) → is_present (uses records) f ≡ false
-absent-from_not_held f records h = ⊎_elim (λ (e : is_present (uses records) f ≡ true). absurd (h (IsHeld-from_present f records e))) (λ (e : is_present (uses records) f ≡ false). e) (cases_Bool (is_present (uses records) f))
+absent-from_not_held f records h =
+    ⊎_elim (λ (e : is_present (uses records) f ≡ true). absurd (h (IsHeld-from_present f records e))) (λ (e : is_present (uses records) f ≡ false). e) (cases_Bool (is_present (uses records) f))
 
 -- what is held after a change that adds no file was held before
 pub IsHeld_before : (f : ℕ) (before after : List Record) → ((r : Record) → IsIn r after → Holds f r → IsHeld f before) → is_present (uses before) f ≡ false → is_present (uses after) f ≡ false

@@ -1,8 +1,8 @@
 -- Calls dealt out to seats, each to the seat of its place modulo how many there are: whatever order the seats make them in, they
 -- come to what they come to one after the other.
-use Rattle.ckpt_model.proofs.Names.{◌≡◌, ℕ, ◌+◌, ◌%◌, ◌<◌, ◌≤◌, Bool, false, eqb, List, [], ◌∷◌, map, refl, sym, ap, subst, ◌∙◌, inl, inr, ⊎_elim, arith, count_by, Some, filter, enumerate_from}
-use Rattle.ckpt_model.proofs.Names.{cases_Bool, eqb-true, cases_lt, Call, Answer, IsIn, Record, IsIn-from_map, State, record_of, step, replay, answers, IsSound, of_seat, SameBySeat, NewFile, ack_with}
-use Rattle.ckpt_model.proofs.Names.{calls_of, first_completed, is_completing, SameOutcome, common_steps}
+use Rattle.ckpt_model.proofs.Names.{◌≡◌, ℕ, ◌+◌, ◌%◌, ◌<◌, ◌≤◌, Bool, false, eqb, List, [], ◌∷◌, map, refl, ap, inl, inr, arith, count_by, Some, filter, enumerate_from, cases_Bool, eqb-true, cases_lt}
+use Rattle.ckpt_model.proofs.Names.{Call, Answer, IsIn, Record, IsIn-from_map, State, record_of, step, replay, answers, IsSound, of_seat, SameBySeat, ack_with, calls_of, first_completed}
+use Rattle.ckpt_model.proofs.Names.{is_completing, SameOutcome, common_steps}
 use Rattle.ckpt_model.proofs.Reordering.Rearranged.{as_often_by_seat, of_seat-map, of_seat-other}
 use Rattle.ckpt_model.proofs.Reordering.Interleavings.{any_order, same_completed_by_seat}
 use Rattle.ckpt_model.proofs.Reordering.MissingFiles.{new_files, missing_of, pending_record, apart_missing, are_missing}
@@ -36,12 +36,11 @@ below-dealt : {X : Type 0} (seats : ℕ) (xs : List X) → 0 < seats → SeatsFr
 below-dealt {X} seats xs some x h = grind (arith, common_steps, IsIn-from_map)
 
 -- if each seat has what was dealt out to it
-pub same_as_dealt : {X : Type 0} (seats : ℕ) (xs : List X) (made : List (ℕ × X)) → 0 < seats → SeatsFrom seats made → ((seat : ℕ) → seat < seats → of_seat seat made ≡ dealt_out seats seat xs) → SameBySeat (dealt seats xs) made
-same_as_dealt {X} seats xs made some below each seat =
-    ⊎_elim
-    (λ (e : seat < seats). (of_seat-map (λ (p : ℕ × X). p.0 % seats) (λ (p : ℕ × X). p.1) seat (enumerate_from 0 xs)) ∙ sym (each seat e))
-    (λ (e : seats ≤ seat). none-beyond seats seat (dealt seats xs) (below-dealt seats xs some) e ∙ sym (none-beyond seats seat made below e))
-    (cases_lt seat seats)
+pub same_as_dealt : {X : Type 0} (seats : ℕ) (xs : List X) (made : List (ℕ × X)) → 0 < seats → SeatsFrom seats made → ((seat : ℕ) → seat < seats → of_seat seat made ≡ dealt_out seats seat xs)
+    → SameBySeat (dealt seats xs) made
+same_as_dealt seats xs made some below each seat = let its = of_seat-map (λ (p : ℕ × _). p.0 % seats) (λ (p : ℕ × _). p.1) seat (enumerate_from 0 xs) in
+    let beyond = none-beyond seats seat (dealt seats xs) (below-dealt seats xs some) in
+    grind (arith, common_steps, its, each seat, beyond, none-beyond seats seat made below, cases_lt seat seats)
 
 -- the answers to calls that have their seats beside them
 abbrev pub seated_answers : State → List (ℕ × Call) → List (ℕ × Answer)
@@ -54,10 +53,7 @@ values-seated m (x ∷ xs) = ap (λ ys. (step m x.1).1 ∷ ys) (values-seated (s
 
 below-answers : (m : State) (seats : ℕ) (made : List (ℕ × Call)) → SeatsFrom seats made → SeatsFrom seats (seated_answers m made)
 below-answers m seats [] below y h = absurd h
-below-answers m seats (x ∷ xs) below y h =
-    let P : ℕ × Answer → Type 0 = λ z. z.0 < seats in
-    let rest : SeatsFrom seats (seated_answers (step m x.1).0 xs) = below-answers (step m x.1).0 seats xs (λ z k. below z (inr k)) in
-    ⊎_elim (λ (e : y ≡ (x.0, (step m x.1).1)). subst P (sym e) (below x (inl refl))) (λ (k : IsIn y (seated_answers (step m x.1).0 xs)). rest y k) h
+below-answers m seats (x ∷ xs) below y h = grind (arith, common_steps, below x, below-answers (step m x.1).0 seats xs (λ z k. below z (inr k)) y)
 
 -- the acknowledgements of all missing subtasks, one after the other
 abbrev pub all_missing : ℕ → ℕ → ℕ → Record → List Call
@@ -70,19 +66,18 @@ pub record ComesToTheSame (m : State) (calls : List Call) (made : List (ℕ × C
   pub as_often : (asked : Answer → Bool) → count_by asked (answers m calls) ≡ count_by asked told
   pub completed : first_completed (answers m calls) ≡ first_completed told
 
-pub dealt_calls : (m : State) (now id first seats : ℕ) (r : Record) (made : List (ℕ × Call)) (told : List Answer) → IsSound m → record_of m id ≡ Some r → r.done ≡ false → 0 < seats → SeatsFrom seats made → ((seat : ℕ) → seat < seats → of_seat seat made ≡ dealt_out seats seat (all_missing now id first r)) → ((seat : ℕ) → seat < seats → of_seat seat (seated_answers m made) ≡ dealt_out seats seat told) → ComesToTheSame m (all_missing now id first r) made told
+pub dealt_calls : (m : State) (now id first seats : ℕ) (r : Record) (made : List (ℕ × Call)) (told : List Answer) → IsSound m → record_of m id ≡ Some r → r.done ≡ false → 0 < seats
+    → SeatsFrom seats made → ((seat : ℕ) → seat < seats → of_seat seat made ≡ dealt_out seats seat (all_missing now id first r))
+    → ((seat : ℕ) → seat < seats → of_seat seat (seated_answers m made) ≡ dealt_out seats seat told) → ComesToTheSame m (all_missing now id first r) made told
 dealt_calls m now id first seats r made told s found pending some below calls_are answers_are =
-    let news : List NewFile = new_files first 0 (missing_of r) in
     let calls : List Call = all_missing now id first r in
-    let value : ℕ × Answer → Answer = λ x. x.1 in
-    let outcome : SameOutcome m (calls_of (dealt seats calls)) (calls_of made) = any_order m now id r news (dealt seats calls) made s (pending_record m id r found pending) (are_missing first r) (apart_missing first r) (values-dealt seats calls) (same_as_dealt seats calls made some below calls_are) in
-    let P : List Call → Type 0 = λ given. SameOutcome m given (calls_of made) in
-    let law : SameOutcome m calls (calls_of made) = subst P (values-dealt seats calls) outcome in
+    let law : SameOutcome m calls (calls_of made) =
+    rw (← values-dealt seats calls)
+    (any_order m now id r (new_files first 0 (missing_of r)) (dealt seats calls) made s (pending_record m id r found pending) (are_missing first r) (apart_missing first r) (values-dealt seats calls)
+    (same_as_dealt seats calls made some below calls_are)) in
     let by_seat : SameBySeat (dealt seats told) (seated_answers m made) = same_as_dealt seats told (seated_answers m made) some (below-answers m seats made below) answers_are in
     let tell : (asked : Answer → Bool) → count_by asked (answers m (calls_of made)) ≡ count_by asked told = λ asked.
-    ap (count_by asked) (sym (values-seated m made)) ∙ sym (as_often_by_seat (dealt seats told) (seated_answers m made) by_seat asked) ∙ ap (count_by asked) (values-dealt seats told) in
-    let count_told : count_by is_completing (map value (dealt seats told)) ≡ count_by is_completing (answers m calls) = ap (count_by is_completing) (values-dealt seats told) ∙ sym (tell is_completing) ∙ sym (law.as_often is_completing) in
-    let few : count_by is_completing (answers m calls) ≤ 1 = law.once in
-    let once : count_by is_completing (map value (dealt seats told)) ≤ 1 = omega arith in
-    let first_told : first_completed (map value (dealt seats told)) ≡ first_completed (map value (seated_answers m made)) = same_completed_by_seat (dealt seats told) (seated_answers m made) by_seat once in
+    grind (arith, common_steps, values-seated m made, as_often_by_seat (dealt seats told) (seated_answers m made) by_seat asked, values-dealt seats told) in
+    let once : count_by is_completing (map (λ (x : ℕ × Answer). x.1) (dealt seats told)) ≤ 1 = grind (arith, common_steps, law.once, law.as_often, tell, values-dealt seats told) in
+    let first_told = same_completed_by_seat (dealt seats told) (seated_answers m made) by_seat once in
     grind (arith, common_steps, law.as_often, tell, values-seated m made, values-dealt seats told) steps 1000000

@@ -1,21 +1,19 @@
 -- Putting two acknowledgements into one record, in either order.
-use Rattle.ckpt_model.proofs.Names.{◌≡◌, ℕ, ◌+◌, Bool, true, false, ◌&&◌, eqb, List, [], ◌∷◌, sym, ◌∙◌, ⊎_elim, find, Some, cases_Bool, both_ways, not_from_true, not_from_false, and_parts, and_from}
+use Rattle.ckpt_model.proofs.Names.{◌≡◌, ℕ, ◌+◌, Bool, true, false, ◌&&◌, eqb, List, [], ◌∷◌, sym, ◌∙◌, find, Some, cases_Bool, both_ways, not_from_true, not_from_false, and_parts, and_from}
 use Rattle.ckpt_model.proofs.Names.{cond-true, cond-false, eqb-true, eq-eqb, SubtaskId, Acked, IsIn, IsInOrder, put, acknowledges_before, put_ack, Record, missing, has_acknowledged, acknowledged}
 use Rattle.ckpt_model.proofs.Names.{is_subtask, subtasks_in_order, same_subtask-Decides, IsIn-map, IsIn-from_map, IsIn-put, IsIn-put_itself, IsIn-put_cases, IsIn-from_list_any, list_any-from_IsIn}
 use Rattle.ckpt_model.proofs.Names.{is_pending, pending_of, replaced, id_before, count_by_one_more, IsInOrder-subtasks, IsIn-subtasks, same_subtask-itself, common_steps, arith}
-use Rattle.ckpt_model.proofs.Records.Counts.{IsIn-from_find}
-use Rattle.ckpt_model.proofs.Records.Replacing.{put_in, IsReplacing, put_in_replaces}
+use Rattle.ckpt_model.proofs.Records.{IsIn-from_find, put_in, IsReplacing, put_in_replaces}
 
 -- two elements, one before the other, go into a list in either order
-pub put_commutes : {X : Type 0} (before : X → X → Bool) (x y : X) (zs : List X) → ((a b c : X) → before a b ≡ true → before b c ≡ true → before a c ≡ true) → before x y ≡ true → before y x ≡ false → put before x (put before y zs) ≡ put before y (put before x zs)
+pub put_commutes : {X : Type 0} (before : X → X → Bool) (x y : X) (zs : List X) → ((a b c : X) → before a b ≡ true → before b c ≡ true → before a c ≡ true) → before x y ≡ true → before y x ≡ false
+    → put before x (put before y zs) ≡ put before y (put before x zs)
 put_commutes {X} before x y [] chain xy yx = grind (arith, common_steps, cond-false, cond-true)
 put_commutes {X} before x y (z ∷ zs) chain xy yx = grind (arith, common_steps, cond-true, cond-false, chain, both_ways, cases_Bool, put_commutes before x y zs chain xy yx)
 
 -- acknowledgements of two subtasks go into a list in either order
 pub acks_commute : (a b : Acked) (acks : List Acked) → (a.subtask ≡ b.subtask → ⊥) → put_ack a (put_ack b acks) ≡ put_ack b (put_ack a acks)
-acks_commute a b acks ne =
-    let chain : (x y z : Acked) → acknowledges_before x y ≡ true → acknowledges_before y z ≡ true → acknowledges_before x z ≡ true = λ x y z h k. subtasks_in_order.transitive x.subtask y.subtask z.subtask h k in
-    grind (arith, common_steps, both_ways, cases_Bool, put_commutes, chain, ne)
+acks_commute a b acks ne = grind (arith, common_steps, both_ways, cases_Bool, put_commutes acknowledges_before, subtasks_in_order.transitive, subtasks_in_order.total, ne)
 
 -- whether a subtask has acknowledged, after one acknowledgement more
 
@@ -33,11 +31,11 @@ had_before r s t files ne h = grind (arith, common_steps, IsIn-from_list_any, Is
 
 -- what lacks after lacked before
 pub has_not_before : (r : Record) (s t : SubtaskId) (files : List ℕ) → has_acknowledged (acknowledged r s files) t ≡ false → has_acknowledged r t ≡ false
-has_not_before r s t files e = ⊎_elim (λ (h : has_acknowledged r t ≡ true). absurd (both_ways (has_acknowledged (acknowledged r s files) t) e (has_still r s t files h))) (λ (h : has_acknowledged r t ≡ false). h) (cases_Bool (has_acknowledged r t))
+has_not_before r s t files e = grind (arith, common_steps, has_still r s t files)
 
 -- and what lacked before lacks after, but for the new one
 pub has_not_after : (r : Record) (s t : SubtaskId) (files : List ℕ) → (t ≡ s → ⊥) → has_acknowledged r t ≡ false → has_acknowledged (acknowledged r s files) t ≡ false
-has_not_after r s t files ne e = ⊎_elim (λ (h : has_acknowledged (acknowledged r s files) t ≡ true). absurd (both_ways (has_acknowledged r t) e (had_before r s t files ne h))) (λ (h : has_acknowledged (acknowledged r s files) t ≡ false). h) (cases_Bool (has_acknowledged (acknowledged r s files) t))
+has_not_after r s t files ne e = grind (arith, common_steps, had_before r s t files ne, cases_Bool, both_ways)
 
 -- of any other subtask nothing changes
 pub has_same : (r : Record) (s t : SubtaskId) (files : List ℕ) → (t ≡ s → ⊥) → has_acknowledged (acknowledged r s files) t ≡ has_acknowledged r t

@@ -1,8 +1,8 @@
 -- The missing subtasks of a pending record, each with the next file from a first one on, meet the conditions of the law of any order.
-use Rattle.ckpt_model.proofs.Names.{◌≡◌, ℕ, ◌+◌, ◌≤◌, Bool, true, false, not, ◌&&◌, eqb, List, [], ◌∷◌, map, refl, sym, subst, inl, inr, ⊎_elim, arith, find, Some, filter, enumerate_from, both_ways}
-use Rattle.ckpt_model.proofs.Names.{not-true, not_from_false, and_parts, and_from, SubtaskId, IsIn, IsInOrder, is_before, Record, has_acknowledged, subtasks, IsIn-from_filter, IsInOrder-filter}
-use Rattle.ckpt_model.proofs.Names.{ComesBefore-at, IsInOrder-subtasks, is_subtask-from_IsIn, State, is_pending, record_of, pending_of, NewFile, AreApart, AreMissing, common_steps}
-use Rattle.ckpt_model.proofs.Records.Counts.{IsIn-from_find}
+use Rattle.ckpt_model.proofs.Names.{◌≡◌, ℕ, ◌+◌, ◌≤◌, Bool, true, false, not, ◌&&◌, eqb, List, [], ◌∷◌, map, arith, find, Some, filter, enumerate_from, both_ways, not-true, SubtaskId, IsIn, IsInOrder}
+use Rattle.ckpt_model.proofs.Names.{is_before, Record, has_acknowledged, subtasks, IsIn-from_filter, IsInOrder-filter, ComesBefore-at, IsInOrder-subtasks, is_subtask-from_IsIn, State, is_pending}
+use Rattle.ckpt_model.proofs.Names.{record_of, pending_of, NewFile, AreApart, AreMissing, common_steps}
+use Rattle.ckpt_model.proofs.Records.{IsIn-from_find}
 
 -- the one that a test finds is found by a narrower test that it passes
 find-narrower : {X : Type 0} (wide narrow : X → Bool) (x : X) (xs : List X) → ((y : X) → narrow y ≡ true → wide y ≡ true) → find wide xs ≡ Some x → narrow x ≡ true → find narrow xs ≡ Some x
@@ -11,11 +11,7 @@ find-narrower {X} wide narrow x (y ∷ ys) within found passes = grind (arith, c
 
 -- the record of a number, if it is pending
 pub pending_record : (m : State) (id : ℕ) (r : Record) → record_of m id ≡ Some r → r.done ≡ false → pending_of m.records id ≡ Some r
-pending_record m id r found pending =
-    let wide : Record → Bool = λ x. eqb x.id id in
-    let narrow : Record → Bool = λ x. is_pending x && eqb x.id id in
-    let its : eqb r.id id ≡ true = (IsIn-from_find wide r m.records found).1 in
-    find-narrower wide narrow r m.records (λ y h. (and_parts (is_pending y) (eqb y.id id) h).1) found (and_from (is_pending r) (eqb r.id id) (not_from_false r.done pending) its)
+pending_record m id r found pending = grind (arith, common_steps, find-narrower (λ x. eqb x.id id) (λ x. is_pending x && eqb x.id id) r m.records, IsIn-from_find (λ x. eqb x.id id) r m.records found)
 
 -- the subtasks, each with the next file; the first of them is at this place
 abbrev pub new_files : ℕ → ℕ → List SubtaskId → List NewFile
@@ -27,21 +23,16 @@ missing_of r = filter (λ s. not (has_acknowledged r s)) (subtasks r.shape)
 -- each is one of the subtasks, with a file from the first one on
 from_new_files : (first place : ℕ) (missing : List SubtaskId) (n : NewFile) → IsIn n (new_files first place missing) → IsIn n.subtask missing × (first + place ≤ n.file)
 from_new_files first place [] n h = absurd h
-from_new_files first place (s ∷ missing) n h =
-    let P : NewFile → Type 0 = λ o. IsIn o.subtask (s ∷ missing) × (first + place ≤ o.file) in
-    let here : NewFile = record { subtask = s; file = first + place } in
-    let as_first : P here = (inl refl, omega arith) in
-    let rest : IsIn n (new_files first (place + 1) missing) → P n = λ (k : IsIn n (new_files first (place + 1) missing)). let q = from_new_files first (place + 1) missing n k in (inr q.0, omega (arith, q.1)) in
-    ⊎_elim (λ (e : n ≡ here). subst P (sym e) as_first) rest h
+from_new_files first place (s ∷ missing) n h = grind (arith, common_steps, from_new_files first (place + 1) missing n)
 
 -- all different
 pub apart_new_files : (first place : ℕ) (missing : List SubtaskId) → IsInOrder is_before missing → AreApart (new_files first place missing)
 apart_new_files first place [] order = tt
-apart_new_files first place (s ∷ missing) order =
-    let others : (o : NewFile) → IsIn o (new_files first (place + 1) missing) → (s ≡ o.subtask → ⊥) × (first + place ≡ o.file → ⊥) = λ o h.
-    let q = from_new_files first (place + 1) missing o h in
-    grind (arith, common_steps, ComesBefore-at, both_ways) in
-    (others, apart_new_files first (place + 1) missing order.1)
+apart_new_files first place (s ∷ missing) order = (
+  λ o h. let files = from_new_files first (place + 1) missing o h in
+      grind (arith, common_steps, files, ComesBefore-at, both_ways),
+  apart_new_files first (place + 1) missing order.1,
+)
 
 pub apart_missing : (first : ℕ) (r : Record) → AreApart (new_files first 0 (missing_of r))
 apart_missing first r = apart_new_files first 0 (missing_of r) (IsInOrder-filter is_before (λ s. not (has_acknowledged r s)) (subtasks r.shape) (IsInOrder-subtasks r.shape))

@@ -1,17 +1,14 @@
 -- Acknowledgements of missing subtasks, each with one new file: what one does to another.
-use Rattle.ckpt_model.proofs.Names.{◌≡◌, ℕ, ◌<◌, ◌≤◌, ◌^◌, max, true, false, ◌&&◌, ◌||◌, ltb, leb, eqb, List, [], ◌∷◌, ◌++◌, refl, sym, ap, subst, ◌∙◌, ◌⊎◌, ⊎_elim, arith, Some, None, cases_Bool}
-use Rattle.ckpt_model.proofs.Names.{both_ways, not-true, not_from_false, and_parts, or_from, cond-false, eqb-true, leb-false, le-ltb, lt-leb, Call, Refusal, MomentTooLarge, NameTaken, Done, Refused}
-use Rattle.ckpt_model.proofs.Names.{ascending, IsIn, Record, uses, is_present, missing, has_acknowledged, is_subtask, IsIn-subtasks, State, is_pending, is_known, in_outbox, refusal, refuse_if}
-use Rattle.ckpt_model.proofs.Names.{pending_of, was_not_given, Stepped, replaced, with_records, step, IsSound, is_ack_pending, is_ack_taken, Part, NewFile, ack_with, is_completing, counted-from_IsIn}
-use Rattle.ckpt_model.proofs.Names.{common_steps}
+use Rattle.ckpt_model.proofs.Names.{◌≡◌, ℕ, ◌^◌, max, true, false, ◌&&◌, ◌||◌, leb, eqb, List, [], ◌∷◌, ◌++◌, refl, sym, ap, subst, ◌∙◌, ◌⊎◌, arith, Some, None, cases_Bool, not-true, not_from_false}
+use Rattle.ckpt_model.proofs.Names.{and_parts, cond-false, eqb-true, leb-false, Call, Refusal, MomentTooLarge, NameTaken, Done, Refused, ascending, IsIn, Record, uses, is_present, missing}
+use Rattle.ckpt_model.proofs.Names.{has_acknowledged, is_subtask, IsIn-subtasks, State, is_pending, is_known, in_outbox, refusal, refuse_if, pending_of, was_not_given, Stepped, replaced, with_records}
+use Rattle.ckpt_model.proofs.Names.{step, IsSound, is_ack_pending, is_ack_taken, Part, NewFile, ack_with, is_completing, counted-from_IsIn, common_steps}
 use Rattle.ckpt_ids.specs.declared.reply.Reply.TheVariants as reply
-use Rattle.ckpt_model.proofs.Records.Counts.{IsIn-from_find}
-use Rattle.ckpt_model.proofs.Records.Present.{IsHeld, IsHeld-from_present, present-from_IsHeld}
+use Rattle.ckpt_model.proofs.Records.{IsIn-from_find, IsHeld-from_present, present-from_IsHeld, held_or_named, held_still}
 use Rattle.ckpt_model.proofs.Answering.Accepted.{not_refused-ack}
 use Rattle.ckpt_model.proofs.Answering.RefusalRows.{row_holds, row_fails}
-use Rattle.ckpt_model.proofs.Soundness.Acks.{with_ack}
+use Rattle.ckpt_model.proofs.Soundness.{with_ack}
 use Rattle.ckpt_model.proofs.Soundness.Calls.{step_keeps}
-use Rattle.ckpt_model.proofs.Records.Held.{held_or_named, held_still}
 use Rattle.ckpt_model.proofs.Reordering.ExchangeLemmas.{has_not_after, pending_of_replaced}
 use Rattle.ckpt_model.proofs.Reordering.Exchange.{step_ack, left_pending, exchange}
 use Rattle.ckpt_model.proofs.Answering.StepCases.{step_refused, step_accepted, step_by}
@@ -39,12 +36,7 @@ same_record {m} {id} {a} {b} wa wb = grind (arith, common_steps)
 
 -- the number of a record was given
 was_given : (m : State) (id : ℕ) (r : Record) → IsSound m → pending_of m.records id ≡ Some r → was_not_given m id ≡ false
-was_given m id r s found =
-    let there = IsIn-from_find (λ x. is_pending x && eqb x.id id) r m.records found in
-    let its : r.id ≡ id = eqb-true r.id id (and_parts (is_pending r) (eqb r.id id) there.1).1 in
-    let from : m.opening.first ≤ r.id = s.records.from_first r there.0 in
-    let below : r.id < m.next = s.records.below_next r there.0 in
-    or_from (ltb id m.opening.first) (leb m.next id) (le-ltb id m.opening.first (omega arith)) (lt-leb m.next id (omega arith))
+was_given m id r s found = grind (arith, common_steps, IsIn-from_find (λ x. is_pending x && eqb x.id id) r m.records found, s.records.from_first r, s.records.below_next r)
 
 -- all of them if the moment is too large
 pub refused_late : (m : State) (now id : ℕ) (n : NewFile) → leb (2 ^ 62) now ≡ true → refusal m (ack_with now id n) ≡ Some MomentTooLarge
@@ -90,26 +82,18 @@ found_after m now id r a s found =
     pending_of_replaced m.records id r (with_new r a) s.records.in_order found refl (not-true r.done (and_parts (is_pending r) (eqb r.id id) there.1).0)
 
 -- no file but its own becomes known by it
-present_after : (m : State) (now id : ℕ) (r : Record) (a : NewFile) (f : ℕ) → IsSound m → pending_of m.records id ≡ Some r → (f ≡ a.file → ⊥) → is_present (uses (after_new m now r a).records) f ≡ is_present (uses m.records) f
+present_after : (m : State) (now id : ℕ) (r : Record) (a : NewFile) (f : ℕ) → IsSound m → pending_of m.records id ≡ Some r → (f ≡ a.file → ⊥)
+    → is_present (uses (after_new m now r a).records) f ≡ is_present (uses m.records) f
 present_after m now id r a f s found ne =
     let after : List Record = replaced m.records (with_new r a) in
     let there : IsIn r m.records = (IsIn-from_find (λ x. is_pending x && eqb x.id id) r m.records found).0 in
-    let before : IsHeld f after → IsHeld f m.records = λ (h : IsHeld f after).
-    ⊎_elim
-    (⊎_elim (λ (k : IsIn f (a.file ∷ [])). absurd (⊎_elim ne (λ (l : IsIn f []). l) k)) (λ (k : IsIn f []). absurd (k)))
-    (λ (k : IsHeld f m.records). k)
-    (held_or_named f m.records r a.subtask (a.file ∷ []) [] s.records.in_order there h) in
-    let then : IsHeld f m.records → IsHeld f after = held_still f m.records r a.subtask (a.file ∷ []) [] s.records.in_order there in
-    ⊎_elim
-    (λ (e : is_present (uses after) f ≡ true). e ∙ sym (present-from_IsHeld f m.records (before (IsHeld-from_present f after e))))
-    (λ (e : is_present (uses after) f ≡ false). ⊎_elim
-    (λ (k : is_present (uses m.records) f ≡ true). absurd (both_ways (is_present (uses after) f) e (present-from_IsHeld f after (then (IsHeld-from_present f m.records k)))))
-    (λ (k : is_present (uses m.records) f ≡ false). e ∙ sym k)
-    (cases_Bool (is_present (uses m.records) f)))
-    (cases_Bool (is_present (uses after) f))
+    let named = held_or_named f m.records r a.subtask (a.file ∷ []) [] s.records.in_order there in
+    let still = held_still f m.records r a.subtask (a.file ∷ []) [] s.records.in_order there in
+    grind (arith, common_steps, named, still, present-from_IsHeld f m.records, IsHeld-from_present f after, present-from_IsHeld f after, IsHeld-from_present f m.records, cases_Bool) steps 1000000
 
 -- a fact holds of the first of two if it holds of a refusal and of an answer that leaves the record pending
-after_first : (m : State) (now id : ℕ) (a b : NewFile) (wa : Awaits m id a) → Awaits m id b → (a.subtask ≡ b.subtask → ⊥) → (P : Stepped → Type 0) → ((why : Refusal) → P (m, Refused why)) → P (after_new m now wa.r a, Done (reply.AckPending (missing (with_new wa.r a)))) → P (step m (ack_with now id a))
+after_first : (m : State) (now id : ℕ) (a b : NewFile) (wa : Awaits m id a) → Awaits m id b → (a.subtask ≡ b.subtask → ⊥) → (P : Stepped → Type 0) → ((why : Refusal) → P (m, Refused why))
+    → P (after_new m now wa.r a, Done (reply.AckPending (missing (with_new wa.r a)))) → P (step m (ack_with now id a))
 after_first m now id a b wa wb ne P refused pending =
     let call : Call = ack_with now id a in
     step_by m call P (λ why _. refused why) (λ e. subst P (sym (left m now id wa.r a b wa.found (same_record wa wb) ne e) ∙ step_accepted m call e) pending)
@@ -121,7 +105,8 @@ awaits_after m now id a b s wa wb ne =
     after_first m now id a b wa wb ne P (λ why. wb) (grind (arith, common_steps, found_after m now id wa.r a s wa.found, lacks_still wa.r a b ne, ne, same_record wa wb) steps 1000000)
 
 -- a file that is not the first's is known after it if it was known before
-pub known_after : (m : State) (now id : ℕ) (a b : NewFile) (f : ℕ) → IsSound m → Awaits m id a → Awaits m id b → (a.subtask ≡ b.subtask → ⊥) → (f ≡ a.file → ⊥) → is_known (step m (ack_with now id a)).0 f ≡ is_known m f
+pub known_after : (m : State) (now id : ℕ) (a b : NewFile) (f : ℕ) → IsSound m → Awaits m id a → Awaits m id b → (a.subtask ≡ b.subtask → ⊥) → (f ≡ a.file → ⊥)
+    → is_known (step m (ack_with now id a)).0 f ≡ is_known m f
 known_after m now id a b f s wa wb ne other =
     let P : Stepped → Type 0 = λ x. is_known x.0 f ≡ is_known m f in
     after_first m now id a b wa wb ne P (λ why. refl) (ap (λ p. p || in_outbox m f) (present_after m now id wa.r a f s wa.found other))
@@ -151,28 +136,29 @@ exchanged_refused : (m : State) (a b : Call) (why : Refusal) → refusal m a ≡
 exchanged_refused m a b why first second = grind (arith, common_steps, step_refused)
 
 -- the file of the first is known
-exchanged_known : (m : State) (now id : ℕ) (a b : NewFile) → IsSound m → Awaits m id a → Awaits m id b → (a.subtask ≡ b.subtask → ⊥) → (a.file ≡ b.file → ⊥) → leb (2 ^ 62) now ≡ false → is_known m a.file ≡ true → Exchanged m (ack_with now id a) (ack_with now id b)
+exchanged_known : (m : State) (now id : ℕ) (a b : NewFile) → IsSound m → Awaits m id a → Awaits m id b → (a.subtask ≡ b.subtask → ⊥) → (a.file ≡ b.file → ⊥) → leb (2 ^ 62) now ≡ false
+    → is_known m a.file ≡ true → Exchanged m (ack_with now id a) (ack_with now id b)
 exchanged_known m now id a b s wa wb ne other early known =
     let B : Call = ack_with now id b in
     let back : b.subtask ≡ a.subtask → ⊥ = λ e. ne (sym e) in
-    let still : is_known (step m B).0 a.file ≡ true = known_after m now id b a a.file s wb wa back other ∙ known in
-    exchanged_refused m (ack_with now id a) B (NameTaken a.file) (refused_known m now id a s wa early known) (refused_known (step m B).0 now id a (step_keeps m B tt s) (awaits_after m now id b a s wb wa back) early still)
+    exchanged_refused m (ack_with now id a) B (NameTaken a.file) (refused_known m now id a s wa early known)
+    (refused_known (step m B).0 now id a (step_keeps m B tt s) (awaits_after m now id b a s wb wa back) early (known_after m now id b a a.file s wb wa back other ∙ known))
 
 -- neither file is known
-exchanged_unknown : (m : State) (now id : ℕ) (a b : NewFile) → IsSound m → Awaits m id a → Awaits m id b → (a.subtask ≡ b.subtask → ⊥) → (a.file ≡ b.file → ⊥) → leb (2 ^ 62) now ≡ false → is_known m a.file ≡ false → is_known m b.file ≡ false → Exchanged m (ack_with now id a) (ack_with now id b)
+exchanged_unknown : (m : State) (now id : ℕ) (a b : NewFile) → IsSound m → Awaits m id a → Awaits m id b → (a.subtask ≡ b.subtask → ⊥) → (a.file ≡ b.file → ⊥) → leb (2 ^ 62) now ≡ false
+    → is_known m a.file ≡ false → is_known m b.file ≡ false → Exchanged m (ack_with now id a) (ack_with now id b)
 exchanged_unknown m now id a b s wa wb ne other early ka kb =
     let A : Call = ack_with now id a in
     let ea : refusal m A ≡ None = accepted_unknown m now id a s wa early ka in
     let pending : is_ack_pending (step m A).1 ≡ true = ap (λ (x : Stepped). is_ack_pending x.1) (left m now id wa.r a b wa.found (same_record wa wb) ne ea) in
     let wb1 : Awaits (step m A).0 id b = awaits_after m now id a b s wa wb ne in
-    let kb1 : is_known (step m A).0 b.file ≡ false = known_after m now id a b b.file s wa wb ne (λ e. other (sym e)) ∙ kb in
-    let eb1 : refusal (step m A).0 (ack_with now id b) ≡ None = accepted_unknown (step m A).0 now id b (step_keeps m A tt s) wb1 early kb1 in
-    let both = exchange m now id (part_of a) (part_of b) s ne (λ f h k. k) pending (taken (step m A).0 now id b wb1 eb1) in
+    let kb1 = known_after m now id a b b.file s wa wb ne (λ e. other (sym e)) ∙ kb in
+    let both = exchange m now id (part_of a) (part_of b) s ne (λ f h k. k) pending (taken (step m A).0 now id b wb1 (accepted_unknown (step m A).0 now id b (step_keeps m A tt s) wb1 early kb1)) in
     grind (arith, common_steps)
 
-pub exchanged_new : (m : State) (now id : ℕ) (a b : NewFile) → IsSound m → Awaits m id a → Awaits m id b → (a.subtask ≡ b.subtask → ⊥) → (a.file ≡ b.file → ⊥) → Exchanged m (ack_with now id a) (ack_with now id b)
+pub exchanged_new : (m : State) (now id : ℕ) (a b : NewFile) → IsSound m → Awaits m id a → Awaits m id b → (a.subtask ≡ b.subtask → ⊥) → (a.file ≡ b.file → ⊥)
+    → Exchanged m (ack_with now id a) (ack_with now id b)
 exchanged_new m now id a b s wa wb ne other =
-    let A : Call = ack_with now id a in
-    let B : Call = ack_with now id b in
-    let late : leb (2 ^ 62) now ≡ true → Exchanged m A B = λ (e : leb (2 ^ 62) now ≡ true). exchanged_refused m A B MomentTooLarge (refused_late m now id a e) (refused_late (step m B).0 now id a e) in
+    let late = λ (e : leb (2 ^ 62) now ≡ true).
+    exchanged_refused m (ack_with now id a) (ack_with now id b) MomentTooLarge (refused_late m now id a e) (refused_late (step m (ack_with now id b)).0 now id a e) in
     grind (arith, common_steps, exchanged_known, exchanged_back, exchanged_unknown, cases_Bool) steps 1000000

@@ -26,7 +26,8 @@ Rearranged-map f [] ys e = grind (arith, common_steps)
 Rearranged-map {X} {Y} f (x ∷ xs) ys r = grind (arith, common_steps, Rearranged-map f xs ((r.0) ++ (r.1)) r.3)
 
 -- two parts of what came of a list came of two parts of it
-parts-from_map : {X Y : Type 0} (f : X → Y) (front back : List Y) (zs : List X) → front ++ back ≡ map f zs → (first : List X) × (second : List X) × (zs ≡ first ++ second) × (front ≡ map f first) × (back ≡ map f second)
+parts-from_map : {X Y : Type 0} (f : X → Y) (front back : List Y) (zs : List X) → front ++ back ≡ map f zs
+    → (first : List X) × (second : List X) × (zs ≡ first ++ second) × (front ≡ map f first) × (back ≡ map f second)
 parts-from_map f [] back zs e = ([], zs, refl, refl, e)
 parts-from_map f (y ∷ front) back [] e = absurd (cc)
 parts-from_map {X} {Y} f (y ∷ front) back (z ∷ zs) e =
@@ -38,10 +39,10 @@ parts-from_map {X} {Y} f (y ∷ front) back (z ∷ zs) e =
 -- and a list rearranged after came of one rearranged before
 pub Rearranged-from_map : {X Y : Type 0} (f : X → Y) (xs : List X) (ys : List Y) → Rearranged (map f xs) ys → (zs : List X) × (ys ≡ map f zs) × Rearranged xs zs
 Rearranged-from_map f [] ys e = ([], e, refl)
-Rearranged-from_map {X} {Y} f (x ∷ xs) ys r =
+Rearranged-from_map f (x ∷ xs) ys r =
     let rest = Rearranged-from_map f xs ((r.0) ++ (r.1)) r.3 in
     let p = parts-from_map f r.0 r.1 rest.0 rest.1 in
-    ((p.0) ++ x ∷ p.1, (r.2 ∙ ap (λ zs. zs ++ f x ∷ r.1) p.3 ∙ ap (λ zs. map f p.0 ++ f x ∷ zs) p.4 ∙ sym (map-append f p.0 (x ∷ p.1))), (p.0, p.1, refl, rw (← p.2) rest.2))
+    ((p.0) ++ x ∷ p.1, grind (arith, common_steps, map-append), (p.0, p.1, refl, rw (← p.2) rest.2))
 
 -- of one seat
 
@@ -65,30 +66,17 @@ record IsFirst {X : Type 0} (seat : ℕ) (x : X) (rest : List X) (ys : List (ℕ
 first_here : {X : Type 0} (seat : ℕ) (x : X) (rest : List X) (y : ℕ × X) (ys : List (ℕ × X)) → eqb y.0 seat ≡ true → of_seat seat (y ∷ ys) ≡ x ∷ rest → IsFirst seat x rest (y ∷ ys)
 first_here {X} seat x rest y ys at e =
     let its : y.1 ∷ of_seat seat ys ≡ x ∷ rest = sym (of_seat-its seat y ys at) ∙ e in
-    let value : y.1 ≡ x = cc in
-    let later : of_seat seat ys ≡ rest = cc in
     let place : y.0 ≡ seat = eqb-true y.0 seat at in
-    let pair : ℕ → X → List (ℕ × X) = λ k v. (k, v) ∷ ys in
-    record {
-      front = [];
-      back = ys;
-      is = ap (λ k. pair k y.1) place ∙ ap (λ v. pair seat v) value;
-      its = later;
-      others = λ other ne. sym (of_seat-other other y ys (ap (λ k. eqb k other) place ∙ ne));
-    }
+    record { front = []; back = ys; is = grind (arith, common_steps); its = cc; others = λ other ne. sym (of_seat-other other y ys (rw place ne)) }
 
 first_later : {X : Type 0} (seat : ℕ) (x : X) (rest : List X) (y : ℕ × X) (ys : List (ℕ × X)) → eqb y.0 seat ≡ false → IsFirst seat x rest ys → IsFirst seat x rest (y ∷ ys)
-first_later {X} seat x rest y ys at f =
-    let front : List (ℕ × X) = f.front in
-    let back : List (ℕ × X) = f.back in
-    let beside : (other : ℕ) → eqb seat other ≡ false → of_seat other (y ∷ front ++ back) ≡ of_seat other (y ∷ ys) = λ other ne. of_seat-cons other y (front ++ back) ∙ ap (λ zs. cond (eqb y.0 other) (y.1 ∷ zs) zs) (f.others other ne) ∙ sym (of_seat-cons other y ys) in
-    record {
-      front = y ∷ front;
-      back = back;
-      is = ap (λ zs. y ∷ zs) f.is;
-      its = of_seat-other seat y (front ++ back) at ∙ f.its;
-      others = beside;
-    }
+first_later {X} seat x rest y ys at f = record {
+  front = y ∷ f.front;
+  back = f.back;
+  is = ap (λ zs. y ∷ zs) f.is;
+  its = of_seat-other seat y (f.front ++ f.back) at ∙ f.its;
+  others = λ other ne. grind (arith, common_steps, of_seat-cons other y, f.others other ne);
+}
 
 first_of_seat : {X : Type 0} (seat : ℕ) (x : X) (rest : List X) (ys : List (ℕ × X)) → of_seat seat ys ≡ x ∷ rest → IsFirst seat x rest ys
 first_of_seat seat x rest [] e = grind (arith, common_steps)
@@ -110,6 +98,7 @@ pub as_often_by_seat : {X : Type 0} (xs ys : List (ℕ × X)) → SameBySeat xs 
 as_often_by_seat {X} xs ys same asked = grind (arith, common_steps, count_by-rearranged, Rearranged-map, rearranged_by_seat)
 
 -- what a seat has of a list of things that know their seat
-pub of_seat-map : {E X : Type 0} (seat_of : E → ℕ) (value_of : E → X) (seat : ℕ) (es : List E) → of_seat seat (map (λ e. (seat_of e, value_of e)) es) ≡ map value_of (filter (λ e. eqb (seat_of e) seat) es)
+pub of_seat-map : {E X : Type 0} (seat_of : E → ℕ) (value_of : E → X) (seat : ℕ) (es : List E)
+    → of_seat seat (map (λ e. (seat_of e, value_of e)) es) ≡ map value_of (filter (λ e. eqb (seat_of e) seat) es)
 of_seat-map seat_of value_of seat [] = grind (arith, common_steps)
 of_seat-map {E} {X} seat_of value_of seat (e ∷ es) = grind (arith, common_steps, of_seat-map seat_of value_of seat es)

@@ -2,16 +2,11 @@
 use Rattle.ckpt_model.proofs.Names.{◌≡◌, ℕ, ◌≤◌, Bool, true, false, not, ◌&&◌, ltb, leb, eqb, List, [], ◌∷◌, ◌++◌, map, refl, sym, ap, ◌∙◌, ⊎_elim, arith, count_by, Option, Some, filter, list_any}
 use Rattle.ckpt_model.proofs.Names.{both_ways, not-true, not-false, not_from_false, and_parts, and_left, and_cases, and_from, or_parts, SubtaskId, Acked, IsIn, IsInOrder, AreDistinct, ascending}
 use Rattle.ckpt_model.proofs.Names.{Record, uses, is_present, missing, has_acknowledged, acknowledged, is_subtask, IsIn-append_cases, IsIn-from_in_order, filter-all, not_in-from_test, State}
-use Rattle.ckpt_model.proofs.Names.{is_checkpoint, is_pending, is_done_checkpoint, is_known, in_outbox, kept, unpinned, pending_of, replaced, with_records, superseded, IsSound, IsRecord, id_before}
-use Rattle.ckpt_model.proofs.Names.{common_steps}
-use Rattle.ckpt_model.proofs.Records.Counts.{count_by-changed, IsIn-from_changed, IsIn-from_find, fails-from_find}
-use Rattle.ckpt_model.proofs.Records.Present.{Holds, IsHeld, Holds-put_ack, absent-from_not_held, not_held}
-use Rattle.ckpt_model.proofs.Records.Released.{distinct-from_test}
-use Rattle.ckpt_model.proofs.Records.Lists.{AreSoundRecords, IsSoundOutbox, sound_from, outbox_of, is_pending_checkpoint, later, newest_at_most}
-use Rattle.ckpt_model.proofs.Records.Replacing.{put_in, IsReplacing, put_in_replaces, cond_same, replaced_records}
-use Rattle.ckpt_model.proofs.Records.Held.{held_after_put}
+use Rattle.ckpt_model.proofs.Names.{is_checkpoint, is_pending, is_done_checkpoint, is_known, kept, unpinned, pending_of, replaced, with_records, superseded, IsSound, IsRecord, id_before, common_steps}
+use Rattle.ckpt_model.proofs.Records.{count_by-changed, IsIn-from_changed, IsIn-from_find, fails-from_find, Holds, IsHeld, Holds-put_ack, absent-from_not_held, not_held, distinct-from_test}
+use Rattle.ckpt_model.proofs.Records.{AreSoundRecords, IsSoundOutbox, sound_from, outbox_of, is_pending_checkpoint, later, newest_at_most, put_in, IsReplacing, put_in_replaces, cond_same}
+use Rattle.ckpt_model.proofs.Records.{replaced_records, held_after_put, IsAcknowledged, acknowledged_is, acknowledged_pending, ascending-distinct}
 use Rattle.ckpt_model.proofs.Answering.Accepted.{IsAcceptedAck}
-use Rattle.ckpt_model.proofs.Records.Acknowledged.{IsAcknowledged, acknowledged_is, acknowledged_pending, ascending-distinct}
 use Rattle.ckpt_model.proofs.Soundness.Drops.{is_savepoint, savepoint_stays}
 
 -- an acknowledgement of a pending record that is accepted
@@ -25,7 +20,8 @@ pub record IsAcking (m : State) (q : Record) (subtask : SubtaskId) (fresh reused
   pub present : (f : ℕ) → IsIn f reused → is_present (uses m.records) f ≡ true
 
 -- the acknowledgement of a pending record that is accepted
-pub acking : (m : State) (now id : ℕ) (subtask : SubtaskId) (fresh reused : List ℕ) (q : Record) → IsAcceptedAck m now id subtask fresh reused → pending_of m.records id ≡ Some q → IsAcking m q subtask fresh reused
+pub acking : (m : State) (now id : ℕ) (subtask : SubtaskId) (fresh reused : List ℕ) (q : Record) → IsAcceptedAck m now id subtask fresh reused → pending_of m.records id ≡ Some q
+    → IsAcking m q subtask fresh reused
 acking m now id subtask fresh reused q a e =
     let found = IsIn-from_find (λ r. is_pending r && eqb r.id id) q m.records e in
     grind (arith, common_steps, not-true, and_parts, a.of_subtask, distinct-from_test, fails-from_find, a.unknown, not-false, a.present)
@@ -43,15 +39,14 @@ pub with_ack_is : {m : State} {q : Record} {subtask : SubtaskId} {fresh reused :
 with_ack_is {m} {q} {subtask} {fresh} {reused} s a = grind (arith, common_steps, acknowledged_is, ascending-distinct)
 
 -- the outbox has none of its files
-files_not_out : {m : State} {q : Record} {subtask : SubtaskId} {fresh reused : List ℕ} → IsSound m → IsAcking m q subtask fresh reused → (f : ℕ) → IsIn f (ascending (fresh ++ reused)) → IsIn f (m.waiting ++ m.taken) → ⊥
-files_not_out {m} {q} {subtask} {fresh} {reused} s a f h out =
-    ⊎_elim
-    (λ (k : IsIn f fresh). not_in-from_test f (m.waiting ++ m.taken) (or_parts (is_present (uses m.records) f) (in_outbox m f) (a.unknown f k)).1 out)
-    (λ (k : IsIn f reused). both_ways (is_present (uses m.records) f) ((outbox_of s).unused f out) (a.present f k))
-    (IsIn-append_cases f fresh reused (IsIn-from_in_order ltb f (fresh ++ reused) h))
+files_not_out : {m : State} {q : Record} {subtask : SubtaskId} {fresh reused : List ℕ} → IsSound m → IsAcking m q subtask fresh reused → (f : ℕ) → IsIn f (ascending (fresh ++ reused))
+    → IsIn f (m.waiting ++ m.taken) → ⊥
+files_not_out {m} {q} {subtask} {fresh} {reused} s a f h out = let cases = IsIn-append_cases f fresh reused (IsIn-from_in_order ltb f (fresh ++ reused) h) in
+    grind (arith, common_steps, not_in-from_test f (m.waiting ++ m.taken), a.unknown f, (outbox_of s).unused f out, a.present f, cases)
 
 -- the outbox beside a list of records with one acknowledgement more
-pub outbox_acked : {m : State} {q : Record} {subtask : SubtaskId} {fresh reused : List ℕ} (new : Record) → IsSound m → IsAcking m q subtask fresh reused → new.id ≡ q.id → new.acks ≡ (with_ack q subtask fresh reused).acks → new.pins ≡ q.pins → IsSoundOutbox (map (put_in new) m.records) m.waiting m.taken
+pub outbox_acked : {m : State} {q : Record} {subtask : SubtaskId} {fresh reused : List ℕ} (new : Record) → IsSound m → IsAcking m q subtask fresh reused → new.id ≡ q.id
+    → new.acks ≡ (with_ack q subtask fresh reused).acks → new.pins ≡ q.pins → IsSoundOutbox (map (put_in new) m.records) m.waiting m.taken
 outbox_acked {m} {q} {subtask} {fresh} {reused} new s a id acks pins =
     let its : Acked = record { subtask = subtask; files = ascending (fresh ++ reused) } in
     let in_with : (f : ℕ) → Holds f new → Holds f (with_ack q subtask fresh reused) = grind (arith, common_steps) in
@@ -69,7 +64,8 @@ pub savepoint_is_other : (id : ℕ) (x q : Record) → q.done ≡ false → is_s
 savepoint_is_other id x q pending t e = both_ways x.done (ap (λ z. z.done) e ∙ pending) (and_parts x.done (not (is_checkpoint x)) (and_parts (x.done && not (is_checkpoint x)) (eqb x.id id) t).0).0
 
 -- a done savepoint stays, if nothing is dropped and a pending record is replaced
-pub savepoint_beside : {change : Record → Record} {old new : Record} {rs : List Record} (id : ℕ) → IsReplacing change old new rs → old.done ≡ false → list_any (is_savepoint id) rs ≡ true → list_any (is_savepoint id) (map change (filter (λ _. true) rs)) ≡ true
+pub savepoint_beside : {change : Record → Record} {old new : Record} {rs : List Record} (id : ℕ) → IsReplacing change old new rs → old.done ≡ false → list_any (is_savepoint id) rs ≡ true
+    → list_any (is_savepoint id) (map change (filter (λ _. true) rs)) ≡ true
 savepoint_beside {change} {old} {new} {rs} id p pending e = grind (arith, common_steps, savepoint_is_other, savepoint_stays)
 
 -- a filter that keeps all leaves all
@@ -77,13 +73,15 @@ pub nothing_dropped : (change : Record → Record) (rs : List Record) → map ch
 nothing_dropped change rs = ap (map change) (filter-all (λ _. true) rs (λ x h. refl))
 
 -- the record still lacks an acknowledgement
-pub ack_pending_is_sound : (m : State) (q : Record) (subtask : SubtaskId) (fresh reused : List ℕ) → IsSound m → IsAcking m q subtask fresh reused → eqb (missing (with_ack q subtask fresh reused)) 0 ≡ false → IsSound (with_records m (replaced m.records (with_ack q subtask fresh reused)))
+pub ack_pending_is_sound : (m : State) (q : Record) (subtask : SubtaskId) (fresh reused : List ℕ) → IsSound m → IsAcking m q subtask fresh reused
+    → eqb (missing (with_ack q subtask fresh reused)) 0 ≡ false → IsSound (with_records m (replaced m.records (with_ack q subtask fresh reused)))
 ack_pending_is_sound m q subtask fresh reused s a lacks =
     let w : Record = with_ack q subtask fresh reused in
     let rs : List Record = m.records in
     let p : IsReplacing (put_in w) q w rs = put_in_replaces q w rs s.records.in_order a.there refl in
     let i : IsRecord w = acknowledged_pending q subtask (ascending (fresh ++ reused)) (s.records.each q a.there) a.pending (with_ack_is s a) lacks in
-    let records : AreSoundRecords m.opening m.next (map (put_in w) (filter (λ _. true) rs)) = replaced_records (λ _. true) s.records p a.pending refl refl i (and_left q.done (is_checkpoint q) a.pending) in
+    let records : AreSoundRecords m.opening m.next (map (put_in w) (filter (λ _. true) rs)) =
+    replaced_records (λ _. true) s.records p a.pending refl refl i (and_left q.done (is_checkpoint q) a.pending) in
     sound_from (with_records m (replaced rs w)) (record {
       config = s.config;
       shape = s.shape;
@@ -91,9 +89,9 @@ ack_pending_is_sound m q subtask fresh reused s a lacks =
       first = s.first;
       next_from = s.next_from;
       next_to = s.next_to;
+      failures = s.failures;
       base = λ id e. ap (list_any (is_savepoint id)) (sym (nothing_dropped (put_in w) rs)) ∙ savepoint_beside id p a.pending (s.base id e);
       idle = λ ne. absurd (both_ways q.done a.pending (s.idle ne q a.there));
-      failures = s.failures;
     }) (rw (← (nothing_dropped (put_in w) rs)) records) (outbox_acked w s a refl refl refl)
 
 -- completion
@@ -112,14 +110,14 @@ unpinned_checkpoint : (ended : ℕ) (x : Record) → is_done_checkpoint (unpinne
 unpinned_checkpoint ended x = cond_same is_done_checkpoint (eqb x.id ended) (record x { pins = [] }) x refl
 
 -- no more done checkpoints than are retained
-pub retained_after : (m : State) (r : Record) → is_checkpoint r ≡ true → IsInOrder id_before m.records → count_by is_done_checkpoint (kept (superseded m r) (Some r.id) m.records) ≤ m.opening.config.retained
+pub retained_after : (m : State) (r : Record) → is_checkpoint r ≡ true → IsInOrder id_before m.records
+    → count_by is_done_checkpoint (kept (superseded m r) (Some r.id) m.records) ≤ m.opening.config.retained
 retained_after m r checkpoint order =
     let n : ℕ = m.opening.config.retained in
     let test : Record → Bool = λ x. is_done_checkpoint x && not (leb n (later is_done_checkpoint x m.records)) in
-    let passes : (x : Record) → IsIn x m.records → not (superseded m r x) ≡ true → is_done_checkpoint (unpinned (Some r.id) x) ≡ true → test x ≡ true =
-    grind (arith, common_steps, unpinned_checkpoint, both_ways, and_cases, not-true, or_parts, later, and_from, not_from_false) in
-    let fewer : count_by is_done_checkpoint (kept (superseded m r) (Some r.id) m.records) ≤ count_by test m.records = count_by-changed is_done_checkpoint test (unpinned (Some r.id)) (λ x. not (superseded m r x)) m.records passes in
-    omega (arith, newest_at_most is_done_checkpoint n m.records order)
+    let fewer = count_by-changed is_done_checkpoint test (unpinned (Some r.id)) (λ x. not (superseded m r x)) m.records
+    (grind (arith, common_steps, unpinned_checkpoint, both_ways, and_cases, not-true, or_parts, later, and_from, not_from_false)) in
+    omega (arith, fewer, newest_at_most is_done_checkpoint n m.records order)
 
 -- what is not subsumed does not come before
 pub not_before : (m : State) (r x : Record) → is_checkpoint r ≡ true → not (superseded m r x) ≡ true → is_pending_checkpoint x ≡ true → r.id ≤ x.id

@@ -1,6 +1,6 @@
 -- A coordinator that is opened is sound, and its opening is within the bounds of what can be opened.
 use Rattle.ckpt_model.proofs.Names.{◌≡◌, ℕ, ◌<◌, ◌≤◌, ◌^◌, arith, None, IsWithinLimits, IsShape, open_fault, Opening, opened, IsSound, common_steps}
-use Rattle.ckpt_model.proofs.Records.Lists.{sound_from}
+use Rattle.ckpt_model.proofs.Records.{sound_from}
 
 -- within the limits, at a moment and with a first number that leave room
 pub opened_is_sound : (o : Opening) → IsWithinLimits o.config → IsShape o.shape → o.start < 2 ^ 62 → 1 ≤ o.first → o.first < 2 ^ 62 → IsSound (opened o)

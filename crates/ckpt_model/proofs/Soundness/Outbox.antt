@@ -1,8 +1,8 @@
 -- Fetching files, and what is reported of them, keeps a coordinator sound.
-use Rattle.ckpt_model.proofs.Names.{common_steps, arith, ◌≡◌, ℕ, true, not, eqb, List, [], ◌∷◌, ◌++◌, ⊎_elim, list_any, not-true, eqb-true, eqb-false, take-append-drop, IsIn, AreDistinct, Record}
+use Rattle.ckpt_model.proofs.Names.{common_steps, arith, ◌≡◌, ℕ, true, not, eqb, List, [], ◌∷◌, ◌++◌, list_any, not-true, eqb-true, eqb-false, take-append-drop, IsIn, AreDistinct, Record}
 use Rattle.ckpt_model.proofs.Names.{IsIn-append_left, IsIn-append_right, IsIn-append_cases, IsIn-from_filter, IsIn-from_list_any, AreDistinct-append, AreDistinct-left, AreDistinct-right}
 use Rattle.ckpt_model.proofs.Names.{AreDistinct-apart, AreDistinct-filter, only_one, State, take_files, without, IsSound}
-use Rattle.ckpt_model.proofs.Records.Lists.{IsSoundOutbox, sound_from, outbox_of}
+use Rattle.ckpt_model.proofs.Records.{IsSoundOutbox, sound_from, outbox_of}
 
 -- the outbox alone is changed
 pub outbox_is_sound : (m : State) (waiting taken : List ℕ) → IsSound m → IsSoundOutbox m.records waiting taken → IsSound (record m { waiting = waiting; taken = taken })
@@ -12,17 +12,15 @@ outbox_is_sound m waiting taken s o =
 -- the prefix moves behind the end
 outbox_rotated : (rs : List Record) (xs ys taken : List ℕ) → IsSoundOutbox rs (xs ++ ys) taken → IsSoundOutbox rs ys (taken ++ xs)
 outbox_rotated rs xs ys taken o =
-    let front : AreDistinct (xs ++ ys) = AreDistinct-left (xs ++ ys) taken o.apart in
-    let behind : AreDistinct (taken ++ xs) = AreDistinct-append taken xs (AreDistinct-right (xs ++ ys) taken o.apart) (AreDistinct-left xs ys front) (λ f t h. AreDistinct-apart (xs ++ ys) taken o.apart f (IsIn-append_left f xs ys h) t) in
+    let behind : AreDistinct (taken ++ xs) =
+    AreDistinct-append taken xs (AreDistinct-right (xs ++ ys) taken o.apart) (AreDistinct-left xs ys (AreDistinct-left (xs ++ ys) taken o.apart))
+    (λ f t h. AreDistinct-apart (xs ++ ys) taken o.apart f (IsIn-append_left f xs ys h) t) in
     record {
-      unused = λ f h.
-          let in_all : IsIn f ((xs ++ ys) ++ taken) =
-          ⊎_elim
-          (λ (k : IsIn f ys). IsIn-append_left f (xs ++ ys) taken (IsIn-append_right f xs ys k))
-          (λ (k : IsIn f (taken ++ xs)). ⊎_elim (λ (t : IsIn f taken). IsIn-append_right f (xs ++ ys) taken t) (λ (x : IsIn f xs). IsIn-append_left f (xs ++ ys) taken (IsIn-append_left f xs ys x)) (IsIn-append_cases f taken xs k))
-          (IsIn-append_cases f ys (taken ++ xs) h) in
-          o.unused f in_all;
-      apart = grind (arith, common_steps, AreDistinct-append, AreDistinct-right, AreDistinct-apart, o.apart, IsIn-append_right, IsIn-append_cases);
+      unused = λ f h. let cases = IsIn-append_cases f ys (taken ++ xs) h in
+          let right = IsIn-append_right f (xs ++ ys) taken in
+          let left = IsIn-append_left f (xs ++ ys) taken in
+          grind (arith, common_steps, o.unused f, left, right, IsIn-append_left f xs ys, IsIn-append_right f xs ys, IsIn-append_cases f taken xs, cases);
+      apart = grind (arith, common_steps, AreDistinct-append, AreDistinct-right, AreDistinct-apart, AreDistinct-left, o.apart, IsIn-append_right, IsIn-append_cases);
     }
 
 -- a Take
@@ -35,28 +33,26 @@ outbox_without : (rs : List Record) (f : ℕ) (waiting taken : List ℕ) → IsS
 outbox_without rs f waiting taken o =
     let fewer : (g : ℕ) → IsIn g (without f taken) → IsIn g taken = λ g h. (IsIn-from_filter (λ x. not (eqb x f)) g taken h).0 in
     record {
-      unused = λ g h. o.unused g (⊎_elim (λ (k : IsIn g waiting). IsIn-append_left g waiting taken k) (λ (k : IsIn g (without f taken)). IsIn-append_right g waiting taken (fewer g k)) (IsIn-append_cases g waiting (without f taken) h));
-      apart = AreDistinct-append waiting (without f taken) (AreDistinct-left waiting taken o.apart) (AreDistinct-filter (λ x. not (eqb x f)) taken (AreDistinct-right waiting taken o.apart)) (λ g h k. AreDistinct-apart waiting taken o.apart g h (fewer g k));
+      unused = λ g h. grind (arith, common_steps, o.unused g, IsIn-append_left g waiting taken, IsIn-append_right g waiting taken, fewer g, IsIn-append_cases g waiting (without f taken) h);
+      apart = AreDistinct-append waiting (without f taken) (AreDistinct-left waiting taken o.apart) (AreDistinct-filter _ taken (AreDistinct-right waiting taken o.apart))
+          (λ g h k. AreDistinct-apart waiting taken o.apart g h (fewer g k));
     }
 
 -- the file goes back to the end of those that wait
 outbox_back : (rs : List Record) (f : ℕ) (waiting taken : List ℕ) → IsSoundOutbox rs waiting taken → IsIn f taken → IsSoundOutbox rs (waiting ++ f ∷ []) (without f taken)
 outbox_back rs f waiting taken o there =
     let w = outbox_without rs f waiting taken o in
+    let back : (g : ℕ) → g ≡ f → IsIn g taken = λ g e. rw e there in
     let front : AreDistinct (waiting ++ f ∷ []) =
-    AreDistinct-append waiting (f ∷ []) (AreDistinct-left waiting taken o.apart) (λ n. n, tt) (λ g h k. AreDistinct-apart waiting taken o.apart g h (rw (only_one g f k) there)) in
-    let gone : (g : ℕ) → g ≡ f → IsIn g (without f taken) → ⊥ = λ g e h. eqb-false g f (not-true (eqb g f) (IsIn-from_filter (λ x. not (eqb x f)) g taken h).1) e in
+    AreDistinct-append waiting (f ∷ []) (AreDistinct-left waiting taken o.apart) (λ n. n, tt) (λ g h k. AreDistinct-apart waiting taken o.apart g h (back g (only_one g f k))) in
+    let gone : (g : ℕ) → IsIn g (without f taken) → g ≡ f → ⊥ = λ g h. eqb-false g f (not-true (eqb g f) (IsIn-from_filter (λ x. not (eqb x f)) g taken h).1) in
     record {
       unused = λ g h.
-          ⊎_elim
-          (λ (k : IsIn g (waiting ++ f ∷ [])). ⊎_elim (λ (i : IsIn g waiting). o.unused g (IsIn-append_left g waiting taken i)) (λ (i : IsIn g (f ∷ [])). o.unused g (IsIn-append_right g waiting taken (rw (only_one g f i) there))) (IsIn-append_cases g waiting (f ∷ []) k))
-          (λ (k : IsIn g (without f taken)). w.unused g (IsIn-append_right g waiting (without f taken) k))
-          (IsIn-append_cases g (waiting ++ f ∷ []) (without f taken) h);
-      apart = AreDistinct-append (waiting ++ f ∷ []) (without f taken) front (AreDistinct-right waiting (without f taken) w.apart) (λ g h k.
-          ⊎_elim
-          (λ (i : IsIn g waiting). AreDistinct-apart waiting (without f taken) w.apart g i k)
-          (λ (i : IsIn g (f ∷ [])). gone g (only_one g f i) k)
-          (IsIn-append_cases g waiting (f ∷ []) h));
+          let cases = IsIn-append_cases g (waiting ++ f ∷ []) (without f taken) h in
+          let right = IsIn-append_right g waiting (without f taken) in
+          grind (arith, common_steps, o.unused g, IsIn-append_left g waiting taken, IsIn-append_right g waiting taken, IsIn-append_cases g waiting (f ∷ []), back g, w.unused g, right, cases);
+      apart = AreDistinct-append (waiting ++ f ∷ []) (without f taken) front (AreDistinct-right waiting (without f taken) w.apart)
+          (λ g h k. grind (arith, common_steps, AreDistinct-apart waiting (without f taken) w.apart g, gone g, IsIn-append_cases g waiting (f ∷ []) h));
     }
 
 -- a Deleted

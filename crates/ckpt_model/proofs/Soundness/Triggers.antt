@@ -1,13 +1,12 @@
 -- Triggering a checkpoint or savepoint keeps a coordinator sound, and when a tick may trigger one.
-use Rattle.ckpt_model.proofs.Names.{◌≡◌, ℕ, ◌+◌, ◌<◌, ◌≤◌, ◌^◌, Bool, false, not, ◌&&◌, ltb, leb, List, [], ◌∷◌, ◌++◌, map, sum, length, refl, subst, inl, ⊎_elim, arith, count_by, Option, Some, None}
-use Rattle.ckpt_model.proofs.Names.{both_ways, and_left, or_left, sum_by-cons, list_any-append, append-nil, Kind, Choice, Configuration, IsIn, IsAscendingSet, Record, Use, uses, missing, IsShape}
-use Rattle.ckpt_model.proofs.Names.{numbers_in_order, length-subtasks_from, IsIn-append_cases, IsIn-from_map, IsIn-from_in_order_once, IsInOrder-in_order_once, hold, limit, Go, Running, State}
-use Rattle.ckpt_model.proofs.Names.{is_checkpoint, is_pending, is_expired, files_of, chosen, choice_of, pins_now, savepoints, triggered, pending_checkpoints, IsSound, IsRecord, count_by-append}
-use Rattle.ckpt_model.proofs.Names.{count_by_yes, count_by_no, counted-from_IsIn, common_steps}
+use Rattle.ckpt_model.proofs.Names.{◌≡◌, ℕ, ◌+◌, ◌<◌, ◌≤◌, ◌^◌, false, not, ◌&&◌, ltb, leb, List, [], ◌∷◌, ◌++◌, map, sum, length, refl, inl, arith, count_by, Option, Some, None, and_left, or_left}
+use Rattle.ckpt_model.proofs.Names.{sum_by-cons, list_any-append, append-nil, Kind, Choice, Configuration, IsIn, IsAscendingSet, Record, Use, uses, missing, IsShape, numbers_in_order}
+use Rattle.ckpt_model.proofs.Names.{length-subtasks_from, IsIn-append_cases, IsIn-from_map, IsIn-from_in_order_once, IsInOrder-in_order_once, hold, limit, Go, Running, State, is_checkpoint}
+use Rattle.ckpt_model.proofs.Names.{is_pending, is_expired, files_of, chosen, choice_of, pins_now, savepoints, triggered, pending_checkpoints, IsSound, IsRecord, count_by-append, counted-from_IsIn}
+use Rattle.ckpt_model.proofs.Names.{common_steps}
 use Rattle.ckpt_ids.specs.declared.numbers.Kind.TheVariants as kind
-use Rattle.ckpt_model.proofs.Records.Counts.{IsIn-from_find}
-use Rattle.ckpt_model.proofs.Records.Present.{Holds, IsHeld, Holds-from_use, absent-from_not_held, not_held}
-use Rattle.ckpt_model.proofs.Records.Lists.{AreSoundRecords, IsSoundOutbox, sound_from, outbox_of, appended_records, is_pending_checkpoint}
+use Rattle.ckpt_model.proofs.Records.{IsIn-from_find, IsHeld, Holds-from_use, absent-from_not_held, not_held, AreSoundRecords, IsSoundOutbox, sound_from, outbox_of, appended_records}
+use Rattle.ckpt_model.proofs.Records.{is_pending_checkpoint}
 use Rattle.ckpt_model.proofs.Soundness.Drops.{is_savepoint}
 
 -- the files of a choice are held by live records
@@ -61,19 +60,11 @@ new_record m kind = record { id = m.next; kind = kind; done = false; shape = m.s
 
 -- it is a sound record
 new_record_is : (m : State) (kind : Kind) → IsSound m → IsRecord (new_record m kind)
-new_record_is m kind s = record {
-  shape = s.shape;
-  acks_in_order = tt;
-  acks_of_subtasks = λ a h. absurd h;
-  files = λ a h. absurd h;
-  pins = ascending-pins m;
-  pending = λ _. missing_at_first (new_record m kind) refl s.shape;
-  full = λ e. absurd (both_ways false refl e);
-  unpinned = λ e. absurd (both_ways false refl e);
-}
+new_record_is m kind s = grind (arith, common_steps, missing_at_first (new_record m kind) refl s.shape, ascending-pins m, s.shape)
 
 -- the records with it are sound, if there is room for it
-records_triggered : (m : State) (kind : Kind) → IsSound m → count_by is_pending_checkpoint (m.records ++ new_record m kind ∷ []) ≤ limit m.opening.config → count_by (λ r. not (is_checkpoint r)) (m.records ++ new_record m kind ∷ []) ≤ 1000 → AreSoundRecords m.opening (m.next + 1) (m.records ++ new_record m kind ∷ [])
+records_triggered : (m : State) (kind : Kind) → IsSound m → count_by is_pending_checkpoint (m.records ++ new_record m kind ∷ []) ≤ limit m.opening.config
+    → count_by (λ r. not (is_checkpoint r)) (m.records ++ new_record m kind ∷ []) ≤ 1000 → AreSoundRecords m.opening (m.next + 1) (m.records ++ new_record m kind ∷ [])
 records_triggered m kind s at_once savepoints_to = appended_records (new_record m kind) s.records s.next_from refl refl (new_record_is m kind s) s.latest at_once savepoints_to
 
 -- and so is the outbox
@@ -81,41 +72,31 @@ pub outbox_triggered : (m : State) (kind : Kind) → IsSound m → IsSoundOutbox
 outbox_triggered m kind s =
     let o = outbox_of s in
     record {
-      unused = λ f h. absent-from_not_held f (m.records ++ new_record m kind ∷ []) (λ (k : IsHeld f (m.records ++ new_record m kind ∷ [])).
-          let old : IsHeld f m.records → ⊥ = not_held f m.records (o.unused f h) in
-          let in_new : Holds f (new_record m kind) → ⊥ = ⊎_elim (λ a. a.1) (λ (p : IsIn f (pins_now m)). old (held-from_pins m f p)) in
-          let Q : Record → Type 0 = λ r. Holds f r in
-          ⊎_elim (λ (i : IsIn k.0 m.records). old (k.0, i, k.2)) (⊎_elim (λ (e : k.0 ≡ new_record m kind). in_new (subst Q e k.2)) (λ (n : ⊥). n)) (IsIn-append_cases k.0 m.records (new_record m kind ∷ []) k.1));
+      unused = λ f h. absent-from_not_held f (m.records ++ new_record m kind ∷ []) (λ k.
+          grind (arith, common_steps, not_held f m.records (o.unused f h), held-from_pins m f, IsIn-append_cases k.0 m.records (new_record m kind ∷ []) k.1) steps 1000000);
       apart = o.apart;
     }
 
 -- a trigger, if the job runs and there is room
-triggered_is_sound : (m : State) (kind : Kind) (due : ℕ) → IsSound m → m.mode ≡ Running → m.next < 2 ^ 62 → count_by is_pending_checkpoint (m.records ++ new_record m kind ∷ []) ≤ limit m.opening.config → count_by (λ r. not (is_checkpoint r)) (m.records ++ new_record m kind ∷ []) ≤ 1000 → IsSound (record (triggered m kind) { due = due })
+triggered_is_sound : (m : State) (kind : Kind) (due : ℕ) → IsSound m → m.mode ≡ Running → m.next < 2 ^ 62
+    → count_by is_pending_checkpoint (m.records ++ new_record m kind ∷ []) ≤ limit m.opening.config → count_by (λ r. not (is_checkpoint r)) (m.records ++ new_record m kind ∷ []) ≤ 1000
+    → IsSound (record (triggered m kind) { due = due })
 unfolding triggered
 triggered_is_sound m kind due s running room at_once savepoints_to =
     sound_from (record (triggered m kind) { due = due }) (grind (arith, common_steps, list_any-append, is_savepoint, or_left)) (records_triggered m kind s at_once savepoints_to)
     (outbox_triggered m kind s)
 
 -- a checkpoint, if one more may be pending
-pub checkpoint_is_sound : (m : State) (due : ℕ) → IsSound m → m.mode ≡ Running → m.next < 2 ^ 62 → pending_checkpoints m < limit m.opening.config → IsSound (record (triggered m kind.Checkpoint) { due = due })
+pub checkpoint_is_sound : (m : State) (due : ℕ) → IsSound m → m.mode ≡ Running → m.next < 2 ^ 62 → pending_checkpoints m < limit m.opening.config
+    → IsSound (record (triggered m kind.Checkpoint) { due = due })
 checkpoint_is_sound m due s running room fewer =
-    let new : Record = new_record m kind.Checkpoint in
-    let savepoint : Record → Bool = λ r. not (is_checkpoint r) in
-    let old : count_by savepoint m.records ≤ 1000 = s.records.savepoints_to in
-    triggered_is_sound m kind.Checkpoint due s running room
-    (omega (arith, count_by-append is_pending_checkpoint m.records (new ∷ []), count_by_yes is_pending_checkpoint new [] refl))
-    (omega (arith, count_by-append savepoint m.records (new ∷ []), count_by_no savepoint new [] refl))
+    triggered_is_sound m kind.Checkpoint due s running room (grind (arith, common_steps, count_by-append)) (grind (arith, common_steps, s.records.savepoints_to, count_by-append))
 
 -- a savepoint, if there is room for one
 pub savepoint_is_sound : (m : State) → IsSound m → m.mode ≡ Running → m.next < 2 ^ 62 → savepoints m < 1000 → IsSound (triggered m kind.Savepoint)
 unfolding triggered
 savepoint_is_sound m s running room fewer =
-    let new : Record = new_record m kind.Savepoint in
-    let savepoint : Record → Bool = λ r. not (is_checkpoint r) in
-    let old : count_by is_pending_checkpoint m.records ≤ limit m.opening.config = s.records.at_once in
-    triggered_is_sound m kind.Savepoint m.due s running room
-    (omega (arith, count_by-append is_pending_checkpoint m.records (new ∷ []), count_by_no is_pending_checkpoint new [] refl))
-    (omega (arith, count_by-append savepoint m.records (new ∷ []), count_by_yes savepoint new [] refl))
+    triggered_is_sound m kind.Savepoint m.due s running room (grind (arith, common_steps, s.records.at_once, count_by-append)) (grind (arith, common_steps, count_by-append))
 
 -- nothing holds a checkpoint back only if fewer are pending than may be
 pub fewer-from_go : (c : Configuration) (due : ℕ) (completed : Option ℕ) (t pending : ℕ) → hold c due completed t pending ≡ Go → pending < limit c

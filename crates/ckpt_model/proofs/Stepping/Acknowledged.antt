@@ -2,10 +2,8 @@
 use Rattle.ckpt_model.proofs.Names.{◌≡◌, ℕ, ◌≤◌, true, false, List, [], ◌++◌, refl, arith, Option, Some, list_any, eqb-true, Kind, SubtaskId, ascending, Record, missing, Running, State, is_checkpoint}
 use Rattle.ckpt_model.proofs.Names.{drop, Stepped, superseded, cleared, completed_with, acknowledged_in, IsSound, given_as, is_ack_taken, common_steps}
 use Rattle.ckpt_ids.specs.declared.numbers.Kind.TheVariants as kind
-use Rattle.ckpt_model.proofs.Records.Lists.{is_savepoint-kind}
-use Rattle.ckpt_model.proofs.Soundness.Drops.{is_savepoint}
-use Rattle.ckpt_model.proofs.Soundness.Acks.{IsAcking, with_ack, ack_pending_is_sound}
-use Rattle.ckpt_model.proofs.Soundness.Completions.{completed, having, left_by, savepoints_left, completing, completed_is_sound}
+use Rattle.ckpt_model.proofs.Records.{is_savepoint-kind}
+use Rattle.ckpt_model.proofs.Soundness.{is_savepoint, IsAcking, with_ack, ack_pending_is_sound, completed, having, left_by, savepoints_left, completing, completed_is_sound}
 use Rattle.ckpt_model.proofs.Histories.Takings.{IsTaken, taken_pending, taken_completed}
 use Rattle.ckpt_model.proofs.Histories.Spreads.{IsSpread, pending_spreads, completed_spreads}
 
@@ -18,7 +16,13 @@ pub record IsAcked (m : State) (q : Record) (subtask : SubtaskId) (fresh reused 
   pub spreads : IsSound m → IsSpread m.records m.waiting m.taken x.0 fresh
 
 -- The record is completed, with these settings after.
-completed_is : (m : State) (q : Record) (subtask : SubtaskId) (fresh reused : List ℕ) (failures : ℕ) (completed_at base : Option ℕ) → IsAcking m q subtask fresh reused → missing (with_ack q subtask fresh reused) ≡ 0 → (IsSound m → (id : ℕ) → base ≡ Some id → list_any (is_savepoint id) (left_by m (completed q subtask fresh reused)) ≡ true) → (IsSound m → m.mode ≡ Running → failures ≤ m.opening.config.tolerable) → IsAcked m q subtask fresh reused (record (drop (having m (completed q subtask fresh reused)) (superseded (having m (completed q subtask fresh reused)) (completed q subtask fresh reused)) (Some q.id)) { failures = failures; completed = completed_at; base = base }, (completed_with (having m (completed q subtask fresh reused)) (completed q subtask fresh reused)).1)
+completed_is : (m : State) (q : Record) (subtask : SubtaskId) (fresh reused : List ℕ) (failures : ℕ) (completed_at base : Option ℕ) → IsAcking m q subtask fresh reused
+    → missing (with_ack q subtask fresh reused) ≡ 0 → (IsSound m → (id : ℕ) → base ≡ Some id → list_any (is_savepoint id) (left_by m (completed q subtask fresh reused)) ≡ true)
+    → (IsSound m → m.mode ≡ Running → failures ≤ m.opening.config.tolerable) → IsAcked m q subtask fresh reused (
+      record (drop (having m (completed q subtask fresh reused)) (superseded (having m (completed q subtask fresh reused)) (completed q subtask fresh reused))
+          (Some q.id)) { failures = failures; completed = completed_at; base = base },
+      (completed_with (having m (completed q subtask fresh reused)) (completed q subtask fresh reused)).1,
+    )
 unfolding drop completed_with
 completed_is m q subtask fresh reused failures completed_at base a none base_left few = record {
   opening = refl;
@@ -30,7 +34,8 @@ completed_is m q subtask fresh reused failures completed_at base a none base_lef
 }
 
 -- a completion: of a checkpoint nothing has failed since, and it is no savepoint that the job was rolled back to
-completion_is : (m : State) (q : Record) (subtask : SubtaskId) (fresh reused : List ℕ) → IsAcking m q subtask fresh reused → missing (with_ack q subtask fresh reused) ≡ 0 → IsAcked m q subtask fresh reused (completed_with (having m (completed q subtask fresh reused)) (completed q subtask fresh reused))
+completion_is : (m : State) (q : Record) (subtask : SubtaskId) (fresh reused : List ℕ) → IsAcking m q subtask fresh reused → missing (with_ack q subtask fresh reused) ≡ 0
+    → IsAcked m q subtask fresh reused (completed_with (having m (completed q subtask fresh reused)) (completed q subtask fresh reused))
 unfolding completed_with drop
 completion_is m q subtask fresh reused a none =
     let c : Record = completed q subtask fresh reused in
@@ -49,6 +54,7 @@ unfolding acknowledged_in completed_with
 acknowledged_is_taken m w = grind (arith, common_steps)
 
 -- an accepted acknowledgement of a pending record
-pub acked_is : (m : State) (q : Record) (subtask : SubtaskId) (fresh reused : List ℕ) → IsAcking m q subtask fresh reused → IsAcked m q subtask fresh reused (acknowledged_in m (with_ack q subtask fresh reused))
+pub acked_is : (m : State) (q : Record) (subtask : SubtaskId) (fresh reused : List ℕ) → IsAcking m q subtask fresh reused
+    → IsAcked m q subtask fresh reused (acknowledged_in m (with_ack q subtask fresh reused))
 unfolding acknowledged_in
 acked_is m q subtask fresh reused a = grind (arith, common_steps, with_ack, completed, having, completion_is, eqb-true, ack_pending_is_sound, taken_pending, pending_spreads) steps 1000000

@@ -1,11 +1,10 @@
 -- What any call changes; and what one that is no acknowledgement changes: nothing, the outbox, or records, by a drop with new settings or by a trigger.
-use Rattle.ckpt_model.proofs.Names.{◌≡◌, ◌≢◌, ℕ, ◌+◌, ◌≤◌, Bool, true, false, not, List, [], ◌∷◌, ◌++◌, length, refl, sym, subst, ◌⊎◌, inl, inr, ⊎_elim, Option, Some, None, list_any, not_from_false}
-use Rattle.ckpt_model.proofs.Names.{SubtaskId, Kind, Call, Ack, Refusal, Answer, Refused, IsIn, ascending, Record, IsShape, Mode, Running, State, is_checkpoint, is_pending, drop, pins_now, Stepped}
-use Rattle.ckpt_model.proofs.Names.{triggered, IsSound, IsCall, given_as, is_ack_taken, common_steps, arith}
+use Rattle.ckpt_model.proofs.Names.{◌≡◌, ◌≢◌, ℕ, ◌+◌, ◌≤◌, Bool, true, false, not, List, [], ◌∷◌, ◌++◌, length, refl, sym, subst, ◌⊎◌, ⊎_elim, Option, Some, None, list_any, not_from_false, SubtaskId}
+use Rattle.ckpt_model.proofs.Names.{Kind, Call, Ack, Refusal, Answer, Refused, IsIn, ascending, Record, IsShape, Mode, Running, State, is_checkpoint, is_pending, drop, pins_now, Stepped, triggered}
+use Rattle.ckpt_model.proofs.Names.{IsSound, IsCall, given_as, is_ack_taken, common_steps, arith}
 use Rattle.std.specs.Prelude as prelude
-use Rattle.ckpt_model.proofs.Records.Lists.{sound_from, outbox_of, filtered_records}
-use Rattle.ckpt_model.proofs.Soundness.Drops.{is_savepoint, savepoint_stays, idle_stays, none_pending_left, outbox_filtered}
-use Rattle.ckpt_model.proofs.Soundness.Acks.{IsAcking}
+use Rattle.ckpt_model.proofs.Records.{sound_from, outbox_of, filtered_records}
+use Rattle.ckpt_model.proofs.Soundness.{is_savepoint, savepoint_stays, idle_stays, none_pending_left, outbox_filtered, IsAcking}
 use Rattle.ckpt_model.proofs.Histories.Moves.{IsMoved, unmoved, dropped_moves, triggered_moves, moves_at, disposed_of, disposed_by}
 use Rattle.ckpt_model.proofs.Histories.Takings.{IsTaken}
 use Rattle.ckpt_model.proofs.Histories.Spreads.{IsSpread, unspread, drop_spreads, trigger_spreads}
@@ -54,11 +53,13 @@ pub record IsPlain (m : State) (call : Call) (n : State) (given : List ℕ) : Ty
   pub spreads : IsSpread m.records m.waiting m.taken n []
 
 -- it registers and deletes nothing
-pub plain_step : {m : State} {call : Call} (x : Stepped) → IsPlain m call x.0 (given_as x.1) → (IsMoved m (disposed_of call) (x.0).records → ChangesRecords m call x) → registers m call x.1 ≡ [] → hands m call x.0 ≡ prelude.drop (length m.waiting) x.0.waiting → deletes call x.1 ≡ [] → IsStep m call x
+pub plain_step : {m : State} {call : Call} (x : Stepped) → IsPlain m call x.0 (given_as x.1) → (IsMoved m (disposed_of call) (x.0).records → ChangesRecords m call x) → registers m call x.1 ≡ []
+    → hands m call x.0 ≡ prelude.drop (length m.waiting) x.0.waiting → deletes call x.1 ≡ [] → IsStep m call x
 plain_step {m} {call} x p moved registered handed deleted = grind (arith, common_steps, hands, registers, spread_settled)
 
 -- it may be taken from the state with the moment of the call
-pub plain_at : {m : State} {latest : ℕ} {call : Call} {n : State} {given : List ℕ} → (IsSound m → IsSound (record m { latest = latest })) → IsPlain (record m { latest = latest }) call n given → IsPlain m call n given
+pub plain_at : {m : State} {latest : ℕ} {call : Call} {n : State} {given : List ℕ} → (IsSound m → IsSound (record m { latest = latest })) → IsPlain (record m { latest = latest }) call n given
+    → IsPlain m call n given
 plain_at {m} {latest} {call} {n} {given} later p = grind (arith, common_steps, disposed_of, moves_at)
 
 -- nothing changes
@@ -74,7 +75,10 @@ pub refusal_step : (m : State) (call : Call) (why : Refusal) → IsStep m call (
 refusal_step m call why = plain_step (m, Refused why) (unchanged m call) (λ _. refused_records m call why) (refused_registers m call why) (refused_hands m call) (refused_deletes call why)
 
 -- the outbox alone changes
-pub outbox_step : (m : State) (call : Call) (waiting taken : List ℕ) (answer : Answer) → given_as answer ≡ [] → ChangesRecords m call (record m { waiting = waiting; taken = taken }, answer) → (IsSound m → IsSound (record m { waiting = waiting; taken = taken })) → (IsSound m → IsSettled m (record m { waiting = waiting; taken = taken }) (registers m call answer) (hands m call (record m { waiting = waiting; taken = taken })) (deletes call answer)) → IsStep m call (record m { waiting = waiting; taken = taken }, answer)
+pub outbox_step : (m : State) (call : Call) (waiting taken : List ℕ) (answer : Answer) → given_as answer ≡ [] → ChangesRecords m call (record m { waiting = waiting; taken = taken }, answer)
+    → (IsSound m → IsSound (record m { waiting = waiting; taken = taken }))
+    → (IsSound m → IsSettled m (record m { waiting = waiting; taken = taken }) (registers m call answer) (hands m call (record m { waiting = waiting; taken = taken })) (deletes call answer))
+    → IsStep m call (record m { waiting = waiting; taken = taken }, answer)
 outbox_step m call waiting taken answer none records sound files = grind (arith, common_steps)
 
 -- a drop
@@ -104,7 +108,8 @@ pub record IsDropping (m : State) (call : Call) (k : Settings) (dropped : Record
   pub failures : IsSound m → k.mode ≡ Running → k.failures ≤ m.opening.config.tolerable
 
 -- the base is not dropped
-base_left : {m : State} {call : Call} {k : Settings} {dropped : Record → Bool} → IsDropping m call k dropped → IsSound m → (id : ℕ) (r : Record) → k.base ≡ Some id → IsIn r m.records → is_savepoint id r ≡ true → dropped r ≡ false
+base_left : {m : State} {call : Call} {k : Settings} {dropped : Record → Bool} → IsDropping m call k dropped → IsSound m → (id : ℕ) (r : Record) → k.base ≡ Some id → IsIn r m.records
+    → is_savepoint id r ≡ true → dropped r ≡ false
 base_left {m} {call} {k} {dropped} d s id r e h t = grind (arith, common_steps)
 
 -- so the state after is sound
@@ -118,23 +123,18 @@ dropped_is_sound m call k dropped d c s =
       first = s.first;
       next_from = s.next_from;
       next_to = s.next_to;
-      base = λ id e. savepoint_stays (λ r. r) (λ r. not (dropped r)) id m.records (λ r h t. (not_from_false (dropped r) (base_left d s id r e h t), refl)) (d.base s id e);
-      idle = λ ne. ⊎_elim (λ (was : m.mode ≢ Running). idle_stays dropped s was) (λ (all : (r : Record) → is_pending r ≡ true → dropped r ≡ true). none_pending_left m.records dropped all) (d.idle ne);
       failures = d.failures s;
+      base = λ id e. savepoint_stays (λ r. r) (λ r. not (dropped r)) id m.records (λ r h t. (not_from_false (dropped r) (base_left d s id r e h t), refl)) (d.base s id e);
+      idle = λ ne. ⊎_elim (λ was. idle_stays dropped s was) (λ all. none_pending_left m.records dropped all) (d.idle ne);
     }) (filtered_records (λ r. not (dropped r)) s.records) (outbox_filtered (λ r. not (dropped r)) m.records m.waiting m.taken (outbox_of s))
 
 -- a drop gives no number
 pub dropped_is : (m : State) (call : Call) (k : Settings) (dropped : Record → Bool) → IsDropping m call k dropped → IsPlain m call (drop (set m k) dropped None) []
 unfolding drop
-dropped_is m call k dropped d = record {
-  opening = refl;
-  gives = inl (refl, refl);
-  sound = dropped_is_sound m call k dropped d;
-  moves = λ s. dropped_moves m dropped (disposed_of call) (λ r h done savepoint. ⊎_elim (λ (e : dropped r ≡ false). inl e) (λ (e : (disposed_of call ≡ Some r.id) × (k.base ≡ Some r.id → ⊥)). inr e.0) (d.savepoints s r h done savepoint));
-  spreads = drop_spreads (set m k) dropped;
-}
+dropped_is m call k dropped d = grind (arith, common_steps, dropped_is_sound m call k dropped d, drop_spreads (set m k) dropped, dropped_moves m dropped (disposed_of call), d.savepoints) steps 1000000
 
 -- a trigger, after a change that gave no number and left the choice
-pub triggered_is : (m k : State) (call : Call) (kind : Kind) (due : ℕ) → IsPlain m call k [] → k.next ≡ m.next → (IsSound m → pins_now k ≡ pins_now m) → (IsSound k → IsSound (record (triggered k kind) { due = due })) → IsPlain m call (record (triggered k kind) { due = due }) (k.next ∷ [])
+pub triggered_is : (m k : State) (call : Call) (kind : Kind) (due : ℕ) → IsPlain m call k [] → k.next ≡ m.next → (IsSound m → pins_now k ≡ pins_now m)
+    → (IsSound k → IsSound (record (triggered k kind) { due = due })) → IsPlain m call (record (triggered k kind) { due = due }) (k.next ∷ [])
 unfolding triggered
 triggered_is m k call kind due p next pins sound = grind (arith, common_steps, disposed_of, trigger_spreads, triggered_moves)

@@ -4,7 +4,7 @@ use Rattle.ckpt_model.proofs.Names.{not_from_false, length-drop, take-append-dro
 use Rattle.ckpt_model.proofs.Names.{IsIn-append_right, IsIn-append_cases, IsIn-filter, IsIn-from_filter, IsIn-from_list_any, list_any, State, is_known, without, IsSound, registered_as, deleted_as}
 use Rattle.ckpt_model.proofs.Names.{common_steps}
 use Rattle.std.proofs.Common.{drop}
-use Rattle.ckpt_model.proofs.Records.Lists.{outbox_of}
+use Rattle.ckpt_model.proofs.Records.{outbox_of}
 use Rattle.ckpt_model.proofs.Histories.Balances.{drop_front, drop_all}
 use Rattle.ckpt_model.proofs.Histories.Spreads.{IsSpread}
 
@@ -40,25 +40,23 @@ pub record IsSettled (m n : State) (registered handed deleted : List ℕ) : Type
 pub spread_settled : {m n : State} {in_ : List ℕ} → IsSpread m.records m.waiting m.taken n in_ → IsSettled m n in_ (drop (length m.waiting) n.waiting) []
 spread_settled {m} {n} {in_} i =
     let handed : drop (length m.waiting) n.waiting ≡ i.out = ap (drop (length m.waiting)) i.waits ∙ drop_front m.waiting i.out in
-    let InFront : List ℕ → Type 0 = λ xs. (f : ℕ) → IsIn f (m.waiting ++ i.out) ⊎ IsIn f m.taken → IsIn f (xs ++ n.taken) in
-    let Behind : ℕ → List ℕ → Type 0 = λ f xs. IsIn f ((m.waiting ++ i.out) ++ xs) in
-    let there : InFront n.waiting = subst InFront (sym i.waits) (λ f h. subst (Behind f) (sym i.fetched) (⊎_elim (λ k. IsIn-append_left f (m.waiting ++ i.out) m.taken k) (λ k. IsIn-append_right f (m.waiting ++ i.out) m.taken k) h)) in
-    let In : ℕ → List ℕ → Type 0 = λ f xs. IsIn f xs in
+    let there : (f : ℕ) → IsIn f (m.waiting ++ i.out) ⊎ IsIn f m.taken → IsIn f (n.waiting ++ n.taken) = λ f h.
+    rw (i.waits, i.fetched) (⊎_elim (IsIn-append_left f (m.waiting ++ i.out) m.taken) (IsIn-append_right f (m.waiting ++ i.out) m.taken) h) in
     record {
-      even = λ f. (i.even).even f ∙ ap (λ xs. times f xs + one_if (is_present (uses n.records) f)) (sym handed);
-      stays = λ f h. inl (there f (⊎_elim (λ (k : IsIn f m.waiting). inl (IsIn-append_left f m.waiting i.out k)) (λ (k : IsIn f m.taken). inr k) (IsIn-append_cases f m.waiting m.taken h)));
+      even = λ f. rw handed ((i.even).even f);
+      stays = λ f h. inl (there f (grind (arith, common_steps, IsIn-append_left f m.waiting i.out, IsIn-append_cases f m.waiting m.taken h)));
       comes = λ f h.
-          ⊎_elim
-          (λ (k : IsIn f (m.waiting ++ i.out)). ⊎_elim (λ (j : IsIn f m.waiting). inl (IsIn-append_left f m.waiting m.taken j)) (λ (j : IsIn f i.out). inr (subst (In f) (sym handed) j)) (IsIn-append_cases f m.waiting i.out k))
-          (λ (k : IsIn f m.taken). inl (IsIn-append_right f m.waiting m.taken k))
-          (IsIn-append_cases f (m.waiting ++ i.out) m.taken (subst (Behind f) i.fetched (rw (← i.waits) h)));
+          rw handed (let cases = IsIn-append_cases f (m.waiting ++ i.out) m.taken (rw (← i.waits, ← i.fetched) h) in
+          grind (arith, common_steps, IsIn-append_left f m.waiting m.taken, IsIn-append_right f m.waiting m.taken, IsIn-append_cases f m.waiting i.out, cases));
       were = λ f h. absurd h;
-      out = λ f h. there f (inl (IsIn-append_right f m.waiting i.out (subst (In f) handed h)));
+      out = λ f h. there f (inl (IsIn-append_right f m.waiting i.out (rw (← handed) h)));
       gone = λ f h. absurd h;
     }
 
 -- of one that changes the outbox alone, and puts no file at the end of waiting
-inward_settled : (m : State) (waiting taken deleted : List ℕ) → length waiting ≤ length m.waiting → ((f : ℕ) → IsIn f (m.waiting ++ m.taken) → IsIn f (waiting ++ taken) ⊎ IsIn f deleted) → ((f : ℕ) → IsIn f (waiting ++ taken) ⊎ IsIn f deleted → IsIn f (m.waiting ++ m.taken)) → ((f : ℕ) → IsIn f deleted → is_present (uses m.records) f ≡ false) → IsSettled m (record m { waiting = waiting; taken = taken }) [] (drop (length m.waiting) waiting) deleted
+inward_settled : (m : State) (waiting taken deleted : List ℕ) → length waiting ≤ length m.waiting → ((f : ℕ) → IsIn f (m.waiting ++ m.taken) → IsIn f (waiting ++ taken) ⊎ IsIn f deleted)
+    → ((f : ℕ) → IsIn f (waiting ++ taken) ⊎ IsIn f deleted → IsIn f (m.waiting ++ m.taken)) → ((f : ℕ) → IsIn f deleted → is_present (uses m.records) f ≡ false)
+    → IsSettled m (record m { waiting = waiting; taken = taken }) [] (drop (length m.waiting) waiting) deleted
 inward_settled m waiting taken deleted shorter stays before gone =
     let none : drop (length m.waiting) waiting ≡ [] = drop_all (length m.waiting) waiting shorter in
     let In : ℕ → List ℕ → Type 0 = λ f xs. IsIn f xs in
@@ -76,17 +74,10 @@ pub take_settled : (m : State) (most : ℕ) → IsSettled m (record m { waiting 
 take_settled m most =
     let front : List ℕ = take most m.waiting in
     let rest : List ℕ = drop most m.waiting in
-    let In : ℕ → List ℕ → Type 0 = λ f xs. IsIn f xs in
-    inward_settled m rest (m.taken ++ front) [] (omega (arith, length-drop most m.waiting)) (λ f h. inl (⊎_elim
-    (λ (k : IsIn f m.waiting). ⊎_elim (λ (i : IsIn f front). IsIn-append_right f rest (m.taken ++ front) (IsIn-append_right f m.taken front i)) (λ (i : IsIn f rest). IsIn-append_left f rest (m.taken ++ front) i) (IsIn-append_cases f front rest (subst (In f) (sym (take-append-drop most m.waiting)) k)))
-    (λ (k : IsIn f m.taken). IsIn-append_right f rest (m.taken ++ front) (IsIn-append_left f m.taken front k))
-    (IsIn-append_cases f m.waiting m.taken h)))
-    (λ f h.
-    let waited : IsIn f (front ++ rest) → IsIn f (m.waiting ++ m.taken) = λ (k : IsIn f (front ++ rest)). IsIn-append_left f m.waiting m.taken (subst (In f) (take-append-drop most m.waiting) k) in
-    ⊎_elim
-    (λ (k : IsIn f (rest ++ (m.taken ++ front))). ⊎_elim (λ (i : IsIn f rest). waited (IsIn-append_right f front rest i)) (λ (i : IsIn f (m.taken ++ front)). ⊎_elim (λ (j : IsIn f m.taken). IsIn-append_right f m.waiting m.taken j) (λ (j : IsIn f front). waited (IsIn-append_left f front rest j)) (IsIn-append_cases f m.taken front i)) (IsIn-append_cases f rest (m.taken ++ front) k))
-    (λ (k : ⊥). absurd k)
-    h)
+    let whole : front ++ rest ≡ m.waiting = take-append-drop most m.waiting in
+    inward_settled m rest (m.taken ++ front) [] (omega (arith, length-drop most m.waiting))
+    (λ f h. inl (grind (arith, common_steps, IsIn-append_left f, IsIn-append_right f, IsIn-append_cases f front rest, IsIn-append_cases f m.waiting m.taken h, whole)))
+    (λ f h. grind (arith, common_steps, IsIn-append_left f, IsIn-append_right f, IsIn-append_cases f rest (m.taken ++ front), IsIn-append_cases f m.taken front, h, whole))
     (λ f h. absurd h)
 
 -- a taken file is the one reported, or stays
@@ -94,15 +85,15 @@ reported_or_taken : (f file : ℕ) (taken : List ℕ) → IsIn f taken → (f �
 reported_or_taken f file taken h = grind (arith, common_steps, IsIn-filter, cases_Bool, eqb-true, not_from_false)
 
 -- of an accepted Deleted
-pub deleted_settled : (m : State) (file : ℕ) → IsSound m → list_any (λ f. eqb f file) m.taken ≡ true → IsSettled m (record m { taken = without file m.taken }) [] (drop (length m.waiting) m.waiting) (file ∷ [])
+pub deleted_settled : (m : State) (file : ℕ) → IsSound m → list_any (λ f. eqb f file) m.taken ≡ true
+    → IsSettled m (record m { taken = without file m.taken }) [] (drop (length m.waiting) m.waiting) (file ∷ [])
 deleted_settled m file s there =
     let q = IsIn-from_list_any (λ g. eqb g file) m.taken there in
-    let InTaken : ℕ → Type 0 = λ g. IsIn g m.taken in
-    let was_taken : (f : ℕ) → IsIn f (file ∷ []) → IsIn f m.taken = λ f h. subst InTaken (eqb-true q.0 file q.2 ∙ sym (⊎_elim (λ (e : f ≡ file). e) (λ (n : ⊥). absurd n) h)) q.1 in
+    let was_taken : (f : ℕ) → IsIn f (file ∷ []) → IsIn f m.taken = λ f h. grind (arith, common_steps, eqb-true q.0 file q.2) in
     inward_settled m m.waiting (without file m.taken) (file ∷ []) (omega arith)
-    (λ f h. ⊎_elim (λ (k : IsIn f m.waiting). inl (IsIn-append_left f m.waiting (without file m.taken) k)) (λ (k : IsIn f m.taken). ⊎_elim (λ (e : f ≡ file). inr (inl e)) (λ (i : IsIn f (without file m.taken)). inl (IsIn-append_right f m.waiting (without file m.taken) i)) (reported_or_taken f file m.taken k)) (IsIn-append_cases f m.waiting m.taken h))
-    (λ f h.
-    grind (arith, common_steps, IsIn-append_left f m.waiting m.taken, IsIn-append_right f m.waiting m.taken, IsIn-from_filter, IsIn-append_cases f m.waiting, was_taken f))
+    (λ f h. let right = IsIn-append_right f m.waiting (without file m.taken) in
+    grind (arith, common_steps, IsIn-append_left f m.waiting (without file m.taken), right, reported_or_taken f file m.taken, IsIn-append_cases f m.waiting m.taken h))
+    (λ f h. grind (arith, common_steps, IsIn-append_left f m.waiting m.taken, IsIn-append_right f m.waiting m.taken, IsIn-from_filter, IsIn-append_cases f m.waiting, was_taken f))
     (λ f h. (outbox_of s).unused f (IsIn-append_right f m.waiting m.taken (was_taken f h)))
 
 -- of an Undeleted
@@ -113,15 +104,17 @@ undeleted_settled m file there =
     let left : List ℕ = without file m.taken in
     record {
       even = λ f. refl;
-      stays = λ f h. inl (⊎_elim (λ (k : IsIn f m.waiting). IsIn-append_left f front left (IsIn-append_left f m.waiting (file ∷ []) k)) (λ (k : IsIn f m.taken). ⊎_elim (λ (e : f ≡ file). IsIn-append_left f front left (IsIn-append_right f m.waiting (file ∷ []) (inl e))) (λ (i : IsIn f left). IsIn-append_right f front left i) (reported_or_taken f file m.taken k)) (IsIn-append_cases f m.waiting m.taken h));
-      comes = λ f h.
-          ⊎_elim
-          (λ (k : IsIn f (m.waiting ++ file ∷ [])). ⊎_elim (λ (i : IsIn f m.waiting). inl (IsIn-append_left f m.waiting m.taken i)) (⊎_elim (λ (e : f ≡ file). inl (IsIn-append_right f m.waiting m.taken (rw (← (eqb-true q.0 file q.2 ∙ sym e)) q.1))) (λ (n : ⊥). absurd n)) (IsIn-append_cases f m.waiting (file ∷ []) k))
-          (λ (k : IsIn f left). inl (IsIn-append_right f m.waiting m.taken (IsIn-from_filter (λ g. not (eqb g file)) f m.taken k).0))
-          (IsIn-append_cases f front left h);
       were = λ f h. absurd h;
       out = λ f h. absurd h;
       gone = λ f h. absurd h;
+      stays = λ f h. inl (let right = IsIn-append_right f m.waiting (file ∷ []) in
+          let ahead = IsIn-append_left f m.waiting (file ∷ []) in
+          let cases = IsIn-append_cases f m.waiting m.taken h in
+          grind (arith, common_steps, IsIn-append_left f front left, IsIn-append_right f front left, ahead, right, reported_or_taken f file m.taken, cases));
+      comes = λ f h. inl (let stayed = IsIn-from_filter (λ g. not (eqb g file)) f m.taken in
+          let in_front = IsIn-append_cases f m.waiting (file ∷ []) in
+          let behind = IsIn-append_right f m.waiting m.taken in
+          grind (arith, common_steps, IsIn-append_left f m.waiting m.taken, behind, eqb-true q.0 file q.2, q.1, stayed, in_front, IsIn-append_cases f front left h));
     }
 
 -- a refused call registers, hands out and deletes nothing

@@ -1,26 +1,20 @@
 -- The walk over all calls of `step`: what each changes.
-use Rattle.ckpt_model.proofs.Names.{◌≡◌, ℕ, ◌+◌, ◌<◌, ◌≤◌, ◌^◌, max, Bool, true, false, not, ◌&&◌, ◌||◌, ltb, eqb, List, [], ◌∷◌, ◌++◌, take, refl, sym, ap, ◌∙◌, inl, inr, ⊎_elim, arith, count_by}
-use Rattle.ckpt_model.proofs.Names.{Option, Some, None, unwrap_or, IfSome, filter, cases_Bool, both_ways, not-true, and_parts, and_left, and_right, or_from, or_left, cond_both, eqb-true, eqb-false}
-use Rattle.ckpt_model.proofs.Names.{ltb-false, SubtaskId, Target, Call, Tick, Savepoint, Ack, Decline, Dispose, Restore, Cancel, Take, Deleted, Undeleted, Show, Count, Answer, Done, IsIn, Record}
-use Rattle.ckpt_model.proofs.Names.{IsShape, hold, gap, Hold, Interval, AtOnce, Pause, Go, Running, Failed, Cancelled, State, is_checkpoint, is_pending, is_expired, is_known, record_of, drop}
-use Rattle.ckpt_model.proofs.Names.{pins_now, refusal, moment_of, pending_of, is_done_savepoint, is_number, savepoints, Stepped, pending_checkpoints, dropped_by, triggered, failed_over, start_or_hold}
-use Rattle.ckpt_model.proofs.Names.{after_expiry, tick, ack, failures_with, fails_the_job, decline, decline_pending, dropping, dispose, restore, restarted, rolled_back, cancel, cancelled, take_files}
-use Rattle.ckpt_model.proofs.Names.{without, show, effect, at_moment, step, IsSound, given_as, is_ack_taken, registered_as, common_steps}
+use Rattle.ckpt_model.proofs.Names.{◌≡◌, ℕ, ◌+◌, ◌<◌, ◌≤◌, ◌^◌, max, Bool, true, false, not, ◌&&◌, ltb, eqb, List, [], ◌∷◌, ◌++◌, take, refl, ap, inl, inr, arith, count_by, Option, Some, None}
+use Rattle.ckpt_model.proofs.Names.{unwrap_or, filter, cases_Bool, both_ways, not-true, and_parts, cond_both, eqb-true, ltb-false, SubtaskId, Target, Call, Tick, Savepoint, Ack, Decline, Dispose}
+use Rattle.ckpt_model.proofs.Names.{Restore, Cancel, Take, Deleted, Undeleted, Show, Count, Answer, Done, IsIn, Record, hold, gap, Hold, Go, Running, Failed, Cancelled, State, is_checkpoint}
+use Rattle.ckpt_model.proofs.Names.{is_pending, is_expired, is_known, record_of, drop, pins_now, refusal, moment_of, pending_of, is_done_savepoint, is_number, savepoints, Stepped, pending_checkpoints}
+use Rattle.ckpt_model.proofs.Names.{dropped_by, triggered, failed_over, start_or_hold, after_expiry, tick, ack, failures_with, fails_the_job, decline, decline_pending, dropping, dispose, restore}
+use Rattle.ckpt_model.proofs.Names.{restarted, rolled_back, cancel, cancelled, take_files, without, show, effect, at_moment, step, IsSound, given_as, is_ack_taken, registered_as, common_steps}
 use Rattle.std.specs.Prelude as prelude
 use Rattle.ckpt_ids.specs.declared.numbers.Kind.TheVariants as kind
 use Rattle.ckpt_ids.specs.declared.call.Target.TheVariants as target
 use Rattle.ckpt_ids.specs.declared.reply.Reply.TheVariants as reply
-use Rattle.ckpt_model.proofs.Records.Counts.{IsIn-from_find}
-use Rattle.ckpt_model.proofs.Records.Replacing.{same_record}
-use Rattle.ckpt_model.proofs.Records.Released.{distinct-from_test}
+use Rattle.ckpt_model.proofs.Records.{IsIn-from_find, same_record, distinct-from_test}
 use Rattle.ckpt_model.proofs.Answering.Accepted.{IsAcceptedAck, accepted_tick, accepted_savepoint, accepted_ack, accepted_decline, accepted_dispose, accepted_restore, accepted_restore_savepoint}
 use Rattle.ckpt_model.proofs.Answering.Accepted.{accepted_cancel, accepted_deleted, accepted_undeleted}
 use Rattle.ckpt_model.proofs.Answering.StepCases.{step_by}
-use Rattle.ckpt_model.proofs.Soundness.Drops.{is_savepoint, moment_is_sound}
-use Rattle.ckpt_model.proofs.Soundness.Triggers.{checkpoint_is_sound, savepoint_is_sound, fewer-from_go, few_failures, expired_is_pending}
-use Rattle.ckpt_model.proofs.Soundness.Acks.{with_ack, acking, acking_at}
-use Rattle.ckpt_model.proofs.Soundness.Completions.{late_is_sound}
-use Rattle.ckpt_model.proofs.Soundness.Outbox.{take_is_sound, deleted_is_sound, undeleted_is_sound}
+use Rattle.ckpt_model.proofs.Soundness.{moment_is_sound, checkpoint_is_sound, savepoint_is_sound, fewer-from_go, few_failures, expired_is_pending, with_ack, acking, acking_at, late_is_sound}
+use Rattle.ckpt_model.proofs.Soundness.{take_is_sound, deleted_is_sound, undeleted_is_sound}
 use Rattle.ckpt_model.proofs.Records.Pins.{pins_stay}
 use Rattle.ckpt_model.proofs.Histories.Moves.{unmoved}
 use Rattle.ckpt_model.proofs.Histories.Spreads.{late_spreads}
@@ -35,17 +29,16 @@ done_not_pending r done = ap not done
 -- failing over, whatever the failures
 failed_over_is : (m : State) (call : Call) (failures : ℕ) → IsPlain m call (failed_over (record m { failures = failures })) []
 unfolding failed_over drop
-failed_over_is m call failures = dropped_is m call (record (settings m) { mode = Failed; failures = failures }) is_pending (grind (arith, common_steps, done_not_pending))
+failed_over_is m call failures = dropped_is m call (record (settings m) { mode = Failed; failures = failures }) is_pending (grind (arith, common_steps))
 
 -- a start, or what holds it back
-start_is : (m k : State) (call : Call) (expired : ℕ) (h : Hold) → hold k.opening.config k.due k.completed k.latest (pending_checkpoints k) ≡ h → IsPlain m call k [] → k.next ≡ m.next → (IsSound m → pins_now k ≡ pins_now m) → k.mode ≡ Running → k.next < 2 ^ 62 → IsPlain m call (start_or_hold k expired h).0 (given_as (start_or_hold k expired h).1)
+start_is : (m k : State) (call : Call) (expired : ℕ) (h : Hold) → hold k.opening.config k.due k.completed k.latest (pending_checkpoints k) ≡ h → IsPlain m call k [] → k.next ≡ m.next
+    → (IsSound m → pins_now k ≡ pins_now m) → k.mode ≡ Running → k.next < 2 ^ 62 → IsPlain m call (start_or_hold k expired h).0 (given_as (start_or_hold k expired h).1)
 unfolding start_or_hold
-start_is m k call expired Interval e p next pins running room = p
-start_is m k call expired AtOnce e p next pins running room = p
-start_is m k call expired Pause e p next pins running room = p
 start_is m k call expired Go e p next pins running room =
-    let due : ℕ = k.latest + gap k.opening.config in
-    triggered_is m k call kind.Checkpoint due p next pins (λ s. checkpoint_is_sound k due s running room (fewer-from_go k.opening.config k.due k.completed k.latest (pending_checkpoints k) e))
+    triggered_is m k call kind.Checkpoint (k.latest + gap k.opening.config) p next pins
+    (λ s. checkpoint_is_sound k _ s running room (fewer-from_go k.opening.config k.due k.completed k.latest (pending_checkpoints k) e))
+start_is m k call expired h e p next pins running room = p
 
 -- a tick of a job that runs
 tick_is : (m : State) (call : Call) → m.mode ≡ Running → m.next < 2 ^ 62 → IsPlain m call (tick m).0 (given_as (tick m).1)
@@ -55,14 +48,12 @@ tick_is m call running room =
     let late : ℕ = count_by (λ r. expired r && is_checkpoint r) m.records in
     let counted : State = record m { failures = m.failures + late } in
     let k : State = drop counted expired None in
-    let fails : Bool = ltb 0 late && ltb m.opening.config.tolerable (m.failures + late) in
     let keeps : (r : Record) → r.done ≡ true → expired r ≡ false = λ r done. expired_is_pending m m.latest r (done_not_pending r done) in
-    let pins : IsSound m → pins_now k ≡ pins_now m = λ s. pins_stay m k (λ r. not (expired r)) s refl refl (λ r _ done. ap not (keeps r done)) in
-    let going : fails ≡ false → IsPlain m call k [] = λ (e : fails ≡ false). dropped_is m call (record (settings m) { failures = m.failures + late }) expired
-    (grind (arith, common_steps, keeps, few_failures) steps 1000000) in
-    cond_both fails (failed_over counted, _) (after_expiry k (dropped_by m expired)) (λ (x : Stepped). IsPlain m call x.0 (given_as x.1))
+    cond_both (ltb 0 late && ltb m.opening.config.tolerable (m.failures + late)) (failed_over counted, _) (after_expiry k (dropped_by m expired)) (λ (x : Stepped). IsPlain m call x.0 (given_as x.1))
     (λ _. failed_over_is m call (m.failures + late))
-    (λ (e : fails ≡ false). start_is m k call (dropped_by m expired) (hold k.opening.config k.due k.completed k.latest (pending_checkpoints k)) refl (going e) refl pins running room)
+    (λ e. start_is m k call (dropped_by m expired) _ refl
+    (dropped_is m call (record (settings m) { failures = m.failures + late }) expired (grind (arith, common_steps, keeps, few_failures) steps 1000000)) refl
+    (λ s. pins_stay m k (λ r. not (expired r)) s refl refl (λ r _ done. ap not (keeps r done))) running room)
 
 -- a savepoint's trigger
 savepoint_is : (m : State) (call : Call) → m.mode ≡ Running → m.next < 2 ^ 62 → savepoints m < 1000 → IsPlain m call (triggered m kind.Savepoint) (m.next ∷ [])
@@ -78,31 +69,19 @@ decline_is : (m : State) (call : Call) (id : ℕ) (o : Option Record) → pendin
 unfolding decline decline_pending dropping
 decline_is m call id None e = unchanged m call
 decline_is m call id (Some r) e =
-    let counted : State = record m { failures = failures_with m r } in
     let mine : Record → Bool = λ x. eqb x.id r.id in
     let found = IsIn-from_find (λ x. is_pending x && eqb x.id id) r m.records e in
-    let pending : r.done ≡ false = not-true r.done (and_parts (is_pending r) (eqb r.id id) found.1).0 in
-    let other : IsSound m → (x : Record) → IsIn x m.records → x.done ≡ true → mine x ≡ false = λ s x h done. ⊎_elim (λ (t : eqb x.id r.id ≡ true). absurd (both_ways r.done pending (ap (λ z. z.done) (sym (same_record x r m.records s.records.in_order h found.0 (eqb-true x.id r.id t))) ∙ done))) (λ (t : eqb x.id r.id ≡ false). t) (cases_Bool (eqb x.id r.id)) in
-    cond_both (fails_the_job m r) (failed_over counted, _) (drop counted mine None, _) (λ (x : Stepped). IsPlain m call x.0 (given_as x.1))
+    let other : IsSound m → (x : Record) → IsIn x m.records → x.done ≡ true → mine x ≡ false = λ s x h done.
+    grind (arith, common_steps, not-true r.done, and_parts, both_ways, same_record x r m.records s.records.in_order h found.0, eqb-true x.id r.id, cases_Bool (eqb x.id r.id)) in
+    cond_both (fails_the_job m r) (failed_over (record m { failures = failures_with m r }), _) (drop (record m { failures = failures_with m r }) mine None, _)
+    (λ (x : Stepped). IsPlain m call x.0 (given_as x.1))
     (λ _. failed_over_is m call (failures_with m r))
-    (λ (e : fails_the_job m r ≡ false). dropped_is m call (record (settings m) { failures = failures_with m r }) mine (grind (arith, common_steps, few_after_decline) steps 1000000))
-
--- a number that is not the base's
-not_the_base : (base : Option ℕ) (id : ℕ) → is_number base id ≡ false → base ≡ Some id → ⊥
-not_the_base base id h2 h3 = grind (arith, common_steps, eqb-false)
+    (λ e. dropped_is m call (record (settings m) { failures = failures_with m r }) mine (grind (arith, common_steps, few_after_decline) steps 1000000))
 
 -- a dispose of a savepoint that is not the base
 dispose_is : (m : State) (id : ℕ) → is_number m.base id ≡ false → IsPlain m (Dispose id) (dispose m id).0 (given_as (dispose m id).1)
 unfolding dispose dropping
-dispose_is m id other = dropped_is m (Dispose id) (settings m) (λ r. eqb r.id id) (grind (arith, common_steps, eqb-true, not_the_base, cases_Bool))
-
--- the shape after a restore
-shape_after : (shape : Option (List ℕ)) (old : List ℕ) → IfSome shape IsShape → IsShape old → IsShape (unwrap_or shape old)
-shape_after shape old h2 h3 = grind (arith, common_steps)
-
--- what a restore and a cancel drop is no done savepoint
-done_savepoint_stays : (r : Record) (b : Bool) → r.done ≡ true → is_checkpoint r ≡ false → (is_pending r || (r.done && is_checkpoint r && b)) ≡ false
-done_savepoint_stays r b done savepoint = or_from (is_pending r) (r.done && is_checkpoint r && b) (done_not_pending r done) (and_left (r.done && is_checkpoint r) b (and_right r.done (is_checkpoint r) savepoint))
+dispose_is m id other = dropped_is m (Dispose id) (settings m) (λ r. eqb r.id id) (grind (arith, common_steps))
 
 -- a restore to the latest checkpoint
 restore_latest_is : (m : State) (now : ℕ) (shape : Option (List ℕ)) → IsPlain m (Restore now target.Latest shape) (restore m target.Latest shape).0 (given_as (restore m target.Latest shape).1)
@@ -110,32 +89,35 @@ unfolding restore restarted drop
 restore_latest_is m now shape =
     dropped_is m (Restore now target.Latest shape)
     (record { shape = unwrap_or shape m.shape; mode = Running; due = m.latest + gap m.opening.config; completed = None; failures = 0; base = m.base }) is_pending
-    (grind (arith, common_steps, shape_after, done_not_pending))
+    (grind (arith, common_steps))
 
 -- a restore to a savepoint
-restore_savepoint_is : (m : State) (now id : ℕ) (shape : Option (List ℕ)) → is_done_savepoint m id ≡ true → IsPlain m (Restore now (target.Savepoint id) shape) (restore m (target.Savepoint id) shape).0 (given_as (restore m (target.Savepoint id) shape).1)
+restore_savepoint_is : (m : State) (now id : ℕ) (shape : Option (List ℕ)) → is_done_savepoint m id ≡ true
+    → IsPlain m (Restore now (target.Savepoint id) shape) (restore m (target.Savepoint id) shape).0 (given_as (restore m (target.Savepoint id) shape).1)
 unfolding restore restarted drop
 restore_savepoint_is m now id shape there =
     dropped_is m (Restore now (target.Savepoint id) shape)
     (record { shape = unwrap_or shape m.shape; mode = Running; due = m.latest + gap m.opening.config; completed = None; failures = 0; base = Some id }) (rolled_back (target.Savepoint id))
-    (grind (arith, common_steps, shape_after, or_from, done_not_pending, and_right, is_savepoint))
+    (grind (arith, common_steps))
 
 -- a restore
-restore_is : (m : State) (now : ℕ) (target : Target) (shape : Option (List ℕ)) → refusal m (Restore now target shape) ≡ None → (latest : ℕ) → IsPlain (record m { latest = latest }) (Restore now target shape) (restore (record m { latest = latest }) target shape).0 (given_as (restore (record m { latest = latest }) target shape).1)
+restore_is : (m : State) (now : ℕ) (target : Target) (shape : Option (List ℕ)) → refusal m (Restore now target shape) ≡ None → (latest : ℕ)
+    → IsPlain (record m { latest = latest }) (Restore now target shape) (restore (record m { latest = latest }) target shape).0 (given_as (restore (record m { latest = latest }) target shape).1)
 restore_is m now target.Latest shape e latest = restore_latest_is (record m { latest = latest }) now shape
 restore_is m now (target.Savepoint id) shape e latest = restore_savepoint_is (record m { latest = latest }) now id shape (accepted_restore_savepoint m now id shape e)
 
 -- a cancel
 cancel_is : (m : State) (call : Call) → IsPlain m call (cancel m).0 (given_as (cancel m).1)
 unfolding cancel drop
-cancel_is m call = dropped_is m call (record (settings m) { mode = Cancelled; base = None }) (cancelled m) (grind (arith, common_steps, done_savepoint_stays, or_left))
+cancel_is m call = dropped_is m call (record (settings m) { mode = Cancelled; base = None }) (cancelled m) (grind (arith, common_steps))
 
 -- an acknowledgement that is taken registers its fresh files
 pub registered_taken : (a : Answer) (fresh unknown : List ℕ) → is_ack_taken a ≡ true → registered_as a fresh unknown ≡ fresh
 registered_taken a fresh unknown h3 = grind (arith, common_steps, both_ways)
 
 -- an accepted acknowledgement, of a pending record or late
-ack_is : (m : State) (now id : ℕ) (subtask : SubtaskId) (fresh reused : List ℕ) (o : Option Record) → IsAcceptedAck m now id subtask fresh reused → pending_of m.records id ≡ o → IsStep m (Ack now id subtask fresh reused) (ack (record m { latest = max now m.latest }) o subtask fresh reused)
+ack_is : (m : State) (now id : ℕ) (subtask : SubtaskId) (fresh reused : List ℕ) (o : Option Record) → IsAcceptedAck m now id subtask fresh reused → pending_of m.records id ≡ o
+    → IsStep m (Ack now id subtask fresh reused) (ack (record m { latest = max now m.latest }) o subtask fresh reused)
 unfolding ack
 ack_is m now id subtask fresh reused None a e = record {
   opening = refl;
@@ -150,12 +132,12 @@ ack_is m now id subtask fresh reused (Some q) a e =
     let i = acked_is n q subtask fresh reused (acking_at m (max now m.latest) q subtask fresh reused k) in
     let x : Stepped = ack n (Some q) subtask fresh reused in
     let is_taken : is_ack_taken x.1 ≡ true = acknowledged_is_taken n (with_ack q subtask fresh reused) in
-    let found = IsIn-from_find (λ r. is_pending r && eqb r.id id) q m.records e in
+    let its : q.id ≡ id = eqb-true q.id id (and_parts (is_pending q) (eqb q.id id) (IsIn-from_find (λ r. is_pending r && eqb r.id id) q m.records e).1).1 in
     record {
       opening = i.opening;
       gives = inl (i.gives_none, i.next);
       sound = λ _ s. i.sound (moment_is_sound m now s a.moment);
-      records = λ s. inr (record { q = q; its_id = eqb-true q.id id (and_parts (is_pending q) (eqb q.id id) found.1).1; acking = k; taken = i.taken (moment_is_sound m now s a.moment); is_taken = is_taken });
+      records = λ s. inr (record { q = q; its_id = its; acking = k; taken = i.taken (moment_is_sound m now s a.moment); is_taken = is_taken });
       files = λ s. rw (registered_taken x.1 fresh (filter (λ f. not (is_known m f)) fresh) is_taken) (spread_settled (i.spreads (moment_is_sound m now s a.moment)));
     }
 
@@ -167,16 +149,27 @@ show_is m id (Some r) = plain_step (m, show (Some r)) (unchanged m (Show id)) (�
 -- each accepted call
 effect_is : (m : State) (call : Call) → refusal m call ≡ None → IsStep m call (effect (at_moment m (moment_of call)) call)
 unfolding effect take_files dispose dropping
-effect_is m (Tick now) e = let a = accepted_tick m now e in plain_step _ (plain_at (λ s. moment_is_sound m now s a.moment) (tick_is (record m { latest = max now m.latest }) (Tick now) a.running a.room)) (λ i. i) refl refl refl
-effect_is m (Savepoint now) e = let a = accepted_savepoint m now e in plain_step _ (plain_at (λ s. moment_is_sound m now s (a.0).moment) (savepoint_is (record m { latest = max now m.latest }) (Savepoint now) (a.0).running (a.0).room a.1)) (λ i. i) refl refl refl
+effect_is m (Tick now) e = let a = accepted_tick m now e in
+    plain_step _ (plain_at (λ s. moment_is_sound m now s a.moment) (tick_is (record m { latest = max now m.latest }) (Tick now) a.running a.room)) (λ i. i) refl refl refl
+effect_is m (Savepoint now) e = let a = accepted_savepoint m now e in
+    plain_step _ (plain_at (λ s. moment_is_sound m now s (a.0).moment) (savepoint_is (record m { latest = max now m.latest }) (Savepoint now) (a.0).running (a.0).room a.1)) (λ i. i) refl refl refl
 effect_is m (Ack now id subtask fresh reused) e = ack_is m now id subtask fresh reused (pending_of m.records id) (accepted_ack m now id subtask fresh reused e) refl
-effect_is m (Decline now id subtask) e = plain_step _ (plain_at (λ s. moment_is_sound m now s (accepted_decline m now id subtask e)) (decline_is (record m { latest = max now m.latest }) (Decline now id subtask) id (pending_of m.records id) refl)) (λ i. i) refl refl refl
+effect_is m (Decline now id subtask) e =
+    plain_step _ (plain_at (λ s. moment_is_sound m now s (accepted_decline m now id subtask e))
+    (decline_is (record m { latest = max now m.latest }) (Decline now id subtask) id (pending_of m.records id) refl)) (λ i. i) refl refl refl
 effect_is m (Dispose id) e = plain_step _ (dispose_is m id (accepted_dispose m id e).1) (λ i. i) refl refl refl
-effect_is m (Restore now target shape) e = plain_step _ (plain_at (λ s. moment_is_sound m now s (accepted_restore m now target shape e)) (restore_is m now target shape e (max now m.latest))) (λ i. i) refl refl refl
+effect_is m (Restore now target shape) e =
+    plain_step _ (plain_at (λ s. moment_is_sound m now s (accepted_restore m now target shape e)) (restore_is m now target shape e (max now m.latest))) (λ i. i) refl refl refl
 effect_is m (Cancel now) e = plain_step _ (plain_at (λ s. moment_is_sound m now s (accepted_cancel m now e)) (cancel_is (record m { latest = max now m.latest }) (Cancel now))) (λ i. i) refl refl refl
-effect_is m (Take most) e = outbox_step m (Take most) (prelude.drop most m.waiting) (m.taken ++ take most m.waiting) (Done (reply.Taken (take most m.waiting))) refl (unmoved m None) (take_is_sound m most) (λ _. take_settled m most)
-effect_is m (Deleted file) e = outbox_step m (Deleted file) m.waiting (without file m.taken) (Done (reply.Deleted file)) refl (unmoved m None) (deleted_is_sound m file) (λ s. deleted_settled m file s (accepted_deleted m file e))
-effect_is m (Undeleted file) e = outbox_step m (Undeleted file) (m.waiting ++ file ∷ []) (without file m.taken) (Done (reply.Undeleted file)) refl (unmoved m None) (λ s. undeleted_is_sound m file s (accepted_undeleted m file e)) (λ _. undeleted_settled m file (accepted_undeleted m file e))
+effect_is m (Take most) e =
+    outbox_step m (Take most) (prelude.drop most m.waiting) (m.taken ++ take most m.waiting) (Done (reply.Taken (take most m.waiting))) refl (unmoved m None) (take_is_sound m most)
+    (λ _. take_settled m most)
+effect_is m (Deleted file) e =
+    outbox_step m (Deleted file) m.waiting (without file m.taken) (Done (reply.Deleted file)) refl (unmoved m None) (deleted_is_sound m file)
+    (λ s. deleted_settled m file s (accepted_deleted m file e))
+effect_is m (Undeleted file) e =
+    outbox_step m (Undeleted file) (m.waiting ++ file ∷ []) (without file m.taken) (Done (reply.Undeleted file)) refl (unmoved m None)
+    (λ s. undeleted_is_sound m file s (accepted_undeleted m file e)) (λ _. undeleted_settled m file (accepted_undeleted m file e))
 effect_is m (Show id) e = show_is m id (record_of m id)
 effect_is m (Count file) e = plain_step _ (unchanged m (Count file)) (λ i. i) refl refl refl
 

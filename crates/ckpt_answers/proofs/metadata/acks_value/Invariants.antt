@@ -1,7 +1,5 @@
 -- The loop invariants of `acks_value`.
-use Rattle.std.proofs.Common.{◌≡◌, map, take}
-use Rattle.serde_json.specs.View.{view}
-use Rattle.ckpt_answers.specs.MetadataTexts.{ack_data}
+use Rattle.ckpt_answers.proofs.{◌≡◌, map, take, view, ack_data}
 use Rattle.ckpt_answers.proofs.metadata.acks_value.Given as goal
 
 abbrev pub invariant-loop-place : goal.invariant-loop-place

@@ -1,7 +1,5 @@
 -- The loop invariants of `files_value`.
-use Rattle.std.proofs.Common.{◌≡◌, map, take}
-use Rattle.serde_json.specs.View.{view}
-use Rattle.ckpt_answers.specs.MetadataTexts.{natural}
+use Rattle.ckpt_answers.proofs.{◌≡◌, map, take, view, natural}
 use Rattle.ckpt_answers.proofs.metadata.files_value.Given as goal
 
 abbrev pub invariant-loop-file : goal.invariant-loop-file

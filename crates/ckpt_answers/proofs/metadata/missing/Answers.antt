@@ -1,6 +1,5 @@
 -- Answers the goals of `missing`.
-use Rattle.std.proofs.Common.{arith}
-use Rattle.ckpt_answers.proofs.MissingLemmas.{missing-counted}
+use Rattle.ckpt_answers.proofs.{arith, missing-counted}
 use Rattle.ckpt_answers.proofs.metadata.missing.Goals as goal
 
 pub overflow_sub-result : goal.overflow_sub-result

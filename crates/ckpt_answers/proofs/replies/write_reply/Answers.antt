@@ -1,5 +1,5 @@
 -- Answers the goals of `write_reply`.
-use Rattle.ckpt_answers.specs.Texts.{reply_bytes}
+use Rattle.ckpt_answers.proofs.{reply_bytes}
 use Rattle.ckpt_answers.proofs.replies.write_reply.Goals as goal
 
 pub returns-in-AckCompleted-clause-text : goal.returns-in-AckCompleted-clause-text

@@ -1,7 +1,5 @@
 -- Answers the goals of `write_taken`.
-use Rattle.std.proofs.Common.{◌≡◌, List, [], ◌∷◌, ℕ, refl, codes, flat_map, rules}
-use Rattle.std.proofs.lemmas.Bool.{false≢true}
-use Rattle.ckpt_answers.specs.Texts.{spaced, taken_bytes}
+use Rattle.ckpt_answers.proofs.{◌≡◌, List, [], ◌∷◌, ℕ, refl, codes, flat_map, rules, false≢true, spaced, taken_bytes}
 use Rattle.ckpt_answers.proofs.replies.write_taken.Goals as goal
 
 taken_bytes-none : (files : List ℕ) → files ≡ [] → taken_bytes files ≡ codes " none"
@@ -15,8 +13,7 @@ taken_bytes-some (file ∷ files) some = refl
 
 pub returns-then-is_empty-clause-text : goal.returns-then-is_empty-clause-text
 returns-then-is_empty-clause-text c =
-    let none = taken_bytes-none c.args.files.now (c.if-is_empty.ensures.0 refl) in
-    let before = c.in_ok-push_str.ensures.bytes in
+    let none = taken_bytes-none c.args.files.now (c.if-is_empty.ensures.0 refl) in let before = c.in_ok-push_str.ensures.bytes in
     let pushed = c.push_str-then-is_empty.ensures.bytes in
     rw (none, ← before) (search rules)
 

@@ -1,7 +1,6 @@
 -- Answers the goals of `write_tick`.
-use Rattle.std.proofs.Common.{◌≡◌, ◌++◌, List, ℕ, codes, decimal, append_assoc, arith, rules}
+use Rattle.ckpt_answers.proofs.{◌≡◌, ◌++◌, List, ℕ, codes, decimal, append_assoc, arith, rules, spaced, tick_end_bytes}
 use Rattle.std.proofs.lemmas.Fmt.{decimal_digit}
-use Rattle.ckpt_answers.specs.Texts.{spaced, tick_end_bytes}
 use Rattle.ckpt_answers.proofs.replies.write_tick.Goals as goal
 
 -- a text before, a number, and a text after it

@@ -3,7 +3,8 @@ use Rattle.ckpt_core.proofs.{◌≡◌, ◌++◌, ◌∙◌, [], ℕ, List, ap, 
 use Rattle.ckpt_core.proofs.acks.joined.Goals as goal
 
 -- with no reused file the fresh ones are all
-alone : {E : Type 0} (copy : Result (List ℕ) E) (fresh reused : List ℕ) → IfOk copy (λ files. files ≡ fresh) → IsAscending fresh → reused ≡ [] → IfOk copy (λ files. files ≡ ascending (fresh ++ reused))
+alone : {E : Type 0} (copy : Result (List ℕ) E) (fresh reused : List ℕ) → IfOk copy (λ files. files ≡ fresh) → IsAscending fresh → reused ≡ [] →
+    IfOk copy (λ files. files ≡ ascending (fresh ++ reused))
 alone (Ok files) fresh reused is in_order none = is ∙ ascending_already fresh in_order ∙ ap ascending (sym (append-nil fresh) ∙ ap (λ xs. fresh ++ xs) (sym none))
 alone (Err _) fresh reused is in_order none = tt
 

@@ -9,23 +9,16 @@ put_last [] a later = refl
 put_last (x ∷ xs) a later = ap (λ b. cond b (x ∷ put_ack a xs) (a ∷ x ∷ xs)) (later x (inl refl)) ∙ ap (λ ys. x ∷ ys) (put_last xs a (λ b h. later b (inr h)))
 
 pub returns-in-Err-UnknownSubtask-clause-damaged : goal.returns-in-Err-UnknownSubtask-clause-damaged
-returns-in-Err-UnknownSubtask-clause-damaged c = λ e all.
-    let items : List Acked = c.as_slice-acked-items.result.now in
-    let a : Acked = c.acked-item.result in
+returns-in-Err-UnknownSubtask-clause-damaged c = λ e all. let items : List Acked = c.as_slice-acked-items.result.now in let a : Acked = c.acked-item.result in
     let there : IsIn a c.args.metadata.now.acks = rw (← c.as_slice-acked-items.ensures.acks) (rw (sym c.acked-item.is) at (IsIn-get_or items c.loop-acked.acked-index a c.loop-acked-test.true)) in
     let foreign : is_subtask c.loop-acked.pending.shape a.subtask ≡ false = c.ack.ensures.unknown.0 (c.in-Err-UnknownSubtask.is ∙ ap Err c.in-Err-UnknownSubtask.field-0-is) in
     both_ways (is_subtask c.args.metadata.now.shape a.subtask) (ap (λ (r : Record). is_subtask r.shape a.subtask) (sym c.loop-acked.invariant) ∙ foreign) (all a there)
 
 pub loop-acked-preserved : goal.loop-acked-preserved
-loop-acked-preserved c =
-    let m = c.args.metadata.now in
-    let items : List Acked = c.as_slice-acked-items.result.now in
-    let i : ℕ = c.loop-acked.acked-index in
-    let a : Acked = c.acked-item.result in
+loop-acked-preserved c = let m = c.args.metadata.now in let items : List Acked = c.as_slice-acked-items.result.now in let i : ℕ = c.loop-acked.acked-index in let a : Acked = c.acked-item.result in
     let make : List Acked → Record = pending_record m.id m.kind m.shape m.started in
     let next : take (i + 1) items ≡ take i items ++ a ∷ [] = take_more items i a c.loop-acked-test.true ∙ ap (λ z. take i items ++ z ∷ []) (sym c.acked-item.is) in
     let order : AreInSubtaskOrder items = subst AreInSubtaskOrder (sym c.as_slice-acked-items.ensures.acks) c.as_slice-acked-items.ensures.order in
-    c.in-Ok.ensures.ok
-    ∙ ap (λ (r : Record). acknowledged r a.subtask c.in_ok-files.files) c.loop-acked.invariant
-    ∙ ap (λ (fs : List ℕ). make (put_ack (record { subtask = a.subtask; files = fs }) (take i items))) c.in_ok-files.ensures
-    ∙ ap make (put_last (take i items) a (λ b h. before_in (take i items) a b (subst AreInSubtaskOrder next (take_in_order items (i + 1) order)) h) ∙ sym next)
+    c.in-Ok.ensures.ok ∙ ap (λ (r : Record). acknowledged r a.subtask c.in_ok-files.files) c.loop-acked.invariant ∙ ap (λ (fs : List ℕ).
+    make (put_ack (record { subtask = a.subtask; files = fs }) (take i items))) c.in_ok-files.ensures ∙ ap make (put_last (take i items) a
+    (λ b h. before_in (take i items) a b (subst AreInSubtaskOrder next (take_in_order items (i + 1) order)) h) ∙ sym next)

@@ -8,9 +8,8 @@ fails b true e t = absurd (cc)
 fails b false e t = sym e
 
 pub returns : goal.returns
-returns c =
-    let xs : List ℕ = c.as_slice.result.now in
-    let set : IsAscending xs = subst IsAscending (sym c.as_slice.ensures.files) c.as_slice.ensures.ascending in (
-      λ t. subst IsAscendingSet c.as_slice.ensures.files (set-from_distinct xs set (distinct-from_test xs (fails _ c.repeats.result c.repeats.ensures t))),
-      λ s. ap not (c.repeats.ensures ∙ test-from_distinct xs (AreDistinct-from_order numbers_in_order xs (subst IsAscendingSet (sym c.as_slice.ensures.files) s))),
-    )
+returns c = let xs : List ℕ = c.as_slice.result.now in let set : IsAscending xs = subst IsAscending (sym c.as_slice.ensures.files) c.as_slice.ensures.ascending in (
+  λ t. subst IsAscendingSet c.as_slice.ensures.files (set-from_distinct xs set (distinct-from_test xs (fails _ c.repeats.result c.repeats.ensures t))),
+  λ s.
+      ap not (c.repeats.ensures ∙ test-from_distinct xs (AreDistinct-from_order numbers_in_order xs (subst IsAscendingSet (sym c.as_slice.ensures.files) s))),
+)

@@ -1,5 +1,5 @@
 -- Answers the goals of `reads_back`.
-use Rattle.ckpt_image.proofs.RoundTrip.{image_reads_back}
+use Rattle.ckpt_image.proofs.{image_reads_back}
 use Rattle.ckpt_image.proofs.laws.reads_back.Goals as goal
 
 pub returns : goal.returns

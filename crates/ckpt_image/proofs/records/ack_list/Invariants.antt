@@ -1,7 +1,5 @@
 -- The loop invariants of `ack_list`.
-use Rattle.std.proofs.Common.{◌≡◌}
-use Rattle.ckpt_image.specs.Members.{ack_of}
-use Rattle.ckpt_image.proofs.Items.{left, with_front}
+use Rattle.ckpt_image.proofs.{◌≡◌, ack_of, left, with_front}
 use Rattle.ckpt_image.proofs.records.ack_list.Given as goal
 
 abbrev pub invariant-loop-item : goal.invariant-loop-item

@@ -1,8 +1,6 @@
 -- Answers the goals of `are_in_order`.
-use Rattle.std.proofs.Common.{◌∙◌, rules, sym}
+use Rattle.ckpt_image.proofs.{◌∙◌, rules, sym, acknowledges_before, in_order-from_test, test-from_adjacent}
 use Rattle.std.proofs.lemmas.List.Sorted.{answers_always}
-use Rattle.ckpt_ids.specs.Acknowledged.{acknowledges_before}
-use Rattle.ckpt_image.proofs.AckOrder.{in_order-from_test, test-from_adjacent}
 use Rattle.ckpt_image.proofs.records.are_in_order.Goals as goal
 
 pub returns-clause-value : goal.returns-clause-value

@@ -1,7 +1,5 @@
 -- The loop invariants of `handed_value`.
-use Rattle.std.proofs.Common.{◌≡◌, map, take}
-use Rattle.serde_json.specs.View.{view}
-use Rattle.ckpt_answers.specs.MetadataTexts.{natural}
+use Rattle.ckpt_image.proofs.{◌≡◌, map, take, view, natural}
 use Rattle.ckpt_image.proofs.writing.handed_value.Given as goal
 
 abbrev pub invariant-loop-file : goal.invariant-loop-file

@@ -1,22 +1,13 @@
 -- Answers the goals of `image_text`.
-use Rattle.std.proofs.Common.{◌∙◌, ap, sym, subst, ◌≤◌, Some}
-use Rattle.std.specs.Prelude.{option_and_then}
+use Rattle.ckpt_image.proofs.{◌∙◌, ap, sym, subst, ◌≤◌, Some, option_and_then, state_in, Data, depth, max_depth, compact_text, has_float, image_of, image_read, image_bytes, image_has_no_float}
+use Rattle.ckpt_image.proofs.{image_is_shallow, image_reads_back}
 use Rattle.std.proofs.lemmas.Result.{IfOk-weaker}
-use Rattle.ckpt_model.specs.Images.{state_in}
-use Rattle.serde_json.specs.Data.{Data, depth}
-use Rattle.serde_json.specs.Read.{max_depth}
-use Rattle.serde_json.specs.Written.{compact_text, has_float}
-use Rattle.ckpt_image.specs.Images.{image_of, image_read}
-use Rattle.ckpt_image.specs.Written.{image_bytes}
-use Rattle.ckpt_image.proofs.Plain.{image_has_no_float, image_is_shallow}
-use Rattle.ckpt_image.proofs.RoundTrip.{image_reads_back}
 use Rattle.ckpt_image.proofs.writing.image_text.Goals as goal
 
 pub returns-clause-text : goal.returns-clause-text
 unfolding image_bytes
 returns-clause-text c =
-    let made = c.in_ok-image_value.ensures.value in
-    let no_float = image_has_no_float (state_in c.args.image.now) in
+    let made = c.in_ok-image_value.ensures.value in let no_float = image_has_no_float (state_in c.args.image.now) in
     IfOk-weaker c.to_string.result _ _ (λ text written. written (ap has_float made ∙ no_float) ∙ ap compact_text made) c.to_string.ensures.text
 
 pub returns-clause-reads_back : goal.returns-clause-reads_back

@@ -1,8 +1,6 @@
 -- Answers the goals of `image_value`.
-use Rattle.std.proofs.Common.{ap, ◌∙◌}
-use Rattle.serde_json.specs.Data.{object}
+use Rattle.ckpt_image.proofs.{ap, ◌∙◌, object, image_data}
 use Rattle.serde_json.proofs.Views.{view-Object}
-use Rattle.ckpt_image.specs.Written.{image_data}
 use Rattle.ckpt_image.proofs.writing.image_value.Goals as goal
 
 pub returns-clause-value : goal.returns-clause-value

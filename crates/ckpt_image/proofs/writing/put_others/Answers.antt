@@ -1,5 +1,5 @@
 -- Answers the goals of `put_others`.
-use Rattle.ckpt_image.proofs.OutcomeLemmas.{on_any_ok}
+use Rattle.ckpt_image.proofs.{on_any_ok}
 use Rattle.ckpt_image.proofs.writing.put_others.Goals as goal
 
 pub returns-clause-failures : goal.returns-clause-failures

@@ -1,11 +1,5 @@
 -- The loop invariants of `records_value`.
-use Rattle.std.proofs.Common.{◌≡◌, map, take}
-use Rattle.ckpt_model.specs.declared.image.Saved.{Saved}
-use Rattle.ckpt_model.specs.Images.{record_in}
-use Rattle.ckpt_ids.specs.Ordered.{IsIn}
-use Rattle.serde_json.specs.View.{view}
-use Rattle.ckpt_image.specs.Fits.{RecordFits}
-use Rattle.ckpt_image.specs.Written.{record_data}
+use Rattle.ckpt_image.proofs.{◌≡◌, map, take, Saved, record_in, IsIn, view, RecordFits, record_data}
 use Rattle.ckpt_image.proofs.writing.records_value.Given as goal
 
 abbrev pub invariant-loop-saved : goal.invariant-loop-saved

@@ -1,6 +1,5 @@
 -- Answers the goals of `long_keyword`.
-use Rattle.ckpt_lines.proofs.Names.{ℕ, List, rules, Savepoint, Undeleted, BeginsWith}
-use Rattle.ckpt_lines.proofs.BeginLemmas.{no_long}
+use Rattle.ckpt_lines.proofs.{ℕ, List, rules, Savepoint, Undeleted, BeginsWith, no_long}
 use Rattle.ckpt_lines.proofs.keyword.long_keyword.Goals as goal
 
 pub returns-in_default-clause-none : goal.returns-in_default-clause-none

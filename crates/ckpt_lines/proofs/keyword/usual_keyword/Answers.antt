@@ -1,6 +1,5 @@
 -- Answers the goals of `usual_keyword`.
-use Rattle.ckpt_lines.proofs.Names.{ℕ, List, rules, Tick, Ack, Take, Deleted, Dispose, Count, BeginsWith}
-use Rattle.ckpt_lines.proofs.BeginLemmas.{none_begins}
+use Rattle.ckpt_lines.proofs.{ℕ, List, rules, Tick, Ack, Take, Deleted, Dispose, Count, BeginsWith, none_begins}
 use Rattle.ckpt_lines.proofs.keyword.usual_keyword.Goals as goal
 
 pub returns-in_default-clause-none : goal.returns-in_default-clause-none

@@ -1,7 +1,6 @@
 -- Answers the goals of `front`.
-use Rattle.ckpt_lines.proofs.Names.{◌≡◌, ℕ, ◌+◌, ◌<◌, ◌≤◌, true, false, List, length, take, ap, sym, ◌∙◌, ⊎_elim, arith, min, cases_Bool, cond-true, take_all, length-take, Err, LONGEST_LINE, reading}
-use Rattle.ckpt_lines.proofs.Names.{is_too_long}
-use Rattle.std.proofs.lemmas.Bool.{ltb-true, ltb-false, lt-ltb}
+use Rattle.ckpt_lines.proofs.{◌≡◌, ℕ, ◌+◌, ◌<◌, ◌≤◌, true, false, List, length, take, ap, sym, ◌∙◌, ⊎_elim, arith, min, cases_Bool, cond-true, take_all, length-take, Err, LONGEST_LINE, reading}
+use Rattle.ckpt_lines.proofs.{is_too_long, ltb-true, ltb-false, lt-ltb}
 use Rattle.ckpt_lines.specs.declared.fault.LineFault.TheVariants as fault
 use Rattle.ckpt_lines.proofs.laws.front.Goals as goal
 

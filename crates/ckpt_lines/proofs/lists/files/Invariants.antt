@@ -1,6 +1,5 @@
 -- The loop invariants of `files`.
-use Rattle.ckpt_lines.proofs.Names.{◌≡◌, List, length, filter_map, FileWord, each, file_word, fresh_file, reused_file}
-use Rattle.ckpt_lines.proofs.EachLemmas.{with_front}
+use Rattle.ckpt_lines.proofs.{◌≡◌, List, length, filter_map, FileWord, each, file_word, fresh_file, reused_file, with_front}
 use Rattle.ckpt_lines.proofs.lists.files.Given as goal
 
 abbrev pub invariant-files : goal.invariant-files

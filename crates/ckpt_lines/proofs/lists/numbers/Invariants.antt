@@ -1,6 +1,5 @@
 -- The loop invariants of `numbers`.
-use Rattle.ckpt_lines.proofs.Names.{◌≡◌, length, each, number}
-use Rattle.ckpt_lines.proofs.EachLemmas.{with_front}
+use Rattle.ckpt_lines.proofs.{◌≡◌, length, each, number, with_front}
 use Rattle.ckpt_lines.proofs.lists.numbers.Given as goal
 
 abbrev pub invariant-loop-word : goal.invariant-loop-word

@@ -1,6 +1,5 @@
 -- Answers the goals of `config_line`.
-use Rattle.std.proofs.Common.{rules}
-use Rattle.ckpt_lines.proofs.ReadBack.{config}
+use Rattle.ckpt_lines.proofs.{rules, config}
 use Rattle.ckpt_lines.proofs.opening.config_line.Goals as goal
 
 pub returns-clause-read : goal.returns-clause-read

@@ -1,7 +1,5 @@
 -- Answers the goals of `job_line`.
-use Rattle.std.proofs.Common.{rules}
-use Rattle.ckpt_lines.specs.CallTexts.{job_text}
-use Rattle.ckpt_lines.proofs.ReadBack.{job_of}
+use Rattle.ckpt_lines.proofs.{rules, job_text, job_of}
 use Rattle.ckpt_lines.proofs.opening.job_line.Goals as goal
 
 pub returns-clause-read : goal.returns-clause-read

@@ -1,7 +1,5 @@
 -- Answers the goals of `start_line`.
-use Rattle.std.proofs.Common.{rules}
-use Rattle.ckpt_lines.specs.CallTexts.{start_text}
-use Rattle.ckpt_lines.proofs.ReadBack.{start}
+use Rattle.ckpt_lines.proofs.{rules, start_text, start}
 use Rattle.ckpt_lines.proofs.opening.start_line.Goals as goal
 
 pub returns-clause-read : goal.returns-clause-read

@@ -1,5 +1,5 @@
 -- Answers the goals of `first_keyword`.
-use Rattle.ckpt_lines.proofs.KeywordLemmas.{begins}
+use Rattle.ckpt_lines.proofs.{begins}
 use Rattle.ckpt_lines.proofs.parse.first_keyword.Goals as goal
 
 pub returns-in-Some : goal.returns-in-Some

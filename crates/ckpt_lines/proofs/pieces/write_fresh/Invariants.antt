@@ -1,7 +1,5 @@
 -- The loop invariants of `write_fresh`.
-use Rattle.std.proofs.Common.{◌≡◌, ◌++◌, take, string_bytes}
-use Rattle.std.specs.Prelude.{All, flat_map}
-use Rattle.ckpt_lines.specs.CallTexts.{Fits, fresh_text}
+use Rattle.ckpt_lines.proofs.{◌≡◌, ◌++◌, take, string_bytes, All, flat_map, Fits, fresh_text}
 use Rattle.ckpt_lines.proofs.pieces.write_fresh.Given as goal
 
 abbrev pub invariant-loop-place : goal.invariant-loop-place

@@ -1,8 +1,5 @@
 -- Answers the goals of `write_reused`.
-use Rattle.std.proofs.Common.{sym, ◌∙◌, append_assoc, arith}
-use Rattle.ckpt_answers.proofs.ListLemmas.{flat_map-take-next, none_within-absurd}
-use Rattle.ckpt_lines.specs.CallTexts.{reused_text}
-use Rattle.ckpt_lines.proofs.PieceLemmas.{fit-next}
+use Rattle.ckpt_lines.proofs.{sym, ◌∙◌, append_assoc, arith, flat_map-take-next, none_within-absurd, reused_text, fit-next}
 use Rattle.ckpt_lines.proofs.pieces.write_reused.Goals as goal
 use Rattle.ckpt_lines.proofs.pieces.write_reused.Goals.{in-Some+in_ok-write_number, in_default}
 
@@ -13,6 +10,5 @@ loop-place-preserved c =
           let found = sym c.get.ensures ∙ w.in-Some.is in
           let next = flat_map-take-next reused_text c.args.files.now c.loop-place.place _ found in
           (grind (arith, append_assoc, next), fit-next c.args.files.now c.loop-place.place _ found c.loop-place.invariant.1 (omega (arith, w.file.view_is, w.write_number.ensures.fits)))
-      | in_default w ↦
-          absurd (none_within-absurd c.args.files.now c.loop-place.place (sym c.get.ensures ∙ w.in_default.is) (omega arith))
+      | in_default w ↦ absurd (none_within-absurd c.args.files.now c.loop-place.place (sym c.get.ensures ∙ w.in_default.is) (omega arith))
     ]

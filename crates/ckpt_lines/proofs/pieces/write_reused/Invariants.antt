@@ -1,7 +1,5 @@
 -- The loop invariants of `write_reused`.
-use Rattle.std.proofs.Common.{◌≡◌, ◌++◌, take, string_bytes}
-use Rattle.std.specs.Prelude.{All, flat_map}
-use Rattle.ckpt_lines.specs.CallTexts.{Fits, reused_text}
+use Rattle.ckpt_lines.proofs.{◌≡◌, ◌++◌, take, string_bytes, All, flat_map, Fits, reused_text}
 use Rattle.ckpt_lines.proofs.pieces.write_reused.Given as goal
 
 abbrev pub invariant-loop-place : goal.invariant-loop-place

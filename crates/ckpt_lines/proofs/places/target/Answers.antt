@@ -1,6 +1,5 @@
 -- Answers the goals of `target`.
-use Rattle.ckpt_lines.proofs.Names.{target_place, target_of}
-use Rattle.ckpt_lines.proofs.PlaceLemmas.{Gives-place}
+use Rattle.ckpt_lines.proofs.{target_place, target_of, Gives-place}
 use Rattle.ckpt_lines.proofs.places.target.Goals as goal
 
 pub returns : goal.returns

@@ -1,7 +1,7 @@
 -- Answers the goals of `usual_call`.
-use Rattle.ckpt_lines.proofs.Names.{◌≡◌, ◌≤◌, length, true, Ok, sym, ap, ◌∙◌, rules, arith, strip_carriage_return, LONGEST_LINE, BeginsWith, is_usual, only_number, words_of, common_steps}
+use Rattle.ckpt_lines.proofs.{◌≡◌, ◌≤◌, length, true, Ok, sym, ap, ◌∙◌, rules, arith, strip_carriage_return, LONGEST_LINE, BeginsWith, is_usual, words_of, common_steps, reads_usual}
+use Rattle.ckpt_lines.proofs.Names.{only_number}
 use Rattle.ckpt_lines.specs.declared.line.Line.TheVariants as said
-use Rattle.ckpt_lines.proofs.UsualLemmas.{reads_usual}
 use Rattle.ckpt_lines.proofs.usual.usual_call.Goals as goal
 
 pub returns-clause-call : goal.returns-clause-call

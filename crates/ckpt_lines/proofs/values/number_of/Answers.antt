@@ -1,6 +1,5 @@
 -- Answers the goals of `number_of`.
-use Rattle.std.proofs.Common.{ℕ, ◌≡◌, ◌<◌, eqb, false, length, sym, ◌∙◌, arith, eqb-true, zero, suc}
-use Rattle.ckpt_lines.proofs.NumberLemmas.{Spells-all, Spells-empty, Spells-more, Spells-stops}
+use Rattle.ckpt_lines.proofs.{ℕ, ◌≡◌, ◌<◌, eqb, false, length, sym, ◌∙◌, arith, eqb-true, zero, suc, Spells-all, Spells-empty, Spells-more, Spells-stops}
 use Rattle.ckpt_lines.proofs.values.number_of.Goals as goal
 
 not_empty : (n : ℕ) → eqb n 0 ≡ false → 0 < n

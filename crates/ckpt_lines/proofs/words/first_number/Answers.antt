@@ -1,6 +1,5 @@
 -- Answers the goals of `first_number`.
-use Rattle.std.proofs.Common.{◌∙◌, ◌<◌, ◌≤◌, ◌+◌, ◌*◌, ◌^◌, sym, arith}
-use Rattle.ckpt_lines.proofs.FirstNumbers.{Reads-all, Short-fits, Short-more, Short-none}
+use Rattle.ckpt_lines.proofs.{◌∙◌, ◌<◌, ◌≤◌, ◌+◌, ◌*◌, ◌^◌, sym, arith, Reads-all, Short-fits, Short-more, Short-none}
 use Rattle.ckpt_lines.proofs.words.first_number.Goals as goal
 use Rattle.ckpt_lines.proofs.words.first_number.Goals.{then-length-text, else-length-text}
 
@@ -9,18 +8,16 @@ loop-length-init c = Short-none c.args.text.now
 
 pub overflow_add-number : goal.overflow_add-number
 overflow_add-number c =
-    let fits : c.loop-length.number * 10 + c.digit_of-digit.result < 2 ^ 64 = Short-fits c.args.text.now c.loop-length.length c.loop-length.number c.digit_of-digit.result (omega (arith, c.min-most.ensures)) c.loop-length.invariant (omega arith) in
-    omega (arith, fits)
+    let fits = Short-fits _ _ _ c.digit_of-digit.result (omega (arith, c.min-most.ensures)) c.loop-length.invariant (omega arith) in omega (arith, fits)
 
 pub overflow_mul-number : goal.overflow_mul-number
 overflow_mul-number c =
-    let fits : c.loop-length.number * 10 + c.digit_of-digit.result < 2 ^ 64 = Short-fits c.args.text.now c.loop-length.length c.loop-length.number c.digit_of-digit.result (omega (arith, c.min-most.ensures)) c.loop-length.invariant (omega arith) in
-    omega (arith, fits)
+    let fits = Short-fits _ _ _ c.digit_of-digit.result (omega (arith, c.min-most.ensures)) c.loop-length.invariant (omega arith) in omega (arith, fits)
 
 pub loop-length-preserved : goal.loop-length-preserved
 loop-length-preserved c =
     let digit : c.digit_of-digit.result ≤ 9 = omega arith in
-    Short-more c.args.text.now c.loop-length.length c.loop-length.number c.digit_of-digit.result (omega (arith, c.min-most.ensures)) (omega (arith, c.min-most.ensures)) c.loop-length.invariant digit (c.digit_of-digit.ensures digit)
+    Short-more _ _ _ _ (omega (arith, c.min-most.ensures)) (omega (arith, c.min-most.ensures)) c.loop-length.invariant digit (c.digit_of-digit.ensures digit)
 
 pub returns-then-text-length-eq32 : goal.returns-then-text-length-eq32
 returns-then-text-length-eq32 c = Reads-all c.args.text.now c.loop-length.length c.loop-length.number (omega arith) c.loop-length.invariant.reads (λ there. elim c.if-length-text.branch [

@@ -1,6 +1,5 @@
 -- The loop invariants of `first_number`.
-use Rattle.std.proofs.Common.{◌-◌}
-use Rattle.ckpt_lines.proofs.FirstNumbers.{Short}
+use Rattle.ckpt_lines.proofs.{◌-◌, Short}
 use Rattle.ckpt_lines.proofs.words.first_number.Given as goal
 
 abbrev pub invariant-loop-length : goal.invariant-loop-length

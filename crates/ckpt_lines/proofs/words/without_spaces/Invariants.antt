@@ -1,5 +1,5 @@
 -- The loop invariants of `without_spaces`.
-use Rattle.ckpt_lines.proofs.Names.{◌≡◌, length, words_of}
+use Rattle.ckpt_lines.proofs.{◌≡◌, length, words_of}
 use Rattle.ckpt_lines.proofs.words.without_spaces.Given as goal
 
 abbrev pub invariant-loop-rest : goal.invariant-loop-rest

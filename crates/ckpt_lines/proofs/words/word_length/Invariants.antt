@@ -1,5 +1,5 @@
 -- The loop invariants of `word_length`.
-use Rattle.ckpt_lines.proofs.Names.{◌≡◌, ◌+◌, length, first_length}
+use Rattle.ckpt_lines.proofs.{◌≡◌, ◌+◌, length, first_length}
 use Rattle.ckpt_lines.proofs.words.word_length.Given as goal
 
 abbrev pub invariant-loop-rest : goal.invariant-loop-rest

@@ -1,8 +1,5 @@
 -- Answers the goals of `compare`.
-use Rattle.std.proofs.Common.{rules, ap, ◌∙◌}
-use Rattle.ckpt_locked.specs.Turns.{Sat, base_of}
-use Rattle.ckpt_locked.specs.Locks.{Hand}
-use Rattle.ckpt_locked.proofs.Moves.{joins_as, compares_as}
+use Rattle.ckpt_locked.proofs.{Hand, Sat, ap, base_of, compares_as, joins_as, rules, ◌∙◌}
 use Rattle.ckpt_locked.proofs.lock.compare.Goals as goal
 
 pub join_seat-requires : goal.join_seat-requires

@@ -1,9 +1,5 @@
 -- Answers the goals of `compare_all`.
-use Rattle.std.proofs.Common.{◌≡◌, ◌++◌, [], ◌∷◌, List, subst, sym, ap, ◌∙◌, append_assoc, arith, All}
-use Rattle.std.proofs.lemmas.List.{nil_from_length}
-use Rattle.std.proofs.lemmas.List.Elements.{All-cons}
-use Rattle.ckpt_locked.specs.Locks.{Hand, SeenIn}
-use Rattle.ckpt_locked.specs.Turns.{Sat}
+use Rattle.ckpt_locked.proofs.{All, All-cons, Hand, List, Sat, SeenIn, [], ap, append_assoc, arith, nil_from_length, subst, sym, ◌++◌, ◌∙◌, ◌∷◌, ◌≡◌}
 use Rattle.ckpt_locked.proofs.lock.compare_all.Goals as goal
 
 pub loop-pass-preserved : goal.loop-pass-preserved

@@ -1,6 +1,5 @@
 -- The loop invariants of `compare_all`.
-use Rattle.std.proofs.Common.{◌≡◌, ◌++◌, List, vec_len, All}
-use Rattle.ckpt_locked.specs.Locks.{Hand, SeenIn}
+use Rattle.ckpt_locked.proofs.{All, Hand, List, SeenIn, vec_len, ◌++◌, ◌≡◌}
 use Rattle.ckpt_locked.proofs.lock.compare_all.Given as goal
 
 abbrev pub invariant-loop-pass : goal.invariant-loop-pass

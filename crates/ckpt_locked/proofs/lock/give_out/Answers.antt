@@ -1,7 +1,5 @@
 -- Answers the goals of `give_out`.
-use Rattle.std.proofs.Common.{ap, arith, length, List}
-use Rattle.ckpt_locked.specs.Locks.{Hand}
-use Rattle.ckpt_locked.proofs.LockCalls.{length-newcomers}
+use Rattle.ckpt_locked.proofs.{Hand, List, ap, arith, length, length-newcomers}
 use Rattle.ckpt_locked.proofs.lock.give_out.Goals as goal
 
 pub push_reserved-requires : goal.push_reserved-requires

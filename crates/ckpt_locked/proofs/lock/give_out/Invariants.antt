@@ -1,6 +1,5 @@
 -- The loop invariants of `give_out`.
-use Rattle.std.proofs.Common.{◌≡◌, vec_capacity}
-use Rattle.ckpt_locked.specs.Locks.{newcomers}
+use Rattle.ckpt_locked.proofs.{newcomers, vec_capacity, ◌≡◌}
 use Rattle.ckpt_locked.proofs.lock.give_out.Given as goal
 
 abbrev pub invariant-loop-number : goal.invariant-loop-number

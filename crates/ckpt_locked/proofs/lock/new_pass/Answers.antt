@@ -1,7 +1,5 @@
 -- Answers the goals of `new_pass`.
-use Rattle.std.proofs.Common.{rules}
-use Rattle.ckpt_locked.specs.Turns.{base_of}
-use Rattle.ckpt_locked.proofs.Moves.{splits_as}
+use Rattle.ckpt_locked.proofs.{base_of, rules, splits_as}
 use Rattle.ckpt_locked.proofs.lock.new_pass.Goals as goal
 
 pub split_seat-seat-requires : goal.split_seat-seat-requires

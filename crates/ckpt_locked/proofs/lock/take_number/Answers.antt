@@ -1,7 +1,5 @@
 -- Answers the goals of `take_number`.
-use Rattle.std.proofs.Common.{rules, ◌∙◌, refl}
-use Rattle.ckpt_locked.specs.Turns.{base_of}
-use Rattle.ckpt_locked.proofs.Moves.{numbers_as}
+use Rattle.ckpt_locked.proofs.{base_of, numbers_as, refl, rules, ◌∙◌}
 use Rattle.ckpt_locked.proofs.lock.take_number.Goals as goal
 
 pub compare_exchange-found-requires : goal.compare_exchange-found-requires

@@ -1,5 +1,5 @@
 -- The loop invariants of `take_number`.
-use Rattle.std.proofs.Common.{◌≡◌}
+use Rattle.ckpt_locked.proofs.{◌≡◌}
 use Rattle.ckpt_locked.proofs.lock.take_number.Given as goal
 
 abbrev pub invariant-loop : goal.invariant-loop

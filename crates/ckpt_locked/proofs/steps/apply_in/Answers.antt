@@ -1,5 +1,5 @@
 -- The check finds this answer by itself. Written here, it makes the check refuse a wrong body much sooner.
-use Rattle.std.proofs.Common.{arith}
+use Rattle.ckpt_locked.proofs.{arith}
 use Rattle.std.proofs.lemmas.Grind.{common_steps}
 use Rattle.ckpt_locked.proofs.steps.apply_in.Goals as goal
 

@@ -1,8 +1,6 @@
 -- Answers the goals of `ask`.
-use Rattle.std.proofs.Common.{Some}
+use Rattle.ckpt_locked.proofs.{Some, asked, held, kept, slot_is}
 use Rattle.std.proofs.lemmas.Result.{IfOk-weaker}
-use Rattle.ckpt_locked.specs.Turns.{kept}
-use Rattle.ckpt_locked.proofs.Moves.{held, slot_is, asked}
 use Rattle.ckpt_locked.proofs.steps.ask.Goals as goal
 
 pub slot_mut-requires : goal.slot_mut-requires

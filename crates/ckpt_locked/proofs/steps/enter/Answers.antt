@@ -1,7 +1,5 @@
 -- Answers the goals of `enter`.
-use Rattle.std.proofs.Common.{rules}
-use Rattle.ckpt_locked.specs.Turns.{base_of}
-use Rattle.ckpt_locked.proofs.Moves.{draws_as}
+use Rattle.ckpt_locked.proofs.{base_of, draws_as, rules}
 use Rattle.ckpt_locked.proofs.steps.enter.Goals as goal
 
 pub fetch_add-ticket-requires : goal.fetch_add-ticket-requires

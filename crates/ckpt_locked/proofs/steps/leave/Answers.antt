@@ -1,7 +1,5 @@
 -- Answers the goals of `leave`.
-use Rattle.std.proofs.Common.{rules, refl}
-use Rattle.ckpt_locked.specs.Turns.{base_of, kept}
-use Rattle.ckpt_locked.proofs.Moves.{passes_as}
+use Rattle.ckpt_locked.proofs.{base_of, kept, passes_as, refl, rules}
 use Rattle.ckpt_locked.proofs.steps.leave.Goals as goal
 
 pub fetch_add-requires : goal.fetch_add-requires

@@ -1,7 +1,5 @@
 -- Answers the goals of `rest`.
-use Rattle.std.proofs.Common.{rules, ◌∙◌}
-use Rattle.ckpt_locked.specs.Turns.{base_of}
-use Rattle.ckpt_locked.proofs.Keeps.{stirs}
+use Rattle.ckpt_locked.proofs.{base_of, rules, stirs, ◌∙◌}
 use Rattle.ckpt_locked.proofs.steps.rest.Goals as goal
 
 pub swap-requires : goal.swap-requires

@@ -1,7 +1,5 @@
 -- Answers the goals of `rouse`.
-use Rattle.std.proofs.Common.{rules, cond, ◌==◌}
-use Rattle.ckpt_locked.specs.Turns.{base_of}
-use Rattle.ckpt_locked.proofs.Keeps.{stirs}
+use Rattle.ckpt_locked.proofs.{base_of, cond, rules, stirs, ◌==◌}
 use Rattle.ckpt_locked.proofs.steps.rouse.Goals as goal
 
 pub compare_exchange-requires : goal.compare_exchange-requires

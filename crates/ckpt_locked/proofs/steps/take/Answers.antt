@@ -1,7 +1,5 @@
 -- Answers the goals of `take`.
-use Rattle.std.proofs.Common.{Some}
-use Rattle.ckpt_locked.specs.Turns.{kept}
-use Rattle.ckpt_locked.proofs.Moves.{held}
+use Rattle.ckpt_locked.proofs.{Some, held, kept}
 use Rattle.ckpt_locked.proofs.steps.take.Goals as goal
 
 pub exchange-requires : goal.exchange-requires

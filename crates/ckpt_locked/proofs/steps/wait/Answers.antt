@@ -1,7 +1,5 @@
 -- Answers the goals of `wait`.
-use Rattle.std.proofs.Common.{rules, ◌∙◌}
-use Rattle.ckpt_locked.specs.Turns.{base_of}
-use Rattle.ckpt_locked.proofs.Moves.{awaits_as}
+use Rattle.ckpt_locked.proofs.{awaits_as, base_of, rules, ◌∙◌}
 use Rattle.ckpt_locked.proofs.steps.wait.Goals as goal
 
 pub load-served-requires : goal.load-served-requires

@@ -1,5 +1,5 @@
 -- The loop invariants of `wait`.
-use Rattle.std.proofs.Common.{◌≡◌}
+use Rattle.ckpt_locked.proofs.{◌≡◌}
 use Rattle.ckpt_locked.proofs.steps.wait.Given as goal
 
 abbrev pub invariant-loop : goal.invariant-loop

@@ -9,4 +9,6 @@ use Rattle.serde_json.proofs.Views.{view-Object}
 pub returns-clause-value : goal.returns-clause-value
 unfolding named_data
 returns-clause-value c =
-    view-Object _ ∙ ap object (c.in_ok-put.ensures.ok ∙ ap (λ d. put (codes "names") d (members_view c.in_ok-object.object.entries)) c.in_ok-names_value.ensures ∙ ap (put (codes "names") (names_data (named_in c.args.image.now))) c.in_ok-object.ensures.value)
+    view-Object _ ∙ ap object
+    (c.in_ok-put.ensures.ok ∙ ap (λ d. put (codes "names") d (members_view c.in_ok-object.object.entries)) c.in_ok-names_value.ensures
+    ∙ ap (put (codes "names") (names_data (named_in c.args.image.now))) c.in_ok-object.ensures.value)

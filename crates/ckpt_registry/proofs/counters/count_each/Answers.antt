@@ -5,7 +5,8 @@ use Rattle.ckpt_registry.proofs.counters.count_each.Goals as goal
 pub overflow_add-count : goal.overflow_add-count
 overflow_add-count c =
     let had : c.unwrap_or-count.result ≡ counter c.loop-file.counts c.file-item.result = rw (c.unwrap_or-count.ensures, c.copied.ensures, c.get.ensures.value) in
-    let fits = next_fits c.args.counts.now c.loop-file.counts c.args.files.now c.loop-file.file-index c.file-item.result c.loop-file-test.true c.file-item.is c.loop-file.invariant.counted c.requires.fits in
+    let fits =
+    next_fits c.args.counts.now c.loop-file.counts c.args.files.now c.loop-file.file-index c.file-item.result c.loop-file-test.true c.file-item.is c.loop-file.invariant.counted c.requires.fits in
     let small : c.unwrap_or-count.result + 1 < 2 ^ 32 = omega (arith, had, fits) in
     search rules
 

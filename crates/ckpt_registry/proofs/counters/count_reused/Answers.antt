@@ -6,7 +6,8 @@ use Rattle.ckpt_registry.proofs.counters.count_reused.Goals.{in-Some, in_default
 pub overflow_add-count : goal.overflow_add-count
 overflow_add-count c =
     let had : c.in-Some.count.now ≡ counter c.loop-file.counts c.file-item.result = ap (λ (o : Option ℕ). unwrap_or o 0) c.in-Some.ensures.value in
-    let fits = next_fits c.args.counts.now c.loop-file.counts c.args.files.now c.loop-file.file-index c.file-item.result c.loop-file-test.true c.file-item.is c.loop-file.invariant.counted c.requires.fits in
+    let fits =
+    next_fits c.args.counts.now c.loop-file.counts c.args.files.now c.loop-file.file-index c.file-item.result c.loop-file-test.true c.file-item.is c.loop-file.invariant.counted c.requires.fits in
     let small : c.in-Some.count.now + 1 < 2 ^ 32 = omega (arith, had, fits) in
     search rules
 

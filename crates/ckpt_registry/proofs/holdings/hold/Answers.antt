@@ -1,7 +1,7 @@
 -- Answers the goals of `hold`.
 use Rattle.ckpt_registry.proofs.{Acknowledged, AreRising, BelongsAt, Bool, Extends, Extends-grown, Holding, IsIn, IsIn-append_left, IsIn-append_right, LiesAt, List, Part, Subtask, Use, [], ap}
-use Rattle.ckpt_registry.proofs.{apart_at, apart_from, append-nil, count_by, deque_with_item, drop, get_or, ltb, number, numbers_in_order, on_each_error, parts_in, refl, rising_insert, rising_same}
-use Rattle.ckpt_registry.proofs.{set_split, split_at, subst, suc, sym, take, take-append-drop, triples, uses-grown, uses-same, uses_by, uses_in, ℕ, ⊎_elim, ◌++◌, ◌+◌, ◌∙◌, ◌∷◌, ◌≡◌, ◌⊎◌}
+use Rattle.ckpt_registry.proofs.{apart_at, apart_from, append-nil, count_by, deque_with_item, drop, get_or, ltb, number, numbers_in_order, parts_in, refl, rising_insert, rising_same, set_split}
+use Rattle.ckpt_registry.proofs.{split_at, subst, suc, sym, take, take-append-drop, triples, uses-grown, uses_by, uses_in, ℕ, ⊎_elim, ◌++◌, ◌+◌, ◌∙◌, ◌∷◌, ◌≡◌, ◌⊎◌}
 use Rattle.ckpt_ids.proofs.OrderedLemmas.{only_one}
 use Rattle.ckpt_registry.proofs.holdings.hold.Goals as goal
 
@@ -38,25 +38,6 @@ module _ (m : Acknowledged) (id place : ℕ) (h : Holding) (v : List Part) (more
   pushed_uses : (p : Use → Bool) → count_by p (uses_in after.items) ≡ count_by p (uses_in m.items) + count_by p (uses_by id more)
   pushed_uses = uses-grown m after id (take place m.items) (h ∷ []) _ new more had has own all parts
 
-  pushed_same : more ≡ [] → uses_in after.items ≡ uses_in m.items
-  pushed_same = uses-same m after id (take place m.items) (h ∷ []) _ new more had has own all parts
-
-pub returns-in_err-push-in-Ok-clause-ordered : goal.returns-in_err-push-in-Ok-clause-ordered
-returns-in_err-push-in-Ok-clause-ordered c =
-    pushed_ordered c.args.acknowledged.now c.args.id c.in-Ok.place c.index_mut.result.now _ [] c.requires.ordered c.in-Ok.ensures.found c.index_mut.ensures.value
-    (rw append-nil c.in_err-push-in-Ok.ensures.err)
-
-pub returns-in_err-push-in-Ok-clause-extends : goal.returns-in_err-push-in-Ok-clause-extends
-returns-in_err-push-in-Ok-clause-extends c =
-    pushed_extends c.args.acknowledged.now c.args.id c.in-Ok.place c.index_mut.result.now _ [] c.requires.ordered c.in-Ok.ensures.found c.index_mut.ensures.value
-    (rw append-nil c.in_err-push-in-Ok.ensures.err)
-
-pub returns-in_err-push-in-Ok-clause-err : goal.returns-in_err-push-in-Ok-clause-err
-returns-in_err-push-in-Ok-clause-err c =
-    on_each_error c.from_residual.result _
-    (pushed_same c.args.acknowledged.now c.args.id c.in-Ok.place c.index_mut.result.now c.push.new.self [] c.requires.ordered c.in-Ok.ensures.found c.index_mut.ensures.value
-    (rw append-nil c.in_err-push-in-Ok.ensures.err) refl)
-
 pub returns-in_ok-push-in-Ok-clause-ordered : goal.returns-in_ok-push-in-Ok-clause-ordered
 returns-in_ok-push-in-Ok-clause-ordered c =
     pushed_ordered c.args.acknowledged.now c.args.id c.in-Ok.place c.index_mut.result.now _ _ c.requires.ordered c.in-Ok.ensures.found c.index_mut.ensures.value c.in_ok-push-in-Ok.ensures.ok
@@ -68,7 +49,7 @@ returns-in_ok-push-in-Ok-clause-extends c =
 pub returns-in_ok-push-in-Ok-clause-ok : goal.returns-in_ok-push-in-Ok-clause-ok
 returns-in_ok-push-in-Ok-clause-ok c = λ p.
     rw (← append-nil (triples c.args.id (Subtask c.args.subtask) (c.args.fresh.now ++ c.args.reused.now)))
-    (pushed_uses c.args.acknowledged.now c.args.id c.in-Ok.place c.index_mut.result.now c.push.new.self _ c.requires.ordered c.in-Ok.ensures.found c.index_mut.ensures.value c.in_ok-push-in-Ok.ensures.ok p)
+    (pushed_uses c.args.acknowledged.now c.args.id c.in-Ok.place c.index_mut.result.now _ _ c.requires.ordered c.in-Ok.ensures.found c.index_mut.ensures.value c.in_ok-push-in-Ok.ensures.ok p)
 
 -- a record that holds nothing gets its first part
 module _ (m n : Acknowledged) (place : ℕ) (new : Holding) (more : List Part) (belongs : BelongsAt ltb number new.id m.items place) (has : n.items ≡ take place m.items ++ new ∷ drop place m.items)

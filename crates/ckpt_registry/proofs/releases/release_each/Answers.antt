@@ -1,15 +1,16 @@
 -- Answers the goals of `release_each`.
-use Rattle.ckpt_registry.proofs.{ℕ, ◌<◌, length, sym, ap, ◌∙◌, uses_in, pins_in, AreReleased-then, without_more, without-none, pins_in-filter, AreCounted-unpinned, released, spare}
+use Rattle.ckpt_registry.proofs.{AreCounted-unpinned, AreReleased-then, ap, length, pins_in, pins_in-filter, sym, uses_in, without-none, without_more, ℕ, ◌<◌, ◌∙◌}
 use Rattle.ckpt_registry.proofs.releases.release_each.Goals as goal
 
 pub loop-owner-init : goal.loop-owner-init
 loop-owner-init c =
-    let m = c.args.acknowledged.now in
+    let was = c.args.uses.now in
     let e = c.unpin.ensures in
     record {
-      counted = AreCounted-unpinned m c.args.pinned.now.items c.unpin.new.pinned.items c.args.owners.now c.args.counts.now c.unpin.new.counts c.requires.counted e.kept e.lowered.lowered e.lowered.range;
-      uses = sym (without-none (uses_in m.items));
-      pins = ap (pins_in m) e.kept ∙ pins_in-filter m c.args.owners.now c.args.pinned.now.items;
+      counted = AreCounted-unpinned was.acknowledged was.pinned.items c.unpin.new.pinned.items c.args.owners.now was.counts c.unpin.new.counts c.requires.counted e.kept e.lowered.lowered
+          e.lowered.range;
+      uses = sym (without-none (uses_in was.acknowledged.items));
+      pins = ap (pins_in was.acknowledged) e.kept ∙ pins_in-filter was.acknowledged c.args.owners.now was.pinned.items;
       released = e.lowered.released;
       spare = c.requires.spare;
       no_files = e.no_files;
@@ -27,7 +28,7 @@ loop-owner-preserved c =
       counted = e.counted;
       uses = e.uses ∙ without_more owners i owner _ _ within c.owner-item.is before.uses;
       pins = e.pins ∙ before.pins;
-      released = AreReleased-then c.args.counts.now c.loop-owner.counts c.drop_uses.new.counts c.args.released.now c.loop-owner.released c.drop_uses.new.released before.released e.released;
+      released = AreReleased-then _ _ _ _ _ _ before.released e.released;
       spare = e.spare;
       no_files = before.no_files;
     }

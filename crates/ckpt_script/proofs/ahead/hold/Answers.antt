@@ -1,8 +1,5 @@
 -- Answers the goals of `hold`.
-use Rattle.std.proofs.Common.{◌≡◌, ℕ, ◌-◌, List, length, min, ◌∙◌, arith, cond}
-use Rattle.std.specs.Prelude.{Result, Ok, Err, OnOk, is_ok}
-use Rattle.ckpt_script.specs.Lines.{held}
-use Rattle.ckpt_script.proofs.LineLemmas.{take_room}
+use Rattle.ckpt_script.proofs.{◌≡◌, ℕ, ◌-◌, List, length, min, ◌∙◌, arith, cond, Result, Ok, Err, OnOk, is_ok, held, take_room}
 use Rattle.ckpt_script.proofs.ahead.hold.Goals as goal
 
 grown : {T E : Type 0} (r : Result T E) (after more before all : List ℕ) → after ≡ cond (is_ok r) more before → more ≡ all → OnOk r (after ≡ all)

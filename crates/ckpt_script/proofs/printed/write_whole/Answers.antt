@@ -1,8 +1,5 @@
 -- Answers the goals of `write_whole`.
-use Rattle.std.proofs.Common.{arith, drop, length-drop, refl, take, ◌∙◌}
-use Rattle.std.proofs.lemmas.List.{take-append-drop}
-use Rattle.ckpt_script.proofs.PassesLemmas.{Appends-trans, Appends-as, Appends-kept}
-use Rattle.ckpt_script.proofs.LineLemmas.{take_rest}
+use Rattle.ckpt_script.proofs.{arith, drop, length-drop, refl, ◌∙◌, take-append-drop, Appends-trans, Appends-as, Appends-kept, take_rest}
 use Rattle.ckpt_script.proofs.printed.write_whole.Goals as goal
 
 pub loop-done-preserved : goal.loop-done-preserved
@@ -15,12 +12,5 @@ loop-done-preserved g c = record {
 
 -- a write failed: the rest was not written
 pub returns-in-Err-clause-err : goal.returns-in-Err-clause-err
-returns-in-Err-clause-err g c = (
-  refl,
-  (
-    take c.loop-done.done c.args.bytes.now,
-    drop c.loop-done.done c.args.bytes.now,
-    Appends-kept _ _ _ _ c.loop-done.invariant.appended c.in-Err.ensures.bytes,
-    take-append-drop c.loop-done.done c.args.bytes.now,
-  ),
-)
+returns-in-Err-clause-err g c =
+    (refl, (_, drop c.loop-done.done c.args.bytes.now, Appends-kept _ _ _ _ c.loop-done.invariant.appended c.in-Err.ensures.bytes, take-append-drop c.loop-done.done c.args.bytes.now))

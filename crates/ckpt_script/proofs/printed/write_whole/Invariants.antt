@@ -1,6 +1,5 @@
 -- The loop invariants of `write_whole`.
-use Rattle.std.proofs.Common.{◌≡◌, length, ◌-◌, take, ◌≤◌}
-use Rattle.std.specs.Io.KnownBytes.{Appends}
+use Rattle.ckpt_script.proofs.{◌≡◌, length, ◌-◌, take, ◌≤◌, Appends}
 use Rattle.ckpt_script.proofs.printed.write_whole.Given as goal
 
 -- what was taken so far was appended

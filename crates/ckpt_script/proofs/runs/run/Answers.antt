@@ -1,5 +1,5 @@
 -- The check finds this answer by itself. Written here, it makes the check refuse a wrong body much sooner.
-use Rattle.std.proofs.Common.{rules}
+use Rattle.ckpt_script.proofs.{rules}
 use Rattle.ckpt_script.proofs.runs.run.Goals as goal
 
 pub returns : goal.returns

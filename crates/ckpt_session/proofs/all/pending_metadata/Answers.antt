@@ -1,12 +1,5 @@
 -- Answers the goals of `pending_metadata`.
-use Rattle.std.proofs.Common.{ap, ◌∙◌}
-use Rattle.ckpt_ids.specs.declared.call.Call.TheVariants.{Show}
-use Rattle.ckpt_locked.specs.declared.limits.TheConstants.{MOST_SEATS}
-use Rattle.ckpt_locked.specs.Books.{state_of_book}
-use Rattle.ckpt_session.specs.AllLines.{shown_pending}
-use Rattle.ckpt_session.proofs.BookLemmas.{state_of_book-entered, answer_to-step}
-use Rattle.ckpt_session.proofs.SeatingLemmas.{asks_once}
-use Rattle.ckpt_session.proofs.ShownLemmas.{shown_state, shown_is}
+use Rattle.ckpt_session.proofs.{ap, ◌∙◌, Show, MOST_SEATS, state_of_book, shown_pending, state_of_book-entered, answer_to-step, asks_once, shown_state, shown_is}
 use Rattle.ckpt_session.proofs.all.pending_metadata.Goals as goal
 
 pub returns-in-Ok-clause-state : goal.returns-in-Ok-clause-state

@@ -1,6 +1,5 @@
 -- Answers the goals of `recall_sound`.
-use Rattle.std.proofs.Common.{subst}
-use Rattle.ckpt_model.specs.Soundness.{IsSound}
+use Rattle.ckpt_session.proofs.{subst, IsSound}
 use Rattle.ckpt_session.proofs.all.recall_sound.Goals as goal
 
 pub returns : goal.returns

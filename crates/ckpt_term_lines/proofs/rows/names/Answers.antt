@@ -21,11 +21,16 @@ pub returns-in_err-name : goal.returns-in_err-name
 returns-in_err-name c =
     let p = err_from_is_err_and c.from_residual.result c.from_residual.ensures.1 in
     let why : number c.in-Some.word.now ≡ Err c.in_err-name.field-0.0 = ap (λ n. ok_or n fault.Number) (sym c.number_of.ensures) ∙ sym c.ok_or.ensures.value ∙ c.in_err-name.was in
-    rw (p.1, p.2) (λ _. names_fail c.args.words.now c.in_err-name.field-0.0 (fails number c.loop-word.list.items c.loop-word.words c.in-Some.word.now c.next.new.self c.in_err-name.field-0.0 (each number c.args.words.now) c.in-Some.ensures.steps why c.loop-word.invariant))
+    rw (p.1, p.2) (λ _. names_fail c.args.words.now c.in_err-name.field-0.0
+    (fails number c.loop-word.list.items c.loop-word.words c.in-Some.word.now c.next.new.self c.in_err-name.field-0.0 (each number c.args.words.now) c.in-Some.ensures.steps why c.loop-word.invariant))
 
 pub loop-word-preserved : goal.loop-word-preserved
 loop-word-preserved c =
-    rw c.in_ok-push.ensures.items (goes_on number c.loop-word.list.items c.loop-word.words c.in-Some.word.now c.next.new.self c.in_ok-name.name (each number c.args.words.now) c.in-Some.ensures.steps (ap (λ n. ok_or n fault.Number) (sym c.number_of.ensures) ∙ sym c.ok_or.ensures.value ∙ c.in_ok-name.was) c.loop-word.invariant)
+    rw c.in_ok-push.ensures.items
+    (goes_on number c.loop-word.list.items c.loop-word.words c.in-Some.word.now c.next.new.self c.in_ok-name.name (each number c.args.words.now) c.in-Some.ensures.steps
+    (ap (λ n. ok_or n fault.Number) (sym c.number_of.ensures) ∙ sym c.ok_or.ensures.value ∙ c.in_ok-name.was) c.loop-word.invariant)
 
 pub returns : goal.returns
-returns c = let h = c.in_default in rw c.of.ensures (names_are c.args.words.now c.loop-word.list.items (is_done number c.loop-word.list.items c.loop-word.words (each number c.args.words.now) c.in_default.ensures.steps.0 c.loop-word.invariant))
+returns c = let h = c.in_default in
+    rw c.of.ensures (names_are c.args.words.now c.loop-word.list.items
+    (is_done number c.loop-word.list.items c.loop-word.words (each number c.args.words.now) c.in_default.ensures.steps.0 c.loop-word.invariant))

@@ -14,7 +14,8 @@ loop-span-preserved c = more_counted c.args.ranges.now c.loop-span.span-index c.
 pub returns-then-span-last-clause-none : goal.returns-then-span-last-clause-none
 returns-then-span-last-clause-none c = λ _ a below.
     let xs : List Span = c.args.ranges.now in
-    let b : c.loop-span.last ≤ (get_or xs c.loop-span.span-index (span 0 0)).from = is_behind xs c.loop-span.span-index c.loop-span.last c.loop-span.held (span 0 0) c.loop-span-test.true c.loop-span.invariant a in
+    let b : c.loop-span.last ≤ (get_or xs c.loop-span.span-index (span 0 0)).from =
+    is_behind xs c.loop-span.span-index c.loop-span.last c.loop-span.held (span 0 0) c.loop-span-test.true c.loop-span.invariant a in
     omega arith
 
 pub returns-then-span-clause-none : goal.returns-then-span-clause-none
@@ -28,4 +29,5 @@ pub returns-then-last-end-clause-some : goal.returns-then-last-end-clause-some
 returns-then-last-end-clause-some c = all_counted c.args.ranges.now c.loop-span.span-index c.loop-span.last c.loop-span.held c.args.end c.loop-span-test.false c.loop-span.invariant (omega arith)
 
 pub returns-else-last-end-clause-none : goal.returns-else-last-end-clause-none
-returns-else-last-end-clause-none c = λ _ a below. ends_within c.args.ranges.now c.loop-span.span-index c.loop-span.last c.loop-span.held c.args.end c.loop-span-test.false c.loop-span.invariant below (omega arith)
+returns-else-last-end-clause-none c =
+    λ _ a below. ends_within c.args.ranges.now c.loop-span.span-index c.loop-span.last c.loop-span.held c.args.end c.loop-span-test.false c.loop-span.invariant below (omega arith)

@@ -39,4 +39,5 @@ returns-then-files_are_spent-clause-fenced c = λ sound.
     }) sound
 
 pub returns-else-files_are_spent-clause-none : goal.returns-else-files_are_spent-clause-none
-returns-else-files_are_spent-clause-none c = λ _ can. both_ways c.files_are_spent.result c.if-files_are_spent.false (c.files_are_spent.ensures ∙ same_files c.args.image.now ∙ fenced_tested (fenced_in c.args.image.now) can.state.fenced)
+returns-else-files_are_spent-clause-none c =
+    λ _ can. both_ways c.files_are_spent.result c.if-files_are_spent.false (c.files_are_spent.ensures ∙ same_files c.args.image.now ∙ fenced_tested (fenced_in c.args.image.now) can.state.fenced)

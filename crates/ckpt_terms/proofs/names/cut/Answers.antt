@@ -35,7 +35,8 @@ pub returns-in-false-true-clause-room : goal.returns-in-false-true-clause-room
 returns-in-false-true-clause-room c = let k = (returns-in-false-true-clause-cut c).count in omega arith
 
 pub returns-in-false-false-clause-cut : goal.returns-in-false-false-clause-cut
-returns-in-false-false-clause-cut c = removed c.args.spans.now.items c.remove.new.self.items c.args.place c.args.name c.args.span c.requires.at c.requires.ranges c.in-false-false.is-0 c.in-false-false.is-1 c.remove.ensures.items
+returns-in-false-false-clause-cut c =
+    removed c.args.spans.now.items c.remove.new.self.items c.args.place c.args.name c.args.span c.requires.at c.requires.ranges c.in-false-false.is-0 c.in-false-false.is-1 c.remove.ensures.items
 
 pub returns-in-false-false-clause-room : goal.returns-in-false-false-clause-room
 returns-in-false-false-clause-room c = let k = (returns-in-false-false-clause-cut c).count in omega arith

@@ -14,7 +14,8 @@ returns-then-place-spans-clause-none c _ =
     let d : Span = span 0 0 in
     let name : ℕ = c.args.name in
     let i : ℕ = c.partition_point-place.result in
-    let point = c.partition_point-place.ensures.partitioned (λ (s : Span). leb s.to name) (always_returns_same _ _ _ (λ a r f k. search (rules, of_calls))) (IsPartitionedBy-leb (λ (s : Span). s.to) xs name (ends_rise xs c.requires)) in
+    let point = c.partition_point-place.ensures.partitioned (λ (s : Span). leb s.to name) (always_returns_same _ _ _ (λ a r f k. search (rules, of_calls)))
+    (IsPartitionedBy-leb (λ (s : Span). s.to) xs name (ends_rise xs c.requires)) in
     none_has xs i name d c.requires
     (λ k l. leb-true (get_or xs k d).to name (point.0 k d (omega arith) l))
     (λ l. absurd (omega arith))
@@ -28,7 +29,8 @@ returns-else-has-clause-none c _ =
     let d : Span = span 0 0 in
     let name : ℕ = c.args.name in
     let i : ℕ = c.partition_point-place.result in
-    let point = c.partition_point-place.ensures.partitioned (λ (s : Span). leb s.to name) (always_returns_same _ _ _ (λ a r f k. search (rules, of_calls))) (IsPartitionedBy-leb (λ (s : Span). s.to) xs name (ends_rise xs c.requires)) in
+    let point = c.partition_point-place.ensures.partitioned (λ (s : Span). leb s.to name) (always_returns_same _ _ _ (λ a r f k. search (rules, of_calls)))
+    (IsPartitionedBy-leb (λ (s : Span). s.to) xs name (ends_rise xs c.requires)) in
     none_has xs i name d c.requires
     (λ k l. leb-true (get_or xs k d).to name (point.0 k d (omega arith) l))
     (λ l. (leb-false (get_or xs i d).to name (point.1 i d (omega arith) l), sym c.has.ensures ∙ c.if-has.false))

@@ -12,6 +12,8 @@ returns-then-any_from c = elim c.if-any_used_from.branch [
 
 pub returns-else-any_from : goal.returns-else-any_from
 returns-else-any_from c = elim c.if-any_used_from.branch [
-  | then-any_used_from w ↦ grind (arith, in_image c.args.image.now c.args.first, w, c.if-any_from.false, c.any_used_from.ensures, c.deref.ensures, c.any_from-else-any_from.ensures, c.as_slice-else-any_from.ensures)
-  | else-any_used_from w ↦ grind (arith, in_image c.args.image.now c.args.first, w, c.if-any_from.false, c.any_used_from.ensures, c.deref.ensures, c.any_from-else-any_from.ensures, c.as_slice-else-any_from.ensures)
+  | then-any_used_from w ↦ grind
+      (arith, in_image c.args.image.now c.args.first, w, c.if-any_from.false, c.any_used_from.ensures, c.deref.ensures, c.any_from-else-any_from.ensures, c.as_slice-else-any_from.ensures)
+  | else-any_used_from w ↦ grind
+      (arith, in_image c.args.image.now c.args.first, w, c.if-any_from.false, c.any_used_from.ensures, c.deref.ensures, c.any_from-else-any_from.ensures, c.as_slice-else-any_from.ensures)
 ]

@@ -1,12 +1,7 @@
 -- Answers the goals of `work_on_each`.
-use denote.Param.Send.{sendable}
-use denote.Param.Members.{Shared}
-use Rattle.std.proofs.Common.{ℕ, ◌<◌, List, length, get_or, sym, subst, rules}
-use Rattle.std.proofs.Crossing.{crosses}
-use Rattle.std.specs.Prelude.{Result, Ok, Err, IfOk}
+use Rattle.ckpt_workers.proofs.{CallsOn, Err, IfOk, List, Ok, Result, crosses, get_or, length, pass_send, rules, sendable, subst, sym, ℕ, ◌<◌}
 use Rattle.std.specs.Fork.{GivesJob, GivesJobs}
-use Rattle.ckpt_locked.proofs.Crossings.{pass_send}
-use Rattle.ckpt_workers.specs.Shifts.{CallsOn}
+use denote.Param.Members.{Shared}
 use Rattle.ckpt_workers.proofs.each_pass.work_on_each.Goals as goal
 
 pub map_vec-requires-send-J : goal.map_vec-requires-send-J

@@ -1,6 +1,5 @@
 -- The loop invariants of `all_of`.
-use Rattle.std.proofs.Common.{◌≡◌}
-use Rattle.std.specs.Prelude.{map, Ok}
+use Rattle.ckpt_workers.proofs.{Ok, map, ◌≡◌}
 use Rattle.ckpt_workers.proofs.shares.all_of.Given as goal
 
 abbrev pub invariant-loop-outcome : goal.invariant-loop-outcome

@@ -1,7 +1,5 @@
 -- Answers the goals of `spread`.
-use Rattle.std.proofs.Common.{length}
-use Rattle.ckpt_workers.specs.Spreads.{IsWorked}
-use Rattle.ckpt_workers.proofs.ShareLemmas.{each_report}
+use Rattle.ckpt_workers.proofs.{IsWorked, each_report, length}
 use Rattle.ckpt_workers.proofs.shares.spread.Goals as goal
 
 pub returns-clause-each : goal.returns-clause-each

@@ -1,8 +1,5 @@
 -- Answers the goals of `work`.
-use Rattle.std.proofs.Common.{[], ◌∷◌, ◌++◌, ap, ◌∙◌, sym}
-use Rattle.std.proofs.lemmas.List.{map-append}
-use Rattle.ckpt_workers.specs.Shifts.{Exchange}
-use Rattle.ckpt_workers.proofs.ShiftLemmas.{IsShift-push}
+use Rattle.ckpt_workers.proofs.{Exchange, IsShift-push, [], ap, map-append, sym, ◌++◌, ◌∙◌, ◌∷◌}
 use Rattle.ckpt_workers.proofs.shares.work.Goals as goal
 
 pub loop-call-preserved : goal.loop-call-preserved

@@ -1,8 +1,6 @@
 -- The loop invariants of `work`.
-use Rattle.std.proofs.Common.{◌≡◌}
-use Rattle.ckpt_workers.specs.Shifts.{Exchange, IsShift, answers_in, calls_in}
+use Rattle.ckpt_workers.proofs.{Exchange, IsShift, List, answers_in, calls_in, ◌≡◌}
 use Rattle.ckpt_workers.proofs.shares.work.Given as goal
-use Rattle.std.proofs.Common.{List}
 
 abbrev pub invariant-loop-call : goal.invariant-loop-call
 invariant-loop-call g l =

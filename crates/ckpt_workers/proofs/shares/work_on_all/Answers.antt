@@ -1,7 +1,5 @@
 -- Answers the goals of `work_on_all`.
-use denote.Param.Send.{sendable}
-use Rattle.std.proofs.Crossing.{crosses}
-use Rattle.ckpt_workers.proofs.Crossings.{report_send, share_send}
+use Rattle.ckpt_workers.proofs.{crosses, report_send, sendable, share_send}
 use Rattle.ckpt_workers.proofs.shares.work_on_all.Goals as goal
 
 pub map_vec-requires-send-J : goal.map_vec-requires-send-J

@@ -1,5 +1,5 @@
 -- The loop invariants of `task_worker`.
-use Rattle.ckpt_workers.specs.Tasks.{IsTasked}
+use Rattle.ckpt_workers.proofs.{IsTasked}
 use Rattle.ckpt_workers.proofs.task.task_worker.Given as goal
 
 abbrev pub invariant-loop : goal.invariant-loop

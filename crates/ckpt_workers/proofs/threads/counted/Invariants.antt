@@ -1,6 +1,5 @@
 -- The loop invariants of `counted`.
-use Rattle.std.proofs.Common.{map}
-use Rattle.ckpt_workers.proofs.ThreadLemmas.{IsCounting}
+use Rattle.ckpt_workers.proofs.{IsCounting, map}
 use Rattle.ckpt_workers.proofs.threads.counted.Given as goal
 
 abbrev pub invariant-loop-place : goal.invariant-loop-place

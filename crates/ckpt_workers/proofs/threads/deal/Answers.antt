@@ -1,10 +1,6 @@
 -- Answers the goals of `deal`.
-use Rattle.std.proofs.Common.{◌≡◌, ◌%◌, ◌<◌, [], ◌∷◌, length, map, refl, ap, ◌∙◌, arith, length-append}
+use Rattle.ckpt_workers.proofs.{All-map, IsDeal-given, IsDeal-none, Share, [], ap, arith, length, length-append, length-map, map, refl, ◌%◌, ◌<◌, ◌∙◌, ◌∷◌, ◌≡◌}
 use Rattle.std.proofs.Math.Seq.{map-set_same}
-use Rattle.std.proofs.lemmas.List.{length-map}
-use Rattle.std.proofs.lemmas.List.Elements.{All-map}
-use Rattle.ckpt_workers.specs.declared.shares.Share.{Share}
-use Rattle.ckpt_workers.proofs.DealLemmas.{IsDeal-given, IsDeal-none}
 use Rattle.ckpt_workers.proofs.threads.deal.Goals as goal
 
 pub loop-call-init : goal.loop-call-init
@@ -33,5 +29,6 @@ loop-call-preserved c =
       tt,
       omega (arith, at, length-append c.loop-call.yielded (c.in-Some.call ∷ [])),
       map-set_same (λ (s : Share). s.pass) shares (c.loop-call.place % c.len.result) new old (given.pass ∙ ap (λ (s : Share). s.pass) c.index_mut.ensures.value) ∙ passes,
-      IsDeal-given (λ (s : Share). s.calls.items) shares c.loop-call.place c.len.result c.loop-call.yielded c.in-Some.call old new (omega arith) counts at c.index_mut.ensures.value given.calls c.loop-call.invariant.4,
+      IsDeal-given (λ (s : Share). s.calls.items) shares c.loop-call.place c.len.result c.loop-call.yielded c.in-Some.call old new (omega arith) counts at c.index_mut.ensures.value given.calls
+          c.loop-call.invariant.4,
     )

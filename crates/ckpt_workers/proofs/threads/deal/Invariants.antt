@@ -1,6 +1,5 @@
 -- The loop invariants of `deal`.
-use Rattle.std.proofs.Common.{◌≡◌, length, map}
-use Rattle.ckpt_workers.specs.Deals.{IsDeal}
+use Rattle.ckpt_workers.proofs.{IsDeal, length, map, ◌≡◌}
 use Rattle.ckpt_workers.proofs.threads.deal.Given as goal
 
 abbrev pub invariant-loop-call : goal.invariant-loop-call

@@ -1,5 +1,5 @@
 -- The loop invariants of `parted`.
-use Rattle.std.proofs.Common.{◌≡◌, map}
+use Rattle.ckpt_workers.proofs.{map, ◌≡◌}
 use Rattle.ckpt_workers.proofs.threads.parted.Given as goal
 
 abbrev pub invariant-loop-report : goal.invariant-loop-report

@@ -1,5 +1,5 @@
 -- The loop invariants of `without_calls`.
-use Rattle.std.proofs.Common.{◌≡◌, [], map, All}
+use Rattle.ckpt_workers.proofs.{All, [], map, ◌≡◌}
 use Rattle.ckpt_workers.proofs.threads.without_calls.Given as goal
 
 abbrev pub invariant-loop-pass : goal.invariant-loop-pass

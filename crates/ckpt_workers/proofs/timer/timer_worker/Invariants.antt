@@ -1,5 +1,5 @@
 -- The loop invariants of `timer_worker`.
-use Rattle.ckpt_workers.specs.Timers.{IsTimed}
+use Rattle.ckpt_workers.proofs.{IsTimed}
 use Rattle.ckpt_workers.proofs.timer.timer_worker.Given as goal
 
 abbrev pub invariant-loop-now : goal.invariant-loop-now

@@ -30,5 +30,6 @@ spread-requires-clause-passes g c κs within = two_are _ c.in_ok-shares.shares.i
 
 pub returns : goal.returns
 returns g c =
-    told_are (λ v. v.items) vec_len (g.G.Gate.lock c.args.gate.now) c.in_ok-shares.shares.items (vec_len c.in_ok-shares.shares) c.spread.result (λ v. omega (arith, v.ok)) (omega (arith, c.in_ok-shares.shares.ok))
+    told_are (λ v. v.items) vec_len (g.G.Gate.lock c.args.gate.now) c.in_ok-shares.shares.items (vec_len c.in_ok-shares.shares) c.spread.result (λ v. omega (arith, v.ok))
+    (omega (arith, c.in_ok-shares.shares.ok))
     (two_are _ c.in_ok-shares.shares.items c.args.first c.args.second c.in_ok-shares.ensures c.requires.first c.requires.second) c.spread.ensures.count c.spread.ensures.each

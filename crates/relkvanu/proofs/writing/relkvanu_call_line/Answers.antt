@@ -1,10 +1,11 @@
 -- Answers the goals of `relkvanu_call_line`.
-use Rattle.std.proofs.Common.{rules}
+use Rattle.std.proofs.Common.{List, ℕ, take, rules}
 use Rattle.relkvanu.specs.Writing.{ReadsBack, given}
 use Rattle.relkvanu.proofs.SayingLemmas.{says_back}
 use Rattle.relkvanu.proofs.writing.relkvanu_call_line.Goals as goal
 
 pub returns-in-Ok-text_of-clause-said : goal.returns-in-Ok-text_of-clause-said
 returns-in-Ok-text_of-clause-said c =
-    let reads : ReadsBack (given c.args.call.now c.args.first.now c.args.second.now) c.write_text.new.line c.write_text.result = search rules in
-    says_back (given c.args.call.now c.args.first.now c.args.second.now) c.write_text.new.line c.write_text.result reads
+    let line : List ℕ = take c.write_text.result.a c.write_text.new.line in
+    let reads : ReadsBack (given c.args.call.now c.args.first.now c.args.second.now) line c.write_text.result = search rules in
+    says_back (given c.args.call.now c.args.first.now c.args.second.now) line c.write_text.result reads

@@ -3,9 +3,8 @@ use Rattle.ckpt_core.proofs.{◌≡◌, sym, ap, subst, ◌∙◌, Some, Result,
 use Rattle.ckpt_core.proofs.{Refused, Parts, Answers, state_of, refusal, State, sound_after, NamesRefusal, accepted_done, names_it, names_none}
 use Rattle.ckpt_core.proofs.coordinator.Core.apply.Goals as goal
 
-report_names : (made : Result Reply Refusal) (result : Result Reply CoreFault) (p q : Parts) (call same : Call) → call ≡ same
-    → MatchResult made (λ reply. result ≡ Ok reply) (λ why. IsErrAnd result (λ fault. fault ≡ Refused why)) → IfOk made (Answers p q same) → IfErr made (λ why. refusal (state_of p) same ≡ Some why)
-    → NamesRefusal result (state_of p) call
+report_names : (made : Result Reply Refusal) (result : Result Reply CoreFault) (p q : Parts) (call same : Call) → call ≡ same → MatchResult made (λ reply. result ≡ Ok reply)
+    (λ why. IsErrAnd result (λ fault. fault ≡ Refused why)) → IfOk made (Answers p q same) → IfErr made (λ why. refusal (state_of p) same ≡ Some why) → NamesRefusal result (state_of p) call
 report_names (Ok reply) result p q call same e is ok err =
     let Named : Result Reply CoreFault → Type 0 = λ r. NamesRefusal r (state_of p) same in
     subst (NamesRefusal result (state_of p)) (sym e) (subst Named (sym is) (names_none (state_of p) same (Ok reply) tt (accepted_done (state_of p) (state_of q) same reply ok.step_is)))
@@ -15,14 +14,13 @@ report_names (Err refused) result p q call same e is ok err =
 
 pub returns-in-Deleted-clause-refused : goal.returns-in-Deleted-clause-refused
 returns-in-Deleted-clause-refused c =
-    subst (λ (before : State). NamesRefusal c.map_err.result before c.args.call.now) c.self.view_is
-    (report_names c.deleted.result c.map_err.result c.self.inside.parts c.deleted.new.self c.args.call.now (Deleted c.in-Deleted.file) c.in-Deleted.is c.map_err.ensures.cases c.deleted.ensures.ok c.deleted.ensures.refused)
+    subst (λ (before : State). NamesRefusal c.map_err.result before c.args.call.now) c.self.view_is (report_names c.deleted.result c.map_err.result c.self.inside.parts c.deleted.new.self
+    c.args.call.now (Deleted c.in-Deleted.file) c.in-Deleted.is c.map_err.ensures.cases c.deleted.ensures.ok c.deleted.ensures.refused)
 
 pub returns-in-Undeleted-clause-refused : goal.returns-in-Undeleted-clause-refused
 returns-in-Undeleted-clause-refused c =
-    let result : Result Reply CoreFault = c.map_err-in-Undeleted.result in
-    subst (λ (before : State). NamesRefusal result before c.args.call.now) c.self.view_is
-    (report_names c.undeleted.result result c.self.inside.parts c.undeleted.new.self c.args.call.now (Undeleted c.in-Undeleted.file) c.in-Undeleted.is c.map_err-in-Undeleted.ensures.cases c.undeleted.ensures.ok c.undeleted.ensures.refused)
+    subst (λ (before : State). NamesRefusal c.map_err-in-Undeleted.result before c.args.call.now) c.self.view_is (report_names c.undeleted.result c.map_err-in-Undeleted.result c.self.inside.parts
+    c.undeleted.new.self c.args.call.now (Undeleted c.in-Undeleted.file) c.in-Undeleted.is c.map_err-in-Undeleted.ensures.cases c.undeleted.ensures.ok c.undeleted.ensures.refused)
 
 pub returns-in-Dispose-clause-refused : goal.returns-in-Dispose-clause-refused
 returns-in-Dispose-clause-refused c =
@@ -41,7 +39,8 @@ pub invariant_of-self-in-Deleted : goal.invariant_of-self-in-Deleted
 invariant_of-self-in-Deleted c = sound_after c.self.inside.parts c.deleted.new.self (Deleted c.in-Deleted.file) c.deleted.result tt c.self.invariant c.deleted.ensures.ok c.deleted.ensures.err
 
 pub invariant_of-self-in-Undeleted : goal.invariant_of-self-in-Undeleted
-invariant_of-self-in-Undeleted c = sound_after c.self.inside.parts c.undeleted.new.self (Undeleted c.in-Undeleted.file) c.undeleted.result tt c.self.invariant c.undeleted.ensures.ok c.undeleted.ensures.err
+invariant_of-self-in-Undeleted c =
+    sound_after c.self.inside.parts c.undeleted.new.self (Undeleted c.in-Undeleted.file) c.undeleted.result tt c.self.invariant c.undeleted.ensures.ok c.undeleted.ensures.err
 
 pub invariant_of-self-in_default : goal.invariant_of-self-in_default
 invariant_of-self-in_default c = sound_after c.self.inside.parts c.answer.new.self c.args.call.now c.answer.result c.recall_call.ensures c.self.invariant c.answer.ensures.ok c.answer.ensures.err

@@ -10,7 +10,7 @@ pub take_ack-requires-clause-place : goal.take_ack-requires-clause-place
 take_ack-requires-clause-place c = subst (λ (p : Parts). LiesAt id_of c.args.id p.pending c.args.place) (sym c.in_ok-make_room_for_files.ensures.ok) c.requires.place
 
 pub take_ack-requires-clause-accepted : goal.take_ack-requires-clause-accepted
-take_ack-requires-clause-accepted c = roomier_accepted c.args.now c.args.id c.args.subtask c.args.fresh.now c.args.reused.now (made_room c.args.self.now c.make_room_for_files.new.self c.len.result c.in_ok-make_room_for_files.ensures.ok) c.requires.accepted
+take_ack-requires-clause-accepted c = roomier_accepted _ _ _ _ _ (made_room c.args.self.now c.make_room_for_files.new.self c.len.result c.in_ok-make_room_for_files.ensures.ok) c.requires.accepted
 
 pub returns-in_err-take_ack-clause-err : goal.returns-in_err-take_ack-clause-err
 returns-in_err-take_ack-clause-err c =
@@ -19,10 +19,8 @@ returns-in_err-take_ack-clause-err c =
 
 pub returns-clause-ok : goal.returns-clause-ok
 returns-clause-ok c =
-    let p = c.args.self.now in
-    let q = c.make_room_for_files.new.self in
-    let e = c.in_ok-make_room_for_files.ensures.ok in
-    let roomier = made_room p q c.len.result e in
-    let t = c.in_ok-take_ack.ensures in
-    let room : present_in q.registry + length c.args.fresh.now ≤ q.outbox.spare = omega (arith, room_made p q c.len.result e, c.len.ensures) in
-    waiting_answers c.take_ack.new.self c.args.missing roomier (taking_from c.args.now c.args.subtask c.args.fresh.now c.args.reused.now roomier c.requires.sound c.requires.accepted t.pending t.in_order t.stored c.requires.waiting) room c.requires.waiting.counted c.requires.others t.ok
+    let roomier = made_room c.args.self.now c.make_room_for_files.new.self c.len.result c.in_ok-make_room_for_files.ensures.ok in
+    let room : present_in c.make_room_for_files.new.self.registry + length c.args.fresh.now ≤ c.make_room_for_files.new.self.outbox.spare =
+    omega (arith, room_made c.args.self.now c.make_room_for_files.new.self c.len.result c.in_ok-make_room_for_files.ensures.ok, c.len.ensures) in
+    waiting_answers c.take_ack.new.self c.args.missing roomier (taking_from _ _ _ _ roomier c.requires.sound c.requires.accepted c.in_ok-take_ack.ensures.pending c.in_ok-take_ack.ensures.in_order
+    c.in_ok-take_ack.ensures.stored c.requires.waiting) room c.requires.waiting.counted c.requires.others c.in_ok-take_ack.ensures.ok

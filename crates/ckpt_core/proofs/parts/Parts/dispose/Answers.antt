@@ -1,12 +1,10 @@
 -- A savepoint that is there and not the base is let go; the table refuses the other disposals.
-use Rattle.ckpt_core.proofs.{◌≡◌, ℕ, ◌++◌, ◌∷◌, [], true, false, eqb, refl, ap, ◌∙◌, arith, Option, Some, None, Result, Ok, Err, eqb-true, eq-eqb, true_from_ne_false, false_from_ne_true, Dispose}
 use Rattle.ckpt_core.proofs.{Disposed, DisposeFault, has_savepoint, Drops, is_number, refusal, done_savepoint-parts, names_it, names_none, refusal_dispose, none_known, room_to_note, savepoint_dropped}
-use Rattle.ckpt_core.proofs.{one_there, disposed_answers}
-use Rattle.ckpt_core.proofs.Names.{state_of}
+use Rattle.ckpt_core.proofs.{one_there, disposed_answers, Names.state_of, parts.Parts.dispose.Goals.In-Ok, parts.Parts.dispose.Goals.After-hand_out}
+use Rattle.ckpt_core.proofs.{◌≡◌, ℕ, ◌++◌, ◌∷◌, [], true, false, eqb, refl, ap, ◌∙◌, arith, Option, Some, None, Result, Ok, Err, eqb-true, eq-eqb, true_from_ne_false, false_from_ne_true, Dispose}
 use Rattle.ckpt_store.specs.declared.store.DisposeFault.TheVariants.{NoSuchSavepoint, InUse}
 use Rattle.ckpt_ids.specs.declared.reply.Refusal.TheVariants as refusals
 use Rattle.ckpt_core.proofs.parts.Parts.dispose.Goals as goal
-use Rattle.ckpt_core.proofs.parts.Parts.dispose.Goals.{In-Ok, After-hand_out}
 
 not_both : {T : Type 0} (r : Result T DisposeFault) (u : T) (fault : DisposeFault) → r ≡ Ok u → r ≡ Err fault → ⊥
 not_both (Ok v) u fault e h = cc
@@ -25,9 +23,7 @@ free c =
     false_from_ne_true (is_number base c.args.id) (λ e. not_both c.dispose.result _ InUse c.in-Ok.is (c.dispose.ensures.in_use.1 (there c, base_is base c.args.id e)))
 
 pub push_reserved-requires : goal.push_reserved-requires
-push_reserved-requires c =
-    let p = c.args.self.now in
-    omega (arith, room_to_note p 1 c.requires (omega (arith, one_there p c.args.id (there (goal.at.push_reserved-requires c).In-Ok))))
+push_reserved-requires c = let p = c.args.self.now in omega (arith, room_to_note p 1 c.requires (omega (arith, one_there p c.args.id (there (goal.at.push_reserved-requires c).In-Ok))))
 
 pub hand_out-requires-clause-unknown : goal.hand_out-requires-clause-unknown
 hand_out-requires-clause-unknown c = none_known c.args.self.now c.requires.tied c.requires.sound
@@ -35,25 +31,20 @@ hand_out-requires-clause-unknown c = none_known c.args.self.now c.requires.tied 
 accepted : (c : After-hand_out) → refusal (state_of c.args.self.now) (Dispose c.args.id) ≡ None
 unfolding state_of
 accepted c =
-    let p = c.args.self.now in
     let at = (goal.at.returns-in-Ok-clause-ok c).In-Ok in
-    refusal_dispose (state_of p) c.args.id true false (done_savepoint-parts p c.args.id c.recall_groups.ensures.pending c.recall_groups.ensures.stored ∙ there at) (free at)
+    refusal_dispose (state_of c.args.self.now) c.args.id true false (done_savepoint-parts c.args.self.now c.args.id c.recall_groups.ensures.pending c.recall_groups.ensures.stored ∙ there at) (free at)
 
 pub returns-in-Ok-clause-ok : goal.returns-in-Ok-clause-ok
 returns-in-Ok-clause-ok c =
-    let p = c.args.self.now in
     let id = c.args.id in
     let q = c.hand_out.new.self in
     let at = (goal.at.returns-in-Ok-clause-ok c).In-Ok in
     let ended = c.push_reserved.new.self in
-    let drops : Drops p q (λ r. eqb r.id id) c.hand_out.result =
-    savepoint_dropped p (record p { store = c.dispose.new.self; ended = ended }) q id c.dispose.new.self.spare c.hand_out.result c.requires.tied c.requires.sound (there at)
-    (ap (λ s. record p { store = s; ended = ended }) c.in-Ok.ensures.ok)
-    (c.push_reserved.ensures.items ∙ ap (λ ids. ids ++ id ∷ []) c.requires.none_ended)
-    c.hand_out.ensures.parts c.hand_out.ensures.cleared
-    (c.hand_out.ensures.capacity ∙ c.push_reserved.ensures.capacity)
-    c.hand_out.ensures.count in
-    disposed_answers p q id c.hand_out.result (accepted c) drops
+    let drops : Drops c.args.self.now q (λ r. eqb r.id id) c.hand_out.result = savepoint_dropped c.args.self.now (record c.args.self.now { store = c.dispose.new.self; ended = ended }) q id
+    c.dispose.new.self.spare c.hand_out.result c.requires.tied c.requires.sound (there at) (ap (λ s. record c.args.self.now { store = s; ended = ended }) c.in-Ok.ensures.ok)
+    (c.push_reserved.ensures.items ∙ ap (λ ids. ids ++ id ∷ []) c.requires.none_ended) c.hand_out.ensures.parts c.hand_out.ensures.cleared
+    (c.hand_out.ensures.capacity ∙ c.push_reserved.ensures.capacity) c.hand_out.ensures.count in
+    disposed_answers c.args.self.now q id c.hand_out.result (accepted c) drops
 
 pub returns-in-Ok-clause-refused : goal.returns-in-Ok-clause-refused
 returns-in-Ok-clause-refused c = names_none (state_of c.args.self.now) (Dispose c.args.id) (Ok (Disposed c.hand_out.result)) tt (accepted c)

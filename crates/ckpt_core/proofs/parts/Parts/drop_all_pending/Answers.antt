@@ -1,6 +1,5 @@
 -- The numbers that are noted are those of the pending records, and no done record has one of them.
-use Rattle.ckpt_core.proofs.{◌++◌, length, ap, ◌∙◌, arith, is_noted, numbers, groups_of, none_known, noted_tied, done_not_noted, room_to_note, pending_dropped}
-use Rattle.ckpt_core.proofs.Names.{state_of}
+use Rattle.ckpt_core.proofs.{◌++◌, length, ap, ◌∙◌, arith, is_noted, numbers, groups_of, none_known, noted_tied, done_not_noted, room_to_note, pending_dropped, Names.state_of}
 use Rattle.ckpt_core.proofs.parts.Parts.drop_all_pending.Goals as goal
 
 pub note_all-requires : goal.note_all-requires
@@ -18,13 +17,9 @@ drop_noted-requires-clause-unknown c = none_known c.args.self.now c.requires.tie
 
 pub drop_noted-requires-clause-pending_only : goal.drop_noted-requires-clause-pending_only
 drop_noted-requires-clause-pending_only c = λ r h.
-    let p = c.args.self.now in
-    ap (λ ids. is_noted ids r) (c.note_all.ensures.items ∙ ap (λ ids. ids ++ numbers p.pending) c.requires.none_ended) ∙ done_not_noted p c.requires.sound r h
+    ap (λ ids. is_noted ids r) (c.note_all.ensures.items ∙ ap (λ ids. ids ++ numbers c.args.self.now.pending) c.requires.none_ended) ∙ done_not_noted c.args.self.now c.requires.sound r h
 
 pub returns : goal.returns
 returns c =
-    let p = c.args.self.now in
-    pending_dropped p c.drop_noted.new.self c.note_all.new.ended c.drop_noted.result c.requires.sound
-    (groups_of p c.recall_groups.ensures.pending c.recall_groups.ensures.stored)
-    (c.note_all.ensures.items ∙ ap (λ ids. ids ++ numbers p.pending) c.requires.none_ended)
-    c.drop_noted.ensures
+    pending_dropped c.args.self.now c.drop_noted.new.self c.note_all.new.ended c.drop_noted.result c.requires.sound (groups_of c.args.self.now c.recall_groups.ensures.pending
+    c.recall_groups.ensures.stored) (c.note_all.ensures.items ∙ ap (λ ids. ids ++ numbers c.args.self.now.pending) c.requires.none_ended) c.drop_noted.ensures

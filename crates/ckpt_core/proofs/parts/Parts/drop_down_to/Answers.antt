@@ -1,6 +1,5 @@
 -- The base is set first: it is a savepoint that is there, so the state stays sound, and the drop leaves it.
-use Rattle.ckpt_core.proofs.{◌||◌, is_pending, is_done_checkpoint, groups_of, based_sound, based_state, based_count, done_savepoint-groups}
-use Rattle.ckpt_core.proofs.Names.{state_of}
+use Rattle.ckpt_core.proofs.{◌||◌, is_pending, is_done_checkpoint, groups_of, based_sound, based_state, based_count, done_savepoint-groups, Names.state_of}
 use Rattle.ckpt_core.proofs.parts.Parts.drop_down_to.Goals as goal
 
 pub set_base-requires : goal.set_base-requires
@@ -14,7 +13,8 @@ drop_all_but_savepoints-requires c = based_sound c.args.self.now c.args.id c.set
 
 pub returns-clause-state : goal.returns-clause-state
 returns-clause-state c =
-    based_state c.args.self.now c.drop_all_but_savepoints.new.self c.args.id c.set_base.new.self (λ r. is_pending r || is_done_checkpoint r) c.set_base.ensures c.drop_all_but_savepoints.ensures.state_is
+    based_state c.args.self.now c.drop_all_but_savepoints.new.self c.args.id c.set_base.new.self (λ r. is_pending r || is_done_checkpoint r) c.set_base.ensures
+    c.drop_all_but_savepoints.ensures.state_is
 
 pub returns-clause-count : goal.returns-clause-count
 returns-clause-count c =

@@ -4,20 +4,15 @@ use Rattle.ckpt_core.proofs.parts.Parts.drop_pending.Goals as goal
 
 pub push_reserved-requires : goal.push_reserved-requires
 push_reserved-requires c =
-    let p = c.args.self.now in
-    omega (arith, room_to_note p 1 c.requires.sound (omega (arith, one_pending p c.args.id (some_there _ _ (c.take_out.ensures.found c.args.id c.requires.place)))))
+    omega (arith, room_to_note c.args.self.now 1 c.requires.sound (omega (arith, one_pending c.args.self.now c.args.id (some_there _ _ (c.take_out.ensures.found c.args.id c.requires.place)))))
 
 pub hand_out-requires-clause-unknown : goal.hand_out-requires-clause-unknown
 hand_out-requires-clause-unknown c = none_known c.args.self.now c.requires.sound.tied c.requires.sound.sound
 
 pub returns : goal.returns
 returns c =
-    let p = c.args.self.now in
-    let id = c.args.id in
     let ended = c.push_reserved.new.self in
-    one_dropped p (record p { pending = c.take_out.new.self; ended = ended }) c.hand_out.new.self id c.hand_out.result c.requires.sound.tied c.requires.sound.sound (some_there _ _ (c.take_out.ensures.found id c.requires.place))
-    (ap (λ rs. record p { pending = rs; ended = ended }) (c.take_out.ensures.rest id c.requires.place))
-    (c.push_reserved.ensures.items ∙ ap (λ ids. ids ++ id ∷ []) c.requires.sound.none_ended)
-    c.hand_out.ensures.parts c.hand_out.ensures.cleared
-    (c.hand_out.ensures.capacity ∙ c.push_reserved.ensures.capacity)
-    c.hand_out.ensures.count
+    one_dropped c.args.self.now (record c.args.self.now { pending = c.take_out.new.self; ended = ended }) c.hand_out.new.self c.args.id c.hand_out.result c.requires.sound.tied c.requires.sound.sound
+    (some_there _ _ (c.take_out.ensures.found c.args.id c.requires.place)) (ap (λ rs. record c.args.self.now { pending = rs; ended = ended }) (c.take_out.ensures.rest c.args.id c.requires.place))
+    (c.push_reserved.ensures.items ∙ ap (λ ids. ids ++ c.args.id ∷ []) c.requires.sound.none_ended) c.hand_out.ensures.parts c.hand_out.ensures.cleared
+    (c.hand_out.ensures.capacity ∙ c.push_reserved.ensures.capacity) c.hand_out.ensures.count

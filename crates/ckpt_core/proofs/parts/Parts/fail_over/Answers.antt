@@ -1,6 +1,5 @@
 -- Only the mode changes after the drop.
-use Rattle.ckpt_core.proofs.{ap, Failed, State}
-use Rattle.ckpt_core.proofs.Names.{state_of, failed_over}
+use Rattle.ckpt_core.proofs.{ap, Failed, State, Names.state_of, Names.failed_over}
 use Rattle.ckpt_core.proofs.parts.Parts.fail_over.Goals as goal
 
 pub returns-clause-state : goal.returns-clause-state

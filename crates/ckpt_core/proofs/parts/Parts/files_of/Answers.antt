@@ -17,7 +17,7 @@ returns-in_err-get c =
 
 pub returns : goal.returns
 returns c =
-    let p = c.args.self.now in
-    let none : find (has_number c.args.id) p.pending ≡ None = sym c.get.ensures.value ∙ ap option_copied c.in_default.is in
-    let there : record_of (state_of p) c.args.id ≡ Some c.in_ok-get.field-0.now = stored_record p c.args.id (live_in_order p c.requires) none ∙ sym c.get-2.ensures.value ∙ ap option_copied c.in_ok-get.was in
+    let none : find (has_number c.args.id) c.args.self.now.pending ≡ None = sym c.get.ensures.value ∙ ap option_copied c.in_default.is in
+    let there : record_of (state_of c.args.self.now) c.args.id ≡ Some c.in_ok-get.field-0.now = stored_record c.args.self.now c.args.id (live_in_order c.args.self.now c.requires) none
+    ∙ sym c.get-2.ensures.value ∙ ap option_copied c.in_ok-get.was in
     c.files_of-2.ensures ∙ sym (ap (option_and_then (λ (r : Record). files_from r c.args.subtask)) there)

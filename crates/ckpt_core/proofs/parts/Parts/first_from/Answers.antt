@@ -4,7 +4,6 @@ use Rattle.ckpt_core.proofs.parts.Parts.first_from.Goals as goal
 
 pub returns : goal.returns
 returns c =
-    let p = c.args.self.now in
-    c.sooner.ensures
-    ∙ ap (sooner c.first_from-pending.result) c.sooner-done.ensures
-    ∙ first_live p c.args.id c.first_from-pending.result c.checkpoint_from.result c.savepoint_from.result c.requires c.first_from-pending.ensures.in_order c.checkpoint_from.ensures.stored.checkpoints_rise c.checkpoint_from.ensures.stored.savepoints_rise c.first_from-pending.ensures.value c.checkpoint_from.ensures.value c.savepoint_from.ensures.value
+    c.sooner.ensures ∙ ap (sooner c.first_from-pending.result) c.sooner-done.ensures ∙ first_live c.args.self.now c.args.id _ _ _
+    c.requires c.first_from-pending.ensures.in_order c.checkpoint_from.ensures.stored.checkpoints_rise c.checkpoint_from.ensures.stored.savepoints_rise c.first_from-pending.ensures.value
+    c.checkpoint_from.ensures.value c.savepoint_from.ensures.value

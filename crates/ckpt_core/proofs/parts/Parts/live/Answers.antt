@@ -26,15 +26,12 @@ overflow_add-lowest c =
     search rules
 
 pub loop-preserved : goal.loop-preserved
-loop-preserved c =
-    let p = c.args.self.now in
-    rw (its_number c, walk_goes_on c.loop.lowest c.loop.counter c.in_ok-live.live (records_in p) (live_in_order p c.requires) c.loop.invariant (found c))
+loop-preserved c = let p = c.args.self.now in rw (its_number c, walk_goes_on c.loop.lowest c.loop.counter c.in_ok-live.live (records_in p) (live_in_order p c.requires) c.loop.invariant (found c))
 
 pub returns : goal.returns
 returns c =
-    let p = c.args.self.now in
     let all : c.loop.counter ≡ c.args.place = search rules in
-    walk_ended c.loop.lowest c.args.place (records_in p) c.first_from-2.result (live_in_order p c.requires) (c.loop.invariant ∙ all) c.first_from-2.ensures
+    walk_ended c.loop.lowest c.args.place (records_in c.args.self.now) c.first_from-2.result (live_in_order c.args.self.now c.requires) (c.loop.invariant ∙ all) c.first_from-2.ensures
 
 pub first_from-requires : goal.first_from-requires
 first_from-requires c = live_in_order c.args.self.now c.requires

@@ -8,9 +8,8 @@ returns-then-saved-clause-damaged c = λ e ir. not_full c.args.saved.now c.args.
 
 pub load_pending-requires-clause-newest : goal.load_pending-requires-clause-newest
 load_pending-requires-clause-newest c = λ r h.
-    let s : Saved = c.args.saved.now in
-    let j : Joins (opening_of c.args.self.now.opened) c.args.self.now.next (records_in c.args.self.now) (record_in s) =
-    c.requires.place (pending_is_record s c.args.pending c.requires.made c.recall_pending.ensures (c.in-Err.ensures.missing.0 refl) c.requires.once c.if-saved.false) in
+    let j : Joins (opening_of c.args.self.now.opened) c.args.self.now.next (records_in c.args.self.now) (record_in c.args.saved.now) =
+    c.requires.place (pending_is_record c.args.saved.now c.args.pending c.requires.made c.recall_pending.ensures (c.in-Err.ensures.missing.0 refl) c.requires.once c.if-saved.false) in
     omega (arith, ap (λ (x : Record). x.id) (c.in-Err.ensures.pending ∙ c.requires.made), j.above r h)
 
 pub load_pending-requires-clause-few : goal.load_pending-requires-clause-few

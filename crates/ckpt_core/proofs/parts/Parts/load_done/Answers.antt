@@ -11,11 +11,9 @@ on_both (Err e) P Q R f p q = p
 
 pub load_checkpoint-requires-clause-fewer : goal.load_checkpoint-requires-clause-fewer
 load_checkpoint-requires-clause-fewer c =
-    let p : Parts = c.args.self.now in
-    let x : Record = c.args.done in
-    let its : x.kind ≡ kind.Checkpoint = ap (λ (r : Record). r.kind) c.requires.done ∙ c.in-Checkpoint.is in
-    let yes : (x.done && is_checkpoint x) ≡ true = ap (λ b. b && is_checkpoint x) c.recall_done.ensures.is_done ∙ is_checkpoint-kind x its in
-    let counted = done_checkpoints-groups p.registry p.pending p.store.checkpoints p.store.savepoints (groups_of p c.recall_groups.ensures.pending c.recall_groups.ensures.stored) in
+    let its : c.args.done.kind ≡ kind.Checkpoint = ap (λ (r : Record). r.kind) c.requires.done ∙ c.in-Checkpoint.is in
+    let yes : (c.args.done.done && is_checkpoint c.args.done) ≡ true = ap (λ b. b && is_checkpoint c.args.done) c.recall_done.ensures.is_done ∙ is_checkpoint-kind c.args.done its in
+    let counted = done_checkpoints-groups c.args.self.now.registry _ _ _ (groups_of c.args.self.now c.recall_groups.ensures.pending c.recall_groups.ensures.stored) in
     omega (arith, counted, c.requires.joins.retained yes, c.requires.tied.retained)
 
 pub load_checkpoint-requires-clause-files : goal.load_checkpoint-requires-clause-files
@@ -29,8 +27,7 @@ load_checkpoint-requires-clause-below c = few_uses (records_in c.args.self.now +
 
 pub load_savepoint-requires-clause-fewer : goal.load_savepoint-requires-clause-fewer
 load_savepoint-requires-clause-fewer c =
-    let p : Parts = c.args.self.now in
-    let counted = savepoints-groups p.registry p.pending p.store.checkpoints p.store.savepoints (groups_of p c.recall_groups.ensures.pending c.recall_groups.ensures.stored) in
+    let counted = savepoints-groups c.args.self.now.registry _ _ _ (groups_of c.args.self.now c.recall_groups.ensures.pending c.recall_groups.ensures.stored) in
     omega (arith, counted, c.requires.sound.savepoints_to)
 
 pub load_savepoint-requires-clause-files : goal.load_savepoint-requires-clause-files
@@ -44,16 +41,14 @@ load_savepoint-requires-clause-below c = few_uses (records_in c.args.self.now ++
 
 pub returns-in-Checkpoint-clause-state : goal.returns-in-Checkpoint-clause-state
 returns-in-Checkpoint-clause-state c =
-    let p : Parts = c.args.self.now in
     let q : Parts = c.load_checkpoint.new.self in
-    on_both c.load_checkpoint.result (records_in q ≡ records_in p ++ c.args.done ∷ []) (q ≡ with_done p q) _
-    (λ all rest. state_done p q (records_in p ++ record_in c.args.saved.now ∷ []) rest (all ∙ ap (λ r. records_in p ++ r ∷ []) c.requires.done))
+    on_both c.load_checkpoint.result (records_in q ≡ records_in c.args.self.now ++ c.args.done ∷ []) (q ≡ with_done c.args.self.now q) _
+    (λ all rest. state_done c.args.self.now q (records_in c.args.self.now ++ record_in c.args.saved.now ∷ []) rest (all ∙ ap (λ r. records_in c.args.self.now ++ r ∷ []) c.requires.done))
     c.load_checkpoint.ensures.records c.load_checkpoint.ensures.rest
 
 pub returns-in-Savepoint-clause-state : goal.returns-in-Savepoint-clause-state
 returns-in-Savepoint-clause-state c =
-    let p : Parts = c.args.self.now in
     let q : Parts = c.load_savepoint.new.self in
-    on_both c.load_savepoint.result (records_in q ≡ records_in p ++ c.args.done ∷ []) (q ≡ with_done p q) _
-    (λ all rest. state_done p q (records_in p ++ record_in c.args.saved.now ∷ []) rest (all ∙ ap (λ r. records_in p ++ r ∷ []) c.requires.done))
+    on_both c.load_savepoint.result (records_in q ≡ records_in c.args.self.now ++ c.args.done ∷ []) (q ≡ with_done c.args.self.now q) _
+    (λ all rest. state_done c.args.self.now q (records_in c.args.self.now ++ record_in c.args.saved.now ∷ []) rest (all ∙ ap (λ r. records_in c.args.self.now ++ r ∷ []) c.requires.done))
     c.load_savepoint.ensures.records c.load_savepoint.ensures.rest

@@ -9,15 +9,17 @@ alone : (waiting slice taken files : List ℕ) → waiting ≡ [] → taken ≡ 
 alone waiting slice taken files a b s = ap (λ (xs : List ℕ). (xs ++ slice) ++ taken) a ∙ ap (λ (xs : List ℕ). slice ++ xs) b ∙ append-nil slice ∙ s
 
 pub returns-in_err-put_back-clause-damaged : goal.returns-in_err-put_back-clause-damaged
-returns-in_err-put_back-clause-damaged c = λ h a.
+returns-in_err-put_back-clause-damaged c =
+    λ h a.
     let bad : c.put_back.result ≡ Err Damaged = search rules in
     let empty : c.reserve.new.self.waiting ≡ [] = ap (λ (q : Queues). q.waiting) c.in_ok-reserve.ensures.ok ∙ c.requires.none_waits in
     let none : c.reserve.new.self.taken ≡ [] = ap (λ (q : Queues). q.taken) c.in_ok-reserve.ensures.ok ∙ c.requires.none_taken in
-    c.put_back.ensures.damaged bad (rw (alone c.reserve.new.self.waiting c.as_slice.result.now c.reserve.new.self.taken c.args.taken.now empty none c.as_slice.ensures.files) (apart_behind c.args.waiting.now c.args.taken.now a))
+    c.put_back.ensures.damaged bad (rw (alone c.reserve.new.self.waiting c.as_slice.result.now c.reserve.new.self.taken c.args.taken.now empty none c.as_slice.ensures.files)
+    (apart_behind c.args.waiting.now c.args.taken.now a))
 
 -- the queues after the fetched files were put and taken again
-after_take : (before put after : Queues) (slice files : List ℕ) (n : ℕ) → before.waiting ≡ [] → before.taken ≡ [] → slice ≡ files → n ≡ length files → put.waiting ≡ before.waiting ++ slice → put.taken ≡ before.taken
-    → after ≡ record put { waiting = drop n put.waiting; taken = put.taken ++ take n put.waiting } → (after.waiting ≡ []) × (after.taken ≡ files)
+after_take : (before put after : Queues) (slice files : List ℕ) (n : ℕ) → before.waiting ≡ [] → before.taken ≡ [] → slice ≡ files → n ≡ length files → put.waiting ≡ before.waiting ++ slice →
+    put.taken ≡ before.taken → after ≡ record put { waiting = drop n put.waiting; taken = put.taken ++ take n put.waiting } → (after.waiting ≡ []) × (after.taken ≡ files)
 after_take before put after slice files n none_waits none_taken same count waits takes ok =
     let all : put.waiting ≡ files = waits ∙ ap (λ (xs : List ℕ). xs ++ slice) none_waits ∙ same in
     let none : put.taken ≡ [] = takes ∙ none_taken in
@@ -41,21 +43,20 @@ taken_once c =
 
 waits : (c : goal.In_ok-make_room_for_files) → waiting_in c.put_back-2.new.self ≡ c.args.waiting.now
 waits c =
-    ap waiting_in c.in_ok-put_back-2.ensures.parts ∙ ap (λ (q : Queues). q.waiting ++ c.as_slice-2.result.now) c.in_ok-reserve-2.ensures.ok ∙ ap (λ (xs : List ℕ). xs ++ c.as_slice-2.result.now) (taken_once c).0 ∙ c.as_slice-2.ensures
+    ap waiting_in c.in_ok-put_back-2.ensures.parts ∙ ap (λ (q : Queues). q.waiting ++ c.as_slice-2.result.now) c.in_ok-reserve-2.ensures.ok ∙ ap (λ (xs : List ℕ). xs ++ c.as_slice-2.result.now)
+    (taken_once c).0 ∙ c.as_slice-2.ensures
 
 takes : (c : goal.In_ok-make_room_for_files) → taken_in c.put_back-2.new.self ≡ c.args.taken.now
 takes c = ap taken_in c.in_ok-put_back-2.ensures.parts ∙ ap (λ (q : Queues). q.taken) c.in_ok-reserve-2.ensures.ok ∙ (taken_once c).1
 
 pub returns-clause-state : goal.returns-clause-state
 returns-clause-state c =
-    let p : Parts = c.args.self.now in
-    let o : Queues = c.make_room_for_files.new.self.outbox in
-    let frame : c.make_room_for_files.new.self ≡ record p { outbox = o } =
-    c.in_ok-make_room_for_files.ensures.ok
+    let frame : c.make_room_for_files.new.self ≡ record c.args.self.now { outbox = c.make_room_for_files.new.self.outbox } = c.in_ok-make_room_for_files.ensures.ok
     ∙ ap (λ (x : Queues). record c.put_back-2.new.self { outbox = x }) (ap (λ (r : Parts). r.outbox) (sym c.in_ok-make_room_for_files.ensures.ok))
-    ∙ ap (λ (r : Parts). record r { outbox = o }) c.in_ok-put_back-2.ensures.parts
-    ∙ ap (λ (r : Parts). record r { outbox = o }) c.in_ok-put_back.ensures.parts in
-    state_files p c.make_room_for_files.new.self o c.args.waiting.now c.args.taken.now frame (ap waiting_in c.in_ok-make_room_for_files.ensures.ok ∙ waits c) (ap taken_in c.in_ok-make_room_for_files.ensures.ok ∙ takes c)
+    ∙ ap (λ (r : Parts). record r { outbox = c.make_room_for_files.new.self.outbox }) c.in_ok-put_back-2.ensures.parts
+    ∙ ap (λ (r : Parts). record r { outbox = c.make_room_for_files.new.self.outbox }) c.in_ok-put_back.ensures.parts in
+    state_files c.args.self.now c.make_room_for_files.new.self c.make_room_for_files.new.self.outbox c.args.waiting.now c.args.taken.now frame (ap waiting_in c.in_ok-make_room_for_files.ensures.ok
+    ∙ waits c) (ap taken_in c.in_ok-make_room_for_files.ensures.ok ∙ takes c)
 
 pub returns-clause-apart : goal.returns-clause-apart
 returns-clause-apart c =

@@ -4,12 +4,12 @@ use Rattle.ckpt_core.proofs.{older_registered, pending_loaded, tied-loaded}
 use Rattle.ckpt_core.proofs.parts.Parts.load_pending.Goals as goal
 
 pub register-requires-clause-newest : goal.register-requires-clause-newest
-register-requires-clause-newest c = older_registered c.args.self.now c.make_room.new.self c.args.pending.id c.id.result c.in_ok-make_room.ensures.parts c.requires.tied c.requires.newest c.id.ensures.value
+register-requires-clause-newest c = older_registered c.args.self.now _ _ _ c.in_ok-make_room.ensures.parts c.requires.tied c.requires.newest c.id.ensures.value
 
 pub register-requires-clause-below : goal.register-requires-clause-below
 register-requires-clause-below c =
     let pins : List ℕ = c.args.pins.now in
-    few_registered c.args.self.now c.make_room.new.self (record c.args.pending { pins = pins }) c.id.result c.args.acks.now pins c.in_ok-make_room.ensures.parts c.requires.tied c.id.ensures.value c.requires.acks refl c.requires.below
+    few_registered c.args.self.now _ (record c.args.pending { pins = pins }) _ _ _ c.in_ok-make_room.ensures.parts c.requires.tied c.id.ensures.value c.requires.acks refl c.requires.below
 
 pub add-requires : goal.add-requires
 add-requires c = record {
@@ -22,14 +22,11 @@ add-requires c = record {
 
 more : (c : goal.After-make_room_for_files) → OnOk c.make_room_for_files.result (HasLoaded c.args.self.now c.make_room_for_files.new.self (record c.args.pending { pins = c.args.pins.now }))
 more c =
-    let p : Parts = c.args.self.now in
     let made : Parts = c.make_room.new.self in
     let parts = c.in_ok-make_room.ensures.parts in
-    on_ok_weaker c.make_room_for_files.result
-    (has_loaded p made c.make_room_for_files.new.self (record c.args.pending { pins = c.args.pins.now }) c.add.new.self made.store c.register.new.registry c.id.result c.args.acks.now c.args.pins.now
-    parts c.in_ok-make_room.ensures.room c.id.ensures.value c.requires.acks refl c.in_ok-register.ensures (ap (λ (q : Parts). q.store.retained) parts)
-    (pending_loaded p made c.args.pending c.add.new.self c.args.pins.now parts c.requires.tied c.requires.newest c.in_ok-add.ensures.ok))
-    c.make_room_for_files.ensures.ok
+    on_ok_weaker c.make_room_for_files.result (has_loaded c.args.self.now _ c.make_room_for_files.new.self (record c.args.pending { pins = c.args.pins.now }) c.add.new.self made.store _ _ _ _ parts
+    c.in_ok-make_room.ensures.room c.id.ensures.value c.requires.acks refl c.in_ok-register.ensures (ap (λ (q : Parts). q.store.retained) parts)
+    (pending_loaded c.args.self.now _ c.args.pending _ c.args.pins.now parts c.requires.tied c.requires.newest c.in_ok-add.ensures.ok)) c.make_room_for_files.ensures.ok
 
 pub returns-clause-records : goal.returns-clause-records
 returns-clause-records c =

@@ -1,6 +1,5 @@
 -- Empty parts stand for the state of an opening.
-use Rattle.ckpt_core.proofs.{refl, sym, ap, subst, ◌∙◌, arith, Stored, IsSound, opened_is_sound}
-use Rattle.ckpt_core.proofs.Names.{state_of}
+use Rattle.ckpt_core.proofs.{refl, sym, ap, subst, ◌∙◌, arith, Stored, IsSound, opened_is_sound, Names.state_of}
 use Rattle.ckpt_core.proofs.parts.Parts.new.Goals as goal
 
 pub returns-clause-state : goal.returns-clause-state

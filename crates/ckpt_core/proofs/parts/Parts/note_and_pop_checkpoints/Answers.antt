@@ -16,8 +16,5 @@ push_reserved-requires c =
     let p = c.args.self.now in
     let q = c.loop-id.self in
     let room : length p.ended.items + length p.store.checkpoints ≤ vec_capacity q.ended = omega (arith, c.requires.room, c.loop-id.invariant.capacity) in
-    omega (
-      arith,
-      room_left q.ended.items p.ended.items q.store.checkpoints p.store.checkpoints (vec_capacity q.ended) c.loop-id.invariant.items room
-          (one_there q.store.checkpoints c.in-Some.id c.in-Some.ensures.dropped),
-    )
+    let one = one_there q.store.checkpoints c.in-Some.id c.in-Some.ensures.dropped in
+    omega (arith, room_left q.ended.items p.ended.items q.store.checkpoints p.store.checkpoints (vec_capacity q.ended) c.loop-id.invariant.items room one)

@@ -8,6 +8,5 @@ returns-then-done c = λ r h same done. c.of.ensures ∙ ap ascending c.new.ensu
 pub returns : goal.returns
 returns c =
     let p : Parts = c.args.self.now in
-    IfOk-weaker c.pins.result (λ (files : List ℕ). files ≡ pins_by c.args.id p.registry) _
-    (λ files e r h same done. e ∙ ap (λ (n : ℕ). pins_by n p.registry) (sym same) ∙ pending_pins p r c.recall_groups.ensures.pending c.recall_groups.ensures.stored h (done ∙ c.if-done.false))
-    c.pins.ensures
+    IfOk-weaker c.pins.result (λ (files : List ℕ). files ≡ pins_by c.args.id p.registry) _ (λ files e r h same done. e ∙ ap (λ (n : ℕ). pins_by n p.registry) (sym same) ∙ pending_pins p r
+    c.recall_groups.ensures.pending c.recall_groups.ensures.stored h (done ∙ c.if-done.false)) c.pins.ensures

@@ -16,44 +16,35 @@ loop-live-init c =
 
 pub save-requires-clause-there : goal.save-requires-clause-there
 save-requires-clause-there c =
-    let p : Parts = c.args.self.now in
-    let live : Live = c.in-Some.live in
-    let q = found_next p c.loop-live.lowest live c.requires (sym c.in-Some.is ∙ c.first_from.ensures) in
-    some_there (record_of (state_of p) live.id) q.0 q.1
+    let q = found_next c.args.self.now c.loop-live.lowest c.in-Some.live c.requires (sym c.in-Some.is ∙ c.first_from.ensures) in
+    some_there (record_of (state_of c.args.self.now) c.in-Some.live.id) q.0 q.1
 
 pub number_after-lowest-requires : goal.number_after-lowest-requires
 number_after-lowest-requires c = live_bound c.args.self.now c.loop-live.lowest c.in-Some.live c.requires.sound (sym c.in-Some.is ∙ c.first_from.ensures)
 
 pub loop-live-preserved : goal.loop-live-preserved
 loop-live-preserved c =
-    let p : Parts = c.args.self.now in
-    let rs : List Record = records_in p in
-    let n : ℕ = c.loop-live.lowest in
-    let live : Live = c.in-Some.live in
-    let q = found_next p n live c.requires (sym c.in-Some.is ∙ c.first_from.ensures) in
-    let r : Record = q.0 in
-    let one : record_in c.in_ok-one.one ≡ r = c.in_ok-one.ensures r q.1 q.2 in
-    let end : live.id < 2 ^ 62 = live_bound p n live c.requires.sound (sym c.in-Some.is ∙ c.first_from.ensures) in
-    let next : c.number_after-lowest.result ≡ r.id + 1 = c.number_after-lowest.ensures ∙ ap (λ (i : ℕ). i + 1) q.4 in
+    let rs : List Record = records_in c.args.self.now in
+    let q = found_next c.args.self.now c.loop-live.lowest c.in-Some.live c.requires (sym c.in-Some.is ∙ c.first_from.ensures) in
+    let one : record_in c.in_ok-one.one ≡ q.0 = c.in_ok-one.ensures q.0 q.1 q.2 in
+    let end : c.in-Some.live.id < 2 ^ 62 = live_bound c.args.self.now c.loop-live.lowest c.in-Some.live c.requires.sound (sym c.in-Some.is ∙ c.first_from.ensures) in
+    let next : c.number_after-lowest.result ≡ q.0.id + 1 = c.number_after-lowest.ensures ∙ ap (λ (i : ℕ). i + 1) q.4 in
     record {
       saved = ap (map record_in) c.in_ok-push.ensures.items
           ∙ map-append record_in c.loop-live.saved.items (c.in_ok-one.one ∷ [])
           ∙ ap (λ (xs : List Record). xs ++ record_in c.in_ok-one.one ∷ []) c.loop-live.invariant.saved
-          ∙ ap (λ (x : Record). take (count_by (is_below n) rs) rs ++ x ∷ []) one
-          ∙ sym (saved_next rs n r (live_in_order p c.requires) q.3)
+          ∙ ap (λ (x : Record). take (count_by (is_below c.loop-live.lowest) rs) rs ++ x ∷ []) one
+          ∙ sym (saved_next rs c.loop-live.lowest q.0 (live_in_order c.args.self.now c.requires) q.3)
           ∙ sym (ap (λ (i : ℕ). take (count_by (is_below i) rs) rs) next);
       bound = omega (arith, end, c.number_after-lowest.ensures);
     }
 
 pub loop-live-smaller : goal.loop-live-smaller
 loop-live-smaller c =
-    let p : Parts = c.args.self.now in
     let n : ℕ = c.loop-live.lowest in
     let live : Live = c.in-Some.live in
-    let q = found_next p n live c.requires (sym c.in-Some.is ∙ c.first_from.ensures) in
-    omega (arith, live_bound p n live c.requires.sound (sym c.in-Some.is ∙ c.first_from.ensures), found_from (records_in p) n q.0 q.3, q.4, c.number_after-lowest.ensures)
+    let q = found_next c.args.self.now n live c.requires (sym c.in-Some.is ∙ c.first_from.ensures) in
+    omega (arith, live_bound c.args.self.now n live c.requires.sound (sym c.in-Some.is ∙ c.first_from.ensures), found_from (records_in c.args.self.now) n q.0 q.3, q.4, c.number_after-lowest.ensures)
 
 pub returns : goal.returns
-returns c =
-    let p : Parts = c.args.self.now in
-    c.loop-live.invariant.saved ∙ saved_all (records_in p) c.loop-live.lowest (live_in_order p c.requires) (sym c.in_default.is ∙ c.first_from.ensures)
+returns c = let p : Parts = c.args.self.now in c.loop-live.invariant.saved ∙ saved_all (records_in p) c.loop-live.lowest (live_in_order p c.requires) (sym c.in_default.is ∙ c.first_from.ensures)

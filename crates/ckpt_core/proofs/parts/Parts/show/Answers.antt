@@ -7,9 +7,8 @@ metadata-requires c = live_in_order c.args.self.now c.requires
 
 pub returns-in-Ok-Some-clause-ok : goal.returns-in-Ok-Some-clause-ok
 returns-in-Ok-Some-clause-ok c =
-    let p = c.args.self.now in
     let told = sym c.in-Ok-Some.field-0-is ∙ c.in-Ok-Some.ensures.value in
-    shown_answers p c.args.id c.in-Ok-Some.metadata c.requires (show_told (state_of p) c.args.id c.in-Ok-Some.metadata told) (sym told)
+    shown_answers c.args.self.now c.args.id c.in-Ok-Some.metadata c.requires (show_told (state_of c.args.self.now) c.args.id c.in-Ok-Some.metadata told) (sym told)
 
 pub returns-in-Ok-Some-clause-refused : goal.returns-in-Ok-Some-clause-refused
 returns-in-Ok-Some-clause-refused c =
@@ -17,16 +16,10 @@ returns-in-Ok-Some-clause-refused c =
     names_none m (Show c.args.id) (Ok (Shown c.in-Ok-Some.metadata)) tt (show_told m c.args.id c.in-Ok-Some.metadata (sym c.in-Ok-Some.field-0-is ∙ c.in-Ok-Some.ensures.value))
 
 pub returns-in-Ok-None-clause-refused : goal.returns-in-Ok-None-clause-refused
-returns-in-Ok-None-clause-refused c =
-    let m = state_of c.args.self.now in
-    names_it m (Show c.args.id) NoSuchRecord (show_absent m c.args.id (sym c.in-Ok-None.field-0-is ∙ c.in-Ok-None.ensures.value))
+returns-in-Ok-None-clause-refused c = let m = state_of c.args.self.now in names_it m (Show c.args.id) NoSuchRecord (show_absent m c.args.id (sym c.in-Ok-None.field-0-is ∙ c.in-Ok-None.ensures.value))
 
 pub returns-in-Err-clause-refused : goal.returns-in-Err-clause-refused
-returns-in-Err-clause-refused c =
-    let m = state_of c.args.self.now in
-    names_none m (Show c.args.id) (Err Memory) refl (show_live m c.args.id c.in-Err.ensures.memory)
+returns-in-Err-clause-refused c = let m = state_of c.args.self.now in names_none m (Show c.args.id) (Err Memory) refl (show_live m c.args.id c.in-Err.ensures.memory)
 
 pub returns-in-Err-clause-memory : goal.returns-in-Err-clause-memory
-returns-in-Err-clause-memory c = λ e.
-    let m = state_of c.args.self.now in
-    show_wants m c.args.id (show_live m c.args.id c.in-Err.ensures.memory)
+returns-in-Err-clause-memory c = λ e. let m = state_of c.args.self.now in show_wants m c.args.id (show_live m c.args.id c.in-Err.ensures.memory)

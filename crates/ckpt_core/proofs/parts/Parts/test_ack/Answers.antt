@@ -1,6 +1,5 @@
 -- Answers the goals of `Parts::test_ack`.
-use Rattle.ckpt_core.proofs.{rules, refl, ◌∙◌, row_holds, row_fails, row_last, rows_hold, rows_fail, part_rows, no_part_rows}
-use Rattle.ckpt_core.proofs.Names.{state_of, refusal}
+use Rattle.ckpt_core.proofs.{rules, refl, ◌∙◌, row_holds, row_fails, row_last, rows_hold, rows_fail, part_rows, no_part_rows, Names.state_of, Names.refusal}
 use Rattle.ckpt_core.proofs.parts.Parts.test_ack.Goals as goal
 
 pub returns-in_err-test_moment : goal.returns-in_err-test_moment

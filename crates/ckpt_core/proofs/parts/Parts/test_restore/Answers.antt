@@ -1,6 +1,5 @@
 -- Answers the goals of `Parts::test_restore`.
-use Rattle.ckpt_core.proofs.{rules, row_holds, row_fails, row_last}
-use Rattle.ckpt_core.proofs.Names.{state_of, refusal}
+use Rattle.ckpt_core.proofs.{rules, row_holds, row_fails, row_last, Names.state_of, Names.refusal}
 use Rattle.ckpt_core.proofs.parts.Parts.test_restore.Goals as goal
 
 pub returns-in_err-test_moment : goal.returns-in_err-test_moment

@@ -1,6 +1,5 @@
 -- The outbox itself finds whether the file was fetched.
-use Rattle.ckpt_core.proofs.{true, false, refl, is_taken, undeleted_answers, refusal_undeleted, taken_if}
-use Rattle.ckpt_core.proofs.Names.{state_of}
+use Rattle.ckpt_core.proofs.{true, false, refl, is_taken, undeleted_answers, refusal_undeleted, taken_if, Names.state_of}
 use Rattle.ckpt_core.proofs.parts.Parts.undeleted.Goals as goal
 
 pub returns-in-Ok-clause-ok : goal.returns-in-Ok-clause-ok

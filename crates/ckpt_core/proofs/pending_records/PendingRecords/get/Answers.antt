@@ -3,8 +3,7 @@ use Rattle.ckpt_core.proofs.{◌≡◌, ◌∙◌, ap, sym, List, find, slice_ge
 use Rattle.ckpt_core.proofs.pending_records.PendingRecords.get.Goals as goal
 
 pub returns-in-Ok-clause-value : goal.returns-in-Ok-clause-value
-returns-in-Ok-clause-value c =
-    let row : List Record = c.self.inside.records.items in
+returns-in-Ok-clause-value c = let row : List Record = c.self.inside.records.items in
     let got : option_copied c.get.result ≡ slice_get row c.in-Ok.place = copied_from_get c.get.result row c.in-Ok.place c.get.ensures.item.0 c.get.ensures.lookup in
     got ∙ find-place c.args.id row c.in-Ok.place c.self.invariant.in_order c.in-Ok.ensures.found ∙ ap (find (has_id c.args.id)) c.self.view_is
 
@@ -12,8 +11,7 @@ pub returns-in-Ok-clause-pending : goal.returns-in-Ok-clause-pending
 returns-in-Ok-clause-pending c = rw (← c.self.view_is) c.self.invariant.pending
 
 pub returns-in-Err-clause-value : goal.returns-in-Err-clause-value
-returns-in-Err-clause-value c =
-    let row : List Record = c.self.inside.records.items in
+returns-in-Err-clause-value c = let row : List Record = c.self.inside.records.items in
     sym (find-none (has_id c.args.id) row (none_place c.args.id row c.in-Err.field-0 c.in-Err.ensures.absent)) ∙ ap (find (has_id c.args.id)) c.self.view_is
 
 pub returns-in-Err-clause-pending : goal.returns-in-Err-clause-pending

@@ -9,8 +9,7 @@ pub returns-in-Ok-clause-pending : goal.returns-in-Ok-clause-pending
 returns-in-Ok-clause-pending c = rw (← c.self.view_is) c.self.invariant.pending
 
 pub returns-in-Err-clause-absent : goal.returns-in-Err-clause-absent
-returns-in-Err-clause-absent c =
-    ap (list_any (has_id c.args.id)) (sym c.self.view_is) ∙ none_place c.args.id c.self.inside.records.items c.in-Err.field-0 c.in-Err.ensures.absent
+returns-in-Err-clause-absent c = ap (list_any (has_id c.args.id)) (sym c.self.view_is) ∙ none_place c.args.id c.self.inside.records.items c.in-Err.field-0 c.in-Err.ensures.absent
 
 pub returns-in-Err-clause-pending : goal.returns-in-Err-clause-pending
 returns-in-Err-clause-pending c = rw (← c.self.view_is) c.self.invariant.pending

@@ -12,6 +12,5 @@ pub returns-in-None-clause-value : goal.returns-in-None-clause-value
 returns-in-None-clause-value c = sym (find-none (has_id c.args.id) c.args.self.now c.in-None.ensures.absent)
 
 pub returns-in-None-clause-rest : goal.returns-in-None-clause-rest
-returns-in-None-clause-rest c =
-    let other : Record → Bool = λ r. not (has_id c.args.id r) in
+returns-in-None-clause-rest c = let other : Record → Bool = λ r. not (has_id c.args.id r) in
     sym (filter-all other c.args.self.now (λ r h. ap not (fails-from_list_any (has_id c.args.id) c.args.self.now c.in-None.ensures.absent r h)))

@@ -1,7 +1,6 @@
 -- Answers the goals of `Words::file`.
-use Rattle.ckpt_lines.proofs.Names.{◌≡◌, ℕ, ◌-◌, Err, List, length, take, drop, sym, ap, refl, arith, err_from_is_err_and, file_place, words_of}
-use Rattle.ckpt_lines.proofs.FirstNumbers.{after_sign, file_at-Some, file_at-None, file_at-Err, file_at-empty}
-use Rattle.ckpt_lines.proofs.SubtaskLemmas.{whole_rest}
+use Rattle.ckpt_lines.proofs.{◌≡◌, ℕ, ◌-◌, Err, List, length, sym, ap, refl, arith, err_from_is_err_and, file_place, words_of, after_sign, file_at-Some, file_at-None, file_at-Err}
+use Rattle.ckpt_lines.proofs.{file_at-empty, whole_rest}
 use Rattle.ckpt_lines.proofs.words.Words.file.Goals as goal
 
 pub returns-in_default : goal.returns-in_default
@@ -11,16 +10,20 @@ pub returns-in_err-is_fresh : goal.returns-in_err-is_fresh
 returns-in_err-is_fresh c =
     let text : List ℕ = c.without_spaces.result.now in
     let p = err_from_is_err_and c.from_residual.result c.from_residual.ensures.1 in
-    let failed : file_place c.args.self.now ≡ Err c.in_err-is_fresh.field-0.0 = rw (← c.self.view_is, ← c.without_spaces.ensures.words) (file_at-Err text c.in_err-is_fresh.field-0.0 (omega (arith, c.in-len1-up.len_at_least)) c.without_spaces.ensures.start c.in_err-is_fresh.ensures.0) in
+    let failed : file_place c.args.self.now ≡ Err c.in_err-is_fresh.field-0.0 = rw (← c.self.view_is, ← c.without_spaces.ensures.words)
+    (file_at-Err text _ (omega (arith, c.in-len1-up.len_at_least)) c.without_spaces.ensures.start c.in_err-is_fresh.ensures.0) in
     rw (p.1, p.2) (failed, c.in_err-is_fresh.ensures.1)
 
 pub returns-in-Some : goal.returns-in-Some
 returns-in-Some c =
     let text : List ℕ = c.without_spaces.result.now in
-    let rest : words_of (take (length (after_sign text) - c.in-Some.length) (drop c.in-Some.length (after_sign text))) ≡ words_of (drop c.in-Some.length (after_sign text)) = ap words_of (whole_rest (after_sign text) c.in-Some.length) in
-    rw (← c.self.view_is, ← c.without_spaces.ensures.words, rest, c.file_word.ensures) (file_at-Some text c.in-Some.number c.in-Some.length c.in_ok-is_fresh.is_fresh (omega (arith, c.in-len1-up.len_at_least)) c.without_spaces.ensures.start (sym c.in_ok-is_fresh.ensures) c.in-Some.ensures)
+    rw (← c.self.view_is, ← c.without_spaces.ensures.words, ap words_of (whole_rest (after_sign text) c.in-Some.length), c.file_word.ensures)
+    (file_at-Some text _ _ _ (omega (arith, c.in-len1-up.len_at_least)) c.without_spaces.ensures.start (sym c.in_ok-is_fresh.ensures) c.in-Some.ensures)
 
 pub returns-in-None : goal.returns-in-None
 returns-in-None c =
-    let text : List ℕ = c.without_spaces.result.now in
-    (rw (← c.self.view_is, ← c.without_spaces.ensures.words) (file_at-None text c.in_ok-is_fresh.is_fresh (omega (arith, c.in-len1-up.len_at_least)) c.without_spaces.ensures.start (sym c.in_ok-is_fresh.ensures) c.in-None.ensures), refl)
+    let text : List ℕ = c.without_spaces.result.now in (
+      rw (← c.self.view_is, ← c.without_spaces.ensures.words)
+          (file_at-None text _ (omega (arith, c.in-len1-up.len_at_least)) c.without_spaces.ensures.start (sym c.in_ok-is_fresh.ensures) c.in-None.ensures),
+      refl,
+    )

@@ -1,6 +1,5 @@
 -- Answers the goals of `Words::is_empty`.
-use Rattle.std.proofs.Common.{◌∙◌}
-use Rattle.ckpt_lines.proofs.WordSplits.{tells_none}
+use Rattle.ckpt_lines.proofs.{◌∙◌, tells_none}
 use Rattle.ckpt_lines.proofs.words.Words.is_empty.Goals as goal
 
 pub returns : goal.returns

@@ -1,10 +1,6 @@
 -- Answers the goals of `Book::core`.
-use Rattle.std.proofs.Common.{◌≡◌, ◌∷◌, sym, subst, ap, ◌∙◌}
-use Rattle.ckpt_model.specs.Laws.{AreCalls}
-use Rattle.ckpt_model.specs.Soundness.{IsSound}
-use Rattle.ckpt_locked.specs.Books.{History, IsHistory, calls_of, state_of_book}
-use Rattle.ckpt_locked.proofs.AcceptedOnce.{exactly_one}
-use Rattle.ckpt_locked.proofs.Replays.{are_calls-append}
+use Rattle.ckpt_locked.proofs.{AreCalls, History, IsHistory, IsSound, ap, are_calls-append, calls_of, exactly_one, subst, sym, ◌∙◌, ◌∷◌, ◌≡◌}
+use Rattle.ckpt_locked.specs.Books.{state_of_book}
 use Rattle.ckpt_locked.proofs.book.Book.core.Goals as goal
 
 -- the laws are about each opening and list; these are the book's
@@ -24,7 +20,8 @@ pub returns-clause-full : goal.returns-clause-full
 returns-clause-full c = λ r there done. ((returns-clause-sound c).records.each r there).full done
 
 pub returns-clause-exactly_one : goal.returns-clause-exactly_one
-returns-clause-exactly_one c = let h : History = c.args.self.now in exactly_one h (its_state_is_sound c) (c.acknowledgements.ensures h.opening (calls_of h.entries) (its_history c).can_open (its_history c).are_calls)
+returns-clause-exactly_one c =
+    let h : History = c.args.self.now in exactly_one h (its_state_is_sound c) (c.acknowledgements.ensures h.opening (calls_of h.entries) (its_history c).can_open (its_history c).are_calls)
 
 pub returns-clause-balance : goal.returns-clause-balance
 returns-clause-balance c = let h : History = c.args.self.now in c.balance.ensures h.opening (calls_of h.entries) (its_history c).can_open (its_history c).are_calls

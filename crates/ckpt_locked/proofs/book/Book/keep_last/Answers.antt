@@ -1,5 +1,5 @@
 -- Answers the goals of `Book::keep_last`.
-use Rattle.ckpt_locked.proofs.Replays.{kept_keeping}
+use Rattle.ckpt_locked.proofs.{kept_keeping}
 use Rattle.ckpt_locked.proofs.book.Book.keep_last.Goals as goal
 
 pub invariant_of-self : goal.invariant_of-self

@@ -1,11 +1,7 @@
 -- Answers the goals of `Book::keyed`.
-use Rattle.std.proofs.Common.{List, sym, subst}
-use Rattle.ckpt_model.specs.Laws.{CanOpen}
-use Rattle.ckpt_model.specs.State.{State, Opening, opened}
-use Rattle.ckpt_locked.specs.declared.book.Entry.{Entry}
-use Rattle.ckpt_locked.specs.Books.{IsKept}
+use Rattle.ckpt_locked.proofs.{CanOpen, Entry, IsKept, List, Opening, kept_opened, opened, subst, sym}
 use Rattle.ckpt_model.proofs.Soundness.Opening.{InBounds, in_bounds}
-use Rattle.ckpt_locked.proofs.Openings.{kept_opened}
+use Rattle.ckpt_model.specs.State.{State}
 use Rattle.ckpt_locked.proofs.book.Book.keyed.Goals as goal
 
 pub invariant_of-result : goal.invariant_of-result

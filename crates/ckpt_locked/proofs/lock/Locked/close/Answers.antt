@@ -1,9 +1,5 @@
 -- Answers the goals of `Locked::close`.
-use Rattle.std.proofs.Common.{◌≡◌, [], ◌∷◌, subst, sym, ap, ◌∙◌, arith, All}
-use Rattle.ckpt_locked.specs.declared.view.View.{View}
-use Rattle.ckpt_locked.specs.Locks.{Hand, Lock, SeenIn, GivenBack}
-use Rattle.ckpt_locked.proofs.SeatLists.{all_front, all_last}
-use Rattle.ckpt_locked.proofs.LockCalls.{given_back}
+use Rattle.ckpt_locked.proofs.{All, GivenBack, Hand, Lock, SeenIn, View, [], all_front, all_last, ap, arith, given_back, subst, sym, ◌∙◌, ◌∷◌, ◌≡◌}
 use Rattle.ckpt_locked.proofs.lock.Locked.close.Goals as goal
 
 pub compare_all-requires-clause-others : goal.compare_all-requires-clause-others

@@ -1,7 +1,5 @@
 -- Answers the goals of `Locked::new`.
-use Rattle.std.proofs.Common.{◌≡◌, ◌++◌, ap, arith, List, ◌∷◌, [], ◌∙◌, Option, Some}
-use Rattle.ckpt_locked.specs.Books.{History}
-use Rattle.ckpt_locked.proofs.Keeps.{starts_as}
+use Rattle.ckpt_locked.proofs.{History, List, Option, Some, [], ap, arith, starts_as, ◌++◌, ◌∙◌, ◌∷◌, ◌≡◌}
 use Rattle.ckpt_locked.proofs.lock.Locked.new.Goals as goal
 
 pub new-requires : goal.new-requires

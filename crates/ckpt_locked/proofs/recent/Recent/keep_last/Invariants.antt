@@ -1,5 +1,5 @@
 -- The loop invariants of `Recent::keep_last`.
-use Rattle.std.proofs.Common.{◌≡◌, ◌+◌, ◌-◌, ◌^◌, ◌<◌, ◌≤◌, ◌++◌, length}
+use Rattle.ckpt_locked.proofs.{length, ◌++◌, ◌+◌, ◌-◌, ◌<◌, ◌^◌, ◌≡◌, ◌≤◌}
 use Rattle.ckpt_locked.proofs.recent.Recent.keep_last.Given as goal
 
 abbrev pub invariant-loop-self : goal.invariant-loop-self

@@ -11,7 +11,7 @@ pins_of-requires-clause-below c = rw c.deref.ensures.value (omega (arith, count-
 pub overflow_add-result : goal.overflow_add-result
 overflow_add-result c =
     let pins = rw c.deref.ensures.value at c.pins_of.ensures in
-    let counted : c.unwrap_or-counted.result ≡ counter c.self.inside.counts c.args.file = rw (c.unwrap_or-counted.ensures, c.copied.ensures, c.get.ensures.value) in
+    let counted : c.unwrap_or-counted.result ≡ counter c.self.inside.uses.counts c.args.file = rw (c.unwrap_or-counted.ensures, c.copied.ensures, c.get.ensures.value) in
     let small : c.unwrap_or-counted.result + c.pins_of.result < 2 ^ 32 = omega
     (arith, pins, count-in_use _ _ _ _ c.self.invariant.0 c.args.file, below-in_use _ _ _ _ c.self.invariant.0 c.args.file) in
     search rules
@@ -19,8 +19,8 @@ overflow_add-result c =
 pub returns-clause-value : goal.returns-clause-value
 returns-clause-value c =
     let pins = rw c.deref.ensures.value at c.pins_of.ensures in
-    let counted : c.unwrap_or-counted.result ≡ counter c.self.inside.counts c.args.file = rw (c.unwrap_or-counted.ensures, c.copied.ensures, c.get.ensures.value) in
+    let counted : c.unwrap_or-counted.result ≡ counter c.self.inside.uses.counts c.args.file = rw (c.unwrap_or-counted.ensures, c.copied.ensures, c.get.ensures.value) in
     rw (← c.self.view_is) (omega (arith, pins, count-in_use _ _ _ _ c.self.invariant.0 c.args.file))
 
 pub returns-clause-in_order : goal.returns-clause-in_order
-returns-clause-in_order c = rw (← c.self.view_is) (in_use-in_order c.self.inside.acknowledged c.self.inside.pinned.items)
+returns-clause-in_order c = rw (← c.self.view_is) (in_use-in_order c.self.inside.uses.acknowledged c.self.inside.uses.pinned.items)

@@ -10,25 +10,26 @@ release_each-requires-clause-counted c =
 
 pub invariant_of-self : goal.invariant_of-self
 invariant_of-self c =
-    let r = c.self.inside in
+    let r = c.self.inside.uses in
+    let after = c.release_each.new.uses in
     let e = c.release_each.ensures in
     let u = c.unpin.ensures.lowered.released in
     let owners = c.args.owners.now in
-    let pins : pins_in c.release_each.new.acknowledged c.release_each.new.pinned.items ≡ without owners (without (c.args.id ∷ []) (pins_in r.acknowledged r.pinned.items)) = rw
+    let pins : pins_in after.acknowledged after.pinned.items ≡ without owners (without (c.args.id ∷ []) (pins_in r.acknowledged r.pinned.items)) = rw
     (e.pins, c.unpin.ensures.kept, pins_in-filter r.acknowledged (c.args.id ∷ []) r.pinned.items) in
-    let fits : index_map_len c.release_each.new.counts ≤ vec_capacity c.sort.new.files = omega (arith, c.self.invariant.0.has_room, e.released.len, e.released.capacity, u.len, u.capacity) in (
+    let fits : index_map_len after.counts ≤ vec_capacity c.sort.new.files = omega (arith, c.self.invariant.0.has_room, e.released.len, e.released.capacity, u.len, u.capacity) in (
       IsSound-filtered _ _ _ _ _ _ _ _ (λ u. not (is_ended c.args.id owners u)) c.self.invariant.0 e.counted
-          (stored-after_end r.acknowledged r.pinned.items c.release_each.new.acknowledged c.release_each.new.pinned.items c.args.id owners e.uses pins) fits,
+          (stored-after_end r.acknowledged r.pinned.items after.acknowledged after.pinned.items c.args.id owners e.uses pins) fits,
       e.spare,
       e.no_files,
     )
 
 pub returns : goal.returns
 returns c =
-    let r = c.self.inside in
+    let r = c.self.inside.uses in
     let e = c.release_each.ensures in
     let u = c.unpin.ensures.lowered.released in
-    let after = c.release_each.new in
+    let after = c.release_each.new.uses in
     let owners = c.args.owners.now in
     let uses : List Use = c.args.self.now in
     let left : List Use = after_end c.args.id owners uses in
@@ -42,7 +43,8 @@ returns c =
     (in_use-filtered r.acknowledged r.pinned.items after.acknowledged after.pinned.items (λ u. not (is_ended c.args.id owners u)) kept) in
     let had : (f : ℕ) → ltb 0 (counter r.counts f) ≡ is_present uses f = λ f. rw (← c.self.view_is) (is_present-in_use _ _ _ _ c.self.invariant.0 f) in
     let has : (f : ℕ) → ltb 0 (counter after.counts f) ≡ is_present left f = λ f. rw (← view) (is_present-in_use _ _ _ _ sound f) in
-    let moved : (f : ℕ) → times f after.released.items + counted_once after.counts f ≡ times f c.clear.new.self.items + counted_once r.counts f = λ f. omega (arith, e.released.each f, u.each f) in (
+    let moved : (f : ℕ) → times f c.release_each.new.released.items + counted_once after.counts f ≡ times f c.clear.new.self.items + counted_once r.counts f = λ f.
+    omega (arith, e.released.each f, u.each f) in (
       (refl, λ _. tt, view),
       record {
         after = tt;

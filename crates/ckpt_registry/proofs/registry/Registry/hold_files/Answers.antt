@@ -7,8 +7,8 @@ use Rattle.ckpt_registry.proofs.registry.Registry.hold_files.Goals as goal
 pub count_each-requires-clause-fits : goal.count_each-requires-clause-fits
 count_each-requires-clause-fits c = λ f h.
     let small = c.requires.below f (rw (← c.as_slice.ensures.files) h) in
-    rw c.as_slice.ensures.files
-    (omega (arith, rw (← c.self.view_is) at small, times_at_most_once f c.args.files.now c.requires.each_once, counter-unchanged c.self.inside.counts c.reserve.new.self c.in_ok-reserve.ensures.entries f, count-in_use _ _ _ _ c.self.invariant.0 f))
+    let same = counter-unchanged c.self.inside.uses.counts c.reserve.new.self c.in_ok-reserve.ensures.entries f in
+    rw c.as_slice.ensures.files (omega (arith, same, rw (← c.self.view_is) at small, times_at_most_once f c.args.files.now c.requires.each_once, count-in_use _ _ _ _ c.self.invariant.0 f))
 
 pub invariant_of-self-in_err-hold : goal.invariant_of-self-in_err-hold
 invariant_of-self-in_err-hold c =
@@ -23,15 +23,15 @@ pub returns-in_err-hold-clause-err : goal.returns-in_err-hold-clause-err
 returns-in_err-hold-clause-err c =
     let e = c.in_err-hold.ensures in
     on_each_error c.from_residual-in_err-hold.result _
-    (in_use-kept c.self.inside.acknowledged c.self.inside.pinned.items c.hold.new.acknowledged c.self.invariant.0.parts.kept e.extends e.err ∙ c.self.view_is)
+    (in_use-kept c.self.inside.uses.acknowledged c.self.inside.uses.pinned.items c.hold.new.acknowledged c.self.invariant.0.parts.kept e.extends e.err ∙ c.self.view_is)
 
 pub invariant_of-self-2 : goal.invariant_of-self-2
 invariant_of-self-2 c =
     let files : List ℕ = c.args.files.now in
     let held = c.in_ok-hold.ensures in
     let all : files ++ c.of-none.result ≡ files = rw (c.of-none.ensures, c.new.ensures.items, append-nil) in
-    let raised : (f : ℕ) → counter c.count_each.new.counts f ≡ counter c.self.inside.counts f + times f files = λ f.
-    omega (arith, ap (times f) c.as_slice.ensures.files, c.count_each.ensures.counted f, counter-unchanged c.self.inside.counts c.reserve.new.self c.in_ok-reserve.ensures.entries f) in
+    let raised : (f : ℕ) → counter c.count_each.new.counts f ≡ counter c.self.inside.uses.counts f + times f files = λ f.
+    omega (arith, ap (times f) c.as_slice.ensures.files, c.count_each.ensures.counted f, counter-unchanged c.self.inside.uses.counts c.reserve.new.self c.in_ok-reserve.ensures.entries f) in
     let fits : index_map_len c.count_each.new.counts ≤ vec_capacity c.reserve-2.new.self =
     omega (arith, ap (λ (xs : List ℕ). length xs) c.as_slice.ensures.files, c.count_each.ensures.len, c.in_ok-reserve.ensures.ok, c.in_ok-reserve-2.ensures.ok) in
     let small = below_more c.args.self.now [] files (rw (← c.self.view_is) (below-in_use _ _ _ _ c.self.invariant.0)) c.requires.each_once (λ f h. absurd h) c.requires.below in (
@@ -43,7 +43,7 @@ invariant_of-self-2 c =
 
 pub returns-clause-ok : goal.returns-clause-ok
 returns-clause-ok c =
-    let r = c.self.inside in
+    let r = c.self.inside.uses in
     let files : List ℕ = c.args.files.now in
     let all : files ++ c.of-none.result ≡ files = rw (c.of-none.ensures, c.new.ensures.items, append-nil) in
     let pins = pins_in-extended r.acknowledged c.hold.new.acknowledged r.pinned.items c.in_ok-hold.ensures.extends c.self.invariant.0.parts.kept in

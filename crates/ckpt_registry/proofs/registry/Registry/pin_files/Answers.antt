@@ -8,18 +8,18 @@ count_each-requires-clause-fits c = λ f h.
     let small = c.requires.below f (rw (← c.as_slice-files.ensures.files) h) in
     let once = times_at_most_once f c.args.files.now (AreDistinct-from_order numbers_in_order c.args.files.now c.requires.ascending) in
     rw c.as_slice-files.ensures.files
-    (omega (arith, rw (← c.self.view_is) at small, once, counter-unchanged c.self.inside.counts c.reserve.new.self c.in_ok-reserve.ensures.entries f, count-in_use _ _ _ _ c.self.invariant.0 f))
+    (omega (arith, rw (← c.self.view_is) at small, once, counter-unchanged c.self.inside.uses.counts c.reserve.new.self c.in_ok-reserve.ensures.entries f, count-in_use _ _ _ _ c.self.invariant.0 f))
 
 pub invariant_of-self-2 : goal.invariant_of-self-2
 invariant_of-self-2 c =
-    let r = c.self.inside in
+    let r = c.self.inside.uses in
     let files = c.args.files.now in
     let one : Pinner = record { id = c.args.id; pins = Files c.in_ok-own.own } in
     let own : c.in_ok-own.own.items ≡ files = c.in_ok-own.ensures.items ∙ c.as_slice-files.ensures.files in
     let each : IsEachOnce files = AreDistinct-from_order numbers_in_order files c.requires.ascending in
     let small = below_more c.args.self.now [] files (rw (← c.self.view_is) (below-in_use _ _ _ _ c.self.invariant.0)) each (λ f h. absurd h) c.requires.below in
     let raised : (f : ℕ) → counter c.count_each.new.counts f ≡ counter r.counts f + times f c.in_ok-own.own.items = λ f.
-    omega (arith, ap (times f) c.in_ok-own.ensures.items, c.count_each.ensures.counted f, counter-unchanged c.self.inside.counts c.reserve.new.self c.in_ok-reserve.ensures.entries f) in
+    omega (arith, ap (times f) c.in_ok-own.ensures.items, c.count_each.ensures.counted f, counter-unchanged c.self.inside.uses.counts c.reserve.new.self c.in_ok-reserve.ensures.entries f) in
     let fits : index_map_len c.count_each.new.counts ≤ vec_capacity c.reserve-2.new.self =
     omega (arith, ap (λ (xs : List ℕ). length xs) c.as_slice-files.ensures.files, c.count_each.ensures.len, c.in_ok-reserve.ensures.ok, c.in_ok-reserve-2.ensures.ok) in (
       rw c.in_ok-push.ensures.items
@@ -33,17 +33,17 @@ pub returns-clause-ok : goal.returns-clause-ok
 returns-clause-ok c =
     let one : Pinner = record { id = c.args.id; pins = Files c.in_ok-own.own } in
     let own : c.in_ok-own.own.items ≡ c.args.files.now = c.in_ok-own.ensures.items ∙ c.as_slice-files.ensures.files in
-    rw (c.in_ok-push.ensures.items, ← c.self.view_is) (in_use-pinned c.self.inside.acknowledged c.self.inside.pinned.items one c.args.files.now own)
+    rw (c.in_ok-push.ensures.items, ← c.self.view_is) (in_use-pinned c.self.inside.uses.acknowledged c.self.inside.uses.pinned.items one c.args.files.now own)
 
 pub invariant_of-self-in_err-push : goal.invariant_of-self-in_err-push
 invariant_of-self-in_err-push c =
     let s = c.self.invariant.0.parts in
-    let entries : index_map_len c.reserve.new.self ≡ index_map_len c.self.inside.counts = ap (λ (es : List (ℕ × ℕ)). length es) c.in_ok-reserve.ensures.entries in
-    let parts : AreCounted c.self.inside.acknowledged c.self.inside.pinned.items c.reserve.new.self = record {
+    let entries : index_map_len c.reserve.new.self ≡ index_map_len c.self.inside.uses.counts = ap (λ (es : List (ℕ × ℕ)). length es) c.in_ok-reserve.ensures.entries in
+    let parts : AreCounted c.self.inside.uses.acknowledged c.self.inside.uses.pinned.items c.reserve.new.self = record {
       ordered = s.ordered;
       kept = s.kept;
-      counted = λ f. counter-unchanged c.self.inside.counts c.reserve.new.self c.in_ok-reserve.ensures.entries f ∙ s.counted f;
-      range = AreInRange-unchanged c.self.inside.counts c.reserve.new.self c.in_ok-reserve.ensures.entries s.range;
+      counted = λ f. counter-unchanged c.self.inside.uses.counts c.reserve.new.self c.in_ok-reserve.ensures.entries f ∙ s.counted f;
+      range = AreInRange-unchanged c.self.inside.uses.counts c.reserve.new.self c.in_ok-reserve.ensures.entries s.range;
       below = s.below;
     } in (
       rw c.in_err-push.ensures.items

@@ -17,27 +17,27 @@ none_pinned a p us id chosen view empty =
     subst (λ vs. vs ≡ in_order_once use_before (vs ++ triples id Pin (files_by chosen us))) view (in_use-none a p id Pin (files_by chosen us) none)
 
 pub returns-in_default-clause-ok : goal.returns-in_default-clause-ok
-returns-in_default-clause-ok c = none_pinned c.self.inside.acknowledged c.self.inside.pinned.items c.args.self.now c.args.id c.args.chosen c.self.view_is c.in_default.ensures.none
+returns-in_default-clause-ok c = none_pinned c.self.inside.uses.acknowledged c.self.inside.uses.pinned.items c.args.self.now c.args.id c.args.chosen c.self.view_is c.in_default.ensures.none
 
 pub pin_all-pins-requires-clause-present : goal.pin_all-pins-requires-clause-present
 pin_all-pins-requires-clause-present c = λ f h.
     let there = times-from_IsIn f (files_in c.in-Some.parts.now) h in
-    omega (arith, rw c.in-Some.ensures.some at there, count-parts_of c.self.inside.acknowledged c.args.chosen f, c.self.invariant.0.parts.counted f)
+    omega (arith, rw c.in-Some.ensures.some at there, count-parts_of c.self.inside.uses.acknowledged c.args.chosen f, c.self.invariant.0.parts.counted f)
 
 pub pin_all-pins-requires-clause-fits : goal.pin_all-pins-requires-clause-fits
 pin_all-pins-requires-clause-fits c = λ f.
-    let r = c.self.inside in
+    let r = c.self.inside.uses in
     let is : files_by c.args.chosen c.args.self.now ≡ each_file c.in-Some.parts.now = rw (← c.self.view_is, files_by-in_use r.acknowledged r.pinned.items c.args.chosen, c.in-Some.ensures.some) in
     let small = fits r.acknowledged r.pinned.items c.args.self.now c.args.chosen c.self.view_is (below-in_use _ _ _ _ c.self.invariant.0) c.requires.below f in
     omega (arith, rw is at small, count-in_use _ _ _ _ c.self.invariant.0 f)
 
 pub invariant_of-self-2 : goal.invariant_of-self-2
 invariant_of-self-2 c =
-    let r = c.self.inside in
+    let r = c.self.inside.uses in
     let a : Acknowledged = r.acknowledged in
     let p : List Pinner = r.pinned.items in
     let chosen = c.args.chosen in
-    let room = vec_capacity r.released in
+    let room = vec_capacity c.self.inside.released in
     let named : List ℕ = files_by chosen c.args.self.now in
     let one : Pinner = record { id = c.args.id; pins = c.pin_all-pins.result } in
     let e = c.pin_all-pins.ensures in
@@ -53,8 +53,8 @@ invariant_of-self-2 c =
 
 pub returns-clause-ok : goal.returns-clause-ok
 returns-clause-ok c =
-    let a : Acknowledged = c.self.inside.acknowledged in
-    let p : List Pinner = c.self.inside.pinned.items in
+    let a : Acknowledged = c.self.inside.uses.acknowledged in
+    let p : List Pinner = c.self.inside.uses.pinned.items in
     let one : Pinner = record { id = c.args.id; pins = c.pin_all-pins.result } in
     let pins : pinned_by a one.pins ≡ files_by c.args.chosen (in_use a p) = c.pin_all-pins.ensures.pinned a (sym c.in-Some.ensures.some) ∙ rw c.in-Some.ensures.some
     (sym (files_by-in_use a p c.args.chosen)) in

@@ -7,6 +7,6 @@ files_pinned-requires-clause-kept c = rw c.deref.ensures.value c.self.invariant.
 
 pub returns : goal.returns
 returns c =
-    let r = c.self.inside in
+    let r = c.self.inside.uses in
     let moved = rw (c.in_ok-all.ensures, c.deref.ensures.value) at c.sort_unstable.ensures.permutation in
     c.of.ensures ∙ rw (← c.self.view_is) (pins-from_dedup r.acknowledged r.pinned.items c.args.id _ _ moved c.sort_unstable.ensures.sorted c.dedup.ensures.filtered)

@@ -6,7 +6,7 @@ pub returns-clause-value : goal.returns-clause-value
 returns-clause-value c = c.len.ensures.len ∙ rw (← c.self.view_is) (index_map_len-in_use _ _ _ _ c.self.invariant.0 c.len.ensures.unique)
 
 pub returns-clause-in_order : goal.returns-clause-in_order
-returns-clause-in_order c = rw (← c.self.view_is) (in_use-in_order c.self.inside.acknowledged c.self.inside.pinned.items)
+returns-clause-in_order c = rw (← c.self.view_is) (in_use-in_order c.self.inside.uses.acknowledged c.self.inside.uses.pinned.items)
 
 pub returns-clause-below : goal.returns-clause-below
 returns-clause-below c = rw (← c.self.view_is) (below-in_use _ _ _ _ c.self.invariant.0)

@@ -5,17 +5,19 @@ use Rattle.ckpt_registry.proofs.registry.Registry.release.Goals as goal
 
 pub invariant_of-self : goal.invariant_of-self
 invariant_of-self c =
+    let r = c.self.inside.uses in
+    let after = c.release_each.new.uses in
     let e = c.release_each.ensures in
     let owners = c.args.owners.now in
-    let fits : index_map_len c.release_each.new.counts ≤ vec_capacity c.sort.new.files = omega (arith, c.self.invariant.0.has_room, e.released.len, e.released.capacity, c.sort.ensures.capacity) in
-    let kept = stored-without c.self.inside.acknowledged c.self.inside.pinned.items c.release_each.new.acknowledged c.release_each.new.pinned.items owners e.uses e.pins in
+    let fits : index_map_len after.counts ≤ vec_capacity c.sort.new.files = omega (arith, c.self.invariant.0.has_room, e.released.len, e.released.capacity, c.sort.ensures.capacity) in
+    let kept = stored-without r.acknowledged r.pinned.items after.acknowledged after.pinned.items owners e.uses e.pins in
     (IsSound-filtered _ _ _ _ _ _ _ _ (λ u. not (is_owned owners u)) c.self.invariant.0 e.counted kept fits, e.spare, e.no_files)
 
 pub returns : goal.returns
 returns c =
-    let r = c.self.inside in
+    let r = c.self.inside.uses in
     let e = c.release_each.ensures in
-    let after = c.release_each.new in
+    let after = c.release_each.new.uses in
     let owners = c.args.owners.now in
     let uses : List Use = c.args.self.now in
     let kept = stored-without r.acknowledged r.pinned.items after.acknowledged after.pinned.items owners e.uses e.pins in

@@ -1,15 +1,10 @@
 -- Answers the goals of `Ahead::drop_line`.
-use Rattle.std.proofs.Common.{◌≡◌, ◌+◌, ◌-◌, ◌<◌, ◌≤◌, ◌∙◌, ℕ, List, length, drop, ap, sym, subst, arith}
-use Rattle.std.specs.List.{slice_range}
-use Rattle.std.proofs.lemmas.List.{length-take}
-use Rattle.ckpt_script.specs.Unread.{Unread}
-use Rattle.ckpt_script.proofs.LineLemmas.{drop-slice_range}
+use Rattle.ckpt_script.proofs.{◌≡◌, ◌+◌, ◌-◌, ◌<◌, ◌≤◌, ◌∙◌, ℕ, List, length, drop, ap, sym, subst, arith, slice_range, length-take, Unread, drop-slice_range}
 use Rattle.ckpt_script.proofs.ahead.Ahead.drop_line.Goals as goal
 
 pub returns : goal.returns
 returns c =
-    let bytes : List ℕ = c.self.inside.buffer.items in
-    let start : ℕ = c.self.inside.start in
+    let bytes : List ℕ = c.self.inside.buffer.items in let start : ℕ = c.self.inside.start in
     let end : ℕ = c.self.inside.end in
     let short : length (slice_range bytes start end) ≤ end - start = omega (arith, length-take (end - start) (drop start bytes)) in
     let below : c.args.newline < length (slice_range bytes start end) = subst (λ (u : Unread). c.args.newline < length u.bytes) (sym c.self.view_is) c.requires in

@@ -1,10 +1,5 @@
 -- The loop invariants of `Ahead::find_line`.
-use Rattle.std.proofs.Common.{◌≡◌, ◌≢◌, ◌<◌, ◌≤◌, [], true, false, length}
-use Rattle.ckpt_script.specs.Devices.{used}
-use Rattle.ckpt_script.specs.Flushes.{IsTied}
-use Rattle.ckpt_script.specs.Known.{Prints}
-use Rattle.ckpt_script.specs.Lines.{held}
-use Rattle.ckpt_script.specs.Reads.{IsFollowed, ReadsPart, all_left}
+use Rattle.ckpt_script.proofs.{◌≡◌, ◌≢◌, ◌<◌, ◌≤◌, [], true, false, length, used, IsTied, Prints, held, IsFollowed, ReadsPart, all_left}
 use Rattle.ckpt_script.proofs.ahead.Ahead.find_line.Given as goal
 
 -- a part of the line was read, and its prefix is held

@@ -1,9 +1,5 @@
 -- Answers the goals of `Ahead::front`.
-use Rattle.std.proofs.Common.{◌≡◌, ◌≤◌, ◌∙◌, ℕ, List, length, take, min, ap, sym, subst, arith}
-use Rattle.std.specs.List.{slice_range}
-use Rattle.ckpt_script.specs.Lines.{held}
-use Rattle.ckpt_script.specs.Unread.{Unread}
-use Rattle.ckpt_script.proofs.LineLemmas.{front-slice_range}
+use Rattle.ckpt_script.proofs.{◌≡◌, ◌≤◌, ◌∙◌, ℕ, List, length, take, min, ap, sym, subst, arith, slice_range, held, Unread, front-slice_range}
 use Rattle.ckpt_script.proofs.ahead.Ahead.front.Goals as goal
 
 pub returns : goal.returns

@@ -1,10 +1,6 @@
 -- Answers the goals of `Ahead::move_to`.
-use Rattle.std.proofs.Common.{◌≡◌, ℕ, ◌+◌, ◌-◌, ◌<◌, ◌≤◌, ◌++◌, ◌∷◌, [], List, length, take, drop, true, false, None, Some, ap, sym, ◌∙◌, refl, arith, append-nil}
-use Rattle.std.specs.List.{slice_range}
-use Rattle.std.proofs.lemmas.List.{length-take}
-use Rattle.ckpt_script.specs.Unread.{Unread}
-use Rattle.ckpt_script.specs.Lines.{held, FindsNewline, Moves, newline}
-use Rattle.ckpt_script.proofs.LineLemmas.{drop-slice_range}
+use Rattle.ckpt_script.proofs.{◌≡◌, ℕ, ◌+◌, ◌-◌, ◌<◌, ◌≤◌, ◌++◌, ◌∷◌, [], List, length, take, drop, true, false, None, Some, ap, sym, ◌∙◌, refl, arith, append-nil, slice_range, length-take, Unread}
+use Rattle.ckpt_script.proofs.{held, FindsNewline, Moves, newline, drop-slice_range}
 use Rattle.ckpt_script.proofs.ahead.Ahead.move_to.Goals as goal
 
 -- `shown` is the buffer, by the slice that was taken of it
@@ -12,7 +8,8 @@ module _ (shown buffer bytes line after : List ℕ) (from to : ℕ) (same : show
   all : bytes ≡ slice_range shown from to
   all = is ∙ ap (λ (b : List ℕ). slice_range b from to) (sym same)
 
-  to_newline : (place : ℕ) → FindsNewline (slice_range shown from to) (Some place) → after ≡ take held (line ++ take place (slice_range shown from to)) → Moves bytes (slice_range buffer (from + place + 1) to) line after true
+  to_newline : (place : ℕ) → FindsNewline (slice_range shown from to) (Some place) → after ≡ take held (line ++ take place (slice_range shown from to))
+      → Moves bytes (slice_range buffer (from + place + 1) to) line after true
   to_newline place found e =
       let short : length (slice_range shown from to) ≤ to - from = omega (arith, length-take (to - from) (drop from shown)) in
       let below : place < length (slice_range shown from to) = found.0 in

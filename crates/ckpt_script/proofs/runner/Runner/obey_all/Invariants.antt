@@ -1,8 +1,5 @@
 -- The loop invariants of `Runner::obey_all`.
-use Rattle.std.proofs.Common.{◌≡◌, ◌-◌}
-use Rattle.ckpt_script.specs.declared.limits.TheConstants.{MOST_LINES}
-use Rattle.ckpt_script.specs.Flushes.{IsTied}
-use Rattle.ckpt_script.specs.Runs.{GoesOn, IsReady}
+use Rattle.ckpt_script.proofs.{◌≡◌, ◌-◌, MOST_LINES, IsTied, GoesOn, IsReady}
 use Rattle.ckpt_script.proofs.runner.Runner.obey_all.Given as goal
 
 abbrev pub invariant-loop : goal.invariant-loop

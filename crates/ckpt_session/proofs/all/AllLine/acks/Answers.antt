@@ -1,9 +1,5 @@
 -- Answers the goals of `AllLine::acks`.
-use Rattle.std.proofs.Common.{◌≡◌, ℕ, ◌+◌, get_or, [], ◌∷◌, ◌++◌, refl, sym, ap, ◌∙◌, arith}
-use Rattle.ckpt_ids.specs.declared.call.Call.{Call}
-use Rattle.ckpt_ids.specs.declared.subtask.SubtaskId.{SubtaskId}
-use Rattle.ckpt_model.specs.Interleavings.{ack_with}
-use Rattle.ckpt_session.proofs.AckLists.{acks_for-none, acks_for-more}
+use Rattle.ckpt_session.proofs.{◌≡◌, ℕ, ◌+◌, get_or, [], ◌∷◌, ◌++◌, refl, sym, ap, ◌∙◌, arith, Call, SubtaskId, ack_with, acks_for-none, acks_for-more}
 use Rattle.ckpt_session.proofs.all.AllLine.acks.Goals as goal
 
 pub loop-subtask-init : goal.loop-subtask-init
@@ -11,10 +7,8 @@ loop-subtask-init c = (refl, c.new-acks.ensures.items ∙ sym (acks_for-none c.a
 
 pub loop-subtask-preserved : goal.loop-subtask-preserved
 loop-subtask-preserved c =
-    let zero : SubtaskId = record { vertex = 0; index = 0 } in
-    let line = c.args.self.now in
-    let missing = c.args.missing.now in
-    let i = c.loop-subtask.subtask-index in
+    let zero : SubtaskId = record { vertex = 0; index = 0 } in let line = c.args.self.now in
+    let missing = c.args.missing.now in let i = c.loop-subtask.subtask-index in
     let at : c.loop-subtask.place ≡ i = c.loop-subtask.invariant.0 in
     let ack : ℕ → Call = λ place. ack_with line.moment line.id (record { subtask = get_or missing i zero; file = line.first + place }) in (
       omega arith,

@@ -1,6 +1,5 @@
 -- Answers the goals of `AllLine::obey`.
-use Rattle.std.specs.Prelude.{Result, Ok, Err, IfOk}
-use Rattle.ckpt_session.proofs.SeatingLemmas.{all_after}
+use Rattle.ckpt_session.proofs.{Result, Ok, Err, IfOk, all_after}
 use Rattle.ckpt_session.proofs.all.AllLine.obey.Goals as goal
 
 if_ok_weaker : {T E : Type 0} (P Q : T → Type 0) (r : Result T E) → ((x : T) → P x → Q x) → IfOk r P → IfOk r Q
@@ -11,4 +10,5 @@ if_ok_weaker P Q (Err e) f p = tt
 pub returns-in-Some-clause-entered : goal.returns-in-Some-clause-entered
 returns-in-Some-clause-entered g c =
     let line = c.args.self.now in
-    if_ok_weaker _ _ c.acknowledge.result (λ said all. all_after c.args.book.entries c.pending_metadata.new.book.entries said.0.entries line.id line.threads c.in_ok-metadata.ensures.entered all) c.acknowledge.ensures.entered
+    if_ok_weaker _ _ c.acknowledge.result
+    (λ said all. all_after c.args.book.entries c.pending_metadata.new.book.entries said.0.entries line.id line.threads c.in_ok-metadata.ensures.entered all) c.acknowledge.ensures.entered

@@ -1,13 +1,5 @@
 -- Answers the goals of `Session::answer`.
-use Rattle.std.proofs.Common.{ap, sym, ◌∙◌}
-use Rattle.std.specs.Prelude.{[], option_map}
-use Rattle.std.specs.Option.{option_map_or}
-use Rattle.ckpt_locked.specs.declared.limits.TheConstants.{MOST_SEATS}
-use Rattle.ckpt_locked.specs.Books.{History, state_of_book}
-use Rattle.ckpt_session.specs.Seating.{Staged}
-use Rattle.ckpt_session.specs.Sessions.{Scene, called}
-use Rattle.ckpt_session.proofs.BookLemmas.{called_is}
-use Rattle.ckpt_session.proofs.SeatingLemmas.{entered_by_line}
+use Rattle.ckpt_session.proofs.{ap, sym, ◌∙◌, [], option_map, option_map_or, MOST_SEATS, History, state_of_book, Staged, Scene, called, called_is, entered_by_line}
 use Rattle.ckpt_session.proofs.session.Session.answer.Goals as goal
 
 pub returns-in-Ok-clause-done : goal.returns-in-Ok-clause-done

@@ -1,11 +1,5 @@
 -- Answers the goals of `Session::start`.
-use Rattle.std.proofs.Common.{ℕ, List, sym, ap, ◌∙◌}
-use Rattle.std.specs.Prelude.{nat_le, option_map}
-use Rattle.ckpt_ids.specs.declared.limits.TheConstants.{MOMENTS_END}
-use Rattle.ckpt_locked.specs.Books.{newly_opened, state_of_book}
-use Rattle.ckpt_session.specs.Seating.{Staged}
-use Rattle.ckpt_session.specs.Sessions.{Scene, started_so_far}
-use Rattle.ckpt_session.proofs.BookLemmas.{started_is, is_early, is_some-option_map}
+use Rattle.ckpt_session.proofs.{ℕ, List, sym, ap, ◌∙◌, nat_le, option_map, MOMENTS_END, newly_opened, state_of_book, Staged, Scene, started_so_far, started_is, is_early, is_some-option_map}
 use Rattle.ckpt_session.proofs.session.Session.start.Goals as goal
 
 pub returns-in-Ok-clause-done : goal.returns-in-Ok-clause-done

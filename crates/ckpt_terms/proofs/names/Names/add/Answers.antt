@@ -30,4 +30,6 @@ invariant_of-self-2 c =
     let longer : len + 1 ≡ vec_len c.push_reserved.new.self = omega (arith, c.in_ok-make_room.ensures.len, c.push_reserved.ensures.len) in
     let fits : held + len + 1 ≤ room + room = omega (arith, c.in_ok-make_room.ensures.room, c.push_reserved.ensures.capacity) in
     let some : 0 < c.args.count = omega arith in
-    subst Items (sym put) (subst Len longer (added xs c.args.first c.args.count c.self.inside.held len (vec_capacity c.self.inside.spans) held room c.self.invariant (subst Below (sym c.self.view_is) c.requires.above) some sum fits))
+    subst Items (sym put)
+    (subst Len longer (added xs c.args.first c.args.count c.self.inside.held len (vec_capacity c.self.inside.spans) held room c.self.invariant
+    (subst Below (sym c.self.view_is) c.requires.above) some sum fits))

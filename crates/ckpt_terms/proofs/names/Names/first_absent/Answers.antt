@@ -17,7 +17,8 @@ returns-in_default c =
     let name : ℕ = c.file.inside.0 in
     let p : ℕ → Bool = is_absent c.args.self.now in
     let at : get_or files i file ≡ name = sym c.file-item.is ∙ sym c.file.view_is in
-    let told : p name ≡ not (is_some c.range_near.result) = absent_is c.self.inside.spans.items c.deref.result.now c.args.self.now name c.range_near.result c.deref.ensures.value c.self.view_is c.range_near.ensures.some c.range_near.ensures.none in
+    let told : p name ≡ not (is_some c.range_near.result) =
+    absent_is c.self.inside.spans.items c.deref.result.now c.args.self.now name c.range_near.result c.deref.ensures.value c.self.view_is c.range_near.ensures.some c.range_near.ensures.none in
     sym (find_first p files i file (omega arith) c.loop-file.invariant (ap p at ∙ told ∙ ap (λ (r : Option (ℕ × Span)). not (is_some r)) c.in_default.is) ∙ ap (λ (f : ℕ). Some f) at)
 
 pub loop-file-preserved : goal.loop-file-preserved
@@ -28,7 +29,8 @@ loop-file-preserved c =
     let name : ℕ = c.file.inside.0 in
     let p : ℕ → Bool = is_absent c.args.self.now in
     let at : get_or files i file ≡ name = sym c.file-item.is ∙ sym c.file.view_is in
-    let told : p name ≡ not (is_some c.range_near.result) = absent_is c.self.inside.spans.items c.deref.result.now c.args.self.now name c.range_near.result c.deref.ensures.value c.self.view_is c.range_near.ensures.some c.range_near.ensures.none in
+    let told : p name ≡ not (is_some c.range_near.result) =
+    absent_is c.self.inside.spans.items c.deref.result.now c.args.self.now name c.range_near.result c.deref.ensures.value c.self.view_is c.range_near.ensures.some c.range_near.ensures.none in
     list_any_more p files i file (omega arith) ∙ ap (λ (b : Bool). b || p (get_or files i file)) c.loop-file.invariant ∙ ap p at ∙ told ∙ ap (λ (r : Option (ℕ × Span)). not (is_some r)) c.in-Some.is
 
 pub returns : goal.returns

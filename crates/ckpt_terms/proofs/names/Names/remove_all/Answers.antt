@@ -14,4 +14,5 @@ loop-name-preserved c =
     let gone : List ℕ = c.as_slice-numbers.result.now in
     let i : ℕ = c.loop-name.name-index in
     let name : ℕ = c.name-item.result in
-    c.remove-near.ensures ∙ ap (without_all (name ∷ [])) c.loop-name.invariant ∙ sym (ap (λ g. without_all g c.args.self.now) (take_more gone i name (omega arith) ∙ ap (λ x. take i gone ++ x ∷ []) (sym c.name-item.is)) ∙ without_more (take i gone) name c.args.self.now)
+    c.remove-near.ensures ∙ ap (without_all (name ∷ [])) c.loop-name.invariant
+    ∙ sym (ap (λ g. without_all g c.args.self.now) (take_more gone i name (omega arith) ∙ ap (λ x. take i gone ++ x ∷ []) (sym c.name-item.is)) ∙ without_more (take i gone) name c.args.self.now)

@@ -12,7 +12,8 @@ returns-clause-good c =
     let m : Fenced = c.args.self.now in
     let core : state_in c.in_ok-core.core ≡ settled m.core = c.in_ok-core.ensures.value ∙ ap settled c.core.ensures in
     let saved : Fenced = layer (state_in c.in_ok-core.core) c.term-term.result c.next_name.result (names_in c.in_ok-unspent.unspent.items) in
-    let is = saved_is m (state_in c.in_ok-core.core) c.term-term.result c.next_name.result (names_in c.in_ok-unspent.unspent.items) core c.term-term.ensures.value c.next_name.ensures (c.in_ok-unspent.ensures.names ∙ c.names.ensures) in
+    let is = saved_is m (state_in c.in_ok-core.core) c.term-term.result c.next_name.result (names_in c.in_ok-unspent.unspent.items) core c.term-term.ensures.value c.next_name.ensures
+    (c.in_ok-unspent.ensures.names ∙ c.names.ensures) in
     record {
       ranges = c.in_ok-unspent.ensures.ranges;
       state = saved_can_hold m saved is c.in_ok-core.ensures.good c.term-term.ensures.always;

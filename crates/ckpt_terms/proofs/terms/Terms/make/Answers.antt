@@ -20,20 +20,31 @@ pub invariant_of-self : goal.invariant_of-self
 invariant_of-self c =
     let m : Fenced = layer c.self.inside.core c.self.inside.term c.self.inside.next_name c.self.inside.unspent in
     let Passes : Fenced → Type 0 = λ m. fence m (Make c.args.term c.args.call.now) ≡ None in
-    make_fenced m c.args.term c.args.call.now c.apply.new.self (Done c.in-Ok.reply) c.term_after-self-inside.result c.spend.new.names c.recall_call.ensures (subst Passes (sym c.self.view_is) (sym c.refuses_make.ensures ∙ c.in_default.is)) c.in-Ok.ensures.done c.term_after-self-inside.ensures c.spend.ensures c.self.invariant
+    make_fenced m c.args.term c.args.call.now c.apply.new.self (Done c.in-Ok.reply) c.term_after-self-inside.result c.spend.new.names c.recall_call.ensures
+    (subst Passes (sym c.self.view_is) (sym c.refuses_make.ensures ∙ c.in_default.is)) c.in-Ok.ensures.done c.term_after-self-inside.ensures c.spend.ensures c.self.invariant
 
 pub returns-in-Ok-clause-done : goal.returns-in-Ok-clause-done
 returns-in-Ok-clause-done c =
     let m : Fenced = layer c.self.inside.core c.self.inside.term c.self.inside.next_name c.self.inside.unspent in
     let Passes : Fenced → Type 0 = λ m. fence m (Make c.args.term c.args.call.now) ≡ None in
-    let Goal : Fenced → Type 0 = λ m. fenced_step m (Make c.args.term c.args.call.now) ≡ (layer c.apply.new.self c.term_after-self-inside.result c.self.inside.next_name c.spend.new.names, answer.Made c.term_after-self-inside.result (Done c.in-Ok.reply)) in
-    subst Goal c.self.view_is (make_on m c.args.term c.args.call.now c.apply.new.self (Done c.in-Ok.reply) c.term_after-self-inside.result c.spend.new.names (subst Passes (sym c.self.view_is) (sym c.refuses_make.ensures ∙ c.in_default.is)) c.in-Ok.ensures.done c.term_after-self-inside.ensures c.spend.ensures)
+    let Goal : Fenced → Type 0 =
+    λ m. fenced_step m (Make c.args.term c.args.call.now) ≡
+    (layer c.apply.new.self c.term_after-self-inside.result c.self.inside.next_name c.spend.new.names, answer.Made c.term_after-self-inside.result (Done c.in-Ok.reply)) in
+    subst Goal c.self.view_is
+    (make_on m c.args.term c.args.call.now c.apply.new.self (Done c.in-Ok.reply) c.term_after-self-inside.result c.spend.new.names
+    (subst Passes (sym c.self.view_is) (sym c.refuses_make.ensures ∙ c.in_default.is)) c.in-Ok.ensures.done c.term_after-self-inside.ensures c.spend.ensures)
 
 pub returns-in-Err-Refused-clause-done : goal.returns-in-Err-Refused-clause-done
 returns-in-Err-Refused-clause-done c =
     let m : Fenced = layer c.self.inside.core c.self.inside.term c.self.inside.next_name c.self.inside.unspent in
     let Passes : Fenced → Type 0 = λ m. fence m (Make c.args.term c.args.call.now) ≡ None in
-    let Goal : Fenced → Type 0 = λ m. fenced_step m (Make c.args.term c.args.call.now) ≡ (layer c.apply.new.self c.self.inside.term c.self.inside.next_name c.self.inside.unspent, answer.Made c.self.inside.term (Refused c.in-Err-Refused.why)) in
-    let refused : refusal c.self.inside.core c.args.call.now ≡ Some c.in-Err-Refused.why = (c.apply.ensures.refused c.in-Err-Refused.why).0 (c.in-Err-Refused.is ∙ ap Err c.in-Err-Refused.field-0-is) in
-    let stepped : step c.self.inside.core c.args.call.now ≡ (c.apply.new.self, Refused c.in-Err-Refused.why) = step_refused c.self.inside.core c.args.call.now c.in-Err-Refused.why refused ∙ ap (λ (k : State). (k, Refused c.in-Err-Refused.why)) (sym c.in-Err-Refused.ensures.unchanged) in
-    subst Goal c.self.view_is (make_on m c.args.term c.args.call.now c.apply.new.self (Refused c.in-Err-Refused.why) c.self.inside.term c.self.inside.unspent (subst Passes (sym c.self.view_is) (sym c.refuses_make.ensures ∙ c.in_default.is)) stepped refl refl)
+    let Goal : Fenced → Type 0 =
+    λ m. fenced_step m (Make c.args.term c.args.call.now) ≡
+    (layer c.apply.new.self c.self.inside.term c.self.inside.next_name c.self.inside.unspent, answer.Made c.self.inside.term (Refused c.in-Err-Refused.why)) in
+    let refused : refusal c.self.inside.core c.args.call.now ≡ Some c.in-Err-Refused.why =
+    (c.apply.ensures.refused c.in-Err-Refused.why).0 (c.in-Err-Refused.is ∙ ap Err c.in-Err-Refused.field-0-is) in
+    let stepped : step c.self.inside.core c.args.call.now ≡ (c.apply.new.self, Refused c.in-Err-Refused.why) =
+    step_refused c.self.inside.core c.args.call.now c.in-Err-Refused.why refused ∙ ap (λ (k : State). (k, Refused c.in-Err-Refused.why)) (sym c.in-Err-Refused.ensures.unchanged) in
+    subst Goal c.self.view_is
+    (make_on m c.args.term c.args.call.now c.apply.new.self (Refused c.in-Err-Refused.why) c.self.inside.term c.self.inside.unspent
+    (subst Passes (sym c.self.view_is) (sym c.refuses_make.ensures ∙ c.in_default.is)) stepped refl refl)

@@ -20,5 +20,7 @@ pub returns-clause-done : goal.returns-clause-done
 returns-clause-done c =
     let m : Fenced = layer c.self.inside.core c.self.inside.term c.self.inside.next_name c.self.inside.unspent in
     let P : Fenced → Type 0 = λ m. fence m (Reserve c.args.term c.args.count) ≡ None in
-    let Q : Fenced → Type 0 = λ m. fenced_step m (Reserve c.args.term c.args.count) ≡ (layer c.self.inside.core c.self.inside.term (c.self.inside.next_name + c.args.count) c.add.new.self, answer.Reserved c.self.inside.next_name) in
+    let Q : Fenced → Type 0 =
+    λ m. fenced_step m (Reserve c.args.term c.args.count) ≡
+    (layer c.self.inside.core c.self.inside.term (c.self.inside.next_name + c.args.count) c.add.new.self, answer.Reserved c.self.inside.next_name) in
     subst Q c.self.view_is (reserve_on m c.args.term c.args.count c.add.new.self (subst P (sym c.self.view_is) (sym c.refuses_reserve.ensures ∙ c.in_default.is)) c.in_ok-add.ensures.ok)

@@ -1,8 +1,6 @@
 -- Answers the goals of `InOrderTeam::make`.
-use Rattle.std.proofs.Common.{◌%◌, [], ◌∷◌, refl, ap, arith, length-append}
+use Rattle.ckpt_workers.proofs.{IsTally, IsTeamwork-none, IsTeamwork-push, [], ap, arith, in_order-none, in_order-push, length-append, refl, ◌%◌, ◌∷◌}
 use Rattle.ckpt_workers.specs.declared.team.Made.{Made}
-use Rattle.ckpt_workers.specs.Teams.{IsTally}
-use Rattle.ckpt_workers.proofs.TeamLemmas.{IsTeamwork-none, IsTeamwork-push, in_order-none, in_order-push}
 use Rattle.ckpt_workers.proofs.team.InOrderTeam.make.Goals as goal
 
 pub loop-call-init : goal.loop-call-init
@@ -19,6 +17,7 @@ loop-call-preserved c =
       tt,
       tt,
       omega (arith, length-append c.loop-call.yielded (c.in-Some.call ∷ [])),
-      IsTeamwork-push c.args.book c.loop-call.yielded c.args.threads c.loop-call.made c.enter.new.self c.in-Some.call (c.loop-call.place % c.args.threads) c.requires.threads.0 (ap (λ k. k % c.args.threads) at) c.loop-call.invariant.3 c.in_ok-enter.ensures,
+      IsTeamwork-push c.args.book c.loop-call.yielded c.args.threads c.loop-call.made c.enter.new.self c.in-Some.call (c.loop-call.place % c.args.threads) c.requires.threads.0
+          (ap (λ k. k % c.args.threads) at) c.loop-call.invariant.3 c.in_ok-enter.ensures,
       in_order-push c.args.book c.loop-call.yielded c.loop-call.made c.enter.new.self c.in-Some.call (c.loop-call.place % c.args.threads) c.loop-call.invariant.4 c.in_ok-enter.ensures,
     )

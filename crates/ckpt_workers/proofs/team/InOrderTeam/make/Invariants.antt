@@ -1,7 +1,5 @@
 -- The loop invariants of `InOrderTeam::make`.
-use Rattle.std.proofs.Common.{◌≡◌, ◌++◌, length}
-use Rattle.ckpt_locked.specs.Books.{calls_of}
-use Rattle.ckpt_workers.specs.Teams.{IsTeamwork}
+use Rattle.ckpt_workers.proofs.{IsTeamwork, calls_of, length, ◌++◌, ◌≡◌}
 use Rattle.ckpt_workers.proofs.team.InOrderTeam.make.Given as goal
 
 abbrev pub invariant-loop-call : goal.invariant-loop-call

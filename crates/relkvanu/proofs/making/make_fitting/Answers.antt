@@ -1,0 +1,9 @@
+-- Answers the goals of `make_fitting`.
+use Rattle.std.proofs.Common.{length}
+use Rattle.relkvanu.proofs.Unmade.{unmade_leaves}
+use Rattle.relkvanu.proofs.making.make_fitting.Goals as goal
+
+pub returns-else-answer-eq-DONE-clause-unchanged : goal.returns-else-answer-eq-DONE-clause-unchanged
+returns-else-answer-eq-DONE-clause-unchanged c =
+    unmade_leaves c.args.machine.now c.make_asked-answer.new.machine (length c.args.files.now) c.args.asked.now c.make_asked-answer.result
+    c.make_asked-answer.ensures.handled c.make_asked-answer.ensures.unchanged

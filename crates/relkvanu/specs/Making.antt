@@ -1,0 +1,27 @@
+-- A call that is made of its fields and its lists, and whose line is written.
+use Rattle.std.specs.Prelude.{ℕ, nat_lt, if◌then◌else◌, List, length, Result, Ok, Err}
+use Rattle.ckpt_model.specs.State.{State}
+use Rattle.ckpt_lines.specs.declared.limits.TheConstants.{LONGEST_LINE}
+use Rattle.relkvanu.specs.declared.answer.Answer.{Answer}
+use Rattle.relkvanu.specs.declared.asked.Asked.{Asked}
+use Rattle.relkvanu.specs.declared.making.Made.{Made}
+use Rattle.relkvanu.specs.Asking.{bad_line}
+use Rattle.relkvanu.specs.Reads.{counts_of}
+use Rattle.relkvanu.specs.Told.{bad_argument, too_short_for}
+use Rattle.relkvanu.specs.Writing.{asked_text}
+
+-- what is asked for, if its text is no longer than a line may be and than a buffer with this many places
+abbrev pub asked_if_fits : Asked → List ℕ → ℕ → Result Asked Answer
+asked_if_fits asked text places =
+    if nat_lt LONGEST_LINE (length text) then Err (bad_line 1)
+    else if nat_lt places (length text) then Err (too_short_for 0 (length text)) else Ok asked
+
+-- what fields and lists ask for, or the answer if nothing is made: an argument is bad, or the line does not fit
+unfoldable pub to_make : Result Asked ℕ → ℕ → Result Asked Answer
+to_make (Ok asked) places = asked_if_fits asked (asked_text asked) places
+to_make (Err what) places = Err (bad_argument what)
+
+-- the length of the line, how many files waited for deletion, and the numbers of files now
+abbrev pub made_of : ℕ → State → State → Made
+made_of written old new =
+    record { written = written; waited = length old.waiting; in_use = (counts_of new).in_use; waiting = length new.waiting; taken = length new.taken }

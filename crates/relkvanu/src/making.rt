@@ -1,0 +1,160 @@
+//! Makes a call and writes its line.
+
+ghost use Rattle.std.specs.Prelude.{◌≡◌, ◌≢◌, ◌≤◌, true, length, take, Some, Ok, IsOk, string_bytes};
+ghost use Rattle.ckpt_lines.specs.declared.limits.TheConstants.{LONGEST_LINE};
+ghost use Rattle.ckpt_model.specs.State.{State};
+ghost use Rattle.ckpt_terms.specs.Machines.{core_in, names_in};
+ghost use Rattle.relkvanu.specs.Buffers.{StandsInFront};
+ghost use Rattle.relkvanu.specs.Calls.{HasNoNumbers, StaysClosed};
+ghost use Rattle.relkvanu.specs.Fenced.{IsHandled, IsTaken};
+ghost use Rattle.relkvanu.specs.Lines.{is_free_line, said_files, said_step};
+ghost use Rattle.relkvanu.specs.Making.{asked_if_fits, made_of, to_make};
+ghost use Rattle.relkvanu.specs.Told.{no_memory};
+ghost use Rattle.relkvanu.specs.Writing.{ReadsBack, SaysBack, call_line_text, given};
+
+use crate::answer::{Answer, DONE};
+use crate::asked::{Asked, FAULT_TOO_LONG};
+use crate::handle::Handle;
+use crate::lines::make_asked;
+use crate::writing::{CallFields, asked_of, text_of};
+use ckpt_core::Core;
+use ckpt_lines::LONGEST_LINE;
+use ckpt_terms::Machine;
+use std::alloc::Global;
+
+/// What a call that was made leaves.
+#[repr(C)]
+#[derive(Clone, Copy, Debug, PartialEq, Eq)]
+pub struct Made {
+    /// How many bytes its line has.
+    pub written: u64,
+    /// How many files waited for deletion before it.
+    pub waited: u64,
+    /// How many files live records use, each counted once.
+    pub in_use: u64,
+    /// How many files wait for deletion. Those from the place `waited` on are the ones that it released.
+    pub waiting: u64,
+    /// How many files were fetched for deletion and are not yet reported.
+    pub taken: u64,
+}
+
+/// Makes a call as `relkvanu_line` makes that of its line, and writes this line as
+/// `relkvanu_call_line` writes it.
+///
+/// A take writes its files to the start of `files`. If a buffer is too short, the answer says how
+/// many places it needs: first that of the files, and second that of the line. A show says how many
+/// bytes its JSON has, as if its buffer were empty. An answer with another code than `DONE` changes
+/// nothing. Takes memory for the lists and the line, even if the call is then refused, and for the
+/// call.
+#[unsafe(no_mangle)]
+pub extern "C" fn relkvanu_make(
+    alloc: Global,
+    handle: &mut Handle,
+    call: &CallFields,
+    first: &[u64],
+    second: &[u64],
+    files: &mut [u64],
+    line: &mut [u8],
+    made: &mut Made,
+) -> Answer
+    ensures closed { StaysClosed handle.old.value handle.new.value result }
+    ensures handled { IsHandled (λ k. said_step k (length files.old) (to_make (given call.entry.now first.now second.now) (length line.old))) handle.old handle.new result }
+    ensures files { (m : State) → handle.old.value ≡ Some m → result.code ≡ 0 → StandsInFront (said_files m (to_make (given call.entry.now first.now second.now) (length line.old))) files.old files.new }
+    ensures line { result.code ≡ 0 → StandsInFront (call_line_text (given call.entry.now first.now second.now)) line.old line.new }
+    ensures read { ReadsBack (given call.entry.now first.now second.now) (take made.new.written line.new) result }
+    ensures said { SaysBack (given call.entry.now first.now second.now) (take made.new.written line.new) result }
+    ensures made { (m n : State) → handle.old.value ≡ Some m → handle.new.value ≡ Some n → result.code ≡ 0 → made.new ≡ made_of (length (call_line_text (given call.entry.now first.now second.now))) m n }
+    ensures kept { result.code ≢ 0 → (files.new ≡ files.old) × (line.new ≡ line.old) × (made.new ≡ made.old) }
+    ensures memory { result.code ≡ no_memory → IsOk (given call.entry.now first.now second.now) }
+    ensures numbers { HasNoNumbers result }
+    ensures unchanged { result.code ≢ 0 → (handle.new.value ≡ handle.old.value) × (handle.new.names ≡ handle.old.names) }
+    ensures names { is_free_line (to_make (given call.entry.now first.now second.now) (length line.old)) ≡ true → handle.new.names ≡ handle.old.names }
+{
+    let Some(mut machine) = handle.take(alloc) else {
+        return Answer::closed();
+    };
+    let answer = make_given(alloc, &mut machine, call, first, second, files, line, made);
+    handle.put(alloc, machine);
+    answer
+}
+
+/// Makes what the fields and the lists ask for, and writes its line.
+#[tactic(auto, unfolding(crate::specs::Making::to_make))]
+fn make_given(
+    alloc: Global,
+    machine: &mut Machine,
+    fields: &CallFields,
+    first: &[u64],
+    second: &[u64],
+    files: &mut [u64],
+    line: &mut [u8],
+    made: &mut Made,
+) -> Answer
+    ensures handled { IsTaken (λ k. said_step k (length files.old) (to_make (given fields.entry.now first.now second.now) (length line.old))) machine.old machine.new result }
+    ensures files { result.code ≡ 0 → StandsInFront (said_files (core_in machine.old) (to_make (given fields.entry.now first.now second.now) (length line.old))) files.old files.new }
+    ensures line { result.code ≡ 0 → StandsInFront (call_line_text (given fields.entry.now first.now second.now)) line.old line.new }
+    ensures read { ReadsBack (given fields.entry.now first.now second.now) (take made.new.written line.new) result }
+    ensures made { result.code ≡ 0 → made.new ≡ made_of (length (call_line_text (given fields.entry.now first.now second.now))) (core_in machine.old) (core_in machine.new) }
+    ensures kept { result.code ≢ 0 → (files.new ≡ files.old) × (line.new ≡ line.old) × (made.new ≡ made.old) }
+    ensures memory { result.code ≡ no_memory → IsOk (given fields.entry.now first.now second.now) }
+    ensures numbers { HasNoNumbers result }
+    ensures names { is_free_line (to_make (given fields.entry.now first.now second.now) (length line.old)) ≡ true → names_in machine.new ≡ names_in machine.old }
+    ensures unchanged { result.code ≢ 0 → machine.new ≡ machine.old }
+{
+    let asked = match asked_of(alloc, fields, first, second) {
+        Ok(asked) => asked,
+        Err(answer) => return answer,
+    };
+    match text_of(alloc, &asked) {
+        Ok(text) => make_fitting(alloc, machine, &asked, &text, files, line, made),
+        Err(_) => Answer::out_of_memory(),
+    }
+}
+
+/// Makes what is asked for and writes its text, if that fits a line and the buffer.
+fn make_fitting(
+    alloc: Global,
+    machine: &mut Machine,
+    asked: &Asked,
+    text: &str,
+    files: &mut [u64],
+    line: &mut [u8],
+    made: &mut Made,
+) -> Answer
+    ensures handled { IsTaken (λ k. said_step k (length files.old) (asked_if_fits asked.now text.now (length line.old))) machine.old machine.new result }
+    ensures files { result.code ≡ 0 → StandsInFront (said_files (core_in machine.old) (asked_if_fits asked.now text.now (length line.old))) files.old files.new }
+    ensures line { result.code ≡ 0 → StandsInFront text.now line.old line.new }
+    ensures short { result.code ≡ 0 → length text.now ≤ LONGEST_LINE }
+    ensures made { result.code ≡ 0 → made.new ≡ made_of (length text.now) (core_in machine.old) (core_in machine.new) }
+    ensures kept { result.code ≢ 0 → (files.new ≡ files.old) × (line.new ≡ line.old) × (made.new ≡ made.old) }
+    ensures numbers { HasNoNumbers result }
+    ensures names { is_free_line (asked_if_fits asked.now text.now (length line.old)) ≡ true → names_in machine.new ≡ names_in machine.old }
+    ensures unchanged { result.code ≢ 0 → machine.new ≡ machine.old }
+{
+    let bytes = text.as_bytes();
+    if bytes.len() > LONGEST_LINE {
+        return Answer::bad_line(FAULT_TOO_LONG);
+    }
+    if line.len() < bytes.len() {
+        return Answer::too_short_for(0, bytes.len() as u64);
+    }
+    let waited = machine.core().files_waiting();
+    let answer = make_asked(alloc, machine, asked, files);
+    if answer.code == DONE {
+        line[..bytes.len()].copy_from_slice(bytes);
+        *made = made_of(bytes.len() as u64, waited, machine.core());
+    }
+    answer
+}
+
+fn made_of(written: u64, waited: u64, core: &Core) -> Made
+    ensures { (m : State) → waited ≡ length m.waiting → result ≡ made_of written m core.now }
+{
+    Made {
+        written,
+        waited,
+        in_use: core.files_in_use(),
+        waiting: core.files_waiting(),
+        taken: core.files_taken(),
+    }
+}
