@@ -1,4 +1,4 @@
--- Version 2 of the tables, with the index `call_event` and those of pg_history.sql.
+-- Version 2 of the tables, with the indexes of pg_history.sql.
 -- Each time a process began to lead: the log's identity since, and how many calls each job had.
 create table if not exists log_start(number bigint primary key, name text not null unique, lengths text not null);
 -- A standby reads the calls and images since a moment, and learns how long the leader's lease is.

@@ -2,6 +2,7 @@
 use crate::cli;
 use crate::database::{Database, NoDatabase};
 use crate::log;
+use crate::store::{refusal, DbError};
 use rusqlite::{Connection, OpenFlags};
 use std::ffi::OsString;
 use std::fs::{self, File, OpenOptions};
@@ -29,6 +30,9 @@ enum NoBackup {
     Name(PathBuf),
     #[error("{} is no database of a service", .0.display())]
     Foreign(PathBuf),
+    /// Its log is elsewhere.
+    #[error("{}: {why}", .path.display())]
+    Moved { path: PathBuf, why: DbError },
     /// What the system says of a file.
     #[error("{}: {why}", .path.display())]
     File { path: PathBuf, why: io::Error },
@@ -111,6 +115,9 @@ impl Unfinished {
         let version = version(&source).map_err(failed)?;
         if version == 0 {
             return Err(NoBackup::Foreign(database.to_path_buf()));
+        }
+        if let Some(why) = refusal(&source).map_err(failed)? {
+            return Err(NoBackup::Moved { path: database.to_path_buf(), why });
         }
         source.execute("vacuum into ?", [self.name()?]).map_err(failed)?;
         self.check(version)

@@ -28,6 +28,8 @@ pub enum Command {
     Backup(Backup),
     /// Make the calls of a database's log again, and compare each answer
     Check(Check),
+    /// Move the log of an SQLite database, over which no service runs, to an empty PostgreSQL database
+    Move(Move),
     #[command(flatten)]
     Ask(Ask),
     /// Print a script that completes the words of this program in a shell
@@ -176,6 +178,19 @@ pub struct Check {
     pub json: bool,
 }
 
+#[derive(Args)]
+pub struct Move {
+    /// The SQLite file
+    #[arg(long, value_name = "FILE", default_value = "relkvanu.db")]
+    pub database: String,
+    /// An empty database, as postgres://..
+    #[arg(long, value_name = "URL")]
+    pub to: String,
+    /// Take the move back, if no service has run over that database since
+    #[arg(long)]
+    pub back: bool,
+}
+
 /// A job's name, which is a part of a path of the API.
 pub fn job_name(text: &str) -> Result<String, &'static str> {
     if is_name(text) {
@@ -227,6 +242,35 @@ mod tests {
         assert!(told.clone().eq(known.iter().copied()), "{:?}", told.collect::<Vec<_>>());
         let folder = std::fs::read_dir(format!("{}/deploy/man", env!("CARGO_MANIFEST_DIR")));
         assert_eq!(folder.map_or(0, Iterator::count), known.len() + 1);
+    }
+
+    /// The commands of this program in the examples of a page, each as its words.
+    fn examples(page: &str) -> Vec<Vec<String>> {
+        let blocks = page.split(".Bd -literal").skip(1).filter_map(|it| it.split_once('\n')?.1.split_once(".Ed"));
+        let text: String = blocks.map(|(block, _)| block.replace("\\e\n", " ")).collect();
+        let commands = text.lines().flat_map(|line| line.split(['|', '&', '>']));
+        let words = commands.map(|it| it.split_whitespace().map(str::to_string).collect::<Vec<_>>());
+        words.filter(|it| it.first().is_some_and(|word| word == "relkvanu")).collect()
+    }
+
+    #[test]
+    fn the_program_takes_each_command_of_the_examples() {
+        let cli = Cli::command();
+        let own = cli.get_subcommands().map(|it| (it.get_name(), page(it.get_name())));
+        for (name, page) in own.chain([("savepoint", ALL.to_string())]) {
+            let examples = examples(&page);
+            assert!(examples.iter().any(|words| words[1] == name), "{name}");
+            for words in examples {
+                let taken = Cli::try_parse_from(&words);
+                assert!(taken.is_ok(), "{name}: {}", taken.err().map(|why| why.to_string()).unwrap_or_default());
+                let command = cli.find_subcommand(&words[1]);
+                let needs = command.is_some_and(|it| it.get_arguments().any(|it| it.get_long() == Some("token-file")));
+                // the file of the service itself has several tokens
+                let file = if words[1] == "serve" { "/etc/relkvanu/token" } else { "/etc/relkvanu/write-token" };
+                let given = words.windows(2).any(|it| it == ["--token-file", file]);
+                assert_eq!(given, needs, "{name}: {words:?}");
+            }
+        }
     }
 
     #[test]

@@ -1,5 +1,5 @@
-//! `relkvanu`: serves checkpoint coordinators over HTTP, asks a service, deletes the files that jobs hand out, and copies and checks a
-//! database.
+//! `relkvanu`: serves checkpoint coordinators over HTTP, asks a service, deletes the files that jobs hand out, and copies, checks and
+//! moves a database.
 mod ask;
 mod auth;
 mod backup;
@@ -16,6 +16,7 @@ mod leader;
 mod log;
 mod metrics;
 mod model;
+mod moving;
 mod process;
 mod remote;
 mod serve;
@@ -39,6 +40,7 @@ fn main() -> ExitCode {
         Command::Sweep(given) => sweep::run(&given),
         Command::Backup(given) => backup::run(&given),
         Command::Check(given) => check::run(&given),
+        Command::Move(given) => moving::run(&given),
         Command::Ask(given) => ask::run(&given),
         Command::Completions { shell } => {
             let mut script = Vec::new();

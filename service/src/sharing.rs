@@ -143,7 +143,7 @@ impl Sharer {
         }
         self.read_shards(&members)?;
         let bad = self.state.bad.iter().map(|(held, _)| held.shard).collect();
-        if free.is_empty() && self.board.shards().with(bad) == mine {
+        if self.shares.all_work(&members) && self.board.shards().with(bad) == mine {
             self.board.settle();
         }
         Ok(())

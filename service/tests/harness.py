@@ -313,7 +313,7 @@ class Archive:
         self.path = path
         old = ", ".join(f"old.{name}" for name in CALL.split(", "))
         with self.base() as base:
-            base.executescript(f"""create table archive as select * from call where 0;
+            base.executescript(f"""create table archive as select {CALL} from call where 0;
                 create trigger archived before delete on call begin insert into archive values({old}); end;""")
 
     def base(self):

@@ -154,6 +154,27 @@ def test_a_key_makes_calls_once():
         return "1 key, answered 3 times, once after a kill"
 
 
+def test_a_job_that_was_rescaled_is_opened_with_its_first_shape_or_its_last():
+    with served() as server:
+        def opened(*shape):
+            return server.request("POST", "/v1/jobs", {**JOB, "shape": shape})[0]
+
+        def rescaled(*shape):
+            body = {"calls": [{"call": "restore", "from": "latest", "shape": shape}]}
+            told = server.request("POST", "/v1/jobs/orders/calls", body)[2]["answers"]
+            assert told[0].get("restore") == "fresh", told
+
+        assert (opened(2), opened(2), opened(2, 1)) == (201, 200, 409)
+        rescaled(2, 1)
+        rescaled(4)
+        for _ in range(2):
+            assert (opened(2), opened(4), opened(2, 1), opened(3)) == (200, 200, 409, 409)
+            assert server.get("/v1/jobs/orders")[2]["shape"] == [4]
+            server.kill()
+            server.start()
+        return "two shapes are its own, and two are not"
+
+
 def test_refusals_and_large_files():
     largest = str(2**64 - 1)
     with served() as server:

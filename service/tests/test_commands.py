@@ -10,7 +10,7 @@ import subprocess
 import threading
 import time
 
-from harness import PROGRAM, SERVICE, Server, caught_up, folder, free_port, served, until
+from harness import PROGRAM, SERVICE, TOP, Server, caught_up, folder, free_port, served, until
 from postgres import postgres
 from relkvanu_service import Service, ack, deleted, dispose, savepoint
 from run import Skipped
@@ -263,6 +263,32 @@ def test_check_of_other_databases():
         ran("check", "--database", f"{at}/none", status=75)
         assert not os.path.exists(f"{at}/none")
         return "PostgreSQL, a text, another database, and none"
+
+
+def test_the_lines_that_give_each_command_the_address():
+    """Those of the page, in a shell: a command gets the address if the program knows it as an option of this command, and the words stay."""
+    with open(f"{TOP}/docs/SERVICE-OPERATION.md", encoding="utf-8") as it:
+        lines = it.read().partition("**The address.**")[2].split("```")[1]
+    names = [os.path.basename(path)[len("relkvanu-"):-len(".1")] for path in glob.glob(f"{SERVICE}/deploy/man/relkvanu-*.1")]
+    assert len(names) > 15, names
+    with folder() as at:
+        environment = {**os.environ, "PATH": f"{at}:{os.environ['PATH']}"}
+
+        def pasted(shell, *words):
+            run = [shell, "-euc", f'{lines}\nrelkvanu "$@"', shell, *words]
+            return subprocess.run(run, env=environment, stdout=subprocess.PIPE, stderr=subprocess.STDOUT, text=True, check=True).stdout
+
+        os.symlink(PROGRAM, f"{at}/relkvanu")
+        assert "--wait" in pasted("bash", "help", "savepoint") and pasted("bash", "--version").startswith("relkvanu ")
+        os.remove(f"{at}/relkvanu")
+        with open(f"{at}/relkvanu", "w", encoding="utf-8") as it:
+            it.write("#!/bin/sh\nprintf '%s\\n' \"$@\"\n")
+        os.chmod(f"{at}/relkvanu", 0o755)
+        for name in names:
+            more = ["--url", "https://relkvanu.example:7780"] if "--url" in ran(name, "--help") else []
+            for shell in ("bash", "sh"):
+                assert pasted(shell, name, "two words", "--x").splitlines() == [name, "two words", "--x", *more], (shell, name)
+    return f"{len(names)} commands in two shells"
 
 
 def test_completions_and_the_manual_page():

@@ -8,7 +8,7 @@ import urllib.request
 
 from between import Between
 from harness import PROGRAM, SERVICE, folder, free_port, served, until
-from relkvanu_service import Service, ack, dispose, savepoint
+from relkvanu_service import Failed, Service, ack, dispose, savepoint
 from run import Skipped
 
 SETTINGS = {"interval": 1 << 40}
@@ -170,6 +170,100 @@ def test_two_jobs_in_a_folder():
         return "refused with the same prefix, with a digit more and with none, also by --init and by the sweeper"
 
 
+def swept(server, folder, job, prefix):
+    words = [PROGRAM, "sweep", job, "--folder", folder, "--url", server.url, "--prefix", prefix, "--delete"]
+    return subprocess.run(words, capture_output=True, text=True, timeout=30, check=False)
+
+
+def contents(folder):
+    """The files of a folder with what they say."""
+    found = {}
+    for name in os.listdir(folder):
+        with open(f"{folder}/{name}", encoding="utf-8") as it:
+            found[name] = it.read()
+    return found
+
+
+def test_a_job_that_is_named_as_a_file_of_another_job():
+    """The marker of `a.names` is named as the file in which the discarder of `a` says how its files are named. Neither takes the folder from the
+    other one, nor takes files of the other one for its own garbage."""
+    with served(names=True) as server:
+        service = Service(server.url)
+        jobs = {name: service.open(name, SETTINGS, [1]) for name in ("a", "a.names", "a.begun", "a.new", "b")}
+
+        def in_use(job, folder, prefix):
+            """Three files of the job that are in use, so no other job may delete them."""
+            task = jobs[job].begin().session(block=3)
+            names = [task.name() for _ in range(3)]
+            for name in names:
+                with open(f"{folder}/{prefix}{name}", "w", encoding="utf-8") as it:
+                    it.write(job)
+            task.ack(jobs[job].call(savepoint())["id"], "0.0", names)
+
+        # the other job has a restart behind it, so it would take the files for garbage of its own
+        for name in ("a", "b"):
+            jobs[name].begin().session(block=10).name()
+            jobs[name].begin()
+        for first, second in (("a.names", "a"), ("a.begun", "a"), ("a", "a.names"), ("a", "a.begun")):
+            folder = f"{server.folder}/{first}-{second}"
+            os.mkdir(folder)
+            in_use(first, folder, "s-")
+            ended(discard(server, folder, "--once", "--init", job=first), 0, "is marked")
+            before = contents(folder)
+            for more, prefix in [([], "s-"), (["--init"], "s-"), (["--init"], "t-")]:
+                told = ended(discard(server, folder, "--once", *more, job=second, prefix=prefix), 78, "another job has files in")
+                assert f".relkvanu-{first} says" in told and "a folder of its own" in told, told
+                assert contents(folder) == before, (first, second, contents(folder))
+            ended(discard(server, folder, "--once", job=first), 0, "")
+        # both markers are there, as two engines have made them in a folder without files
+        folder = f"{server.folder}/both"
+        os.mkdir(folder)
+        for name in ("a.names", "a"):
+            marker, text = jobs[name].marker()
+            with open(f"{folder}/{marker}", "w", encoding="utf-8") as it:
+                it.write(text)
+        in_use("a.names", folder, "s-")
+        before = contents(folder)
+        for name in ("a", "a.names"):
+            told = swept(server, folder, name, "s-")
+            assert told.returncode == 78 and "a folder of its own" in told.stderr, told
+            ended(discard(server, folder, "--once", job=name), 78, "a folder of its own")
+        assert contents(folder) == before, contents(folder)
+        folder = f"{server.folder}/claimed"
+        os.mkdir(folder)
+        jobs["b"].claim(folder)
+        try:
+            service.open("b.begun", SETTINGS, [1]).claim(folder)
+            raise AssertionError("the marker was made")
+        except Failed as why:
+            assert "each needs a folder of its own" in str(why), why
+        return "refused in each order, by the discarder, `--init` and the sweeper"
+
+
+def test_a_marker_that_is_named_as_a_file_of_an_earlier_version():
+    """`a.new` works beside `a`, and a third job heeds both."""
+    with served(names=True) as server:
+        folder = f"{server.folder}/files"
+        os.mkdir(folder)
+        jobs = {name: Service(server.url).open(name, SETTINGS, [1]) for name in ("a", "a.new", "b")}
+        for name, prefix in (("a", "s-"), ("a.new", "t-"), ("a", "s-"), ("a.new", "t-")):
+            ended(discard(server, folder, "--once", job=name, prefix=prefix), 0, "")
+        before = contents(folder)
+        assert {name for name in before if name.startswith(".relkvanu-a")} == {".relkvanu-a", ".relkvanu-a.names", ".relkvanu-a.new", ".relkvanu-a.new.names"}, before
+        for name in ("a", "a.new"):
+            assert f"the job {name}, opened at {jobs[name].state()['opened']}," in before[f".relkvanu-{name}"], before
+        for prefix, name in (("s-", "a"), ("t-", "a.new")):
+            told = ended(discard(server, folder, "--once", "--init", job="b", prefix=prefix), 78, "another job has files in")
+            assert f"as .relkvanu-{name} says" in told, told
+        assert contents(folder) == before
+        ended(discard(server, folder, "--once", job="b", prefix="u-"), 0, "is marked")
+        # what an earlier version left of a marker that it was writing is none
+        with open(f"{folder}/.relkvanu-b.new", "w", encoding="utf-8") as it:
+            it.write(contents(folder)[".relkvanu-b"])
+        ended(discard(server, folder, "--once", job="b", prefix="u-"), 0, "")
+        return "two jobs with a prefix each; a third one needs its own"
+
+
 def test_a_disk_that_goes():
     """Its mount is taken away lazily, while somebody holds it open: the discarder deletes there, and not in the mount point."""
     with a_job() as (server, job, folder):
@@ -274,7 +368,8 @@ def test_it_never_gives_up_by_itself():
 
 def test_words_that_it_refuses():
     with folder() as at:
-        for more, status, text in [(["--url", "here"], 1, "no address"), (["--metrics", "here"], 2, "--metrics"), (["--url", "ftp://a"], 1, "no address")]:
+        for more, status, text in [(["--url", "here"], 1, "no address"), (["--metrics", "here"], 2, "--metrics"), (["--url", "ftp://a"], 1, "no address"),
+                                   (["--prefix", ".relkvanu-"], 1, "--prefix: files that begin with .relkvanu-")]:
             told = subprocess.run([PROGRAM, "discard", "--job", "a", "--folder", at, *more], stderr=subprocess.PIPE, text=True, timeout=20, check=False)
             assert told.returncode == status and text in told.stderr, told
-        return "3 refused"
+        return "4 refused"

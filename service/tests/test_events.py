@@ -65,7 +65,7 @@ def test_after_a_cut():
 
 
 class Copy:
-    """A backup of a service's database that is restored, as docs/SERVICE.md says."""
+    """A backup of a service's database that is restored, as docs/SERVICE-BACKUP.md says."""
 
     def __init__(self, server, database):
         self.server, self.database = server, database
@@ -145,10 +145,10 @@ def of_version_1(server, database):
     """The tables are as a program had them before the log had an identity."""
     server.stop()
     if database:
-        database.sql("drop table log_start; update schema_version set number = 1")
+        database.sql("drop index call_event; alter table call drop column event; drop table log_start; update schema_version set number = 1")
     else:
         with contextlib.closing(sqlite3.connect(server.database)) as base:
-            base.executescript("drop table log_start; pragma user_version = 1")
+            base.executescript("drop index call_event; alter table call drop column event; drop table log_start; pragma user_version = 1")
     server.start()
     job = Service(server.url).job("a")
     state = job.state()

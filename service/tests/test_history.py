@@ -6,7 +6,7 @@ import sqlite3
 import threading
 import time
 
-from harness import served, until
+from harness import Server, folder, served, until
 from relkvanu_service import Service, ack, dispose, savepoint, take
 from writers import SETTINGS, SHAPE, Writer
 
@@ -225,3 +225,23 @@ def test_the_history_of_an_earlier_version_is_set_aside():
         until(lambda: job.files()["upto"] == 1)
         assert os.path.exists(f"{path}.bad") and "it is made again" in server.log(), server.log()
         return "tables with a column less"
+
+
+def test_a_database_is_no_history():
+    """By a mistake the setting names the database of another service, or that of the service itself. It stays where it is, and calls go on."""
+    with served() as server, folder() as at:
+        first = Service(server.url).open("orders", {"interval": 1 << 40}, [1])
+        first.call(savepoint())
+        for database, history in ((f"{at}/other.db", server.database), (f"{at}/own.db", f"{at}/own.db")):
+            other = Server(at, database, args=["--history", history]).start()
+            job = Service(other.url).open("users", {"interval": 1 << 40}, [1])
+            job.call(savepoint())
+            until(lambda: "it is the database of a service, and no history" in other.log())
+            assert "the history is broken" in until(lambda: (it := other.get("/healthz"))[0] == 200 and it)[2]
+            assert job.call(savepoint())["seq"] == 2 and glob.glob(f"{history}.bad*") == [], os.listdir(at)
+            assert other.stop() == 0
+            with sqlite3.connect(history) as base:
+                assert base.execute("select count(*) from sqlite_master where name = 'progress'").fetchone() == (0,)
+            base.close()
+        assert first.call(savepoint())["seq"] == 2 and server.process.poll() is None
+        return "that of another service, and its own"

@@ -149,14 +149,14 @@ def test_databases_of_other_versions():
         before = seen(job, [])[0]
         server.stop()
         base = sqlite3.connect(server.database, isolation_level=None)
-        base.executescript("drop table image; pragma user_version = 0;")
+        base.executescript("drop index call_event; alter table call drop column event; drop table image; pragma user_version = 0;")
         server.args = KEEPING
         server.start()
         assert server.replayed()[-1] == before["seq"]
         until(lambda: base.execute("select count(*) from image").fetchone()[0] == 1 and job.state()["image"])
         server.stop()
         base.executescript("pragma user_version = 99;")
-        refused(server, "the tables of the database have version 99, and this program knows those up to 5")
+        refused(server, "the tables of the database have version 99, and this program knows those up to 6")
         return "one without images, and a newer one"
 
 
@@ -214,11 +214,11 @@ def test_postgresql_of_other_versions():
         server.args = KEEPING
         database.sql("update schema_version set number = 99")
         refused(server, "the tables of the database have version 99")
-        database.sql("drop table schema_version; drop table image")
+        database.sql("drop index call_event; alter table call drop column event; drop table schema_version; drop table image")
         server.start()
         until(lambda: job.state()["image"])
         server.stop()
-        assert database.sql("select number from schema_version") == "5" and database.sql("select count(*) from image") == "1"
+        assert database.sql("select number from schema_version") == "6" and database.sql("select count(*) from image") == "1"
         return "one without images, and a newer one"
 
 

@@ -1,4 +1,4 @@
-"""The loop of an engine and of a task that docs/SERVICE.md has: extracted from the page and run, with a small engine around them, and a sweeper
+"""The loop of an engine and of a task that docs/SERVICE-API.md has: extracted from the page and run, with a small engine around them, and a sweeper
 all the time. At the end its folder has the files that the job knows, and no other."""
 import os
 import subprocess
@@ -11,16 +11,17 @@ from test_events import Copy
 
 SHAPE = [1, 2]
 SUBTASKS = ["0.0", "1.0", "1.1"]
+NAMES = ["--prefix", "state-", "--suffix", ".bin"]  # as the commands of the pages
 
 
 def page_code(place, *replaced):
-    """A program in Python of the page: the first is the loop, the second a task."""
-    with open(f"{TOP}/docs/SERVICE.md", encoding="utf-8") as it:
+    """A program in Python of the page: the first is the loop, the second a task, the third loads a savepoint of another job."""
+    with open(f"{TOP}/docs/SERVICE-API.md", encoding="utf-8") as it:
         text = it.read().split("```python\n")[place].partition("```")[0]
     for old, new in replaced:
         assert text.count(old) == 1, (old, text)
         text = text.replace(old, new)
-    return compile(text, "a program of docs/SERVICE.md", "exec")
+    return compile(text, "a program of docs/SERVICE-API.md", "exec")
 
 
 class Engine(threading.Thread):
@@ -47,10 +48,10 @@ class Engine(threading.Thread):
         self.take_part = None
 
     def numbers_of_files(self):
-        return {int(name[6:]) for name in os.listdir(self.folder) if name.startswith("state-")}
+        return {int(name[6:-4]) for name in os.listdir(self.folder) if name.startswith("state-") and name.endswith(".bin")}
 
     def start_tasks(self, record, files, term):
-        assert not self.take_part and all(os.path.exists(f"{self.folder}/state-{file}") for held in files.values() for file in held)
+        assert not self.take_part and all(os.path.exists(f"{self.folder}/state-{file}.bin") for held in files.values() for file in held)
         self.starts.append((record, files))
         self.terms.append(term)
         names = {"job": self.job, "term": term, "write": write}
@@ -75,7 +76,7 @@ def write(path, state):
 
 
 def sweep(server, at):
-    words = [PROGRAM, "sweep", "orders", "--folder", at, "--prefix", "state-", "--delete", "--url", server.url]
+    words = [PROGRAM, "sweep", "orders", "--folder", at, *NAMES, "--delete", "--url", server.url]
     return subprocess.run(words, stdout=subprocess.PIPE, stderr=subprocess.STDOUT, text=True, check=False)
 
 
@@ -123,14 +124,15 @@ def test_the_loop_of_the_page():
         until(lambda: [it for it in job.state()["live"] if not it["done"]])
         job.claim(files)
         half = job.session(job.term()["term"], block=5).name()
-        write(f"{files}/state-{half}", b"half")
+        write(f"{files}/state-{half}.bin", b"half")
         with sweeping(server, files) as sweeps, engine_of(server, files, settings) as engine:
             until(lambda: len(engine.told) > 2)
             assert engine.starts == [(None, {})], engine.starts
-            until(lambda: not os.path.exists(f"{files}/state-{half}"))
+            until(lambda: not os.path.exists(f"{files}/state-{half}.bin"))
             # somebody wants a savepoint, and later restores the job to it: the tasks begin again from its files
             wanted = job.call(savepoint())["id"]
-            until(lambda: wanted in engine.told and engine.told[-1] > wanted + 2)
+            until(lambda: engine.told[-1] > wanted + 2)
+            assert wanted not in engine.told, engine.told  # it is complete, and sinks publish nothing for it
             zombie = engine.sessions[0]
             job.call(restore(wanted))
             until(lambda: len(engine.starts) == 2)
@@ -138,13 +140,13 @@ def test_the_loop_of_the_page():
             assert record == wanted and sorted(held) == SUBTASKS, engine.starts
             # a task of before goes on: what it writes is swept, and what it sends is refused
             name = zombie._next
-            write(f"{files}/state-{name}", b"late")
+            write(f"{files}/state-{name}.bin", b"late")
             for late in (lambda: zombie.ack(wanted + 5, "0.0", [name]), lambda: zombie.decline(wanted + 5, "0.0"), zombie.name):
                 try:
                     raise AssertionError(late())
                 except OldTerm:
                     pass
-            until(lambda: not os.path.exists(f"{files}/state-{name}"))
+            until(lambda: not os.path.exists(f"{files}/state-{name}.bin"))
             # no task acknowledges, so the job fails; the service is killed meanwhile
             engine.acknowledges.clear()
             until(lambda: len(engine.starts) == 3)
@@ -183,13 +185,13 @@ def test_the_loop_ends_if_a_backup_was_restored():
         with engine_of(server, files, settings) as engine:
             until(lambda: len(engine.told) > 1)
             first = job.call(savepoint())["id"]
-            until(lambda: first in engine.told)
+            until(lambda: any(it["id"] == first and it["done"] for it in job.state()["live"]))
             copy.make()
             until(lambda: engine.told[-1] > first + 8)
             # the discarder deletes what the latest record of the copy uses
             taken = job.take(1 << 16)
             for file in taken:
-                os.remove(f"{files}/state-{file}")
+                os.remove(f"{files}/state-{file}.bin")
             job.calls([{"call": "deleted", "file": str(file)} for file in taken])
             copy.restore()
         assert isinstance(engine.ended, OtherLog) and "relkvanu savepoints" in str(engine.ended), engine.ended
@@ -202,9 +204,9 @@ def test_the_loop_ends_if_a_backup_was_restored():
         assert isinstance(engine.ended, SystemExit) and f"checkpoint {latest} lacks the files" in str(engine.ended), engine.ended
         # the savepoint has all of its files. Tasks get no names of files that are there
         job.call(restore(first))
-        listed = subprocess.run([PROGRAM, "sweep", "orders", "--folder", files, "--prefix", "state-", "--url", server.url], stdout=subprocess.PIPE, text=True, check=False)
+        listed = subprocess.run([PROGRAM, "sweep", "orders", "--folder", files, *NAMES, "--url", server.url], stdout=subprocess.PIPE, text=True, check=False)
         greatest = max(engine.numbers_of_files())
-        assert greatest < job.term()["next_name"] or f"unissued state-{greatest} " in listed.stdout, listed
+        assert greatest < job.term()["next_name"] or f"unissued state-{greatest}.bin " in listed.stdout, listed
         passed = subprocess.run([PROGRAM, "fence", "orders", str(greatest + 1), "--url", server.url], stdout=subprocess.PIPE, text=True, check=False)
         assert passed.returncode == 0 and job.term()["next_name"] > greatest, passed
         with engine_of(server, files, settings) as engine:
@@ -246,6 +248,32 @@ def test_the_loop_deletes_nothing_if_the_service_has_lost_the_job():
         assert "it is not known whose they are" in str(engine.ended) and engine.numbers_of_files() == there, engine.ended
         second.stop()
         return f"{len(there)} files stay"
+
+
+def test_a_job_begins_from_a_savepoint_of_another():
+    """Each start of the new job loads the savepoint, until it has a complete checkpoint."""
+    with served(names=True) as server:
+        service, names = Service(server.url), {}
+        exec(page_code(3), names)
+        old = service.open("orders", {"interval": 60_000}, SHAPE)
+        task, record = old.begin().session(block=10), old.call(savepoint())["id"]
+        held = {subtask: [task.name()] for subtask in SUBTASKS}
+        for subtask, files in held.items():
+            task.ack(record, subtask, files)
+        new = service.open("orders-2", {"interval": 40}, SHAPE)
+        for _ in range(2):
+            start = new.begin()
+            told = names["to_load"](service, start, savepoint=record)
+            assert told == ("/srv/orders", held), told
+        until(lambda: any(not it["done"] for it in new.state()["live"]))
+        [pending] = [it["id"] for it in new.state()["live"] if not it["done"]]
+        task = start.session(block=10)
+        own = {subtask: [task.name()] for subtask in SUBTASKS}
+        for subtask, files in own.items():
+            task.ack(pending, subtask, files)
+        told = names["to_load"](service, new.begin(), savepoint=record)
+        assert told == ("/srv/orders-2", own), told
+        return "two starts from the savepoint, and one from its own checkpoint"
 
 
 def test_numbers_of_files():

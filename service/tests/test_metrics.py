@@ -3,7 +3,7 @@ import re
 import shutil
 import subprocess
 
-from harness import SERVICE, served, until
+from harness import SERVICE, TOP, folder, served, until
 from relkvanu_service import Service, ack, savepoint
 from run import Skipped
 
@@ -69,6 +69,33 @@ def test_each_alert_fires_and_rests():
         alerts, tried = set(re.findall(r"alert: (\w+)", rules.read())), set(re.findall(r"alertname: (\w+)", tests.read()))
     assert alerts == tried, (alerts, tried)
     return f"{len(alerts)} alerts"
+
+
+def test_each_alert_has_its_row():
+    """In the section of the page that its annotation names, with its severity."""
+    with open(f"{DEPLOY}/alerts.yml", encoding="utf-8") as it:
+        alerts = re.findall(r"- alert: (\w+)\n.*?severity: (\w+)\}\n    annotations:\n      runbook: '([^']*)'", it.read(), re.DOTALL)
+        it.seek(0)
+        assert len(alerts) == it.read().count("- alert: "), alerts
+    [place] = {place for _, _, place in alerts}
+    page, _, anchor = place.partition("#")
+    with open(f"{TOP}/docs/{page}", encoding="utf-8") as it:
+        [section] = [text for title, text in re.findall(r"^##+ ([^\n]*)\n(.*?)(?=^##|\Z)", it.read(), re.DOTALL | re.MULTILINE) if title.lower() == anchor]
+    rows = re.findall(r"^\| `(Relkvanu\w+)` \| (\w+) \| [^|]+ \| [^|]+ \|$", section, re.MULTILINE)
+    assert rows == [(name, severity) for name, severity, _ in alerts], (rows, alerts)
+    return f"{len(rows)} rows"
+
+
+def test_the_rules_of_the_page():
+    needed("promtool")
+    with open(f"{TOP}/docs/SERVICE-OPERATION.md", encoding="utf-8") as it:
+        [rules] = re.findall(r"^```\n(groups:\n.*?)^```$", it.read(), re.DOTALL | re.MULTILINE)
+    with folder() as at:
+        with open(f"{at}/own.yml", "w", encoding="utf-8") as it:
+            it.write(rules)
+        told = subprocess.run(["promtool", "check", "rules", f"{at}/own.yml"], text=True, stdout=subprocess.PIPE, stderr=subprocess.STDOUT, check=False)
+    assert told.returncode == 0 and f"{rules.count('alert: ')} rules found" in told.stdout, told.stdout
+    return f"{rules.count('alert: ')} rules"
 
 
 def test_the_unit_is_hardened():

@@ -109,7 +109,7 @@ def picture(page, name, last="main"):
             show_term(page)
         clip = page.execute_script(size, last)
         shot = page.execute_cdp_cmd("Page.captureScreenshot", {"captureBeyondViewport": True, "format": "png", "clip": clip})
-        if not has_term or texts(page, "#term")[0]:  # no event meanwhile
+        if (not has_term or texts(page, "#term")[0]) and clip == page.execute_script(size, last):  # no event meanwhile
             break
     with open(f"{PICTURES}/{name}.png", "wb") as it:
         it.write(base64.b64decode(shot["data"]))

@@ -72,11 +72,50 @@ def test_records_that_have_all_their_files():
         os.remove(f"{files}/s-3.bin")
         assert "1: 3" in ask(*words, status=1)
         status, lines, told = savepoints_by_python(server.url, files)
-        assert status == 1 and lines[2].endswith("1: 3") and "no such record has all its files" in told, (status, lines, told)
+        # a checkpoint may have been triggered before the savepoint or after it
+        absent = {line.split()[0]: line.split()[-2:] for line in lines}
+        assert status == 1 and absent[str(first)] == ["1:", "3"] and "no such record has all its files" in told, (status, lines, told)
         assert savepoints_by_python(server.url, files, "--job", "another")[0] == 1
         assert savepoints_by_python("http://127.0.0.1:1", files, "--patience", "1s")[:2] == (75, [])
         assert "No such file" in ask("savepoints", "orders", "--folder", f"{files}/none", status=78)
         return "a savepoint and a checkpoint"
+
+
+def test_a_place_that_has_no_file_of_any_record():
+    """A wrong folder or a disk that is not mounted, a wrong prefix and a wrong suffix: nobody shall cancel the job because of that."""
+    with served() as server:
+        files, empty = f"{server.folder}/files", f"{server.folder}/empty"
+        os.mkdir(files)
+        os.mkdir(empty)
+        job = Service(server.url).open("orders", SETTINGS, [1])
+        job.claim(files)
+        ask = Asked(server)
+
+        def warnings(place, prefix, suffix, status):
+            """Of the command, and of that in Python in a folder that has the marker."""
+            names = ["--prefix", prefix, "--suffix", suffix]
+            told = [ask("savepoints", "orders", "--folder", place, *names, status=status)]
+            if place == files:
+                by_python = savepoints_by_python(server.url, place, *names)
+                assert by_python[0] == status, by_python
+                told.append(by_python[2])
+            return [text for text in told if "no file of these records is" in text]
+
+        assert warnings(files, "s-", ".bin", 1) == []
+        for number in (1, 2):
+            job.calls([savepoint(), ack(number, "0.0", [number])])
+        write(files, 1, 2)
+        assert warnings(files, "s-", ".bin", 0) == []
+        for place, prefix, suffix in [(empty, "s-", ".bin"), (files, "state-", ".bin"), (files, "s-", "")]:
+            found = warnings(place, prefix, suffix, 1)
+            assert len(found) == (2 if place == files else 1) and all(f"{prefix}1{suffix}:" in text for text in found), found
+        os.remove(f"{files}/s-1.bin")
+        os.rename(f"{files}/s-2.bin", f"{files}/s-3.bin")
+        assert len(warnings(files, "s-", ".bin", 1)) == 2
+        # one file of one record is there, which has not all of its own
+        job.calls([savepoint(), ack(3, "0.0", [3, 4])])
+        assert warnings(files, "s-", ".bin", 1) == []
+        return "an empty folder, a wrong prefix and a wrong suffix"
 
 
 def test_files_that_nobody_knows():
@@ -112,9 +151,9 @@ def test_files_that_nobody_knows():
 
 
 def python_commands(server, place):
-    """The three commands of docs/SERVICE.md for files in a bucket, over a folder."""
-    with open(f"{TOP}/docs/SERVICE.md", encoding="utf-8") as it:
-        blocks = it.read().partition("### If the files are in a bucket\n")[2].partition("\n### ")[0].split("```")[1::2]
+    """The three commands of docs/SERVICE-BACKUP.md for files in a bucket, over a folder."""
+    with open(f"{TOP}/docs/SERVICE-BACKUP.md", encoding="utf-8") as it:
+        blocks = it.read().partition("### If the files are in a bucket\n")[2].partition("\n## ")[0].split("```")[1::2]
     given = {"http://127.0.0.1:7780": server.url, "--bucket": "--folder", "state": place, "orders/state-": "s-"}
     commands = [[given.get(word, word) for word in shlex.split(block)][1:] for block in blocks]
     return [[*words[:words.index("--token-file")], *words[words.index("--token-file") + 2:]] for words in commands]
@@ -165,8 +204,8 @@ def test_the_page_restores_files_of_a_bucket():
 
 
 def page_commands(after, port):
-    """A block of docs/SERVICE.md, over the PostgreSQL of the tests."""
-    with open(f"{TOP}/docs/SERVICE.md", encoding="utf-8") as it:
+    """A block of docs/SERVICE-BACKUP.md, over the PostgreSQL of the tests."""
+    with open(f"{TOP}/docs/SERVICE-BACKUP.md", encoding="utf-8") as it:
         block = it.read().partition(after)[2].split("```")[1]
     return re.sub(r"@db\.example/(\w+)\?passfile=pgpass", rf"@127.0.0.1:{port}/\1", block)
 

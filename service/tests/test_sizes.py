@@ -99,8 +99,11 @@ def test_sizes_outlive_a_take_over():
         assert database.sql("select string_agg(file::text, ' ' order by file) from size") == "11 13 21 31 41 77"
         # what archives and an earlier leader's statement rely on
         columns = "select string_agg(column_name, ', ' order by ordinal_position) from information_schema.columns where table_name = 'call'"
-        assert database.sql(columns) == CALL
+        assert database.sql(columns) == f"{CALL}, event"
         standby.stop()
+        # an earlier leader's statement knows nothing of the last column, which the database makes
+        row = "select 1, 1000000, 1, null::bigint, 'tick 1', 'tick expired 0 triggered 9', null, 0"
+        assert database.sql(f"insert into call {row} returning event") == "triggered"
         return "by the standby of a leader that was killed"
 
 

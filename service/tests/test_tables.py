@@ -60,14 +60,15 @@ def test_tables_of_an_earlier_version_are_upgraded():
             before = job.state()["seq"]
             server.stop()
             if url:
-                database.sql("drop table size, ack_size, gone_job; drop table clock; drop index call_at, image_at; alter table leader drop column lease; update schema_version set number = 1")
+                database.sql("drop index call_event; alter table call drop column event; drop table size, ack_size, gone_job; drop table clock")
+                database.sql("drop index call_at, image_at; alter table leader drop column lease; update schema_version set number = 1")
             else:
                 base = sqlite3.connect(server.database)
-                base.executescript("drop table size; drop table ack_size; drop table gone_job; drop table clock; pragma user_version = 1")
+                base.executescript("drop index call_event; alter table call drop column event; drop table size; drop table ack_size; drop table gone_job; drop table clock; pragma user_version = 1")
                 base.close()
             server.start()
             assert job.state()["seq"] == before and tick(server)
             server.stop()
-        assert database.sql("select number from schema_version") == "5"
+        assert database.sql("select number from schema_version") == "6"
         assert database.sql("select count(*) from pg_indexes where indexname in ('call_at', 'image_at')") == "2"
         return "both databases, from version 1"

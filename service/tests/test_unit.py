@@ -1,5 +1,6 @@
-"""The unit under a real systemd, which is booted in a container: installed, saved and restored as docs/SERVICE.md says, killed, stopped
+"""The unit under a real systemd, which is booted in a container: installed, saved and restored as the pages say, killed, stopped
 and misconfigured, and set up with TLS from nothing."""
+import glob
 import json
 import os
 import shutil
@@ -25,14 +26,18 @@ TimeoutStartSec=840
 
 
 def commands():
-    """The commands of docs/SERVICE.md that an operator gives, by a name: the first block after a text."""
-    with open(f"{TOP}/docs/SERVICE.md", encoding="utf-8") as it:
-        text = it.read()
+    """The commands of the service's pages that an operator gives, by a name: the first block after a text."""
+    text = ""
+    for path in sorted(glob.glob(f"{TOP}/docs/SERVICE*.md")):
+        with open(path, encoding="utf-8") as it:
+            text += it.read()
     places = {
-        "install": "**systemd.**", "backup": "**SQLite**, while", "timer": "relkvanu-backup.timer) makes", "restore": "Here for SQLite and the job",
+        "install": "## The unit", "backup": "**SQLite**, while", "timer": "relkvanu-backup.timer) makes", "restore": "Here for SQLite and the job",
         "savepoints": "**Find a record**", "orphans": "**Files that nobody acknowledged, of a job", "discard": "### As a service",
-        "sweep": "runs the sweeper likewise", "init": "For an option that is for one", "upgrade": "### To upgrade",
-        "way back": "If the start ends with 78 all the same",
+        "sweep": "runs the sweeper likewise", "init": "For an option that is for one", "upgrade": "## To upgrade",
+        "way back": "If the start ends with 78 all the same", "savepoint units": "**The timer takes no savepoint.**", "savepoints over TLS": "**Over TLS, or if the service",
+        "try savepoints": "**Try it once** while", "mail": "- **By mail**, with", "metric": "- **By Prometheus**, with",
+        "address": "**The address.**",
     }
     steps = ("Install", "Make tokens", "Get a certificate", "Listen", "Start", "Open a job", "See it")
     places |= {f"TLS: {step}": f"{number}. **{step}**" for number, step in enumerate(steps, 1)}
@@ -46,7 +51,7 @@ def booted(at):
     binds += [f"--bind-ro={at}/try.service:/etc/systemd/system/try.service", "--bind-ro=/dev/null:/etc/systemd/system/systemd-firstboot.service", "--bind-ro=/etc/ssl/openssl.cnf"]
     words = ["--quiet", "--console=pipe", "--directory=/", "--volatile=yes", "--private-network", "--register=no", "--keep-unit", f"--machine=relkvanu-test-{os.getpid()}"]
     # the program is installed where /usr of this machine can't be written
-    words += [*binds, "--tmpfs=/usr/local/bin", "--tmpfs=/usr/local/share", "--boot", "--", "--unit=try.service"]
+    words += [*binds, "--tmpfs=/usr/local/bin", "--tmpfs=/usr/local/lib", "--tmpfs=/usr/local/share", "--boot", "--", "--unit=try.service"]
     return subprocess.run(["timeout", "-k", "5", "900", "systemd-nspawn", *words], stdout=subprocess.PIPE, stderr=subprocess.STDOUT, text=True, errors="replace", check=False)
 
 

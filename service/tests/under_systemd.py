@@ -56,12 +56,13 @@ def is_ready():
     return request("GET", "/readyz")[0] == 200
 
 
-def as_the_page_says(name):
-    """Runs commands of docs/SERVICE.md, but for those that fetch packages."""
+def as_the_page_says(*names):
+    """Runs commands of the service's pages in one shell, but for those that fetch packages."""
     with open("/try/commands", encoding="utf-8") as it:
-        lines = [line for line in json.load(it)[name].splitlines() if not line.startswith("apt-get ")]
+        blocks = json.load(it)
+    lines = [line for name in names for line in blocks[name].splitlines() if not line.startswith("apt-get ")]
     told = subprocess.run(["bash", "-euc", "\n".join(lines)], stdout=subprocess.PIPE, stderr=subprocess.STDOUT, text=True, check=False)
-    assert told.returncode == 0, (name, told.stdout)
+    assert told.returncode == 0, (names, told.stdout)
     return told.stdout
 
 
@@ -75,10 +76,15 @@ def install():
     with open("service/build", "w", encoding="utf-8") as it:
         it.write("#!/bin/sh\necho /relkvanu\n")
     os.chmod("service/build", 0o755)
-    with open("tokens", "w", encoding="utf-8") as it:
-        it.write(f"read {'r' * 20}\nwrite {WRITE}\n")
+    for name, text in (("tokens", f"read {'r' * 20}\nwrite {WRITE}\n"), ("write-token", f"{WRITE}\n")):
+        with open(name, "w", encoding="utf-8") as it:
+            it.write(text)
     as_the_page_says("install")
-    assert os.path.getsize("/usr/local/share/doc/relkvanu/SERVICE.md") > 10_000
+    # the pages that the units name
+    for unit in ("relkvanu.service", "relkvanu-discard@.service", "relkvanu-sweep@.service", "relkvanu-backup.service", "relkvanu-savepoint@.service"):
+        with open(f"/deploy/{unit}", encoding="utf-8") as it:
+            [page] = re.findall("^Documentation=file://(.*)$", it.read(), re.MULTILINE)
+        assert os.path.getsize(page) > 10_000, (unit, page)
 
 
 def check_it_runs():
@@ -157,7 +163,7 @@ def check_a_backup_is_restored():
         assert run("systemctl", "is-active", unit, check=False) != "active"
     rows = [line.split()[:2] + line.split()[3:] for line in as_the_page_says("savepoints").splitlines()[1:]]
     assert rows == [[str(lost), "savepoint", "1", "1:", "31"], [str(kept), "savepoint", "1", "none"]], rows
-    run("relkvanu", "restore", "orders", "--savepoint", str(kept), "--token-file", "write-token")
+    run("relkvanu", "restore", "orders", "--savepoint", str(kept), "--token-file", "/etc/relkvanu/write-token")
     assert as_the_page_says("orphans").splitlines() == ["/srv/orders/state-41.bin"]
 
 
@@ -197,14 +203,113 @@ def check_backups_of_each_night():
     assert run("systemctl", "is-active", "relkvanu-backup.timer") == "active"
 
 
+class Engine(threading.Thread):
+    """Acknowledges each savepoint of the job `orders`, without files, until it is told to stop."""
+
+    def __init__(self, ask, term=None):
+        super().__init__(daemon=True)
+        self.ask, self.term, self.over = ask, {} if term is None else {"term": term}, threading.Event()
+        self.start()
+
+    def run(self):
+        while not self.over.wait(0.1):
+            for record in self.ask("/v1/jobs/orders")[1]["live"]:
+                told = {} if record["done"] else self.ask(f"/v1/jobs/orders/records/{record['id']}")[1]
+                for subtask in told.get("missing") or ():
+                    self.ask("/v1/jobs/orders/calls", {"calls": [{"call": "ack", "id": record["id"], "subtask": subtask, **self.term}]})
+
+    def stop(self):
+        self.over.set()
+        self.join()
+
+
+def notes():
+    """The numbers of the savepoints that the unit has made, from the oldest."""
+    names = [name.partition(".") for name in os.listdir("/var/lib/relkvanu-savepoint/orders") if name != "new"]
+    return [number for _, _, number in sorted(names, key=lambda it: (it[0], int(it[2])))]
+
+
+def savepoints():
+    told = json.loads(run("relkvanu", "savepoints", "orders", "--json", "--token-file", "/etc/relkvanu/write-token"))
+    return [str(it["id"]) for it in told if it["kind"] == "savepoint"]
+
+
+def copies():
+    return sorted(os.listdir("/var/backups/relkvanu"))
+
+
+def check_savepoints_before_backups():
+    """A backup has a savepoint of this night, or its unit fails after it has made the copy, and that is told. Old savepoints go with the copies;
+    those that the unit did not make stay."""
+    as_the_page_says("savepoint units")
+    for name in copies():
+        os.remove(f"/var/backups/relkvanu/{name}")
+    engine = Engine(lambda path, body=None: request("POST" if body else "GET", path, body, f"engine {time.monotonic_ns()}"))
+    as_the_page_says("try savepoints")
+    others = [it for it in savepoints() if it not in notes()]
+    for count in (2, 3):
+        time.sleep(1.1)
+        run("systemctl", "start", "relkvanu-backup")
+        assert len(notes()) == len(copies()) == count, (notes(), copies())
+    first, second, third = notes()
+    assert savepoints() == [*others, first, second, third], savepoints()
+    # savepoint 2 is in the oldest copy that is left
+    os.remove(f"/var/backups/relkvanu/{copies()[0]}")
+    time.sleep(1.1)
+    run("systemctl", "start", "relkvanu-savepoint@orders")
+    fourth = notes()[-1]
+    assert notes() == [second, third, fourth] and savepoints() == [*others, second, third, fourth], (notes(), savepoints())
+    # one that somebody disposed of, and one of another log
+    run("relkvanu", "dispose", "orders", second, "--token-file", "/etc/relkvanu/write-token")
+    [note] = [name for name in os.listdir("/var/lib/relkvanu-savepoint/orders") if name.endswith(f".{third}")]
+    with open(f"/var/lib/relkvanu-savepoint/orders/{note}", "w", encoding="utf-8") as it:
+        it.write(f"{third} 1\n")
+    run("systemctl", "start", "relkvanu-savepoint@orders")
+    assert notes()[:-1] == [fourth] and savepoints() == [*others, third, *notes()], (notes(), savepoints())
+    engine.stop()
+    check_that_it_is_told()
+
+
+def check_that_it_is_told():
+    """By mail and by the metric: of a savepoint that fails, and of a backup that fails."""
+    with open("/usr/local/bin/mail", "w", encoding="utf-8") as it:
+        it.write('#!/bin/sh\ncat > /dev/null\necho "$@" >> /try/mails\n')
+    os.chmod("/usr/local/bin/mail", 0o755)
+    metric = "/var/lib/prometheus/node-exporter/relkvanu.prom"
+    os.makedirs(os.path.dirname(metric))
+    as_the_page_says("mail")
+    as_the_page_says("metric")
+    engine = Engine(lambda path, body=None: request("POST" if body else "GET", path, body, f"engine {time.monotonic_ns()}"))
+    run("systemctl", "start", "relkvanu-backup")
+    engine.stop()
+    with open(metric, encoding="utf-8") as it:
+        name, _, at = it.read().partition(" ")
+    assert name == "relkvanu_backup_timestamp_seconds" and abs(float(at) - time.time()) < 600, (name, at)
+    assert not os.path.exists("/try/mails")
+    os.remove(metric)
+    shutil.move("/etc/relkvanu/savepoint-token", "/etc/relkvanu/its-token")
+    with open("/etc/relkvanu/savepoint-token", "w", encoding="utf-8") as it:
+        it.write("x" * 20)
+    before = copies()
+    time.sleep(1.1)
+    told = subprocess.run(["systemctl", "start", "relkvanu-backup"], stdout=subprocess.PIPE, stderr=subprocess.STDOUT, check=False)
+    assert told.returncode != 0 and len(copies()) == len(before) + 1 and not os.path.exists(metric), (told, copies())
+    until(lambda: os.path.exists("/try/mails") and len(mails()) == 2)
+    assert mails() == {"-s relkvanu-backup.service failed on", "-s relkvanu-savepoint@orders.service failed on"}, mails()
+    shutil.move("/etc/relkvanu/its-token", "/etc/relkvanu/savepoint-token")
+
+
+def mails():
+    with open("/try/mails", encoding="utf-8") as it:
+        return {line.rpartition(" on ")[0] + " on" for line in it}
+
+
 def check_the_discarder():
     """It deletes files of the engine's user, comes again after a kill, and does not after it found that the folder is another one."""
     unit, marker = "relkvanu-discard@orders", "/srv/orders/.relkvanu-orders"
     run("useradd", "--system", "orders")
     os.makedirs("/srv/orders")
     shutil.chown("/srv/orders", "orders")
-    with open("write-token", "w", encoding="utf-8") as it:
-        it.write(f"{WRITE}\n")
     as_the_page_says("discard")
     until(lambda: os.path.exists(marker))
     for number in (7, 8):
@@ -308,8 +413,17 @@ def check_tls_from_nothing():
     told = as_the_page_says("TLS: Start")
     assert told.endswith("ready\n"), told
     assert '"name":"orders"' in as_the_page_says("TLS: Open a job")
+    shutil.copy("/etc/relkvanu/write-token", "/etc/relkvanu/savepoint-token")
+    as_the_page_says("savepoints over TLS")
+    engine = Engine(lambda path, body=None: over_tls("write", path, body), 1)
+    as_the_page_says("try savepoints")
+    engine.stop()
     shown = as_the_page_says("TLS: See it")
     assert re.search(r"^mode +running$", shown, re.MULTILINE), shown
+    # the commands of a restore, in a shell that knows the address; a backup has none
+    os.remove("copy.db")
+    told = as_the_page_says("address", "backup", "savepoints")
+    assert re.search(r"^\d+ +savepoint(, the latest)? +\S+ +0 +none$", told, re.MULTILINE) and os.path.exists("copy.db"), told
     for name in ("key.pem", "token", "read-token", "write-token"):
         assert os.stat(f"/etc/relkvanu/{name}").st_mode & 0o777 == 0o600, name
     assert over_tls("read", "/v1/jobs")[1]["jobs"][0]["name"] == "orders"
@@ -368,6 +482,7 @@ def main():
     check_a_backup_is_restored()
     check_an_upgrade_and_its_way_back()
     check_backups_of_each_night()
+    check_savepoints_before_backups()
     check_an_option_for_one_start()
     check_a_wrong_option_ends_it()
     long_start = check_a_long_start()

@@ -135,7 +135,7 @@ function sizes(job) {
   if (it.files === 0) return [];
   const files = job.files.in_use + job.files.waiting + job.files.taken;
   const of = it.files < files ? ` (of ${it.files} files)` : "";
-  return [fact("Size in use", bytes(it.in_use) + of), fact("Garbage", bytes(it.waiting + it.taken) + of)];
+  return [fact("Size in use", bytes(it.in_use) + of), fact("To delete", bytes(it.waiting + it.taken) + of)];
 }
 
 export function facts(job, waiting) {

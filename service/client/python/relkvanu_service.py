@@ -9,7 +9,7 @@
             name = task.name()  # of a new file, which no other file ever has
             task.ack(event["id"], "0.0", fresh=[name])  # once the file is synced
 
-docs/SERVICE.md has the whole loop of an engine. If a request is not answered, the client makes it again, by default for a minute, at the service's next address. Calls have an
+docs/SERVICE-API.md has the whole loop of an engine. If a request is not answered, the client makes it again, by default for a minute, at the service's next address. Calls have an
 Idempotency-Key, so the service makes them once. File numbers are integers here, and strings in the API. Threads may share
 what is here.
 """
@@ -27,8 +27,13 @@ import requests
 
 __all__ = [
     "Failed", "Fenced", "Gone", "OldTerm", "OtherLog", "Refused", "Service", "Job", "Start", "Session", "Follower", "file_numbers", "ack",
-    "decline", "reserve", "forfeit", "restore", "savepoint", "take", "cancel", "dispose", "deleted", "undeleted",
+    "decline", "reserve", "forfeit", "restore", "take",
 ]
+# embed/bindings makes the names of calls of one number
+__all__ += [
+    "savepoint", "dispose", "cancel", "deleted", "undeleted",
+]
+# embed/bindings: end
 
 _CONNECT = 2.0  # seconds in which a machine that is there takes a connection
 _ONE_TRY = 10.0  # seconds in which an address has to answer, besides the wait of a poll
@@ -36,6 +41,7 @@ _FIRST_PAUSE, _LONGEST_PAUSE = 0.05, 1.0  # between two tries at an address
 _LONGEST_LATER = 60.0  # the longest Retry-After that is believed
 _COUNT_BITS = 24  # of a file's number; random ones are above them
 _RESERVED = 1000  # names that a task reserves at once
+_BESIDE = (".names", ".begun")  # what follows a marker's name in the names of the files that a discarder writes beside it
 _MOST_FORFEITED, _MOST_GARBAGE = 4096, 10_000  # of a call, and of a request
 _ONE_LOOK, _HISTORY_PATIENCE = 0.1, 60.0  # seconds between two looks at how far the history is, and until they end
 # A proxy, a standby or a service that starts answers so; another try may be answered otherwise.
@@ -124,14 +130,10 @@ def _in(term):
     return {} if term is None else {"term": term}
 
 
+# embed/bindings makes the calls of one number
 def savepoint():
     """A user wants a savepoint."""
     return {"call": "savepoint"}
-
-
-def restore(start="latest", shape=None):
-    """The job begins again, from the latest or from a savepoint, in a new shape if one is given."""
-    return {"call": "restore", "from": start, **({} if shape is None else {"shape": shape})}
 
 
 def dispose(record):
@@ -144,11 +146,6 @@ def cancel():
     return {"call": "cancel"}
 
 
-def take(most=64):
-    """Fetches files for deletion."""
-    return {"call": "take", "most": most}
-
-
 def deleted(file):
     """A fetched file is deleted."""
     return {"call": "deleted", "file": str(file)}
@@ -157,6 +154,17 @@ def deleted(file):
 def undeleted(file):
     """A fetched file could not be deleted: it waits again."""
     return {"call": "undeleted", "file": str(file)}
+# embed/bindings: end
+
+
+def restore(start="latest", shape=None):
+    """The job begins again, from the latest or from a savepoint, in a new shape if one is given."""
+    return {"call": "restore", "from": start, **({} if shape is None else {"shape": shape})}
+
+
+def take(most=64):
+    """Fetches files for deletion."""
+    return {"call": "take", "most": most}
 
 
 def _texts(files):
@@ -209,8 +217,9 @@ class Service:
         return it
 
     def open(self, name, settings, shape, names=None):
-        """Opens a job, or finds it: the same name, settings and shape give the same job. A new job gives out names, unless `names` is
-        false or the service is set so: then the engine numbers its files itself. One of an earlier version refuses `names`."""
+        """Opens a job, or finds it: the same name and settings give the same job, with its first shape or its last. A new job gives out names,
+        unless `names` is false or the service is set so: then the engine numbers its files itself. One of an earlier version refuses
+        `names`."""
         said = {} if names is None else {"names": names}
         self.request("POST", "/v1/jobs", {"name": name, "settings": settings, "shape": shape, **said})
         return Job(self, name)
@@ -301,12 +310,12 @@ def _body(told):
 
 
 def _make_whole(folder, name, text):
-    """Makes a file that is whole or not there, whenever the power is lost."""
-    with open(f"{folder}/{name}.claim", "w", encoding="utf-8") as it:
+    """Makes a file that is whole or not there, whenever the power is lost. While it is written it has a name that no marker has."""
+    with open(f"{folder}/{name}~", "w", encoding="utf-8") as it:
         it.write(text)
         it.flush()
         os.fsync(it.fileno())
-    os.rename(f"{folder}/{name}.claim", f"{folder}/{name}")
+    os.rename(f"{folder}/{name}~", f"{folder}/{name}")
     at = os.open(folder, os.O_RDONLY | os.O_DIRECTORY)
     try:
         os.fsync(at)
@@ -365,6 +374,9 @@ class Job:
                 raise Failed(409, f"{folder} has files, and no file {name}: it is not known whose they are") from None
             if any(state["files"][of] for of in ("in_use", "waiting", "taken")):
                 raise Failed(409, f"{folder} has no file {name}, and the job has files: is its disk not mounted?") from None
+            other = next((name[:-len(end)] for end in _BESIDE if name.endswith(end)), None)
+            if other and os.path.lexists(f"{folder}/{other}"):
+                raise Failed(409, f"{folder}/{other} is of a job whose discarder writes the file {name}: each needs a folder of its own") from None
             return _make_whole(folder, name, text)
         if found != text:
             raise Failed(409, f"{folder}/{name} names another job, or this one as another database has it")

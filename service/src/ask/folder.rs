@@ -3,6 +3,7 @@ use super::ended::Ended;
 use super::words::{Names, Orphans, Savepoints};
 use super::{said, tables};
 use crate::discard::Owner;
+use crate::log;
 use relkvanu_client::Job;
 use serde_json::{json, Value};
 use std::collections::BTreeSet;
@@ -36,10 +37,25 @@ pub async fn savepoints(job: &Job, given: &Savepoints) -> Result<(), Ended> {
     let is_whole = |row: &Value| row["absent"].as_array().is_some_and(Vec::is_empty);
     let none_whole = there.is_some() && !rows.iter().any(is_whole);
     said(given.at.json, &json!(rows), tables::savepoints)?;
+    if let Some((folder, file)) = given.folder.as_deref().zip(none_there(&rows)) {
+        log::warn(&format!(
+            "no file of these records is in {}, as {}: most likely --folder, --prefix or --suffix is wrong, or the disk of the \
+             folder is not mounted. So cancel nothing before you have looked",
+            folder.display(),
+            given.names.of(file)
+        ));
+    }
     if none_whole {
         return Err(Ended::NoneWhole);
     }
     Ok(())
+}
+
+/// One of the files of these records, if they have some and all are absent.
+fn none_there(rows: &[Value]) -> Option<u64> {
+    let is_there = |row: &Value| row["files"].as_u64() > Some(items(&row["absent"]).len() as u64);
+    let absent = rows.iter().find_map(|row| items(&row["absent"]).first());
+    absent.filter(|_| !rows.iter().any(is_there))?.as_str()?.parse().ok()
 }
 
 /// Lists the files that no record uses and that neither wait for deletion nor are taken. The folder is read before the job is asked, so a
@@ -145,6 +161,22 @@ mod tests {
             [state(3, false), state(2, false), state(0, true)].map(|state| at_work(&state)),
             [None, Some(4), None]
         );
+    }
+
+    #[test]
+    fn none_is_there_if_records_have_files_and_all_are_absent() {
+        let row = |files: u64, absent: &[&str]| json!({"files": files, "absent": absent});
+        for (rows, file) in [
+            (vec![], None),
+            (vec![row(0, &[])], None),
+            (vec![row(2, &["4", "5"])], Some(4)),
+            (vec![row(0, &[]), row(2, &["4", "5"]), row(1, &["4"])], Some(4)),
+            (vec![row(2, &["4"])], None),
+            (vec![row(2, &["4", "5"]), row(1, &[])], None),
+            (vec![json!({"files": 2, "absent": null})], None),
+        ] {
+            assert_eq!(none_there(&rows), file, "{rows:?}");
+        }
     }
 
     #[test]

@@ -1,5 +1,6 @@
 //! The command line of the commands that ask a service.
 use crate::cli::job_name;
+use crate::discard::others::MARK;
 use clap::{Args, Subcommand};
 use std::path::PathBuf;
 
@@ -28,7 +29,7 @@ pub enum Ask {
     Term(Term),
     /// Make a job give out the names of its files, between the end of all its tasks and their restart
     Fence(Fence),
-    /// Cancel a job for good: its checkpoints are dropped, unless it has `keep_on_cancel`
+    /// Cancel a job permanently: its checkpoints are dropped, unless it has `keep_on_cancel`
     Cancel(Cancel),
     /// Delete a job that was cancelled or has failed, with its log and its history
     Delete(Delete),
@@ -274,6 +275,9 @@ impl Names {
     pub fn check(&self) -> Result<(), String> {
         if self.prefix.contains('/') || self.suffix.contains('/') {
             return Err("--prefix and --suffix: a '/' would name another folder".to_string());
+        }
+        if self.prefix.starts_with(MARK) {
+            return Err(format!("--prefix: files that begin with {MARK} say whose folder it is"));
         }
         Ok(())
     }

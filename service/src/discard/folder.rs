@@ -51,11 +51,13 @@ impl Owner {
 
     /// What the marker says.
     fn text(&self) -> String {
-        format!(
-            "relkvanu discard deletes files of the job {}, opened at {}, from this folder.\n",
-            self.job, self.opened
-        )
+        format!("{}{}, from this folder.\n", begins(&self.job), self.opened)
     }
+}
+
+/// How the marker of a job begins.
+pub fn begins(job: &str) -> String {
+    format!("relkvanu discard deletes files of the job {job}, opened at ")
 }
 
 /// What became of a file.
@@ -125,7 +127,7 @@ impl Folder {
             if owner.has_names {
                 others::check(&folder, &path, &name, &given.names, need)
             } else {
-                Ok(())
+                others::check_markers(&folder, &path, &name)
             }
         };
         check(if is_ours || given.init { Need::Prefix } else { Need::Look })?;
@@ -224,7 +226,7 @@ impl Folder {
     }
 
     fn begun(&self) -> String {
-        format!("{}.begun", self.marked.name)
+        format!("{}{}", self.marked.name, others::BEGUN)
     }
 }
 
@@ -284,9 +286,9 @@ pub fn open_to_read(folder: &File, name: &str) -> Result<File, Errno> {
     open_in(folder, name, OFlags::RDONLY)
 }
 
-/// Writes a file whole, or not at all.
+/// Writes a file whole, or not at all. While it is written it has a name that no marker has: no job has this sign in its name.
 pub fn write_whole(folder: &File, name: &str, text: &str) -> std::io::Result<()> {
-    let new = format!("{name}.new");
+    let new = format!("{name}~");
     let mut file = open_in(folder, &new, OFlags::WRONLY | OFlags::CREATE | OFlags::TRUNC)?;
     file.write_all(text.as_bytes())?;
     file.sync_all()?;

@@ -14,6 +14,9 @@ pub enum Error {
     /// The tables are those of no version of this program that can be read.
     #[error("its tables are not those of a history: {0}")]
     Foreign(String),
+    /// The file is the database of this service or of another one.
+    #[error("it is the database of a service, and no history")]
+    Database,
     /// A newer program has made the tables.
     #[error("its tables have version {0}: a newer program has made them")]
     Newer(i64),
@@ -32,7 +35,7 @@ impl Error {
         match self {
             Error::Tables(error) => is_damage(error),
             Error::Foreign(_) => true,
-            Error::Unopened { .. } | Error::Newer(_) | Error::Unread(_) | Error::BadLog(_) => false,
+            Error::Database | Error::Unopened { .. } | Error::Newer(_) | Error::Unread(_) | Error::BadLog(_) => false,
         }
     }
 }

@@ -10,10 +10,15 @@ const STEPS: [&str; 3] = [
 ];
 const FIRST_VERSION: i64 = 2;
 
-/// The version of the tables; 0 if there are none.
+/// The table of a service's calls, which no history has.
+const CALLS: &str = "call";
+
+/// The version of the tables; 0 if there are none. A database that has calls is none: nobody may set that aside.
 pub fn version(connection: &Connection) -> Result<i64, Error> {
-    let count: i64 = connection.query_row("select count(*) from sqlite_master", [], |row| row.get(0))?;
+    let sql = "select count(*), count(*) filter (where name = ?) from sqlite_master";
+    let (count, calls): (i64, i64) = connection.query_row(sql, [CALLS], |row| Ok((row.get(0)?, row.get(1)?)))?;
     match count {
+        _ if calls > 0 => Err(Error::Database),
         0 => Ok(0),
         _ => connection.query_row("select number from version", [], |row| row.get(0)).map_err(foreign),
     }

@@ -16,15 +16,22 @@ const EACH: Duration = Duration::from_secs(1);
 pub struct Did(String);
 
 impl Did {
-    /// `None` if a task made all of them.
+    /// `None` if tasks, timers and discarders made all of them.
     pub fn of(calls: &[Call]) -> Option<Did> {
-        let is_users = |call: &&Call| {
+        let is_tasks = |call: &Call| {
+            use Call::{Ack, Decline, Deleted, Forfeit, Reserve, Take, Tick, Undeleted};
             matches!(
                 call,
-                Call::Savepoint | Call::Dispose { .. } | Call::Restore { .. } | Call::Cancel | Call::Fence { .. }
+                Tick | Ack { .. }
+                    | Decline { .. }
+                    | Take { .. }
+                    | Deleted { .. }
+                    | Undeleted { .. }
+                    | Reserve { .. }
+                    | Forfeit { .. }
             )
         };
-        let names: Vec<&str> = calls.iter().filter(is_users).map(Call::name).collect();
+        let names: Vec<&str> = calls.iter().filter(|call| !is_tasks(call)).map(Call::name).collect();
         (!names.is_empty()).then(|| Did(names.join(" ")))
     }
 }

@@ -1,15 +1,14 @@
-//! Terms and names: a job that is turned, the term for whoever starts tasks, and which files may be deleted.
+//! Terms and names: a job that gets names, the term for whoever starts tasks, and which files may be deleted.
 use super::audit::Did;
 use super::query::numbers;
 use super::reply::{bad_field, error, invalid, json_reply, refusal, Reply};
 use super::writes::{key_name, read_body};
 use super::{gate, no_job, wire, App};
-use crate::model::{sha256, Call, Fault, Garbage};
+use crate::model::{sha256, Call, Fault, Garbage, Outcome};
 use crate::writer::{CallsDone, Key, Message, Read, ReadDone};
 use hyper::{Body, Request};
+use relkvanu::Fenced;
 use serde_json::{json, Value};
-
-const NO_NAMES: &str = "NoNames";
 
 /// Gives a job names, from a first one on. The call is in its log, and is made once under a key.
 pub async fn fence(app: &App, job: String, request: Request<Body>) -> Result<Reply, Box<Reply>> {
@@ -21,7 +20,10 @@ pub async fn fence(app: &App, job: String, request: Request<Body>) -> Result<Rep
     let (at, calls) = (job.clone(), vec![Call::Fence { first_name }]);
     let did = Did::of(&calls);
     let mut reply = match app.ask(|reply| Message::Calls { job, calls, key, reply }).await? {
-        CallsDone::Made(epoch, outcomes) => turned(&app.board.answers(epoch, &outcomes), first_name),
+        CallsDone::Made(epoch, outcomes) => match &outcomes[..] {
+            [Outcome::Refused(Fault::Fenced(why))] => fenced(*why),
+            _ => turned(&app.board.answers(epoch, &outcomes), first_name),
+        },
         CallsDone::Known(answers) => turned(&answers, first_name),
         CallsDone::KeyUsed => return Err(super::writes::key_used().into()),
         CallsDone::NoJob => no_job(&at),
@@ -37,7 +39,7 @@ fn turned(answers: &str, first_name: u64) -> Reply {
     let mut told: Value = serde_json::from_str(answers).unwrap_or_default();
     let mut answer = told["answers"][0].take();
     if let Some(why) = answer["fenced"].as_str() {
-        return fenced(why);
+        return why.parse().map_or_else(|_| fenced_as(why, why), fenced);
     }
     if let Some(why) = answer["refused"].as_str() {
         return bad_field("first_name", &format!("is refused: {why}"));
@@ -52,14 +54,19 @@ fn turned(answers: &str, first_name: u64) -> Reply {
 }
 
 /// What the term or the names refuse.
-fn fenced(why: &str) -> Reply {
+fn fenced(why: Fenced) -> Reply {
+    let name = why.name();
     let text = match why {
-        NO_NAMES => "the job gives out no names; POST /v1/jobs/JOB/fence makes it do so, between the end of all its tasks and their restart",
-        "HasNames" => "the job gives out names already",
-        "NameInUse" => "first_name: a file of the job has this number or a greater one",
-        other => other,
+        Fenced::NoNames => "the job gives out no names; POST /v1/jobs/JOB/fence makes it do so, between the end of all its tasks and their restart",
+        Fenced::HasNames => "the job gives out names already",
+        Fenced::NameInUse => "first_name: a file of the job has this number or a greater one",
+        _ => &name,
     };
-    refusal(409, json!({"error": text, "fenced": why}))
+    fenced_as(text, &name)
+}
+
+fn fenced_as(text: &str, name: &str) -> Reply {
+    refusal(409, json!({"error": text, "fenced": name}))
 }
 
 /// The term that runs, for whoever starts the tasks.
@@ -70,7 +77,7 @@ pub async fn term(app: &App, job: String, query: &str) -> Result<Reply, Box<Repl
             let told = json!({"term": now.term, "next_name": now.next_name.to_string(), "log": app.board.log()});
             Ok(json_reply(200, &told))
         }
-        ReadDone::Term(None) => Err(fenced(NO_NAMES).into()),
+        ReadDone::Term(None) => Err(fenced(Fenced::NoNames).into()),
         _ => Err(no_job(&job).into()),
     }
 }
@@ -92,7 +99,7 @@ pub async fn garbage(app: &App, job: String, request: Request<Body>) -> Result<R
                 &json!({"garbage": texts(garbage), "unissued": texts(unissued), "log": app.board.log()}),
             ))
         }
-        ReadDone::Garbage(Err(Fault::Fenced(why))) => Err(fenced(&why.name()).into()),
+        ReadDone::Garbage(Err(Fault::Fenced(why))) => Err(fenced(why).into()),
         ReadDone::Garbage(Err(_)) => Err(error(507, "memory ran out").into()),
         _ => Err(no_job(&job).into()),
     }

@@ -129,7 +129,7 @@ fn why(entry: &Entry) -> Option<String> {
     };
     let (dropped, id) = (dropped(&entry.ended()), entry.record.unwrap_or_default());
     Some(match answer {
-        A::AckLate { .. } => format!("an acknowledgement of record {id} came after the record had ended"),
+        A::AckLate { .. } => format!("an acknowledgement of record {id} came after the record was done or had ended"),
         A::AckPending { .. } | A::AckCompleted { .. } => format!("record {id} completed, and {dropped}"),
         A::Failed { .. } => format!("the job failed over, and {dropped}"),
         A::Triggered { .. } | A::HeldInterval { .. } | A::HeldAtOnce { .. } | A::HeldPause { .. } => {

@@ -10,8 +10,10 @@ const LONGEST_NAME: usize = 64;
 /// How many parts of a shape are read. A list that is too long is refused by its length.
 const MOST_VERTICES: usize = 1 << 16;
 pub const NO_NAME: &str = "is no name: 1 to 64 of a-z, A-Z, 0-9, '-', '_' and '.', and a letter or digit first";
+// embed/bindings makes the names of calls
 const CALLS: &str =
     "ack, decline, tick, savepoint, dispose, restore, cancel, take, deleted, undeleted, reserve and forfeit";
+// embed/bindings: end
 /// How many names a task reserves at once, and gives up.
 const MOST_RESERVED: u64 = 65_536;
 const MOST_FORFEITED: usize = 4096;
@@ -189,16 +191,18 @@ pub fn calls(bytes: &[u8], most: usize) -> Checked<Vec<Call>> {
 fn call(mut members: Members, term: u64) -> Checked<Call> {
     let name = members.text("call")?;
     let call = match name.as_ref() {
+        // embed/bindings makes the calls of one number
         "tick" => Call::Tick,
         "savepoint" => Call::Savepoint,
-        "ack" => ack(&mut members, term)?,
-        "decline" => Call::Decline { term: members.term(term)?, id: members.id()?, subtask: members.subtask()? },
         "dispose" => Call::Dispose { id: members.id()? },
-        "restore" => Call::Restore { target: target(&mut members)?, shape: members.shape()? },
         "cancel" => Call::Cancel,
-        "take" => Call::Take { most: members.number("most", 1, MOST_TAKEN)? },
         "deleted" => Call::Deleted { file: members.file()? },
         "undeleted" => Call::Undeleted { file: members.file()? },
+        // embed/bindings: end
+        "ack" => ack(&mut members, term)?,
+        "decline" => Call::Decline { term: members.term(term)?, id: members.id()?, subtask: members.subtask()? },
+        "restore" => Call::Restore { target: target(&mut members)?, shape: members.shape()? },
+        "take" => Call::Take { most: members.number("most", 1, MOST_TAKEN)? },
         "reserve" => Call::Reserve { term: members.term(term)?, count: members.number("count", 1, MOST_RESERVED)? },
         "forfeit" => Call::Forfeit { term: members.term(term)?, names: members.some_files("names", MOST_FORFEITED)? },
         _ => return Err(members.wrong("call", &format!("{:?} is no call: there are {CALLS}", shown(&name)))),

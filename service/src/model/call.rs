@@ -63,8 +63,20 @@ impl Target {
 /// A call, without the moment that the writer gives it. A term of 0 is none.
 #[derive(Clone, Debug, PartialEq, Eq)]
 pub enum Call {
+    // embed/bindings makes the calls of one number
     Tick,
     Savepoint,
+    Dispose {
+        id: u64,
+    },
+    Cancel,
+    Deleted {
+        file: u64,
+    },
+    Undeleted {
+        file: u64,
+    },
+    // embed/bindings: end
     /// `bytes` are those of each fresh file, or none. The log's line does not have them.
     Ack {
         term: u64,
@@ -79,22 +91,12 @@ pub enum Call {
         id: u64,
         subtask: Subtask,
     },
-    Dispose {
-        id: u64,
-    },
     Restore {
         target: Target,
         shape: Option<Vec<u64>>,
     },
-    Cancel,
     Take {
         most: u64,
-    },
-    Deleted {
-        file: u64,
-    },
-    Undeleted {
-        file: u64,
     },
     /// From here on the job gives out names, from this one on.
     Fence {
@@ -116,16 +118,18 @@ impl Call {
     /// The first word of the call's line, after its term, and the `call` of a request.
     pub fn name(&self) -> &'static str {
         match self {
+            // embed/bindings makes the names of calls of one number
             Call::Tick => "tick",
             Call::Savepoint => "savepoint",
-            Call::Ack { .. } => "ack",
-            Call::Decline { .. } => "decline",
             Call::Dispose { .. } => "dispose",
-            Call::Restore { .. } => "restore",
             Call::Cancel => "cancel",
-            Call::Take { .. } => "take",
             Call::Deleted { .. } => "deleted",
             Call::Undeleted { .. } => "undeleted",
+            // embed/bindings: end
+            Call::Ack { .. } => "ack",
+            Call::Decline { .. } => "decline",
+            Call::Restore { .. } => "restore",
+            Call::Take { .. } => "take",
             Call::Fence { .. } => "fence",
             Call::Reserve { .. } => "reserve",
             Call::Forfeit { .. } => "forfeit",

@@ -3,7 +3,7 @@ use super::call::Call;
 use super::live::Live;
 use super::outcome::Reply;
 use relkvanu::{Answer, Choice, Fault, FileCounts, Garbage, LineFault, Mode, RunningTerm, Said, Settings};
-use std::ops::{Deref, DerefMut};
+use std::ops::{Deref, DerefMut, Range};
 use thiserror::Error;
 
 /// A job could not be opened: memory ran out, or its settings were refused.
@@ -19,6 +19,25 @@ impl NoJob {
     /// Whether memory ran out. A later try may have more.
     pub fn is_memory(self) -> bool {
         self.0 == Fault::Memory
+    }
+}
+
+/// Most takes find no more files.
+const FILES: usize = 64;
+
+/// A call that was made.
+pub struct Made {
+    pub reply: Reply,
+    /// Its line, without a newline.
+    pub line: String,
+    /// The places, among the files that wait for deletion, of those that it released.
+    pub released: Range<u64>,
+}
+
+impl Made {
+    fn of(made: relkvanu::Made<'_>) -> Result<Made, Fault> {
+        let released = made.waited..made.counts.waiting;
+        Ok(Made { reply: reply(Ok(made.said))?, line: made.line, released })
     }
 }
 
@@ -61,37 +80,32 @@ impl Engine {
         self.0.garbage(files)
     }
 
-    /// Makes a call at the moment `now`.
-    pub fn make(&mut self, call: &Call, now: u64) -> Result<Reply, Fault> {
-        let core = &mut self.0;
-        let made = match call {
-            Call::Tick => core.tick(now),
-            Call::Savepoint => core.savepoint(now),
-            Call::Ack { term: 0, id, subtask, fresh, reused, .. } => core.ack(now, *id, subtask.into(), fresh, reused),
-            Call::Ack { term, id, subtask, fresh, reused, .. } => {
-                core.ack_in(*term, now, *id, subtask.into(), fresh, reused)
+    /// Makes a call at the moment `now`, in one call of the library. A take that finds more files than there is room for is made again.
+    pub fn make(&mut self, call: &Call, now: u64) -> Result<Made, Fault> {
+        let call = call.of_library(now);
+        let mut files = [0; FILES];
+        match self.0.make(&call, &mut files) {
+            Err(Fault::TooShort { places }) => {
+                let mut files = vec![0; usize::try_from(places).unwrap_or(0)];
+                self.0.make(&call, &mut files).and_then(Made::of)
             }
-            Call::Decline { term: 0, id, subtask } => core.decline(now, *id, subtask.into()),
-            Call::Decline { term, id, subtask } => core.decline_in(*term, now, *id, subtask.into()),
-            Call::Dispose { id } => core.dispose(*id),
-            Call::Restore { target, shape } => core.restore(now, target.savepoint(), shape.as_deref()),
-            Call::Cancel => core.cancel(now),
-            Call::Take { most } => return self.take(*most),
-            Call::Deleted { file } => core.deleted(*file),
-            Call::Undeleted { file } => core.undeleted(*file),
-            Call::Fence { first_name } => core.fence(*first_name).map(|()| Answer::Named),
-            Call::Reserve { term, count } => core.reserve(*term, *count).map(|names| Answer::Reserved(names.start)),
-            Call::Forfeit { term, names } => core.forfeit(*term, names).map(|()| Answer::Forfeited),
-        };
-        made.map(Reply::Answered)
+            // The line would be longer than a line may be. So it has more files than an acknowledgement may have, and is refused for
+            // these or before them.
+            Err(long @ Fault::BadLine(LineFault::TooLong)) => Err(self.refused(&call).unwrap_or(long)),
+            made => made.and_then(Made::of),
+        }
     }
 
-    fn take(&mut self, most: u64) -> Result<Reply, Fault> {
-        let waiting = self.counts().waiting;
-        let places = usize::try_from(most.min(waiting)).unwrap_or(0);
-        let mut buffer = vec![0; places];
-        let files = self.0.take(&mut buffer)?;
-        Ok(Reply::Taken(files.to_vec()))
+    /// Why an acknowledgement of too many files is refused.
+    fn refused(&mut self, call: &relkvanu::Call<'_>) -> Option<Fault> {
+        use relkvanu::Call as C;
+        match *call {
+            C::Ack { now, id, subtask, fresh, reused } => self.0.ack(now, id, subtask, fresh, reused).err(),
+            C::AckIn { term, now, id, subtask, fresh, reused } => {
+                self.0.ack_in(term, now, id, subtask, fresh, reused).err()
+            }
+            _ => None,
+        }
     }
 
     /// Makes the call of a line, as the library reads it.
@@ -191,5 +205,63 @@ fn reply(said: Result<Said<'_>, Fault>) -> Result<Reply, Fault> {
         Said::Called(answer) => Ok(Reply::Answered(answer)),
         Said::Taken(files) => Ok(Reply::Taken(files.to_vec())),
         Said::Skipped | Said::Shown(_) => Err(Fault::BadLine(LineFault::NoCall)),
+    }
+}
+
+#[cfg(test)]
+mod tests {
+    use super::super::call::Subtask;
+    use super::*;
+    use relkvanu::Refusal;
+    use std::error::Error;
+
+    const SETTINGS: Settings = Settings {
+        interval: 10,
+        pause: 0,
+        at_once: 1,
+        timeout: 5000,
+        tolerable: 0,
+        retained: 1,
+        keep_on_cancel: false,
+    };
+
+    fn ack(fresh: Vec<u64>) -> Call {
+        let subtask = Subtask { vertex: 0, index: 0 };
+        Call::Ack { term: 0, id: 1, subtask, fresh, reused: vec![], bytes: vec![] }
+    }
+
+    #[test]
+    fn a_call_is_made_with_its_line() -> Result<(), Box<dyn Error>> {
+        let mut engine = Engine::open(&SETTINGS, &[1], 0)?;
+        let ticked = engine.make(&Call::Tick, 10)?;
+        assert_eq!((ticked.line.as_str(), ticked.released), ("tick 10", 0..0));
+        let acknowledged = engine.make(&ack(vec![8, 7]), 11)?;
+        assert_eq!((acknowledged.line.as_str(), acknowledged.released), ("ack 11 1 0.0 +7 +8", 0..0));
+        assert_eq!(engine.make(&Call::Cancel, 12)?.released, 0..2);
+        Ok(())
+    }
+
+    #[test]
+    fn a_take_may_find_more_files_than_most_do() -> Result<(), Box<dyn Error>> {
+        let mut engine = Engine::open(&SETTINGS, &[1], 0)?;
+        let files: Vec<u64> = (1..=100).collect();
+        engine.make(&Call::Tick, 10)?;
+        engine.make(&ack(files.clone()), 11)?;
+        engine.make(&Call::Cancel, 12)?;
+        let taken = engine.make(&Call::Take { most: 1000 }, 13)?;
+        assert_eq!((taken.reply, taken.line.as_str()), (Reply::Taken(files), "take 1000"));
+        Ok(())
+    }
+
+    #[test]
+    fn an_acknowledgement_with_too_long_a_line_has_too_many_files() -> Result<(), Box<dyn Error>> {
+        let mut engine = Engine::open(&SETTINGS, &[1], 0)?;
+        engine.make(&Call::Tick, 10)?;
+        let image = engine.image();
+        let many = ack((0..9000).map(|place| u64::MAX - place).collect());
+        assert_eq!(engine.make(&many, 11).err(), Some(Refusal::TooManyFiles.into()));
+        assert_eq!(engine.make(&many, 1 << 62).err(), Some(Refusal::MomentTooLarge.into()));
+        assert_eq!(engine.image(), image);
+        Ok(())
     }
 }

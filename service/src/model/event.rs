@@ -1,5 +1,5 @@
-//! Which answers are events for engines. This is the one place that knows it: `sql/event.sql`, by which databases find the rows, is
-//! compared with it.
+//! Which answers are events for engines. The log has the word of each: the database makes it of the answer (`sql/event.sql`), and a test
+//! compares it with what is said here.
 use super::outcome::Reply;
 use relkvanu::{Answer, Choice};
 
@@ -73,49 +73,49 @@ pub fn kind(reply: &Reply) -> Option<&'static str> {
 #[cfg(test)]
 mod tests {
     use super::*;
-    use crate::store::IS_EVENT;
+    use crate::store::EVENT;
     use rusqlite::Connection;
 
-    /// Lines with their answers, and the records that they end, as docs/RULES.md says; the event that each is, by docs/SERVICE.md.
-    const CALLS: [(&str, &str, Option<&str>, Option<&str>); 33] = [
-        ("tick 9", "tick expired 0 triggered 1", None, Some("triggered")),
-        ("tick 9", "tick expired 2 triggered 3", Some("1 2"), Some("triggered")),
-        ("tick 9", "tick expired 0 held interval", None, None),
-        ("tick 9", "tick expired 1 held interval", Some("1"), Some("expired")),
-        ("tick 9", "tick expired 0 held at-once", None, None),
-        ("tick 9", "tick expired 1 held at-once", Some("1"), Some("expired")),
-        ("tick 9", "tick expired 0 held pause", None, None),
-        ("tick 9", "tick expired 3 held pause", Some("1 2 3"), Some("expired")),
-        ("tick 9", "tick expired 1 failed", Some("1"), Some("failed")),
-        ("savepoint 9", "savepoint triggered 4", None, Some("triggered")),
-        ("ack 9 1 0.0 +1", "ack pending 2", None, None),
-        ("ack 9 1 0.0", "ack completed 0 0", None, Some("completed")),
-        ("ack 9 1 0.0", "ack completed 1 2", Some("3"), Some("completed")),
-        ("ack 9 1 0.0 +7", "ack late 1", None, None),
-        ("decline 9 1 0.0", "decline aborted 0", Some("1"), Some("declined")),
-        ("decline 9 1 0.0", "decline failed 2", Some("1 2"), Some("failed")),
-        ("decline 9 1 0.0", "decline late", None, None),
-        ("dispose 1", "disposed 0", Some("1"), Some("disposed")),
-        ("restore 9 latest", "restored checkpoint 1 0", None, Some("restored")),
-        ("restore 9 4 1 2", "restored savepoint 4 3", Some("5"), Some("restored")),
-        ("restore 9 latest", "restored fresh 0", None, Some("restored")),
-        ("cancel 9", "cancelled 0 0", None, Some("cancelled")),
-        ("cancel 9", "cancelled 1 2", Some("1"), Some("cancelled")),
-        ("take 3", "take 7 8 9", None, None),
-        ("deleted 7", "deleted 7", None, None),
-        ("undeleted 7", "undeleted 7", None, None),
-        ("fence 20", "term 1", None, None),
-        ("reserve 3 1000", "reserved 20", None, None),
-        ("forfeit 3 20", "forfeited", None, None),
-        ("in 3 ack 9 1 0.0 +20", "ack pending 2", None, None),
-        ("in 3 ack 9 1 0.0 +20", "ack completed 1 2", Some("3"), Some("completed")),
-        ("in 3 decline 9 1 0.0", "decline aborted 0", Some("1"), Some("declined")),
-        ("in 3 decline 9 1 0.0", "decline late", None, None),
+    /// Lines with their answers, as docs/RULES.md says; the event that each is, by docs/SERVICE-API.md.
+    const CALLS: [(&str, &str, Option<&str>); 33] = [
+        ("tick 9", "tick expired 0 triggered 1", Some("triggered")),
+        ("tick 9", "tick expired 2 triggered 3", Some("triggered")),
+        ("tick 9", "tick expired 0 held interval", None),
+        ("tick 9", "tick expired 1 held interval", Some("expired")),
+        ("tick 9", "tick expired 0 held at-once", None),
+        ("tick 9", "tick expired 1 held at-once", Some("expired")),
+        ("tick 9", "tick expired 0 held pause", None),
+        ("tick 9", "tick expired 3 held pause", Some("expired")),
+        ("tick 9", "tick expired 1 failed", Some("failed")),
+        ("savepoint 9", "savepoint triggered 4", Some("triggered")),
+        ("ack 9 1 0.0 +1", "ack pending 2", None),
+        ("ack 9 1 0.0", "ack completed 0 0", Some("completed")),
+        ("ack 9 1 0.0", "ack completed 1 2", Some("completed")),
+        ("ack 9 1 0.0 +7", "ack late 1", None),
+        ("decline 9 1 0.0", "decline aborted 0", Some("declined")),
+        ("decline 9 1 0.0", "decline failed 2", Some("failed")),
+        ("decline 9 1 0.0", "decline late", None),
+        ("dispose 1", "disposed 0", Some("disposed")),
+        ("restore 9 latest", "restored checkpoint 1 0", Some("restored")),
+        ("restore 9 4 1 2", "restored savepoint 4 3", Some("restored")),
+        ("restore 9 latest", "restored fresh 0", Some("restored")),
+        ("cancel 9", "cancelled 0 0", Some("cancelled")),
+        ("cancel 9", "cancelled 1 2", Some("cancelled")),
+        ("take 3", "take 7 8 9", None),
+        ("deleted 7", "deleted 7", None),
+        ("undeleted 7", "undeleted 7", None),
+        ("fence 20", "term 1", None),
+        ("reserve 3 1000", "reserved 20", None),
+        ("forfeit 3 20", "forfeited", None),
+        ("in 3 ack 9 1 0.0 +20", "ack pending 2", None),
+        ("in 3 ack 9 1 0.0 +20", "ack completed 1 2", Some("completed")),
+        ("in 3 decline 9 1 0.0", "decline aborted 0", Some("declined")),
+        ("in 3 decline 9 1 0.0", "decline late", None),
     ];
 
     #[test]
     fn each_answer_is_the_event_that_it_should_be() -> Result<(), relkvanu::ParseError> {
-        for (line, answer, _, word) in CALLS {
+        for (line, answer, word) in CALLS {
             let reply: Reply = answer.parse()?;
             assert_eq!((reply.text().as_str(), Event::of(&reply).map(Event::word)), (answer, word), "{line}");
         }
@@ -127,12 +127,12 @@ mod tests {
     }
 
     #[test]
-    fn the_database_finds_the_same_rows() -> rusqlite::Result<()> {
+    fn the_database_has_the_same_words() -> rusqlite::Result<()> {
         let base = Connection::open_in_memory()?;
-        let sql = format!("select {IS_EVENT} is true from (select ?1 as line, ?2 as answer, ?3 as ended)");
-        for (line, answer, ended, word) in CALLS {
-            let found: bool = base.query_row(&sql, (line, answer, ended), |row| row.get(0))?;
-            assert_eq!(found, word.is_some(), "{line}: {answer}");
+        let sql = format!("select {EVENT} from (select ?1 as answer)");
+        for (line, answer, word) in CALLS {
+            let found: Option<String> = base.query_row(&sql, [answer], |row| row.get(0))?;
+            assert_eq!(found.as_deref(), word, "{line}: {answer}");
         }
         Ok(())
     }

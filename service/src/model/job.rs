@@ -1,7 +1,7 @@
 //! One job: its coordinator, its place in the log, and when the timer has to tick it.
 use super::bases::Bases;
 use super::call::Call;
-use super::engine::{Engine, Lendable, NoJob};
+use super::engine::{Engine, Lendable, Made, NoJob};
 use super::image::Image;
 use super::kept::Kept;
 use super::live::{ended, Live};
@@ -10,6 +10,7 @@ use super::settings::pending_limit;
 use super::sizes::{FileBytes, SizeChange, Sizes, Use};
 use relkvanu::{Answer, Choice, Fault, Kind, Live as LiveRecord, Mode, Settings};
 use std::collections::HashSet;
+use std::ops::Range;
 
 /// What a job was opened with, which never changes.
 #[derive(Clone, Debug, PartialEq, Eq)]
@@ -157,43 +158,29 @@ impl Job {
 
     /// Makes a call. If it changed something, also returns its row, which has to be committed before the call is answered.
     pub fn call(&mut self, call: &Call, now: u64) -> (Outcome, Option<Logged>) {
-        let line = match call.line(now) {
-            Err(Fault::Memory) => return (Outcome::NoMemory, None),
-            // The line would be longer than a line may be: an acknowledgement of this many files is refused below.
-            line => line.unwrap_or_default(),
-        };
-        let waiting = self.engine.counts().waiting;
-        let reply = match self.engine.make(call, now) {
-            Ok(reply) => reply,
+        let Made { reply, line, released } = match self.engine.make(call, now) {
+            Ok(made) => made,
             Err(fault) => return (fault.into(), None),
         };
         if reply.changed_nothing() {
             return (Outcome::Made { seq: None, reply, beside: Beside::Nothing }, None);
         }
         let (record, ended) = self.take_in(call, now, &reply);
-        let sizes = self.resize(call, &reply, waiting);
+        let waiting = released.end.saturating_sub(released.start);
+        let sizes = self.resize(call, &reply, released);
         let answer = reply.text();
         self.kept.note((line.len() + answer.len()) as u64);
-        let entry = Entry {
-            job: self.opening.number,
-            seq: self.seq,
-            at: self.at,
-            record,
-            line,
-            answer,
-            ended,
-            waiting: self.engine.counts().waiting.saturating_sub(waiting),
-        };
+        let (job, seq, at) = (self.opening.number, self.seq, self.at);
+        let entry = Entry { job, seq, at, record, line, answer, ended, waiting };
         let beside = self.beside(call);
         (Outcome::Made { seq: Some(self.seq), reply, beside }, Some(Logged { entry, sizes }))
     }
 
-    /// What a call changed of the sizes, before which so many files were waiting.
-    fn resize(&mut self, call: &Call, reply: &Reply, waiting: u64) -> SizeChange {
+    /// What a call changed of the sizes, which released the files at these places among those that wait.
+    fn resize(&mut self, call: &Call, reply: &Reply, places: Range<u64>) -> SizeChange {
         if self.sizes.ignores(call) {
             return SizeChange::default();
         }
-        let places = waiting..self.engine.counts().waiting;
         let released: Vec<u64> = places.filter_map(|place| self.engine.waiting_file(place)).collect();
         let mut change = self.sizes.follow(call, reply, &released);
         if let Some(said) = &mut change.said {

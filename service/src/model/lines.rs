@@ -9,16 +9,23 @@ use std::time::Duration;
 
 impl Call {
     /// The line of this call at the moment `now`. The files of an acknowledgement ascend in it.
+    #[cfg(test)]
     pub fn line(&self, now: u64) -> Result<String, Fault> {
         self.of_library(now).line()
     }
 
     /// The library's call at the moment `now`.
-    fn of_library(&self, now: u64) -> relkvanu::Call<'_> {
+    pub fn of_library(&self, now: u64) -> relkvanu::Call<'_> {
         use relkvanu::Call as C;
         match self {
+            // embed/bindings makes what writes the calls of one number
             Call::Tick => C::Tick { now },
             Call::Savepoint => C::Savepoint { now },
+            Call::Dispose { id } => C::Dispose { id: *id },
+            Call::Cancel => C::Cancel { now },
+            Call::Deleted { file } => C::Deleted { file: *file },
+            Call::Undeleted { file } => C::Undeleted { file: *file },
+            // embed/bindings: end
             Call::Ack { term: 0, id, subtask, fresh, reused, .. } => {
                 C::Ack { now, id: *id, subtask: subtask.into(), fresh, reused }
             }
@@ -27,14 +34,10 @@ impl Call {
             }
             Call::Decline { term: 0, id, subtask } => C::Decline { now, id: *id, subtask: subtask.into() },
             Call::Decline { term, id, subtask } => C::DeclineIn { term: *term, now, id: *id, subtask: subtask.into() },
-            Call::Dispose { id } => C::Dispose { id: *id },
             Call::Restore { target, shape } => {
                 C::Restore { now, savepoint: target.savepoint(), shape: shape.as_deref() }
             }
-            Call::Cancel => C::Cancel { now },
             Call::Take { most } => C::Take { most: *most },
-            Call::Deleted { file } => C::Deleted { file: *file },
-            Call::Undeleted { file } => C::Undeleted { file: *file },
             Call::Fence { first_name } => C::Fence { first_name: *first_name },
             Call::Reserve { term, count } => C::Reserve { term: *term, count: *count },
             Call::Forfeit { term, names } => C::Forfeit { term: *term, names },
@@ -75,21 +78,23 @@ pub fn parse_line(line: &str) -> Option<(u64, Call)> {
 fn changing(said: relkvanu::Call<'_>) -> Option<(u64, Call)> {
     use relkvanu::Call as C;
     Some(match said {
+        // embed/bindings makes what reads the calls of one number
         C::Tick { now } => (now, Call::Tick),
         C::Savepoint { now } => (now, Call::Savepoint),
+        C::Dispose { id } => (0, Call::Dispose { id }),
+        C::Cancel { now } => (now, Call::Cancel),
+        C::Deleted { file } => (0, Call::Deleted { file }),
+        C::Undeleted { file } => (0, Call::Undeleted { file }),
+        // embed/bindings: end
         C::Ack { now, id, subtask, fresh, reused } => (now, ack(0, id, subtask, fresh, reused)),
         C::AckIn { term, now, id, subtask, fresh, reused } => (now, ack(term, id, subtask, fresh, reused)),
         C::Decline { now, id, subtask } => (now, Call::Decline { term: 0, id, subtask: subtask.into() }),
         C::DeclineIn { term, now, id, subtask } => (now, Call::Decline { term, id, subtask: subtask.into() }),
-        C::Dispose { id } => (0, Call::Dispose { id }),
         C::Restore { now, savepoint, shape } => {
             let target = savepoint.map_or(Target::Latest, |id| Target::Savepoint(id.get()));
             (now, Call::Restore { target, shape: shape.map(<[u64]>::to_vec) })
         }
-        C::Cancel { now } => (now, Call::Cancel),
         C::Take { most } => (0, Call::Take { most }),
-        C::Deleted { file } => (0, Call::Deleted { file }),
-        C::Undeleted { file } => (0, Call::Undeleted { file }),
         C::Fence { first_name } => (0, Call::Fence { first_name }),
         C::Reserve { term, count } => (0, Call::Reserve { term, count }),
         C::Forfeit { term, names } => (0, Call::Forfeit { term, names: names.to_vec() }),
@@ -106,6 +111,8 @@ fn ack(term: u64, id: u64, subtask: (u16, u16), fresh: &[u64], reused: &[u64]) -
 mod tests {
     use super::super::call::Subtask;
     use super::*;
+    use std::collections::BTreeSet;
+    use std::fs;
 
     const SUBTASK: Subtask = Subtask { vertex: 1, index: 7 };
 
@@ -169,6 +176,29 @@ mod tests {
             let now = if line.contains("1234") { 1234 } else { 0 };
             assert_eq!(parse_line(line), Some((now, call)));
         }
+    }
+
+    /// embed/python/tests/test_rows.py says that each call is in a row.
+    #[test]
+    fn calls_of_the_rows_are_written_again() -> std::io::Result<()> {
+        let mut written = BTreeSet::new();
+        for row in fs::read_dir(concat!(env!("CARGO_MANIFEST_DIR"), "/../examples/rows"))? {
+            let row = row?.path();
+            if row.extension().is_none_or(|it| it != "in") {
+                continue;
+            }
+            for (now, call) in String::from_utf8_lossy(&fs::read(row)?).lines().filter_map(parse_line) {
+                let line = call.line(now).unwrap_or_default();
+                assert_eq!(line.split(' ').next(), Some(call.name()));
+                assert_eq!(parse_line(&line), Some((now, call.clone())), "{line}");
+                written.insert(call.name());
+            }
+        }
+        let in_logs_alone = ["fence", "reserve", "forfeit"];
+        for (call, line) in lines() {
+            assert!(written.contains(call.name()) || in_logs_alone.contains(&call.name()), "{line}");
+        }
+        Ok(())
     }
 
     #[test]

@@ -90,7 +90,13 @@ fn answer_json(answer: Answer) -> Value {
         Answer::HeldAtOnce { expired } => json!({"tick": "held", "expired": expired, "why": "at-once"}),
         Answer::HeldPause { expired } => json!({"tick": "held", "expired": expired, "why": "pause"}),
         Answer::Failed { expired } => json!({"tick": "failed", "expired": expired}),
+        // embed/bindings makes the answers to calls of one number
         Answer::SavepointTriggered(id) => json!({"savepoint": "triggered", "id": id}),
+        Answer::Disposed { released } => json!({"dispose": "disposed", "released": released}),
+        Answer::Cancelled { dropped, released } => {
+            json!({"cancel": "cancelled", "dropped": dropped, "released": released})
+        }
+        // embed/bindings: end
         Answer::AckPending { missing } => json!({"ack": "pending", "missing": missing}),
         Answer::AckCompleted { dropped, released } => {
             json!({"ack": "completed", "dropped": dropped, "released": released})
@@ -99,11 +105,7 @@ fn answer_json(answer: Answer) -> Value {
         Answer::DeclineAborted { released } => json!({"decline": "aborted", "released": released}),
         Answer::DeclineFailed { released } => json!({"decline": "failed", "released": released}),
         Answer::DeclineLate => json!({"decline": "late"}),
-        Answer::Disposed { released } => json!({"dispose": "disposed", "released": released}),
         Answer::Restored { from, released } => restored_json(from, released),
-        Answer::Cancelled { dropped, released } => {
-            json!({"cancel": "cancelled", "dropped": dropped, "released": released})
-        }
         Answer::Deleted(file) => json!({"deleted": file.to_string()}),
         Answer::Undeleted(file) => json!({"undeleted": file.to_string()}),
         Answer::Counted { file, uses } => json!({"counted": file.to_string(), "uses": uses}),

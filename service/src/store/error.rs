@@ -29,6 +29,11 @@ pub enum DbError {
     NoSync,
     #[error("these are no tables of a service")]
     Foreign,
+    /// `relkvanu move` has marked it.
+    #[error(
+        "its log was moved to {to}: start the service over that database. `relkvanu move` with --to and that database completes a move that did not end, and with --back too it takes the move back, if no service ran there since"
+    )]
+    Moved { to: String },
     /// The database answered something else than the statement asks for.
     #[error("{0}")]
     Odd(&'static str),
@@ -43,7 +48,7 @@ impl DbError {
     /// Whether what the database has is damaged, so that a later read fails in the same way.
     pub fn is_damage(&self) -> bool {
         match self {
-            DbError::BadRow { .. } | DbError::Foreign => true,
+            DbError::BadRow { .. } | DbError::Foreign | DbError::Moved { .. } => true,
             DbError::Lite(why) | DbError::Unopened { why, .. } => is_damage(why),
             // data_corrupted and index_corrupted
             DbError::Pg(failed) => matches!(failed.state.as_deref(), Some("XX001" | "XX002")),

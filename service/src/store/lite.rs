@@ -3,7 +3,8 @@ use super::cells::Row;
 use super::error::{DbError, Failure, Unusable};
 use super::files::{self, Opened};
 use super::lite_write::write;
-use super::rows::{steps_after, Group, Keyed, Lead, Store, Written, MOST_STARTS, OF_JOBS, VERSION};
+use super::moved::{self, MOVED};
+use super::rows::{is_event, steps_after, Group, Keyed, Lead, Store, Written, MOST_STARTS, OF_JOBS, VERSION};
 use crate::model::{lengths_text, Held, Shards};
 use rusqlite::config::DbConfig;
 use rusqlite::{ffi, params, Connection, ErrorCode, OptionalExtension};
@@ -11,18 +12,20 @@ use std::fs::File;
 use std::path::Path;
 use std::time::{Duration, Instant};
 
-const STEPS: [&str; VERSION] = [
+pub(super) const STEPS: [&str; VERSION] = [
     include_str!("../../sql/lite.sql"),
-    concat!(
-        include_str!("../../sql/lite_2.sql"),
-        " create index if not exists call_event on call(job, seq) where ",
-        include_str!("../../sql/event.sql"),
-        "; ",
-        include_str!("../../sql/lite_history.sql")
-    ),
+    concat!(include_str!("../../sql/lite_2.sql"), " ", include_str!("../../sql/lite_history.sql")),
     include_str!("../../sql/lite_3.sql"),
     include_str!("../../sql/lite_parts.sql"),
     include_str!("../../sql/lite_shards.sql"),
+    concat!(
+        include_str!("../../sql/lite_event.sql"),
+        " alter table call add column event text generated always as (",
+        include_str!("../../sql/event.sql"),
+        ") virtual; create index call_event on call(job, seq) where ",
+        is_event!(),
+        ";"
+    ),
 ];
 pub(super) const BUSY: Duration = Duration::from_secs(2);
 /// How long a start waits for readers of another program.
@@ -63,13 +66,14 @@ impl Lite {
         let connection = Connection::open(&real).map_err(&failed)?;
         // after a failure the log stays as it is until the next start
         connection.set_db_config(DbConfig::SQLITE_DBCONFIG_NO_CKPT_ON_CLOSE, true).map_err(&failed)?;
+        if let Some(why) = moved::refusal(&connection).map_err(&failed)? {
+            return Err(why.into());
+        }
         let found = connection.pragma_query_value(None, "user_version", |row| row.get(0)).map_err(&failed)?;
         Unusable::check(found)?;
-        let mode = prepare(&connection, found).map_err(&failed)?;
-        if mode != "wal" {
-            let why = format!("its journal mode is {mode}, since there can be no write-ahead log here");
-            return Err(DbError::Unfit { path: path.to_path_buf(), why }.into());
-        }
+        let mode = set_commits(&connection).map_err(&failed)?;
+        upgrade(&connection, found).map_err(&failed)?;
+        has_log(path, &mode)?;
         // the commit of this start is in the write-ahead log, if there is one: the journal's mode may say so and not be it
         let opened = Opened::now(&real)?;
         settle(&connection).map_err(&failed)?;
@@ -78,21 +82,34 @@ impl Lite {
     }
 }
 
-/// Sets how the database commits, and writes its version. If that is an earlier one, makes or upgrades the tables. Returns the journal's
-/// mode.
-fn prepare(connection: &Connection, found: i64) -> rusqlite::Result<String> {
+/// Sets how the database commits. Returns the journal's mode.
+pub(super) fn set_commits(connection: &Connection) -> rusqlite::Result<String> {
     connection.busy_timeout(BUSY)?;
     connection.set_prepared_statement_cache_capacity(STATEMENTS);
     let mode = connection.pragma_update_and_check(None, "journal_mode", "wal", |row| row.get(0))?;
     connection.pragma_update(None, "synchronous", "full")?;
     connection.pragma_update_and_check(None, ERASE.0, ERASE.1, |_| Ok(()))?;
-    let steps: String = steps_after(found, STEPS).collect();
-    connection.execute_batch(&format!("begin immediate; {steps} pragma user_version = {VERSION}; commit"))?;
     Ok(mode)
 }
 
+/// Writes the version of the tables. If they have an earlier one, makes or upgrades them. A mark stays.
+pub(super) fn upgrade(connection: &Connection, found: i64) -> rusqlite::Result<()> {
+    let steps: String = steps_after(found % MOVED, STEPS).collect();
+    let version = found - found % MOVED + VERSION as i64;
+    connection.execute_batch(&format!("begin immediate; {steps} pragma user_version = {version}; commit"))
+}
+
+/// Refuses a journal that is no write-ahead log.
+pub(super) fn has_log(path: &Path, mode: &str) -> Result<(), DbError> {
+    if mode == "wal" {
+        return Ok(());
+    }
+    let why = format!("its journal mode is {mode}, since there can be no write-ahead log here");
+    Err(DbError::Unfit { path: path.to_path_buf(), why })
+}
+
 /// Brings the write-ahead log into the database's file, and empties it. Fails if another program reads the database for long.
-fn settle(connection: &Connection) -> rusqlite::Result<()> {
+pub(super) fn settle(connection: &Connection) -> rusqlite::Result<()> {
     let until = Instant::now() + SETTLE_FOR;
     loop {
         let busy: i64 = connection.query_row("pragma wal_checkpoint(truncate)", [], |row| row.get(0))?;
@@ -107,7 +124,7 @@ fn settle(connection: &Connection) -> rusqlite::Result<()> {
 }
 
 /// Takes the lock file beside the database. The system releases it when the process ends.
-fn locked(path: &Path) -> Result<File, DbError> {
+pub(super) fn locked(path: &Path) -> Result<File, DbError> {
     let name = files::beside(path, ".lock");
     let file = File::create(&name).map_err(DbError::file(&name))?;
     match file.try_lock() {

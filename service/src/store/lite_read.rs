@@ -2,6 +2,7 @@
 use super::cells::{FromRow, Row};
 use super::error::DbError;
 use super::lite::{signed, BUSY};
+use super::moved;
 use super::reader::Reader;
 use super::room::room_of;
 use super::rows::{image_columns, whole, LogPage, Room, SavedImage, COLUMNS, IS_EVENT, PAGE_BYTES};
@@ -41,7 +42,7 @@ impl LiteReader {
     }
 
     fn entries(&mut self, rest: &str, given: impl Params) -> Result<LogPage, DbError> {
-        let mut query = self.0.prepare_cached(&format!("select {COLUMNS} from call where {rest}"))?;
+        let mut query = self.0.prepare_cached(&format!("select {COLUMNS} from call {rest}"))?;
         let (mut page, mut bytes) = (LogPage::new(), 0);
         for row in query.query_map(given, Row::of_lite)? {
             let entry: Entry = row?.read()?;
@@ -57,6 +58,9 @@ impl LiteReader {
 
 impl Reader for LiteReader {
     fn version(&mut self) -> Result<i64, DbError> {
+        if let Some(why) = moved::refusal(&self.0)? {
+            return Err(why);
+        }
         let found = self.0.pragma_query_value(None, "user_version", |row| row.get(0))?;
         let tables: i64 =
             self.0.query_row("select count(*) from sqlite_master where name = 'call'", [], |row| row.get(0))?;
@@ -75,21 +79,22 @@ impl Reader for LiteReader {
     }
 
     fn log(&mut self, job: i64, after: u64, most: u32) -> Result<LogPage, DbError> {
-        self.entries("job = ? and seq > ? order by seq limit ?", params![job, signed(after), most])
+        self.entries("where job = ? and seq > ? order by seq limit ?", params![job, signed(after), most])
     }
 
     fn events(&mut self, job: i64, after: u64, most: u32) -> Result<LogPage, DbError> {
-        let rest = format!("job = ? and seq > ? and {IS_EVENT} order by seq limit ?");
+        // SQLite would take the primary key, and look at each call
+        let rest = format!("indexed by call_event where job = ? and seq > ? and {IS_EVENT} order by seq limit ?");
         self.entries(&rest, params![job, signed(after), most])
     }
 
     fn about(&mut self, job: i64, record: u64, after: u64, most: u32) -> Result<LogPage, DbError> {
-        let rest = "job = ? and record = ? and seq > ? order by seq limit ?";
+        let rest = "where job = ? and record = ? and seq > ? order by seq limit ?";
         self.entries(rest, params![job, signed(record), signed(after), most])
     }
 
     fn entry(&mut self, job: i64, seq: u64) -> Result<Option<Entry>, DbError> {
-        Ok(self.entries("job = ? and seq = ?", params![job, signed(seq)])?.pop())
+        Ok(self.entries("where job = ? and seq = ?", params![job, signed(seq)])?.pop())
     }
 
     fn image(&mut self, job: i64, after: u64) -> Result<Option<SavedImage>, DbError> {

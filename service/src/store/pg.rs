@@ -7,7 +7,7 @@ use super::pg_columns::Columns;
 use super::pg_commit::{Statements, CALLS};
 use super::pg_members::{self, Members, Shares, Watch};
 use super::pq::{Connection, Failed, Rows};
-use super::rows::{steps_after, Group, Keyed, Lead, Store, Written, OF_JOBS, VERSION};
+use super::rows::{is_event, steps_after, Group, Keyed, Lead, Store, Written, OF_JOBS, VERSION};
 use crate::model::{Held, Shards};
 use std::collections::BTreeMap;
 use std::ffi::CStr;
@@ -15,16 +15,17 @@ use std::time::Duration;
 
 const STEPS: [&str; VERSION] = [
     include_str!("../../sql/pg.sql"),
-    concat!(
-        include_str!("../../sql/pg_2.sql"),
-        "; create index if not exists call_event on call(job, seq) where ",
-        include_str!("../../sql/event.sql"),
-        "; ",
-        include_str!("../../sql/pg_history.sql")
-    ),
+    concat!(include_str!("../../sql/pg_2.sql"), "; ", include_str!("../../sql/pg_history.sql")),
     include_str!("../../sql/pg_3.sql"),
     include_str!("../../sql/pg_parts.sql"),
     include_str!("../../sql/pg_shards.sql"),
+    concat!(
+        include_str!("../../sql/pg_event.sql"),
+        "; alter table call add column if not exists event text generated always as (",
+        include_str!("../../sql/event.sql"),
+        ") stored; create index call_event on call(job, seq) where ",
+        is_event!()
+    ),
 ];
 /// The constraint by which the names of jobs are unique.
 const NAMES: &str = "job_name_key";
@@ -50,14 +51,9 @@ pub struct Pg {
 impl Pg {
     /// Connects, and makes or upgrades the tables if their version says so. Refuses a database that does not sync its commits.
     pub fn open(url: &str, address: &str, lease: Duration) -> Result<Pg, Unusable> {
-        let mut connection = Connection::open(url)?;
-        let fsync = connection.run("show fsync")?;
-        if cell(&fsync, 0) != Some("on") {
-            return Err(DbError::NoSync.into());
-        }
+        let mut connection = connected(url)?;
         let found = version(&mut connection)?;
         Unusable::check(found)?;
-        connection.run("set synchronous_commit = on; set client_min_messages = warning")?;
         if found < VERSION as i64 {
             upgrade(&mut connection)?;
         }
@@ -186,6 +182,17 @@ impl Store for Pg {
     }
 }
 
+/// Connects to a database that syncs its commits.
+pub(super) fn connected(url: &str) -> Result<Connection, DbError> {
+    let mut connection = Connection::open(url)?;
+    let fsync = connection.run("show fsync")?;
+    if cell(&fsync, 0) != Some("on") {
+        return Err(DbError::NoSync);
+    }
+    connection.run("set synchronous_commit = on; set client_min_messages = warning")?;
+    Ok(connection)
+}
+
 /// The version of the tables; 0 if there are none, or if they are of a program that did not write a version.
 fn version(connection: &mut Connection) -> Result<i64, Failed> {
     let there = connection.run("select 1 where to_regclass('schema_version') is not null")?;
@@ -199,16 +206,27 @@ fn version(connection: &mut Connection) -> Result<i64, Failed> {
 /// Makes the tables, or those that a later version added. Two processes that start at once take turns. It waits for locks for a
 /// few seconds alone, since the leader's calls wait behind it.
 fn upgrade(connection: &mut Connection) -> Result<(), Failed> {
-    connection.run("begin; set local lock_timeout = '5s'; select pg_advisory_xact_lock(7203146)")?;
+    connection.run("begin")?;
+    lock_tables(connection)?;
     let found = version(connection)?;
+    make_tables(connection, found)?;
+    connection.run("commit").map(|_| ())
+}
+
+/// Until the end of the transaction no other process makes or upgrades tables.
+pub(super) fn lock_tables(connection: &mut Connection) -> Result<(), Failed> {
+    connection.run("set local lock_timeout = '5s'; select pg_advisory_xact_lock(7203146)").map(|_| ())
+}
+
+/// Makes the tables after a version, and writes down that they are there.
+pub(super) fn make_tables(connection: &mut Connection, found: i64) -> Result<(), Failed> {
     for step in steps_after(found, STEPS) {
         connection.run(step)?;
     }
     let number = format!(
         "insert into schema_version values(true, {VERSION}) on conflict (one) do update set number = {VERSION}"
     );
-    connection.run(&number)?;
-    connection.run("commit").map(|_| ())
+    connection.run(&number).map(|_| ())
 }
 
 /// What a failed statement means. If the database answered it, it was rolled back.
@@ -232,6 +250,6 @@ pub(super) fn seconds(lease: Duration) -> String {
 }
 
 /// A cell of the first row.
-fn cell(rows: &Rows, column: usize) -> Option<&str> {
+pub(super) fn cell(rows: &Rows, column: usize) -> Option<&str> {
     rows.first()?.get(column)?.as_deref()
 }

@@ -6,7 +6,7 @@ use super::pq::{Connection, Failed};
 use super::rows::MOST_STARTS;
 use crate::log;
 use crate::model::{lengths_text, shard_of, Held, Moment, Shards};
-use std::collections::HashMap;
+use std::collections::{HashMap, HashSet};
 use std::time::Duration;
 
 /// A process that could not look for this part of its lease does not know whether others were as blind.
@@ -117,6 +117,8 @@ fn member(row: &[Option<String>]) -> Result<Member, DbError> {
 #[derive(Default)]
 pub struct Watch {
     seen: HashMap<String, (i64, Moment)>,
+    /// Those that have committed since this process watches.
+    committed: HashSet<String>,
     noted: Option<Moment>,
 }
 
@@ -126,11 +128,17 @@ impl Watch {
         let before = self.seen.len();
         self.seen.retain(|name, _| all.iter().any(|member| member.name == *name));
         let mut has_changed = self.seen.len() != before;
+        self.committed.retain(|name| self.seen.contains_key(name));
         for Member { name, beat, .. } in all {
-            if self.seen.get(name).is_none_or(|(seen, _)| seen != beat) {
-                has_changed = true;
-                self.seen.insert(name.clone(), (*beat, Moment::now()));
+            let seen = self.seen.get(name).map(|(beat, _)| beat);
+            if seen == Some(beat) {
+                continue;
             }
+            if seen.is_some() {
+                self.committed.insert(name.clone());
+            }
+            has_changed = true;
+            self.seen.insert(name.clone(), (*beat, Moment::now()));
         }
         self.noted = Some(Moment::now());
         has_changed
@@ -141,6 +149,11 @@ impl Watch {
         if self.noted.is_some_and(|noted| noted.elapsed() >= most) {
             self.seen.clear();
         }
+    }
+
+    /// Whether a member has committed since this process watches. One that was killed is a member until its lease is over.
+    pub fn has_committed(&self, name: &str) -> bool {
+        self.committed.contains(name)
     }
 
     /// Whether a member has committed nothing for the length of its lease, and of this one.
@@ -192,6 +205,12 @@ impl Shares {
             return Ok(members);
         }
         Members::read(&mut self.connection)
+    }
+
+    /// Whether each shard has an owner that works: this process, or one that was seen to commit.
+    pub fn all_work(&self, members: &Members) -> bool {
+        let works = |owner: &str| owner == self.name || self.watch.has_committed(owner);
+        members.owners.iter().all(|(owner, _)| owner.as_deref().is_some_and(works))
     }
 
     /// Takes at most so many free shards.
@@ -287,7 +306,9 @@ mod tests {
         let (mut watch, zero) = (Watch::default(), Duration::ZERO);
         assert!(watch.note(&[member("a", 0), member("b", 7)]) && !watch.note(&[member("a", 0), member("b", 7)]));
         std::thread::sleep(Duration::from_millis(40));
+        assert!(!watch.has_committed("a"));
         assert!(watch.note(&[member("a", 1), member("b", 7)]));
+        assert!(watch.has_committed("a") && !watch.has_committed("b") && !watch.has_committed("c"));
         assert!(!watch.is_over(&member("a", 1), zero) && watch.is_over(&member("b", 7), zero));
         assert!(!watch.is_over(&member("b", 7), Duration::from_secs(60)) && !watch.is_over(&member("c", 0), zero));
         assert!(watch.note(&[member("a", 1)]) && !watch.note(&[member("a", 1)]));

@@ -1,9 +1,10 @@
 //! libpq, as far as the service needs it: a connection, statements with parameters, and rows of text.
 use super::parameter::{count, Packed, Parameter, TEXT};
 use pq_sys::{
-    ConnStatusType, PGconn, PGresult, PQclear, PQconnectdbParams, PQconsumeInput, PQerrorMessage, PQfinish, PQflush,
-    PQgetResult, PQgetisnull, PQgetvalue, PQisBusy, PQnfields, PQntuples, PQresultErrorField, PQresultStatus,
-    PQsendPrepare, PQsendQuery, PQsendQueryParams, PQsendQueryPrepared, PQsetnonblocking, PQsocket, PQstatus,
+    ConnStatusType, PGconn, PGresult, PQclear, PQconnectdbParams, PQconsumeInput, PQdb, PQerrorMessage, PQfinish,
+    PQflush, PQgetResult, PQgetisnull, PQgetvalue, PQhost, PQisBusy, PQnfields, PQntuples, PQport, PQresultErrorField,
+    PQresultStatus, PQsendPrepare, PQsendQuery, PQsendQueryParams, PQsendQueryPrepared, PQsetnonblocking, PQsocket,
+    PQstatus, PQuser,
 };
 use std::ffi::{CStr, CString};
 use std::os::raw::{c_char, c_int};
@@ -103,6 +104,15 @@ impl Connection {
         let answers = self.run("select 1").is_ok();
         self.patience = patience;
         answers
+    }
+
+    /// The address of what it is connected to, without a password and other parameters.
+    pub fn place(&self) -> String {
+        // SAFETY: `raw` is valid and connected, so it has all four texts. They end with a zero byte, and live as long as it does.
+        let [user, host, port, name] =
+            unsafe { [PQuser(self.raw), PQhost(self.raw), PQport(self.raw), PQdb(self.raw)].map(|it| shown(it)) };
+        let host = if host.contains(':') { format!("[{host}]") } else { host.replace('/', "%2F") };
+        format!("postgres://{user}@{host}:{port}/{name}")
     }
 
     /// Prepares a statement under a name.

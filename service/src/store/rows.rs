@@ -113,7 +113,7 @@ pub struct SavedImage {
 pub const MOST_STARTS: i64 = 64;
 
 /// The version of the tables. Each database has a step of SQL for each: only a start over tables of an earlier version runs it.
-pub const VERSION: usize = 5;
+pub const VERSION: usize = 6;
 
 /// The steps after a version, each of which makes or changes tables. They can be run again.
 pub fn steps_after(found: i64, steps: [&'static str; VERSION]) -> impl Iterator<Item = &'static str> {
@@ -176,8 +176,18 @@ pub trait Store: Send {
     fn release(&mut self);
 }
 
-/// Which rows of `call` are events for engines.
-pub const IS_EVENT: &str = include_str!("../../sql/event.sql");
+/// Which rows of `call` are events for engines: the index `call_event` has this condition.
+macro_rules! is_event {
+    () => {
+        "event is not null"
+    };
+}
+pub(super) use is_event;
+pub const IS_EVENT: &str = is_event!();
+
+/// What the column `event` says of a row of `call`.
+#[cfg(test)]
+pub const EVENT: &str = include_str!("../../sql/event.sql");
 
 /// The columns of an [`Entry`].
 pub const COLUMNS: &str = "job, seq, at, record, line, answer, ended, waiting";

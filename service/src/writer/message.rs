@@ -101,7 +101,7 @@ pub enum Created {
     New {
         names: bool,
     },
-    /// A job of this name, settings and shape was there.
+    /// A job of this name and these settings was there, with this shape now or at first.
     Same {
         names: bool,
     },

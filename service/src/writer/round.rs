@@ -88,8 +88,9 @@ impl Round {
         };
         if let Some(place) = jobs.place(name) {
             let job = jobs.at(place);
-            let (is_alike, has) =
-                (job.opening.settings == settings && job.opening.shape == shape, job.engine().term().is_some());
+            // an engine that has rescaled its job knows the shape of now
+            let has_shape = job.opening.shape == shape || job.shape == shape;
+            let (is_alike, has) = (job.opening.settings == settings && has_shape, job.engine().term().is_some());
             return match names.wanted {
                 _ if !is_alike => Created::Other,
                 Some(wanted) if wanted != has => Created::OtherNames { names: has },

@@ -7,8 +7,20 @@ const NO_MEMORY: u16 = 507;
 /// A call. A subtask is a vertex and an index.
 #[derive(Clone, Debug, PartialEq, Eq)]
 pub enum Call {
+    // embed/bindings makes the calls of one number
     Tick,
     Savepoint,
+    Dispose {
+        id: u64,
+    },
+    Cancel,
+    Deleted {
+        file: u64,
+    },
+    Undeleted {
+        file: u64,
+    },
+    // embed/bindings: end
     Ack {
         id: u64,
         subtask: (u16, u16),
@@ -26,23 +38,13 @@ pub enum Call {
         id: u64,
         subtask: (u16, u16),
     },
-    Dispose {
-        id: u64,
-    },
     /// From a savepoint, or the latest; in a new shape if one is given.
     Restore {
         savepoint: Option<u64>,
         shape: Option<Vec<u64>>,
     },
-    Cancel,
     Take {
         most: u64,
-    },
-    Deleted {
-        file: u64,
-    },
-    Undeleted {
-        file: u64,
     },
     /// A task of this term reserves so many names for new files, at most 65,536.
     Reserve {
@@ -71,8 +73,14 @@ impl Call {
     pub(crate) fn json(&self) -> Value {
         let subtask = |(vertex, index): &(u16, u16)| format!("{vertex}.{index}");
         match self {
+            // embed/bindings makes the requests of calls of one number
             Call::Tick => json!({"call": "tick"}),
             Call::Savepoint => json!({"call": "savepoint"}),
+            Call::Dispose { id } => json!({"call": "dispose", "id": id}),
+            Call::Cancel => json!({"call": "cancel"}),
+            Call::Deleted { file } => json!({"call": "deleted", "file": file.to_string()}),
+            Call::Undeleted { file } => json!({"call": "undeleted", "file": file.to_string()}),
+            // embed/bindings: end
             Call::Ack { id, subtask: of, fresh, reused } => {
                 json!({"call": "ack", "id": id, "subtask": subtask(of), "fresh": texts(fresh), "reused": texts(reused)})
             }
@@ -82,14 +90,10 @@ impl Call {
                 json!({"call": "ack", "id": id, "subtask": subtask(of), "fresh": fresh, "reused": reused, "bytes": bytes})
             }
             Call::Decline { id, subtask: of } => json!({"call": "decline", "id": id, "subtask": subtask(of)}),
-            Call::Dispose { id } => json!({"call": "dispose", "id": id}),
             Call::Restore { savepoint, shape } => {
                 json!({"call": "restore", "from": savepoint.map_or(json!("latest"), |id| json!(id)), "shape": shape})
             }
-            Call::Cancel => json!({"call": "cancel"}),
             Call::Take { most } => json!({"call": "take", "most": most}),
-            Call::Deleted { file } => json!({"call": "deleted", "file": file.to_string()}),
-            Call::Undeleted { file } => json!({"call": "undeleted", "file": file.to_string()}),
             Call::Reserve { term, count } => json!({"call": "reserve", "term": term, "count": count}),
             Call::Forfeit { term, names } => json!({"call": "forfeit", "term": term, "names": texts(names)}),
             Call::In { term, call } => {

@@ -71,8 +71,8 @@ impl Service {
         Service { requests: Arc::clone(&self.requests), manner }
     }
 
-    /// Opens a job, or finds it: the same name, settings and shape give the same job. Settings are those of the API, as
-    /// `{"interval": 60000}`. A new job gives out names, unless the service is set otherwise.
+    /// Opens a job, or finds it: the same name and settings give the same job, with its first shape or its last. Settings are those of the
+    /// API, as `{"interval": 60000}`. A new job gives out names, unless the service is set otherwise.
     pub async fn open(&self, name: &str, settings: Value, shape: &[u64]) -> Result<Job, Error> {
         self.opened(name, json!({"name": name, "settings": settings, "shape": shape})).await
     }
