@@ -14,6 +14,7 @@ import os
 import pathlib
 import random
 import re
+import shutil
 import signal
 import subprocess
 import sys
@@ -21,7 +22,7 @@ import threading
 import time
 
 import lost_jobs
-from power import Journal, Kind, Loss, Record, Trials, read_tree, tell, write_tree
+from power import Journal, Kind, Loss, Record, Trials, cut, read_tree, tell, write_tree
 
 HERE = pathlib.Path(__file__).resolve().parent
 SECONDS = 60
@@ -114,11 +115,13 @@ def life(command, known, journal, most):
                 process.kill()
         process.wait()
         watch.cancel()
+    if process.returncode != 0:
+        cut(journal)
     assert process.returncode == (0 if most is None else -signal.SIGKILL), b"".join(printed).decode()
 
 
 class LogJob:
-    """The job of log.c, loop.py or README.md: its log is its only file beside the state files."""
+    """The job of log.c or loop.py: its log is its only file beside the state files."""
 
     syncs = (("the log", lambda path: path == "log"), ("the new log", lambda path: path == "log.new"), ("its state files", is_state),
              ("its folder", lambda path: path == ""))
@@ -168,8 +171,15 @@ class LogJob:
         """Power is lost once more while the job recovers."""
         for number, lost in enumerate(list(journal.losses(journal.some(len(Loss), chance)[::2], chance))):
             if "log" in lost.tree or "job.db" in lost.tree:
+                self.untold = self.deletions_untold(lost)
                 again = self.again(lost, number)
                 trials.all(again, some_of(again, len(Loss), chance), chance)
+        self.untold = set()
+
+    def deletions_untold(self, lost):
+        """Files that are there although their deletion was reported: the process was killed after it had deleted one, and before the shim had told
+        so. What goes on from this loss has them again, and sweeps them."""
+        return set()
 
     def again(self, lost, number):
         root, path = self.root.with_name(f"{self.root.name}-{number}"), self.journal.with_name(f"{self.journal.name}-{number}")
@@ -187,31 +197,60 @@ class StoreJob(LogJob):
     syncs = (("the store's log", lambda path: path == "job.db-wal"), ("the store", lambda path: path == "job.db"),
              ("its state files", is_state), ("its storage", lambda path: path == "state"), ("its folder", lambda path: path == ""))
     lives = ((["12"], 8), (["20"], None))
+    # whether the process waits for its discarder before it ends
+    joins_discarder = True
 
     def __init__(self, samples, name, command, most, is_marked=True):
         super().__init__(samples, name, command, most)
-        self.is_marked, self.numbers = is_marked, itertools.count()
+        self.is_marked, self.numbers, self.untold = is_marked, itertools.count(), set()
 
     def prepare(self):
         (self.root / "state").mkdir(parents=True)
 
     def check(self, lost, folder):
-        job = lost_jobs.check(lost, folder, "state", self.is_marked)
+        job = lost_jobs.check(lost, folder, "state", self.is_marked, untold=self.untold)
         if job is not None and next(self.numbers) % EACH_GOES_ON != 0:
             return
-        last = (0 if job is None else job.choice) + 4
-        ran = self.run(folder, str(last))
-        assert ran.returncode == 0, ran.stdout.decode()
+        last = self.goes_on(0 if job is None else job.choice, folder)
         after = lost_jobs.opened(folder / "job.db", folder / "state" if self.is_marked else None)
         there = lost_jobs.numbers(folder / "state")
-        assert after.choice >= last - 1 and there == after.used | after.waiting | after.taken, (last, there, after)
+        untold = set() if self.joins_discarder else after.taken - there
+        assert after.choice >= last and there | untold == after.used | after.waiting | after.taken, (last, there, after)
+
+    def deletions_untold(self, lost):
+        folder = write_tree(lost.tree, self.samples.work / f"before another loss of {self.name}")
+        job = lost_jobs.check(lost, folder, "state", self.is_marked)
+        shutil.rmtree(folder, ignore_errors=True)
+        return set() if job is None else {file for file in job.deleted if f"state/{file}" in lost.tree}
+
+    def goes_on(self, choice, folder):
+        """Runs the job from this record on. Returns the number that its last record has at least."""
+        ran = self.run(folder, str(choice + 4))
+        assert ran.returncode == 0, ran.stdout.decode()
+        return choice + 3
+
+
+class ReadmeJob(StoreJob):
+    """The job of README.md: each process begins with the record that the last one completed, and makes three more. A loss while the job
+    is made may leave none, so each process may make it. Its discarder is a thread that ends with the process, so the last deletion may be
+    one that was not reported: the next process deletes that file once more."""
+
+    lives = ((["new"], None), (["new"], None))
+    joins_discarder = False
+
+    def goes_on(self, choice, folder):
+        ran = self.run(folder, "new")
+        complete = [int(one or other) for one, other in lost_jobs.COMPLETE.findall(ran.stdout)]
+        is_told_again = complete[:1] == [choice] or choice == 0
+        assert ran.returncode == 0 and is_told_again and len(complete) == 3 + (choice != 0), ran.stdout.decode()
+        return choice + 3
 
 
 def jobs(samples):
     python = [sys.executable]
     yield LogJob(samples, "log.c", ["stdbuf", "-oL", samples.work / "log"], None)
     yield LogJob(samples, "loop.py", [*python, samples.work / "loop.py"], 36)
-    yield LogJob(samples, "readme.py", [*python, samples.work / "readme.py"], 36)
+    yield ReadmeJob(samples, "readme.py", [*python, samples.work / "readme.py"], 60)
     for name, command in samples.durable.items():
         yield StoreJob(samples, name, command, 60)
     yield StoreJob(samples, "files.py", [*python, samples.work / "files.py"], 60, is_marked=False)

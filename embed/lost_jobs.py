@@ -5,7 +5,7 @@ import contextlib
 import pathlib
 import re
 import sqlite3
-from typing import NamedTuple, Optional, Set
+from typing import AbstractSet, NamedTuple, Optional, Set
 
 from power import Lost
 from relkvanu import Settings
@@ -63,9 +63,11 @@ def numbers(folder: pathlib.Path) -> Set[int]:
     return {int(it.name.partition(".part")[0]) for it in folder.iterdir() if it.name.partition(".part")[0].isdecimal()}
 
 
-def check(lost: Lost, folder: pathlib.Path, storage: str, is_marked: bool = True, base: str = "") -> Optional[Job]:
-    """All that somebody was told is there. Each file in use is as it was written, and none that was reported as deleted came back. The folder
-    is that of a loss, in which nobody was, with BASE/job.db and BASE/STORAGE."""
+def check(
+    lost: Lost, folder: pathlib.Path, storage: str, is_marked: bool = True, base: str = "", untold: AbstractSet[int] = frozenset()
+) -> Optional[Job]:
+    """All that somebody was told is there. Each file in use is as it was written, and none that was reported as deleted came back, beside those
+    that were there when the journal began. The folder is that of a loss, in which nobody was, with BASE/job.db and BASE/STORAGE."""
     within, at = f"{base}/{storage}" if base else storage, folder / base
     job = opened(at / "job.db", at / storage if is_marked else None) if (at / storage).exists() else None
     if job is None:
@@ -76,6 +78,6 @@ def check(lost: Lost, folder: pathlib.Path, storage: str, is_marked: bool = True
     for file in job.used:
         found, was = lost.tree.get(f"{within}/{file}"), lost.whole.get(f"{within}/{file}")
         assert found and found == was, f"file {file} is in use: it had {was!r}, and has {found!r}"
-    back = {file for file in job.deleted if f"{within}/{file}" in lost.tree and f"{within}/{file}" not in lost.whole}
+    back = {file for file in job.deleted - untold if f"{within}/{file}" in lost.tree and f"{within}/{file}" not in lost.whole}
     assert not back, f"files {sorted(back)} were reported as deleted, and came back"
     return job

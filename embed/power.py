@@ -6,6 +6,7 @@ others had been told. It also leaves out one sync after the other, as if it had 
 import concurrent.futures
 import enum
 import itertools
+import os
 import pathlib
 import random
 import shutil
@@ -312,16 +313,32 @@ class Journal:
 
 def records(journal: bytes, root: str) -> Iterator[Record]:
     """Those of the files below the root, whose paths begin there. One that is cut at the end is left out."""
+    for place, end, kind, path, at, size in whole_records(journal):
+        if (kind == Kind.TELLS or below(path, root) is not None) and not path.endswith(" (deleted)"):
+            given = journal[end - size:end]
+            given = below(given.decode(), root).encode() if kind == Kind.RENAMES else given
+            yield Record(place, Kind(kind), below(path, root) or "", at, given)
+
+
+def whole_records(journal: bytes) -> Iterator[Tuple[int, int, int, str, int, int]]:
+    """The place, end, kind, path, and numbers of each record up to one that is cut: the threads of a process that is killed may each have
+    written a part of one. That is little."""
     place = 0
     while place + HEADER.size <= len(journal):
         kind, path_len, at, size = HEADER.unpack_from(journal, place)
         end = place + HEADER.size + path_len + size
-        path = journal[place + HEADER.size:place + HEADER.size + path_len].decode()
-        if end <= len(journal) and (kind == Kind.TELLS or below(path, root) is not None) and not path.endswith(" (deleted)"):
-            given = journal[end - size:end]
-            given = below(given.decode(), root).encode() if kind == Kind.RENAMES else given
-            yield Record(place, Kind(kind), below(path, root) or "", at, given)
+        path = journal[place + HEADER.size:place + HEADER.size + path_len].decode(errors="replace")
+        if end > len(journal) or kind not in list(Kind) or "\ufffd" in path:
+            break
+        yield place, end, kind, path, at, size
         place = end
+    assert len(journal) - place < max(len(journal) // 4, 1 << 20), f"the journal can't be read from byte {place} of {len(journal)} on"
+
+
+def cut(path: "str | pathlib.Path") -> None:
+    """Leaves the whole records of a journal, so that the next process adds its own behind them."""
+    journal = pathlib.Path(path).read_bytes()
+    os.truncate(path, max((it[1] for it in whole_records(journal)), default=0))
 
 
 def below(path: str, root: str) -> Optional[str]:
@@ -397,7 +414,8 @@ class Trials:
         except Exception as fault:
             return f"{lost}: {fault!r}"
         finally:
-            shutil.rmtree(folder)
+            # a connection of the check that is closed late deletes its -shm meanwhile
+            shutil.rmtree(folder, ignore_errors=True)
         return ""
 
     def told(self, least: int) -> str:

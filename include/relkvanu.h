@@ -89,8 +89,8 @@ typedef struct {
     uint64_t taken;   /* files that were fetched, and are not yet reported */
 } relkvanu_counts;
 
-/* A call, for relkvanu_call_line and of relkvanu_line_call. The first does not read fields that its kind does not use; the second
- * sets them to 0. */
+/* A call, for relkvanu_call_line and relkvanu_make and of relkvanu_line_call. The first two do not read fields that its kind does not use;
+ * the third sets them to 0. */
 typedef struct {
     uint32_t kind;   /* RELKVANU_CALL_TICK to RELKVANU_CALL_FORFEIT */
     uint16_t vertex; /* with index: the subtask of an ack or a decline */
@@ -99,6 +99,15 @@ typedef struct {
     uint64_t number; /* of the record or file; for a restore the savepoint or 0; a take the most files; a fence the first name; a reserve how many */
     uint64_t term;   /* the term of the caller, or 0 for none; a fence has none */
 } relkvanu_call;
+
+/* What a call that was made leaves, of relkvanu_make. */
+typedef struct {
+    uint64_t written; /* bytes of its line */
+    uint64_t waited;  /* files that waited for deletion before the call */
+    uint64_t in_use;  /* files that live records use now, each counted once */
+    uint64_t waiting; /* files that wait now: those from the place waited on, if there are some, are the ones that the call released */
+    uint64_t taken;   /* files that were fetched, and are not yet reported */
+} relkvanu_made;
 
 /* code */
 #define RELKVANU_DONE 0u         /* the call was made: what is a reply */
@@ -583,6 +592,19 @@ RELKVANU_NODISCARD relkvanu_answer relkvanu_line_call(const uint8_t *line, size_
  * RELKVANU_BAD_SHAPE; RELKVANU_BAD_LINE with RELKVANU_FAULT_TOO_LONG if the line would be too long. No line is cut. Only
  * RELKVANU_WRITTEN changes the buffer. Takes memory. */
 RELKVANU_NODISCARD relkvanu_answer relkvanu_call_line(const relkvanu_call *call, const uint64_t *first, size_t first_len, const uint64_t *second, size_t second_len, uint8_t *line, size_t line_len);
+
+/* Makes a call and writes its line: what relkvanu_call_line and then relkvanu_line do, in one call and without reading the line. It is for
+ * programs that log each call which was made.
+ *
+ * call, first and second are those of relkvanu_call_line. The line has no newline and no zero at its end. A take writes the files that it
+ * fetches to the start of files.
+ *
+ * The first of these that applies: RELKVANU_CLOSED; RELKVANU_BAD_ARGUMENT with RELKVANU_BAD_KIND or RELKVANU_BAD_SHAPE; RELKVANU_BAD_LINE
+ * with RELKVANU_FAULT_TOO_LONG if the line would be too long; RELKVANU_TOO_SHORT with a 0, and b is how many bytes line needs; what
+ * relkvanu_line returns for the line. So RELKVANU_TOO_SHORT with b 0 is that of a take, and a is how many places files needs, or of a show,
+ * which returns what relkvanu_show returns with an empty buffer. Only an answer with RELKVANU_DONE changes the handle, files, line or made.
+ * Takes memory for the line, and as relkvanu_line does. */
+RELKVANU_NODISCARD relkvanu_answer relkvanu_make(relkvanu *handle, const relkvanu_call *call, const uint64_t *first, size_t first_len, const uint64_t *second, size_t second_len, uint64_t *files, size_t files_len, uint8_t *line, size_t line_len, relkvanu_made *made);
 
 /* Writes the lines config, job and start of a coordinator whose first record has the number 1, each with its newline.
  *

@@ -243,12 +243,12 @@ struct restored {
 using tick_answer = std::variant<triggered, held_interval, held_at_once, held_pause, failed, refused>;
 using ack_answer = std::variant<ack_pending, ack_completed, ack_late, refused>;
 using decline_answer = std::variant<decline_aborted, decline_failed, decline_late, refused>;
-/* embed/bindings: end */
-/* clang-format on */
 using savepoint_answer = std::variant<savepoint_triggered, refused>;
 using dispose_answer = std::variant<disposed, refused>;
-using restore_answer = std::variant<restored, refused>;
 using cancel_answer = std::variant<cancelled, refused>;
+/* embed/bindings: end */
+/* clang-format on */
+using restore_answer = std::variant<restored, refused>;
 using take_answer = std::variant<files, refused>;
 using report_answer = std::variant<reported, refused>;
 using show_answer = std::variant<std::string, refused>;
@@ -382,6 +382,17 @@ inline decline_answer decline_of(relkvanu_answer told) noexcept {
     }
 }
 
+inline savepoint_answer savepoint_of(relkvanu_answer told) noexcept {
+    return is_reply(told, RELKVANU_SAVEPOINT_TRIGGERED) ? savepoint_answer(savepoint_triggered{told.a}) : refusal(told);
+}
+
+inline dispose_answer dispose_of(relkvanu_answer told) noexcept {
+    return is_reply(told, RELKVANU_DISPOSED) ? dispose_answer(disposed{told.a}) : refusal(told);
+}
+
+inline cancel_answer cancel_of(relkvanu_answer told) noexcept {
+    return is_reply(told, RELKVANU_CANCELLED) ? cancel_answer(cancelled{told.a, told.b}) : refusal(told);
+}
 /* embed/bindings: end */
 /* clang-format on */
 
@@ -471,6 +482,9 @@ public:
      * unless an engine sets it, which it does if a longer time may pass without a call. Lines of a log are not checked. */
     void set_most_ahead(std::uint64_t milliseconds) noexcept { most_ahead_ = milliseconds; }
 
+    /* clang-format off */
+    /* embed/bindings makes the calls of one number */
+    /* Time has passed: records that are too old expire, and a checkpoint is triggered if one is due. */
     [[nodiscard]] tick_answer tick(std::uint64_t now) noexcept {
         if (is_ahead(now)) {
             return too_large();
@@ -478,13 +492,38 @@ public:
         return tick_of(relkvanu_tick(&handle_, now));
     }
 
+    /* Triggers a savepoint. At most 1000 savepoints are pending or done. */
     [[nodiscard]] savepoint_answer savepoint(std::uint64_t now) noexcept {
         if (is_ahead(now)) {
             return too_large();
         }
-        relkvanu_answer told = relkvanu_savepoint(&handle_, now);
-        return is_reply(told, RELKVANU_SAVEPOINT_TRIGGERED) ? savepoint_answer(savepoint_triggered{told.a}) : refusal(told);
+        return savepoint_of(relkvanu_savepoint(&handle_, now));
     }
+
+    /* A user disposes of the completed savepoint id. */
+    dispose_answer dispose(std::uint64_t id) noexcept {
+        return dispose_of(relkvanu_dispose(&handle_, id));
+    }
+
+    /* The job ends for good. */
+    cancel_answer cancel(std::uint64_t now) noexcept {
+        if (is_ahead(now)) {
+            return too_large();
+        }
+        return cancel_of(relkvanu_cancel(&handle_, now));
+    }
+
+    /* A fetched file is deleted: the coordinator forgets it. */
+    report_answer deleted(std::uint64_t file) noexcept {
+        return report(relkvanu_deleted(&handle_, file));
+    }
+
+    /* A fetched file could not be deleted: it waits again, behind all others. */
+    report_answer undeleted(std::uint64_t file) noexcept {
+        return report(relkvanu_undeleted(&handle_, file));
+    }
+    /* embed/bindings: end */
+    /* clang-format on */
 
     /* After a refusal the task may delete a file only if no accepted acknowledgement ever named it: after already_acknowledged it
      * deletes none, and after name_taken none that it named before. */
@@ -503,11 +542,6 @@ public:
         return decline_of(relkvanu_decline(&handle_, now, id, vertex, index));
     }
 
-    dispose_answer dispose(std::uint64_t id) noexcept {
-        relkvanu_answer told = relkvanu_dispose(&handle_, id);
-        return is_reply(told, RELKVANU_DISPOSED) ? dispose_answer(disposed{told.a}) : refusal(told);
-    }
-
     /* Restores the latest record, in the current shape or in a given one. A bad shape is reported before any refusal. */
     restore_answer restore(std::uint64_t now, shape of = {}) noexcept { return restore_from(now, 0, of); }
 
@@ -519,23 +553,11 @@ public:
         return restore_from(now, savepoint, of);
     }
 
-    cancel_answer cancel(std::uint64_t now) noexcept {
-        if (is_ahead(now)) {
-            return too_large();
-        }
-        relkvanu_answer told = relkvanu_cancel(&handle_, now);
-        return is_reply(told, RELKVANU_CANCELLED) ? cancel_answer(cancelled{told.a, told.b}) : refusal(told);
-    }
-
     /* Fetches files that wait for deletion into a buffer, at most as many as it has places. */
     [[nodiscard]] take_answer take(span<std::uint64_t> buffer) noexcept {
         relkvanu_answer told = relkvanu_take(&handle_, buffer.data(), buffer.size());
         return is_reply(told, RELKVANU_TAKEN) ? take_answer(files(buffer.data(), static_cast<std::size_t>(told.a))) : refusal(told);
     }
-
-    report_answer deleted(std::uint64_t file) noexcept { return report(relkvanu_deleted(&handle_, file)); }
-
-    report_answer undeleted(std::uint64_t file) noexcept { return report(relkvanu_undeleted(&handle_, file)); }
 
     /* Terms and names. Each accepted restore and cancel ends the term. What a task of an ended term sends is refused as
      * error::fenced_old_term, and changes nothing. A coordinator without names refuses these calls as error::fenced_no_names. */

@@ -102,8 +102,10 @@ typedef struct {
 } relkvanu_store_options;
 
 /* What an engine has to do after an opening, in this order. Before START_TASKS and DISCARD it also tells its sinks once more which record
- * is complete (the choice): the last process may have ended between the commit and the message. A sink takes the same message twice. A
- * savepoint publishes as a checkpoint does. What a sink prepared for records after the choice, or after that of a restore, is given up. */
+ * is complete (the choice): the last process may have ended between the commit and the message. A sink takes the same message twice. It
+ * publishes when a checkpoint completes. When a savepoint completes it publishes nothing: a restart goes back to the checkpoint before it, and
+ * would publish the same again. What it prepared for a savepoint is published when a later checkpoint completes, or when a restore begins from
+ * that savepoint. What a sink prepared for records after the one that a restore returned is given up. */
 #define RELKVANU_STORE_END_TASKS 1u   /* with names: tell the earlier tasks to end, and wait for none. Without: make sure that none runs, and that no message of one arrives */
 #define RELKVANU_STORE_RESTORE 2u     /* make a RELKVANU_CALL_RESTORE: its answer says where the job begins again */
 #define RELKVANU_STORE_SWEEP 3u       /* relkvanu_store_sweep; or delete the files that relkvanu_store_unknown returns */

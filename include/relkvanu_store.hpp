@@ -128,15 +128,29 @@ public:
 
     /* The calls. Without a moment each has that of the store's clock. */
 
+    /* clang-format off */
+    /* embed/bindings makes the calls of one number */
+    /* Time has passed: records that are too old expire, and a checkpoint is triggered if one is due. */
     [[nodiscard]] tick_answer tick(std::uint64_t now = RELKVANU_STORE_NOW) noexcept {
         return one<tick_answer>(call(RELKVANU_CALL_TICK, now), tick_of);
     }
 
+    /* Triggers a savepoint. At most 1000 savepoints are pending or done. */
     [[nodiscard]] savepoint_answer savepoint(std::uint64_t now = RELKVANU_STORE_NOW) noexcept {
-        return one<savepoint_answer>(call(RELKVANU_CALL_SAVEPOINT, now), [](relkvanu_answer told) noexcept {
-            return told.code == RELKVANU_DONE ? savepoint_answer(savepoint_triggered{told.a}) : refusal(told);
-        });
+        return one<savepoint_answer>(call(RELKVANU_CALL_SAVEPOINT, now), savepoint_of);
     }
+
+    /* A user disposes of the completed savepoint id. */
+    dispose_answer dispose(std::uint64_t id) noexcept {
+        return one<dispose_answer>(call(RELKVANU_CALL_DISPOSE, 0, id), dispose_of);
+    }
+
+    /* The job ends for good. */
+    cancel_answer cancel(std::uint64_t now = RELKVANU_STORE_NOW) noexcept {
+        return one<cancel_answer>(call(RELKVANU_CALL_CANCEL, now), cancel_of);
+    }
+    /* embed/bindings: end */
+    /* clang-format on */
 
     [[nodiscard]] ack_answer ack(std::uint64_t id, std::uint16_t vertex, std::uint16_t index, files fresh, files reused = {},
         std::uint64_t now = RELKVANU_STORE_NOW) noexcept {
@@ -232,12 +246,6 @@ public:
         return told;
     }
 
-    cancel_answer cancel(std::uint64_t now = RELKVANU_STORE_NOW) noexcept {
-        return one<cancel_answer>(call(RELKVANU_CALL_CANCEL, now), [](relkvanu_answer told) noexcept {
-            return told.code == RELKVANU_DONE ? cancel_answer(cancelled{told.a, told.b}) : refusal(told);
-        });
-    }
-
     /* A list of calls, with no other in between. Without an error each has its answer. */
     [[nodiscard]] std::error_code calls(span<relkvanu_store_call> list) noexcept {
         return store_code(relkvanu_store_calls(store_, list.data(), list.size()));
@@ -279,6 +287,21 @@ public:
         relkvanu_store_call tick = {};
         int status = relkvanu_store_await_tick(store_, longest, &tick);
         return status == RELKVANU_STORE_OK ? tick_of(tick.answer) : tick_answer(refused{store_code(status)});
+    }
+
+    /* tick, savepoint and await_tick that also tell the choice of a trigger, in base: the record that the barrier names beside the new one, and whose
+     * files tasks may name again. After any other answer base is fresh. Refused as error::unknown if the choice is of a kind that this header does
+     * not have, because the library is newer: then the call was made. */
+    [[nodiscard]] tick_answer tick(choice &base, std::uint64_t now = RELKVANU_STORE_NOW) noexcept {
+        return based<tick_answer>(call(RELKVANU_CALL_TICK, now), tick_of, base);
+    }
+    [[nodiscard]] savepoint_answer savepoint(choice &base, std::uint64_t now = RELKVANU_STORE_NOW) noexcept {
+        return based<savepoint_answer>(call(RELKVANU_CALL_SAVEPOINT, now), savepoint_of, base);
+    }
+    [[nodiscard]] tick_answer await_tick(std::uint64_t longest, choice &base) noexcept {
+        relkvanu_store_call tick = {};
+        int status = relkvanu_store_await_tick(store_, longest, &tick);
+        return chosen<tick_answer>(status, tick, tick_of, base);
     }
 
     /* For a sweep: leaves those of the files that may be deleted. Of a job without names it is for a recovery's sweep. */
@@ -370,6 +393,27 @@ private:
             *term = it.term;
         }
         return status == RELKVANU_STORE_OK ? of(it.answer) : Answer(refused{store_code(status)});
+    }
+
+    template <class Answer, class Of> Answer based(relkvanu_store_call it, Of of, choice &base) noexcept {
+        int status = relkvanu_store_calls(store_, &it, 1);
+        return chosen<Answer>(status, it, of, base);
+    }
+
+    /* The answer to a call that may trigger, with the choice of the trigger in base. Without a trigger the call has none. */
+    template <class Answer, class Of> static Answer chosen(int status, const relkvanu_store_call &made, Of of, choice &base) noexcept {
+        base = ckpt::fresh{};
+        if (status != RELKVANU_STORE_OK) {
+            return refused{store_code(status)};
+        }
+        switch (made.choice.what) {
+        case RELKVANU_CHOICE_CHECKPOINT: base = ckpt::checkpoint{made.choice.a}; break;
+        case RELKVANU_CHOICE_SAVEPOINT: base = ckpt::savepoint{made.choice.a}; break;
+        case RELKVANU_CHOICE_FRESH:
+        case 0: break;
+        default: return refused{make_error_code(error::unknown)};
+        }
+        return of(made.answer);
     }
 };
 

@@ -8,7 +8,7 @@
 /* clang-format off */
 #define FUNCTIONS(of) \
     of(open) of(close) of(tick) of(ack) of(restore) of(take) of(show) of(refusal_text) of(answer_text) of(line) of(line_says) of(line_call) \
-    of(call_line) of(opening_lines) of(save) of(open_saved) of(files_of) of(pins_of) of(taken_files) of(open_fenced) of(forfeit) of(ack_in) \
+    of(call_line) of(make) of(opening_lines) of(save) of(open_saved) of(files_of) of(pins_of) of(taken_files) of(open_fenced) of(forfeit) of(ack_in) \
     of(garbage) of(fenced_text)
 /* clang-format on */
 
@@ -45,6 +45,9 @@ static void try_calls(const struct functions *lib, void *none) {
     DONE(lib->take(&job, none, 0), RELKVANU_TAKEN, 0, 0);
     DONE(lib->taken_files(&job, none, 0), RELKVANU_FILES, 0, 0);
     DONE(lib->line(&job, none, 0, none, 0), RELKVANU_SKIPPED, 0, 0);
+    relkvanu_call call = {.kind = RELKVANU_CALL_TICK, .now = 3};
+    relkvanu_made made;
+    expect(lib->make(&job, &call, none, 0, none, 0, none, 0, none, 0, &made), RELKVANU_TOO_SHORT, 0, 0, strlen("tick 3"), __LINE__);
     CHECK(lib->show(&job, 1, none, 0).code == RELKVANU_TOO_SHORT);
     CHECK(lib->save(&job, none, 0).code == RELKVANU_TOO_SHORT);
     lib->close(&job);

@@ -3,6 +3,7 @@
  * images are cut and changed at each byte, damaged in each way, and saved and opened with each request for memory refused.
  * Prints how much it tried. */
 #include "../../include/relkvanu.h"
+#include "image_rows.h"
 #include "refusing_heap.h"
 
 #include <inttypes.h>
@@ -274,7 +275,8 @@ static void damaged(void) {
             exit(1);
         }
     }
-    printf("images: %zu kinds of damage\n", kinds);
+    CHECK(wrong_image_rows(false) == 0);
+    printf("images: %zu kinds of damage, and %d images that are sound or nearly so\n", kinds, IMAGE_ROWS);
     relkvanu_close(&job);
 }
 

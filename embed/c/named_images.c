@@ -1,6 +1,7 @@
 /* named_images: saves handles with names and opens them again: what is seen of them, tasks that should be dead, each kind of damage, a
  * buffer too short, and each request for memory refused. */
 #include "fenced.h"
+#include "image_rows.h"
 #include "refusing_heap.h"
 
 enum { IMAGE = 4096 };
@@ -174,6 +175,7 @@ static void damaged(void) {
         BAD(relkvanu_open_saved(&other, (const uint8_t *)image, at, 7, 8), RELKVANU_BAD_IMAGE);
         CHECK(other.state == NULL);
     }
+    CHECK(wrong_image_rows(true) == 0);
     relkvanu_close(&job);
 }
 

@@ -80,6 +80,12 @@ relkvanu_answer relkvanu_call_line(const relkvanu_call *call, const uint64_t *fi
     return proved_relkvanu_call_line(call, LIST(first), LIST(second), LIST(line));
 }
 
+PROVED(relkvanu_make);
+
+relkvanu_answer relkvanu_make(relkvanu *handle, const relkvanu_call *call, const uint64_t *first, size_t first_len, const uint64_t *second, size_t second_len, uint64_t *files, size_t files_len, uint8_t *line, size_t line_len, relkvanu_made *made) {
+    return proved_relkvanu_make(handle, call, LIST(first), LIST(second), LIST(files), LIST(line), made);
+}
+
 PROVED(relkvanu_opening_lines);
 
 relkvanu_answer relkvanu_opening_lines(const relkvanu_settings *settings, const uint64_t *shape, size_t shape_len, uint64_t now, uint8_t *lines, size_t lines_len) {

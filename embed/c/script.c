@@ -16,6 +16,13 @@ static void tell_tick(FILE *to, relkvanu_answer answer) {
     }
 }
 
+/* A reply that has no words of its own here has those of the library. */
+static void tell_other(FILE *to, relkvanu_answer answer) {
+    uint8_t text[RELKVANU_ANSWER_TEXT];
+    size_t len = relkvanu_answer_text(&answer, text, sizeof text);
+    fprintf(to, "%.*s\n", (int)len, (const char *)text);
+}
+
 static void tell_taken(const struct script *script, FILE *to, uint64_t len) {
     fprintf(to, "take%s", len == 0 ? " none" : "");
     for (uint64_t place = 0; place < len; place++) {
@@ -45,7 +52,12 @@ static void tell_done(const struct script *script, FILE *to, relkvanu_answer ans
     case RELKVANU_UNDELETED: fprintf(to, "undeleted %" PRIu64 "\n", answer.a); break;
     case RELKVANU_SHOWN: fprintf(to, "%.*s\n", (int)answer.a, (const char *)script->json); break;
     case RELKVANU_COUNTED: fprintf(to, "count %" PRIu64 " %" PRIu64 "\n", answer.a, answer.b); break;
-    default: tell_tick(to, answer); break;
+    case RELKVANU_TICK_TRIGGERED:
+    case RELKVANU_TICK_HELD_INTERVAL:
+    case RELKVANU_TICK_HELD_AT_ONCE:
+    case RELKVANU_TICK_HELD_PAUSE:
+    case RELKVANU_TICK_FAILED: tell_tick(to, answer); break;
+    default: tell_other(to, answer); break;
     }
 }
 

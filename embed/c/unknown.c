@@ -29,6 +29,41 @@ relkvanu_answer relkvanu_restore(relkvanu *handle, uint64_t now, uint64_t savepo
     return (relkvanu_answer){RELKVANU_BAD_ARGUMENT, NUMBER, 1, 2};
 }
 
+relkvanu_answer relkvanu_savepoint(relkvanu *handle, uint64_t now) {
+    (void)handle, (void)now;
+    return done();
+}
+
+relkvanu_answer relkvanu_dispose(relkvanu *handle, uint64_t id) {
+    (void)handle, (void)id;
+    return done();
+}
+
+relkvanu_answer relkvanu_cancel(relkvanu *handle, uint64_t now) {
+    (void)handle, (void)now;
+    return done();
+}
+
+relkvanu_answer relkvanu_take(relkvanu *handle, uint64_t *files, size_t files_len) {
+    (void)handle, (void)files, (void)files_len;
+    return done();
+}
+
+relkvanu_answer relkvanu_deleted(relkvanu *handle, uint64_t file) {
+    (void)handle, (void)file;
+    return done();
+}
+
+relkvanu_answer relkvanu_undeleted(relkvanu *handle, uint64_t file) {
+    (void)handle, (void)file;
+    return done();
+}
+
+relkvanu_answer relkvanu_count(relkvanu *handle, uint64_t file) {
+    (void)handle, (void)file;
+    return done();
+}
+
 relkvanu_answer relkvanu_line(relkvanu *handle, const uint8_t *line, size_t line_len, uint64_t *files, size_t files_len) {
     (void)handle, (void)line, (void)line_len, (void)files, (void)files_len;
     return line_len == 0 ? done() : (relkvanu_answer){RELKVANU_BAD_LINE, NUMBER, 1, 2};

@@ -23,19 +23,21 @@ relkvanu_answer relkvanu_open(relkvanu *handle, const relkvanu_settings *, const
     return answer();
 }
 void relkvanu_close(relkvanu *) {}
+/* embed/bindings makes the functions of one number */
 relkvanu_answer relkvanu_tick(relkvanu *, uint64_t) { return answer(); }
+relkvanu_answer relkvanu_savepoint(relkvanu *, uint64_t) { return answer(); }
+relkvanu_answer relkvanu_dispose(relkvanu *, uint64_t) { return answer(); }
+relkvanu_answer relkvanu_cancel(relkvanu *, uint64_t) { return answer(); }
+relkvanu_answer relkvanu_deleted(relkvanu *, uint64_t) { return answer(); }
+relkvanu_answer relkvanu_undeleted(relkvanu *, uint64_t) { return answer(); }
+/* embed/bindings: end */
 relkvanu_answer relkvanu_moment(relkvanu *) { return answer(); }
 relkvanu_answer relkvanu_due(relkvanu *) { return answer(); }
 relkvanu_answer relkvanu_oldest_expiry(relkvanu *) { return answer(); }
 relkvanu_answer relkvanu_ack(relkvanu *, uint64_t, uint64_t, uint16_t, uint16_t, const uint64_t *, size_t, const uint64_t *, size_t) { return answer(); }
 relkvanu_answer relkvanu_decline(relkvanu *, uint64_t, uint64_t, uint16_t, uint16_t) { return answer(); }
 relkvanu_answer relkvanu_restore(relkvanu *, uint64_t, uint64_t, const uint64_t *, size_t) { return answer(); }
-relkvanu_answer relkvanu_savepoint(relkvanu *, uint64_t) { return answer(); }
-relkvanu_answer relkvanu_dispose(relkvanu *, uint64_t) { return answer(); }
-relkvanu_answer relkvanu_cancel(relkvanu *, uint64_t) { return answer(); }
 relkvanu_answer relkvanu_take(relkvanu *, uint64_t *, size_t) { return answer(); }
-relkvanu_answer relkvanu_deleted(relkvanu *, uint64_t) { return answer(); }
-relkvanu_answer relkvanu_undeleted(relkvanu *, uint64_t) { return answer(); }
 relkvanu_answer relkvanu_mode(relkvanu *) { return answer(); }
 relkvanu_answer relkvanu_choice(relkvanu *) { return answer(); }
 relkvanu_answer relkvanu_live(relkvanu *, size_t) { return answer(); }
@@ -58,19 +60,29 @@ template <class Answer> static bool is_unknown(const Answer &told) {
     return why != nullptr && why->why == ckpt::error::unknown && why->why.message() == "unknown";
 }
 
+/* Of the calls of one number those that are not refused so. */
+static int others(ckpt::Coordinator &job) {
+    /* clang-format off */
+    /* embed/bindings makes the calls of one number */
+    return !is_unknown(job.tick(1)) + !is_unknown(job.savepoint(1)) + !is_unknown(job.dispose(1)) + !is_unknown(job.cancel(1)) + !is_unknown(job.deleted(1)) + !is_unknown(job.undeleted(1));
+    /* embed/bindings: end */
+    /* clang-format on */
+}
+
 /* How many of the calls are refused so, how many reads say it, and how many have no place for it and abort the process. */
 static int unknown(ckpt::Coordinator &job) {
     what = 999;
     std::uint64_t places[1];
-    int refused = is_unknown(job.tick(0)) + is_unknown(job.savepoint(0)) + is_unknown(job.ack(0, 1, 0, 0, {})) +
-                  is_unknown(job.decline(0, 1, 0, 0)) + is_unknown(job.dispose(1)) + is_unknown(job.restore(0)) +
-                  is_unknown(job.cancel(0)) + is_unknown(job.take(places)) + is_unknown(job.deleted(1)) + is_unknown(job.undeleted(1)) +
-                  is_unknown(job.fence(1)) + is_unknown(job.term()) + is_unknown(job.reserve(1, 1)) + is_unknown(job.forfeit(1, {})) +
-                  is_unknown(job.ack_in(1, 0, 1, 0, 0, {})) + is_unknown(job.decline_in(1, 0, 1, 0, 0)) + is_unknown(job.garbage({}));
+    int refused = is_unknown(job.ack(0, 1, 0, 0, {})) + is_unknown(job.decline(0, 1, 0, 0)) + is_unknown(job.restore(0)) +
+                  is_unknown(job.take(places)) + is_unknown(job.fence(1)) + is_unknown(job.term()) + is_unknown(job.reserve(1, 1)) +
+                  is_unknown(job.forfeit(1, {})) + is_unknown(job.ack_in(1, 0, 1, 0, 0, {})) + is_unknown(job.decline_in(1, 0, 1, 0, 0)) +
+                  is_unknown(job.garbage({}));
     int said = (job.mode() == ckpt::mode::unknown) + (job.standing(1) == ckpt::standing::unknown);
     int aborted = aborts([&] { return job.choice(); }) + aborts([&] { return job.live(0); }) + aborts([&] { return job.live_from(0); });
-    std::printf("%d of 17 calls are refused, %d of 2 reads say it, %d of 3 abort\n", refused, said, aborted);
-    return refused + said + aborted;
+    int more = others(job);
+    std::printf(
+        "%d of 11 calls are refused, %d of one number are not, %d of 2 reads say it, %d of 3 abort\n", refused, more, said, aborted);
+    return more == 0 ? refused + said + aborted : 0;
 }
 
 /* Codes and refusals that the header does not have are error values. */
@@ -94,5 +106,5 @@ int main() {
     bool is_known = std::holds_alternative<ckpt::failed>(job.tick(0));
     int found = unknown(job), codes = other_codes(job);
     std::printf("%d of 5 unknown codes are error values, a known answer %s\n", codes, is_known ? "is itself" : "is another one");
-    return is_known && found == 22 && codes == 5 ? 0 : 1;
+    return is_known && found == 16 && codes == 5 ? 0 : 1;
 }

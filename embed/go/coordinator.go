@@ -210,6 +210,13 @@ func replied[Of any](c *Coordinator, now uint64, reply func(answer C.relkvanu_an
 	return reply(answer)
 }
 
+// onlyAt makes a call at a moment, whose only answer is this one.
+func (c *Coordinator) onlyAt(now uint64, what C.uint32_t, call func(handle *C.relkvanu) C.relkvanu_answer) (C.relkvanu_answer, error) {
+	return replied(c, now, func(answer C.relkvanu_answer) (C.relkvanu_answer, error) { return answer, expected(answer, what) }, call)
+}
+
+// embed/bindings makes the calls of one number
+
 // Tick says that time has passed: records past their timeout expire, and a checkpoint is triggered if one is due.
 func (c *Coordinator) Tick(now uint64) (Ticked, error) {
 	return replied(c, now, ticked, func(handle *C.relkvanu) C.relkvanu_answer { return C.relkvanu_tick(handle, C.uint64_t(now)) })
@@ -217,14 +224,23 @@ func (c *Coordinator) Tick(now uint64) (Ticked, error) {
 
 // Savepoint triggers a savepoint for a user.
 func (c *Coordinator) Savepoint(now uint64) (SavepointTriggered, error) {
-	o, err := c.enter()
-	if err != nil {
-		return SavepointTriggered{}, err
-	}
-	defer c.leave()
-	answer, err := o.timed(now, func(handle *C.relkvanu) C.relkvanu_answer { return C.relkvanu_savepoint(handle, C.uint64_t(now)) })
+	answer, err := c.onlyAt(now, C.RELKVANU_SAVEPOINT_TRIGGERED, func(handle *C.relkvanu) C.relkvanu_answer { return C.relkvanu_savepoint(handle, C.uint64_t(now)) })
 	return SavepointTriggered{ID: uint64(answer.a)}, err
 }
+
+// Dispose disposes of a completed savepoint for a user.
+func (c *Coordinator) Dispose(id uint64) (Disposed, error) {
+	answer, err := c.only(C.RELKVANU_DISPOSED, func(handle *C.relkvanu) C.relkvanu_answer { return C.relkvanu_dispose(handle, C.uint64_t(id)) })
+	return Disposed{Released: uint64(answer.a)}, err
+}
+
+// Cancel ends the job for good.
+func (c *Coordinator) Cancel(now uint64) (Cancelled, error) {
+	answer, err := c.onlyAt(now, C.RELKVANU_CANCELLED, func(handle *C.relkvanu) C.relkvanu_answer { return C.relkvanu_cancel(handle, C.uint64_t(now)) })
+	return Cancelled{Dropped: uint64(answer.a), Released: uint64(answer.b)}, err
+}
+
+// embed/bindings: end
 
 // Ack is the acknowledgement of a subtask, which wrote the fresh files and names the reused ones again, in any order. It synced the fresh
 // ones and their folder before.
@@ -281,15 +297,4 @@ func (c *Coordinator) restore(now, savepoint uint64, shape []uint64) (Restored, 
 		return Restored{}, err
 	}
 	return restored(answer)
-}
-
-// Cancel ends the job for good.
-func (c *Coordinator) Cancel(now uint64) (Cancelled, error) {
-	o, err := c.enter()
-	if err != nil {
-		return Cancelled{}, err
-	}
-	defer c.leave()
-	answer, err := o.timed(now, func(handle *C.relkvanu) C.relkvanu_answer { return C.relkvanu_cancel(handle, C.uint64_t(now)) })
-	return Cancelled{Dropped: uint64(answer.a), Released: uint64(answer.b)}, err
 }

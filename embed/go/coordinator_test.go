@@ -6,6 +6,7 @@ import (
 	"fmt"
 	"math"
 	"os"
+	"reflect"
 	"runtime"
 	"strings"
 	"sync"
@@ -119,7 +120,7 @@ func everyCall(job *relkvanu.Coordinator) []error {
 	_, _, missing := job.Missing(1)
 	_, _, expiry := job.OldestExpiry()
 	_, _, next := job.NextTick(relkvanu.Ticked{})
-	return []error{
+	return append(ofOneNumber(job), []error{
 		errorOf(job.Tick(1000)), errorOf(job.Savepoint(1000)), errorOf(job.Ack(1000, 1, it, []uint64{1}, nil)), errorOf(job.Decline(1000, 1, it)),
 		errorOf(job.Dispose(1)), errorOf(job.Restore(1000, nil)), errorOf(job.Restore(1000, []uint64{2})), errorOf(job.Restore(1000, []uint64{})),
 		errorOf(job.RestoreSavepoint(1000, 1, nil)), errorOf(job.Cancel(1000)), errorOf(job.Take(make([]uint64, 1))), job.Deleted(1), job.Undeleted(1),
@@ -128,7 +129,24 @@ func everyCall(job *relkvanu.Coordinator) []error {
 		errorOf(job.Term()), job.Fence(1), errorOf(job.Reserve(1, 1)), job.Forfeit(1, nil), errorOf(job.AckIn(1, 1000, 1, it, []uint64{1}, nil)),
 		errorOf(job.DeclineIn(1, 1000, 1, it)), errorOf(job.Garbage([]uint64{1})),
 		errorOf(job.TakenFiles()), errorOf(job.FileCounts()), live, from, of, waiting, missing, expiry, next,
+	}...)
+}
+
+// ofOneNumber makes each call that takes one number and returns an error, by their names.
+func ofOneNumber(job *relkvanu.Coordinator) []error {
+	var told []error
+	all := reflect.TypeOf(job)
+	for place := 0; place < all.NumMethod(); place++ {
+		it := all.Method(place)
+		isCall := it.Type.NumIn() == 2 && it.Type.In(1).Kind() == reflect.Uint64 && it.Type.NumOut() > 0
+		if !isCall || it.Type.Out(it.Type.NumOut()-1) != reflect.TypeOf((*error)(nil)).Elem() {
+			continue
+		}
+		results := it.Func.Call([]reflect.Value{reflect.ValueOf(job), reflect.ValueOf(uint64(1000))})
+		err, _ := results[len(results)-1].Interface().(error)
+		told = append(told, err)
 	}
+	return told
 }
 
 func TestAClosedOneStaysClosed(t *testing.T) {

@@ -91,11 +91,33 @@ func ofNumber(kind CallKind, number uint64) ([]byte, error) {
 
 // The line of each call, without a newline. It reads back as that call. The error is LineTooLong if it would be too long: none is cut.
 
+// embed/bindings makes the lines of calls of one number
+
 // TickLine is the line of a Tick.
 func TickLine(now uint64) ([]byte, error) { return atMoment(CallTick, now) }
 
 // SavepointLine is the line of a Savepoint.
 func SavepointLine(now uint64) ([]byte, error) { return atMoment(CallSavepoint, now) }
+
+// DisposeLine is the line of a Dispose.
+func DisposeLine(id uint64) ([]byte, error) { return ofNumber(CallDispose, id) }
+
+// CancelLine is the line of a Cancel.
+func CancelLine(now uint64) ([]byte, error) { return atMoment(CallCancel, now) }
+
+// DeletedLine is the line of a Deleted.
+func DeletedLine(file uint64) ([]byte, error) { return ofNumber(CallDeleted, file) }
+
+// UndeletedLine is the line of an Undeleted.
+func UndeletedLine(file uint64) ([]byte, error) { return ofNumber(CallUndeleted, file) }
+
+// CountLine is the line of a Count.
+func CountLine(file uint64) ([]byte, error) { return ofNumber(CallCount, file) }
+
+// FenceLine is the line of a Fence.
+func FenceLine(firstName uint64) ([]byte, error) { return ofNumber(CallFence, firstName) }
+
+// embed/bindings: end
 
 // AckLine is the line of an Ack.
 func AckLine(now, id uint64, subtask Subtask, fresh, reused []uint64) ([]byte, error) {
@@ -106,9 +128,6 @@ func AckLine(now, id uint64, subtask Subtask, fresh, reused []uint64) ([]byte, e
 func DeclineLine(now, id uint64, subtask Subtask) ([]byte, error) {
 	return DeclineInLine(0, now, id, subtask)
 }
-
-// DisposeLine is the line of a Dispose.
-func DisposeLine(id uint64) ([]byte, error) { return ofNumber(CallDispose, id) }
 
 // RestoreLine is the line of a Restore.
 func RestoreLine(now uint64, shape []uint64) ([]byte, error) { return restoreLine(now, 0, shape) }
@@ -128,26 +147,11 @@ func restoreLine(now, savepoint uint64, shape []uint64) ([]byte, error) {
 	return Call{Kind: CallRestore, Now: now, Number: savepoint, First: shape}.Line()
 }
 
-// CancelLine is the line of a Cancel.
-func CancelLine(now uint64) ([]byte, error) { return atMoment(CallCancel, now) }
-
 // TakeLine is the line of a Take that fetches at most so many files.
 func TakeLine(most uint64) ([]byte, error) { return ofNumber(CallTake, most) }
 
-// DeletedLine is the line of a Deleted.
-func DeletedLine(file uint64) ([]byte, error) { return ofNumber(CallDeleted, file) }
-
-// UndeletedLine is the line of an Undeleted.
-func UndeletedLine(file uint64) ([]byte, error) { return ofNumber(CallUndeleted, file) }
-
 // ShowLine is the line of a Show.
 func ShowLine(id uint64) ([]byte, error) { return ofNumber(CallShow, id) }
-
-// CountLine is the line of a Count.
-func CountLine(file uint64) ([]byte, error) { return ofNumber(CallCount, file) }
-
-// FenceLine is the line of a Fence.
-func FenceLine(firstName uint64) ([]byte, error) { return ofNumber(CallFence, firstName) }
 
 // ReserveLine is the line of a Reserve.
 func ReserveLine(term, count uint64) ([]byte, error) {
@@ -217,12 +221,14 @@ func replyOf(answer C.relkvanu_answer, taken []uint64) (Reply, error) {
 	switch answer.what {
 	case C.RELKVANU_SKIPPED:
 		return nil, nil
+	// embed/bindings makes the replies to calls of one number
 	case C.RELKVANU_SAVEPOINT_TRIGGERED:
 		return SavepointTriggered{a}, nil
 	case C.RELKVANU_DISPOSED:
 		return Disposed{a}, nil
 	case C.RELKVANU_CANCELLED:
 		return Cancelled{a, b}, nil
+	// embed/bindings: end
 	case C.RELKVANU_TAKEN:
 		return Taken{taken[:a]}, nil
 	case C.RELKVANU_DELETED:

@@ -31,13 +31,21 @@ func (c *Coordinator) named(what C.uint32_t, call func(handle *C.relkvanu) C.rel
 	return err
 }
 
-// only makes a call that no timer waits for, and whose only answer is this one.
+// only makes a call whose only answer is this one. If a timer waits for it, it says so itself.
 func (c *Coordinator) only(what C.uint32_t, call func(handle *C.relkvanu) C.relkvanu_answer) (C.relkvanu_answer, error) {
 	answer, err := c.called(call)
-	if err == nil && answer.what != what {
-		err = unknown(answer)
+	if err == nil {
+		err = expected(answer, what)
 	}
 	return answer, err
+}
+
+// expected is nil if a call that was made has this answer.
+func expected(answer C.relkvanu_answer, what C.uint32_t) error {
+	if answer.what != what {
+		return unknown(answer)
+	}
+	return nil
 }
 
 // RunningTerm is the term that runs, and the next name that is given out.

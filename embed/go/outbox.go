@@ -3,7 +3,7 @@ package relkvanu
 // #include <relkvanu.h>
 import "C"
 
-// called makes a call that no timer waits for.
+// called makes a call. If a timer waits for it, it says so itself.
 func (c *Coordinator) called(call func(handle *C.relkvanu) C.relkvanu_answer) (C.relkvanu_answer, error) {
 	o, err := c.enter()
 	if err != nil {
@@ -14,17 +14,11 @@ func (c *Coordinator) called(call func(handle *C.relkvanu) C.relkvanu_answer) (C
 	return answer, fault(answer)
 }
 
-// Dispose disposes of a completed savepoint for a user.
-func (c *Coordinator) Dispose(id uint64) (Disposed, error) {
-	answer, err := c.called(func(handle *C.relkvanu) C.relkvanu_answer { return C.relkvanu_dispose(handle, C.uint64_t(id)) })
-	return Disposed{Released: uint64(answer.a)}, err
-}
-
 // Take fetches files that wait for deletion, at most as many as the buffer has places, and returns the part of the buffer that has
 // them. Report each by Deleted or Undeleted. A repeated acknowledgement that comes late may hand out a file that no longer exists:
 // report it as deleted.
 func (c *Coordinator) Take(buffer []uint64) ([]uint64, error) {
-	answer, err := c.called(func(handle *C.relkvanu) C.relkvanu_answer {
+	answer, err := c.only(C.RELKVANU_TAKEN, func(handle *C.relkvanu) C.relkvanu_answer {
 		at, length := list(buffer)
 		return C.relkvanu_take(handle, at, length)
 	})
@@ -36,19 +30,19 @@ func (c *Coordinator) Take(buffer []uint64) ([]uint64, error) {
 
 // Deleted reports that a fetched file is deleted: it is gone even after a loss of power.
 func (c *Coordinator) Deleted(file uint64) error {
-	_, err := c.called(func(handle *C.relkvanu) C.relkvanu_answer { return C.relkvanu_deleted(handle, C.uint64_t(file)) })
+	_, err := c.only(C.RELKVANU_DELETED, func(handle *C.relkvanu) C.relkvanu_answer { return C.relkvanu_deleted(handle, C.uint64_t(file)) })
 	return err
 }
 
 // Undeleted reports that a fetched file could not be deleted: it waits again, behind all others.
 func (c *Coordinator) Undeleted(file uint64) error {
-	_, err := c.called(func(handle *C.relkvanu) C.relkvanu_answer { return C.relkvanu_undeleted(handle, C.uint64_t(file)) })
+	_, err := c.only(C.RELKVANU_UNDELETED, func(handle *C.relkvanu) C.relkvanu_answer { return C.relkvanu_undeleted(handle, C.uint64_t(file)) })
 	return err
 }
 
 // Count is the number of uses of a file.
 func (c *Coordinator) Count(file uint64) (Counted, error) {
-	answer, err := c.called(func(handle *C.relkvanu) C.relkvanu_answer { return C.relkvanu_count(handle, C.uint64_t(file)) })
+	answer, err := c.only(C.RELKVANU_COUNTED, func(handle *C.relkvanu) C.relkvanu_answer { return C.relkvanu_count(handle, C.uint64_t(file)) })
 	return Counted{File: uint64(answer.a), Uses: uint64(answer.b)}, err
 }
 

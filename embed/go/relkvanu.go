@@ -71,7 +71,7 @@ type Subtask struct{ Vertex, Index uint16 }
 // String is as a script writes it, such as "0.1".
 func (s Subtask) String() string { return fmt.Sprintf("%d.%d", s.Vertex, s.Index) }
 
-// Version is that of the linked library, such as "0.1.0".
+// Version is that of the linked library: three numbers, such as "1.2.3".
 func Version() string { return C.GoString(C.relkvanu_version()) }
 
 // series is the part of a version that has to be the same: its first two numbers, because before 1.0 each of these has an interface of

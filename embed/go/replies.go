@@ -37,8 +37,30 @@ type Ticked struct {
 	ID      uint64 // the checkpoint, if one was triggered
 }
 
+// embed/bindings makes the replies to calls of one number
+
 // SavepointTriggered is the reply to a savepoint.
 type SavepointTriggered struct{ ID uint64 }
+
+func (SavepointTriggered) isReply() {}
+
+func (r SavepointTriggered) String() string { return fmt.Sprintf("savepoint triggered %d", r.ID) }
+
+// Disposed is the reply to a dispose: so many files were released.
+type Disposed struct{ Released uint64 }
+
+func (Disposed) isReply() {}
+
+func (r Disposed) String() string { return fmt.Sprintf("disposed %d", r.Released) }
+
+// Cancelled is the reply to a cancel: so many records were dropped, and so many files released.
+type Cancelled struct{ Dropped, Released uint64 }
+
+func (Cancelled) isReply() {}
+
+func (r Cancelled) String() string { return fmt.Sprintf("cancelled %d %d", r.Dropped, r.Released) }
+
+// embed/bindings: end
 
 // AckEnd is what an accepted acknowledgement did.
 type AckEnd uint32
@@ -79,18 +101,12 @@ type Declined struct {
 	Released uint64 // files
 }
 
-// Disposed is the reply to a dispose: so many files were released.
-type Disposed struct{ Released uint64 }
-
 // Restored is the reply to a restore: the job begins again from this record, and so many files were released.
 type Restored struct {
 	From     Choice
 	Released uint64
 	Term     uint64 // of a Store whose job has names: the term that begins, with which the tasks are started. Otherwise 0
 }
-
-// Cancelled is the reply to a cancel: so many records were dropped, and so many files released.
-type Cancelled struct{ Dropped, Released uint64 }
 
 // Taken has the files that were fetched, in their order.
 type Taken struct{ Files []uint64 }
@@ -160,21 +176,18 @@ func (s Shown) Files() (map[Subtask][]uint64, error) {
 	return files, err
 }
 
-func (Ticked) isReply()             {}
-func (SavepointTriggered) isReply() {}
-func (Acked) isReply()              {}
-func (Declined) isReply()           {}
-func (Disposed) isReply()           {}
-func (Restored) isReply()           {}
-func (Cancelled) isReply()          {}
-func (Taken) isReply()              {}
-func (FileDeleted) isReply()        {}
-func (FileUndeleted) isReply()      {}
-func (Shown) isReply()              {}
-func (Counted) isReply()            {}
-func (Reserved) isReply()           {}
-func (Forfeited) isReply()          {}
-func (Named) isReply()              {}
+func (Ticked) isReply()        {}
+func (Acked) isReply()         {}
+func (Declined) isReply()      {}
+func (Restored) isReply()      {}
+func (Taken) isReply()         {}
+func (FileDeleted) isReply()   {}
+func (FileUndeleted) isReply() {}
+func (Shown) isReply()         {}
+func (Counted) isReply()       {}
+func (Reserved) isReply()      {}
+func (Forfeited) isReply()     {}
+func (Named) isReply()         {}
 
 var ticks = map[TickEnd]string{
 	// embed/bindings makes the names of ends
@@ -196,8 +209,6 @@ func (r Ticked) String() string {
 	return fmt.Sprintf("tick expired %d %v", r.Expired, r.End)
 }
 
-func (r SavepointTriggered) String() string { return fmt.Sprintf("savepoint triggered %d", r.ID) }
-
 func (r Acked) String() string {
 	switch r.End {
 	case AckPending:
@@ -218,11 +229,7 @@ func (r Declined) String() string {
 	return "decline late"
 }
 
-func (r Disposed) String() string { return fmt.Sprintf("disposed %d", r.Released) }
-
 func (r Restored) String() string { return fmt.Sprintf("restored %v %d", r.From, r.Released) }
-
-func (r Cancelled) String() string { return fmt.Sprintf("cancelled %d %d", r.Dropped, r.Released) }
 
 func (r Taken) String() string {
 	if len(r.Files) == 0 {

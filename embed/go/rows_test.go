@@ -7,6 +7,7 @@ import (
 	"math"
 	"os"
 	"path/filepath"
+	"reflect"
 	"strconv"
 	"strings"
 	"testing"
@@ -202,7 +203,18 @@ func ofFiles(job *relkvanu.Coordinator, word string, number uint64) (fmt.Stringe
 	case "count":
 		return job.Count(number)
 	}
-	panic(word)
+	return byName(job, word, number)
+}
+
+// byName makes the call of this name with its number, which returns a reply and an error.
+func byName(job *relkvanu.Coordinator, word string, number uint64) (fmt.Stringer, error) {
+	method := reflect.ValueOf(job).MethodByName(strings.ToUpper(word[:1]) + word[1:])
+	if !method.IsValid() {
+		panic(word)
+	}
+	told := method.Call([]reflect.Value{reflect.ValueOf(number)})
+	err, _ := told[1].Interface().(error)
+	return told[0].Interface().(fmt.Stringer), err
 }
 
 // run prints what a row prints; false if it is no list of calls.

@@ -134,13 +134,29 @@ func one[Of Reply](s *Store, call Call) (reply Of, err error) {
 	return outcomes[0].Reply.(Of), nil
 }
 
+// embed/bindings makes the calls of one number
+
 // Tick says that time has passed. A timer calls AwaitTick.
-func (s *Store) Tick() (Ticked, error) { return one[Ticked](s, Call{Kind: CallTick, Now: StoreNow}) }
+func (s *Store) Tick() (Ticked, error) {
+	return one[Ticked](s, Call{Kind: CallTick, Now: StoreNow})
+}
 
 // Savepoint triggers a savepoint for a user.
 func (s *Store) Savepoint() (SavepointTriggered, error) {
 	return one[SavepointTriggered](s, Call{Kind: CallSavepoint, Now: StoreNow})
 }
+
+// Dispose disposes of a completed savepoint for a user.
+func (s *Store) Dispose(id uint64) (Disposed, error) {
+	return one[Disposed](s, Call{Kind: CallDispose, Number: id})
+}
+
+// Cancel ends the job for good.
+func (s *Store) Cancel() (Cancelled, error) {
+	return one[Cancelled](s, Call{Kind: CallCancel, Now: StoreNow})
+}
+
+// embed/bindings: end
 
 // Ack is the acknowledgement of a subtask, as that of Coordinator.
 func (s *Store) Ack(id uint64, subtask Subtask, fresh, reused []uint64) (Acked, error) {
@@ -225,11 +241,6 @@ func (s *Store) Garbage(files []uint64) (Garbage, error) {
 	}))
 }
 
-// Dispose disposes of a completed savepoint for a user.
-func (s *Store) Dispose(id uint64) (Disposed, error) {
-	return one[Disposed](s, Call{Kind: CallDispose, Number: id})
-}
-
 // Restore begins the job again from the latest record. A shape gives it another parallelism; nil keeps it.
 func (s *Store) Restore(shape []uint64) (Restored, error) { return s.restore(0, shape) }
 
@@ -246,9 +257,4 @@ func (s *Store) restore(id uint64, shape []uint64) (Restored, error) {
 		return Restored{}, BadShape
 	}
 	return one[Restored](s, Call{Kind: CallRestore, Now: StoreNow, Number: id, First: shape})
-}
-
-// Cancel ends the job for good.
-func (s *Store) Cancel() (Cancelled, error) {
-	return one[Cancelled](s, Call{Kind: CallCancel, Now: StoreNow})
 }

@@ -37,7 +37,8 @@ func TestAnswersThatNobodyKnows(t *testing.T) {
 	_, _, live := job.Live(0)
 	for place, err := range []error{
 		errorOf(job.Tick(0)), errorOf(job.Decline(0, 1, first)), errorOf(job.Mode()), errorOf(job.Choice()), errorOf(job.Standing(1)), live,
-		errorOf(job.Line(nil)), errorOf(relkvanu.LineSays(nil)), errorOf(job.Reserve(1, 1)),
+		errorOf(job.Line(nil)), errorOf(relkvanu.LineSays(nil)), errorOf(job.Reserve(1, 1)), errorOf(job.Savepoint(0)), errorOf(job.Dispose(1)),
+		errorOf(job.Cancel(0)), errorOf(job.Take(nil)), job.Deleted(1), job.Undeleted(1), errorOf(job.Count(1)),
 	} {
 		var unknown *relkvanu.Unknown
 		if !errors.As(err, &unknown) || unknown.What != 999 && unknown.Code != 999 {

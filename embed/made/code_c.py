@@ -1,7 +1,7 @@
 """The texts of answers in C, for embed/c/text.c, and the functions that take null, embed/c/nulls.c."""
 from typing import Any, Dict, List, Tuple
 
-from made import header
+from made import calls, header
 from made.header import parameters, pointed
 
 NULLS = """/* The functions of the library whose lists may be null with length 0, and relkvanu_close, which may be given NULL. Each passes a list that
@@ -66,6 +66,40 @@ def with_lists(name: str, function: Any) -> str:
 
 def nulls(functions: Dict[str, Any]) -> str:
     return NULLS + "".join(with_lists(name, it) for name, it in functions.items())
+
+
+STORE_KINDS = """/* Which kinds of calls there are for a store. Made from include/relkvanu.h by embed/bindings: change the header, and run that. */
+#ifndef RKS_KINDS_H
+#define RKS_KINDS_H
+
+#include "../../../include/relkvanu.h"
+
+"""
+
+
+def whether(name: str, told: str, kinds: List[str]) -> str:
+    """A function that says whether a kind is one of these."""
+    cases = "".join(f"    case RELKVANU_{it}:\n" for it in kinds[:-1]) + f"    case RELKVANU_{kinds[-1]}: return true;\n"
+    body = f"    switch (kind) {{\n{cases}    default: return false;\n    }}\n"
+    return f"/* {told} */\nstatic inline bool {name}(uint32_t kind) {{\n{body}}}\n\n"
+
+
+def store_kinds(functions: Dict[str, Any]) -> str:
+    """Which kinds have a moment, and which a store makes."""
+    kinds = [(member, number.name) for member, number in header.enums()["call_kind"].members]
+    timed = [number for member, number in kinds if "now" in dict(parameters(functions[f"relkvanu_{member}"]))]
+    text = STORE_KINDS + whether("rks_has_moment", "Whether a call has a moment.", timed)
+    return text + whether("rks_is_made", "Whether a store makes it. The others are reads.", [it for member, it in kinds if member not in calls.READS]) + "#endif\n"
+
+
+def synopsis(functions: Dict[str, Any]) -> str:
+    """The functions for the manual page, in mdoc."""
+    text = ""
+    for name, it in functions.items():
+        result, given = c_type(it.type).strip(), [f"{c_type(kind)}{parameter}" for parameter, kind in parameters(it)]
+        quoted = f'"{result}"' if " " in result else result
+        text += f".Ft {quoted}\n.Fn {name} " + " ".join(f'"{of}"' for of in given or ["void"]) + "\n"
+    return text
 
 
 def made() -> Dict[str, str]:

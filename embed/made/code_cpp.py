@@ -1,14 +1,16 @@
 """The kinds, replies, refusals and faults in C++, for relkvanu.hpp."""
+import textwrap
 from typing import Dict, List, Optional, Tuple
 
-from made import header
+from made import calls, header
+from made.calls import Call
 from made.header import Enum, Number, camel
 
 # Codes that go before the names of what they have. Any other one has its own name there.
 PREFIXES = {"REFUSED": "", "BAD_ARGUMENT": "", "BAD_LINE": "line_"}
 SENTENCES = {"NO_MEMORY": "Make the same call again.", "CLOSED": "The coordinator was moved from.", "TOO_SHORT": "The buffer needs more places."}
 MESSAGES = {"NO_MEMORY": "out of memory", "TOO_SHORT": "the buffer is too short"}
-# Calls with several replies. The others have one, and relkvanu.hpp names it.
+# Calls with several replies. The others have one.
 CALLS = ("TICK", "ACK", "DECLINE")
 
 
@@ -58,7 +60,13 @@ def answers() -> str:
     for call in CALLS:
         found = [it for it in header.replies() if it.name.startswith(f"{call}_")]
         text += f"using {call.lower()}_answer = std::variant<{', '.join(name(it) for it in found)}, refused>;\n"
-    return text
+    return text + "".join(f"using {call.name}_answer = std::variant<{name(it)}, refused>;\n" for call, it in with_one_reply())
+
+
+def with_one_reply() -> List[Tuple[Call, Number]]:
+    """The calls of one number with a reply of their own. The reports of files have one together, which relkvanu.hpp names."""
+    found = [(call, call.reply()) for call in calls.stored()]
+    return [(call, it) for call, it in found if it is not None]
 
 
 def converters() -> str:
@@ -68,7 +76,42 @@ def converters() -> str:
         text += "    if (told.code != RELKVANU_DONE) {\n        return refusal(told);\n    }\n    switch (told.what) {\n"
         text += "".join(case(it) for it in header.replies() if it.name.startswith(f"{call}_"))
         text += "    default: return refusal(told);\n    }\n}\n\n"
-    return text
+    return text + "\n".join(converter(call, it) for call, it in with_one_reply())
+
+
+def converter(call: Call, it: Number) -> str:
+    text = f"inline {call.name}_answer {call.name}_of(relkvanu_answer told) noexcept {{\n"
+    value = f"{name(it)}{{{', '.join(f'told.{letter}' for _, letter, _ in it.fields())}}}"
+    return text + f"    return is_reply(told, RELKVANU_{it.name}) ? {call.name}_answer({value}) : refusal(told);\n}}\n"
+
+
+def comment(text: str) -> str:
+    """A comment of a method, in lines of at most 140 characters."""
+    lines = textwrap.wrap(f"/* {text} */", 140, initial_indent="    ", subsequent_indent="     * ")
+    return "".join(f"{it}\n" for it in lines)
+
+
+def declared(call: Call, given: str) -> str:
+    """The head of a method. An answer that names a new record may not be dropped."""
+    return f"    {'[[nodiscard]] ' if call.names_record() else ''}{call.name}_answer {call.name}({given}) noexcept {{\n"
+
+
+def method(call: Call) -> str:
+    text = comment(call.comment) + declared(call, f"std::uint64_t {call.number}" if call.number else "")
+    if call.name in calls.REPORTS:
+        text = text.replace(f"{call.name}_answer", "report_answer", 1)
+        return text + f"        return report(relkvanu_{call.name}(&handle_, {call.number}));\n    }}\n"
+    if call.has_moment():
+        text += "        if (is_ahead(now)) {\n            return too_large();\n        }\n"
+    return text + f"        return {call.name}_of(relkvanu_{call.name}(&handle_{f', {call.number}' if call.number else ''}));\n    }}\n"
+
+
+def store_method(call: Call) -> str:
+    default = " = RELKVANU_STORE_NOW" if call.has_moment() else ""
+    given = f"std::uint64_t {call.number}{default}" if call.number else ""
+    number = (", now" if call.has_moment() else f", 0, {call.number}") if call.number else ", 0"
+    text = comment(call.comment) + declared(call, given)
+    return text + f"        return one<{call.name}_answer>(call(RELKVANU_{call.kind()}{number}), {call.name}_of);\n    }}\n"
 
 
 def case(it: Number) -> str:
@@ -82,8 +125,23 @@ def enum(kind: str, prefix: str) -> str:
     return text + "".join(f"    case RELKVANU_{it.name}: return {kind}::{member};\n" for member, it in members) + f"    default: return {kind}::unknown;\n    }}\n}}\n"
 
 
-def made() -> Dict[str, str]:
-    """What is made, by place."""
+def made() -> Dict[str, Dict[str, str]]:
+    """What is made, by file and place."""
+    return {
+        "relkvanu.hpp": {**kinds(), "the calls of one number": "\n".join(method(it) for it in calls.plain())},
+        "relkvanu_store.hpp": {"the calls of one number": "\n".join(store_method(it) for it in calls.stored())},
+    }
+
+
+def of_strangers() -> Dict[str, str]:
+    """For embed/cpp/unknown.cpp: functions whose answers are unknown, and calls of them."""
+    found = calls.plain()
+    functions = [f"relkvanu_answer relkvanu_{it.name}(relkvanu *{', uint64_t' if it.number else ''}) {{ return answer(); }}\n" for it in found]
+    told = [f"!is_unknown(job.{it.name}({'1' if it.number else ''}))" for it in found]
+    return {"the functions of one number": "".join(functions), "the calls of one number": f"    return {' + '.join(told)};\n"}
+
+
+def kinds() -> Dict[str, str]:
     return {
         "the errors": error_enum(), "the messages": messages(), "the replies": structs(), "the answers": answers(),
         "what tells the answers": converters(), "the modes": enum("mode", "mode_"), "the standings": enum("standing", "stands_"),

@@ -1,8 +1,13 @@
 """The header, the native methods, and the kinds, replies, refusals and faults in Java."""
+import textwrap
 from typing import Any, Dict, List, Tuple
 
-from made import header
+from made import calls, header
+from made.calls import Call
 from made.header import MADE, Enum, Number, macros, parameters, pointed
+
+# What Java has no native method for: its two buffers have lengths of two kinds, and no class of Java writes a log of its own.
+LEFT_OUT = {"relkvanu_make"}
 
 # The head of a file in C, which stays as it is made.
 IN_C = f"/* {MADE} */\n/* clang-format off */\n"
@@ -147,8 +152,8 @@ def java_structs(structs: Dict[str, Any], functions: List[JavaFunction]) -> str:
 
 
 def numbered(structs: Dict[str, Any]) -> List[Tuple[str, Any]]:
-    """All structs but the handle, of which Java has the address."""
-    return [(name, fields) for name, fields in structs.items() if name != "relkvanu"]
+    """All structs but the handle, of which Java has the address, and that of what is left out."""
+    return [(name, fields) for name, fields in structs.items() if name not in ("relkvanu", "relkvanu_made")]
 
 
 def java_c(functions: List[JavaFunction]) -> str:
@@ -298,6 +303,95 @@ def cases() -> str:
     return "".join(lines)
 
 
+# What Java says of a call, its number and its reply in its own words.
+SAID = {"savepoint": "Triggers a savepoint.", "dispose": "A user disposes of a completed savepoint."}
+SAID_OF_STORE = {**SAID, "tick": "Time has passed. A timer calls {@link #awaitTick}."}
+NUMBERS = {"dispose": "the savepoint"}
+RESULTS_OF_CALLS = {
+    "tick": "what happened",
+    "savepoint": "its number",
+    "dispose": "how many files were released",
+    "cancel": "how many records were dropped, and how many files released",
+    "deleted": "the file",
+    "undeleted": "the file",
+}
+CALLS = {
+    "tick": "a tick",
+    "savepoint": "the trigger of a savepoint",
+    "dispose": "the disposal of a completed savepoint",
+    "cancel": "the end of the job for good",
+    "deleted": "the report of a deleted file",
+    "undeleted": "the report of a file that could not be deleted",
+}
+
+
+def param(call: Call) -> str:
+    return f"     * @param {java_name(call.number)} {NUMBERS.get(call.name, f'the {call.what()}')}\n" if call.number else ""
+
+
+def told(call: Call) -> str:
+    """What a call returns, in words."""
+    it = call.reply()
+    fields = ", ".join(what for _, _, what in it.fields()) if it else ""
+    return RESULTS_OF_CALLS.get(call.name, fields or "that it was done")
+
+
+def reply_type(call: Call) -> str:
+    it = call.reply()
+    return f"Reply.{header.reply_name(it) if it else INTERFACES[call.name.upper() + '_']}"
+
+
+def lines_of(text: str) -> str:
+    return "".join(f"     * {it}\n" for it in textwrap.wrap(text, 136))
+
+
+def method(call: Call) -> str:
+    """A method of the coordinator, of which threads that wait for a call know unless the call is quiet."""
+    given, passed = (f"long {java_name(call.number)}", f", {java_name(call.number)}") if call.number else ("", "")
+    text = f"    /**\n{lines_of(calls.said(call, SAID))}     *\n{param(call)}     * @return {told(call)}\n     */\n"
+    text += "    @Override\n" if call.name in calls.REPORTS else ""
+    text += f"    public {reply_type(call)} {java_name(call.name)}({given}) {{\n"
+    native = f"(at, out) -> Native.{java_name(call.name)}(at{passed}, out)"
+    if call.has_moment() or call.is_quiet():
+        return text + f"        return ({reply_type(call)}) {'timed(now, ' if call.has_moment() else 'replied('}{native});\n    }}\n"
+    text += f"        try {{\n            return ({reply_type(call)}) handle.moved({native});\n"
+    return text + "        } finally {\n            Reference.reachabilityFence(this);\n        }\n    }\n"
+
+
+def documented(sentence: str, call: Call, has_number: bool) -> str:
+    """The comment of a function that returns this."""
+    number = f"     *\n{param(call)}" if has_number and call.number else ""
+    return f"    /**\n     * {{@return {sentence}}}\n{number}     */\n"
+
+
+def line(call: Call) -> str:
+    given = f"long {java_name(call.number)}" if call.number else ""
+    passed = ("now, 0" if call.has_moment() else f"0, {java_name(call.number)}") if call.number else "0, 0"
+    text = documented(f"the line of {call.named()}", call, True)
+    return text + f"    public static String {java_name(call.name)}({given}) {{\n        return line(Header.{call.kind()}, {passed});\n    }}\n"
+
+
+def of_store(call: Call) -> str:
+    """A call of a list, which has the moment of the store's clock."""
+    number = java_name(call.number) if call.number and not call.has_moment() else ""
+    text = documented(CALLS.get(call.name, call.named()), call, bool(number))
+    text += f"    public static StoreCall {java_name(call.name)}({f'long {number}' if number else ''}) {{\n"
+    return text + f"        return of(Header.{call.kind()}, {number or 0});\n    }}\n"
+
+
+def store_method(call: Call) -> str:
+    number = java_name(call.number) if call.number and not call.has_moment() else ""
+    text = f"    /**\n{lines_of(calls.said(call, SAID_OF_STORE))}     *\n{param(call) if number else ''}     * @return {told(call)}\n     */\n"
+    text += f"    public {reply_type(call)} {java_name(call.name)}({f'long {number}' if number else ''}) {{\n"
+    return text + f"        return ({reply_type(call)}) call(StoreCall.{java_name(call.name)}({number})).reply();\n    }}\n"
+
+
 def made() -> Dict[str, Dict[str, str]]:
     """What is made, by file and place."""
-    return {"Reply.java": {"the replies": replies()}, "Answers.java": {"what tells the replies": cases()}}
+    return {
+        "Reply.java": {"the replies": replies()}, "Answers.java": {"what tells the replies": cases()},
+        "Coordinator.java": {"the calls of one number": "\n".join(method(it) for it in calls.plain())},
+        "Lines.java": {"the lines of calls of one number": "\n".join(line(it) for it in calls.calls() if it.name != "fence")},
+        "StoreCall.java": {"the calls of one number": "\n".join(of_store(it) for it in calls.plain())},
+        "Store.java": {"the calls of one number": "\n".join(store_method(it) for it in calls.stored())},
+    }

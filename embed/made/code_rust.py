@@ -1,8 +1,10 @@
 """The bindings and the kinds, replies, refusals and faults in Rust."""
 import subprocess
+import textwrap
 from typing import Any, Dict, List, Optional, Tuple
 
-from made import header
+from made import calls, header
+from made.calls import Call
 from made.header import Enum, Number, camel, parameters, pointed
 
 DERIVED = "#[derive(Clone, Copy, Debug, PartialEq, Eq, Hash)]\n"
@@ -25,6 +27,15 @@ LOGGED = {
     "RESERVED": 'a: name. From this name on as many are reserved as the call wanted. "reserved {a}"',
 }
 RESTORED = "RESTORED_"
+# What the crate says of a call in its own words.
+SAID = {
+    **calls.SHORT,
+    "tick": "Time has passed: records past their timeout expire, and a checkpoint is triggered if one is due.",
+    "dispose": "A user disposes of a completed savepoint.",
+}
+# The variants of Call that say what they are.
+SAID_OF_LINES = {"fence": "From this call on the job gives out names, from this one on."}
+SAFE = "the handle is as the library last left it, and `&mut self` keeps other calls away."
 
 
 def rust_type(node: Any) -> str:
@@ -168,13 +179,62 @@ def refusals() -> str:
     return "\n".join(enum(camel(of.name), of.comment, of.members) for code, of in header.codes() if of and code.name not in placed)
 
 
+def wrapped(sentence: str, indent: str) -> str:
+    """A comment, in lines of at most 130 characters."""
+    return "".join(f"{indent}/// {it}\n" for it in textwrap.wrap(sentence, 126 - len(indent)))
+
+
+def method(call: Call) -> str:
+    given = f", {call.number}: u64" if call.number else ""
+    passed = f", {call.number}" if call.number else ""
+    check = "        self.check_moment(now)?;\n" if call.has_moment() else ""
+    text = f"{wrapped(calls.said(call, SAID), '    ')}    pub fn {call.name}(&mut self{given}) -> Called {{\n{check}"
+    text += f"        // SAFETY: {SAFE if call.name == 'tick' else 'as in `tick`.'}\n"
+    return text + f"        called(unsafe {{ sys::relkvanu_{call.name}(self.handle(){passed}) }})\n    }}\n"
+
+
+def shared_method(call: Call) -> str:
+    given, passed = (f", {call.number}: u64", call.number) if call.number else ("", "")
+    how = "quietly" if call.is_quiet() else "with"
+    return f"    pub fn {call.name}(&self{given}) -> Called {{\n        self.{how}(|it| it.{call.name}({passed}))\n    }}\n"
+
+
+def variant(call: Call) -> str:
+    return camel(call.name) + (f" {{ {call.number} }}" if call.number else "")
+
+
+def variants() -> str:
+    """The variants of Call."""
+    told = [(document(SAID_OF_LINES.get(it.name, "")), camel(it.name), it.number) for it in calls.calls()]
+    return "".join(f"{comment}    {name}{f' {{ {number}: u64 }}' if number else ''},\n" for comment, name, number in told)
+
+
+def of_fields(call: Call) -> str:
+    """What makes the variant of the fields of a call in C."""
+    found = camel(call.name)
+    value = "" if call.number is None else " { now }" if call.has_moment() else f" {{ {call.number}: number }}"
+    return f"            CallKind::{found} => Call::{found}{value},\n"
+
+
+def to_fields(call: Call) -> str:
+    given = ("now, 0" if call.has_moment() else f"0, {call.number}") if call.number else "0, 0"
+    return f"            Call::{variant(call)} => of(CallKind::{camel(call.name)}, {given}),\n"
+
+
 def made() -> Dict[str, Dict[str, str]]:
     """What is made, by file and place."""
     kinds = header.enums()["call_kind"]
     return {
         "fault.rs": {"the refusals": refusals(), "the faults": faults()},
         "lines.rs": {"the faults of lines": line_faults()},
-        "call.rs": {"the kinds": enum("CallKind", kinds.comment, kinds.members, "pub(crate)")},
+        "call.rs": {
+            "the kinds": enum("CallKind", kinds.comment, kinds.members, "pub(crate)"),
+            "the calls of one number": variants(),
+            "what reads the calls of one number": "".join(of_fields(it) for it in calls.calls()),
+            "what writes the calls of one number": "".join(to_fields(it) for it in calls.calls()),
+        },
+        "coordinator.rs": {"the calls of one number": "\n".join(method(it) for it in calls.plain())},
+        "shared.rs": {"the calls of one number": "\n".join(shared_method(it) for it in calls.plain())},
         "answer.rs": {
             "the modes": enum("Mode", "What the job is doing.", header.members("mode_")),
             "the standings": enum("Standing", "What a number is.", header.members("stands_")),

@@ -167,8 +167,18 @@ def plain(comment: str) -> str:
 
 def comments() -> Dict[str, str]:
     """Returns the comment before each function, as one line of text."""
+    return {name: " ".join(it) for name, it in paragraphs().items()}
+
+
+def paragraphs() -> Dict[str, List[str]]:
+    """Returns the paragraphs of the comment before each function, each as one line of text."""
     found = re.findall(r"/\*((?:(?!\*/).)*)\*/\n[^;/{}]*?\b(relkvanu_\w+)\([^;{]*\);", HEADER.read_text(), re.S)
-    return {name: plain(text) for text, name in found}
+    return {name: [plain(it) for it in re.split(r"\n \*\n", text)] for text, name in found}
+
+
+def reads() -> List[str]:
+    """Returns the functions that return an answer which a program may drop: those that change nothing."""
+    return re.findall(r"^relkvanu_answer (relkvanu_\w+)\(", HEADER.read_text(), re.M)
 
 
 def declarations() -> Tuple[Dict[str, Any], Dict[str, Any]]:

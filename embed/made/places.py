@@ -6,7 +6,7 @@ from typing import Dict
 def filled(text: str, made: Dict[str, str]) -> str:
     """Returns the text with what is made in its places. Each name has one place."""
     for name, lines in made.items():
-        pattern = re.compile(rf"(^[^\n]*embed/bindings makes {re.escape(name)}\b[^\n]*\n)(.*?)(^[^\n]*embed/bindings: end[^\n]*$)", re.M | re.S)
+        pattern = re.compile(rf"(^[^\n]*embed/bindings makes {re.escape(name)}(?: \*/)?\n)(.*?)(^[^\n]*embed/bindings: end[^\n]*$)", re.M | re.S)
         text, count = pattern.subn(lambda found: found[1] + lines + found[3], text)
         if count != 1:
             raise ValueError(f"{count} places for {name}")

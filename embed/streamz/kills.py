@@ -65,7 +65,7 @@ def life(folder, text, told, pause, at=None):
         count = words.count
         words.count = lambda counts, word: (time.sleep(pause), count(counts, word))[1]
         with contextlib.redirect_stdout(out):
-            words.main(folder, text, 10)
+            words.main(folder, text, "new", 10)
         told.write_text(json.dumps([json.loads(out.getvalue()), ends.seen]))
         status = 0
     finally:
@@ -77,14 +77,14 @@ def files_of(folder):
 
 
 def check(folder, told, expected):
-    """The counts, and the folder once nothing waits for deletion any more."""
+    """The counts, those of the last checkpoint too, and the folder once nothing waits for deletion any more."""
     found, _ = json.loads(told.read_text())
     assert found == expected, (found, expected)
     source = streamz.Stream()
     nodes = [source.accumulate(print, start=0, stream_name=name) for name in ("counts", "letters")]
     with relkvanu.streamz.Checkpoints(source, folder) as checkpoints:
         states = [node.state for node in nodes]
-        assert checkpoints.position > 0 and states[1] <= expected["letters"], states
+        assert checkpoints.position > 0 and states == [expected["counts"], expected["letters"]], states
         end = time.monotonic() + 20
         while checkpoints.counts()[1:] != (0, 0) and time.monotonic() < end:
             time.sleep(0.01)

@@ -49,7 +49,7 @@ def live(folder, text, told):
     Checkpoints.checkpoint = told_checkpoint
     count = words.count
     words.count = lambda counts, word: (time.sleep(0.001), count(counts, word))[1]
-    words.main(folder, text, EVERY)
+    words.main(folder, text, "new", EVERY)
 
 
 def recorded(shim, work, text):

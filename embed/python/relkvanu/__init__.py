@@ -10,17 +10,25 @@ from relkvanu.coordinator import (
 )
 from relkvanu.discarder import Discarded, Discarder, Outbox, Patience
 from relkvanu.reads import Chosen, FileCounts, Garbage, Kind, Live, Mode, RunningTerm, Standing
+from relkvanu.replies import Forfeited, Named, Reply, Reserved, Shown, Taken
+# embed/bindings makes the import of replies
 from relkvanu.replies import (
-    AckCompleted, AckLate, AckPending, Cancelled, Counted, DeclineAborted, DeclineFailed, DeclineLate, Deleted,
-    Disposed, Failed, Forfeited, HeldAtOnce, HeldInterval, HeldPause, Named, Reply, Reserved, RestoredCheckpoint, RestoredFresh,
-    RestoredSavepoint, SavepointTriggered, Shown, Taken, Triggered, Undeleted,
+    AckCompleted, AckLate, AckPending, Cancelled, Counted, DeclineAborted, DeclineFailed, DeclineLate, Deleted, Disposed, Failed,
+    HeldAtOnce, HeldInterval, HeldPause, RestoredCheckpoint, RestoredFresh, RestoredSavepoint, SavepointTriggered, Triggered,
+    Undeleted,
 )
+# embed/bindings: end
 
 __all__ = [
-    "AckCompleted", "AckLate", "AckPending", "BadArgument", "BadLine", "Cancelled", "Chosen", "Closed", "Coordinator", "Counted",
-    "DeclineAborted", "DeclineFailed", "DeclineLate", "Deleted", "Discarded", "Discarder", "Disposed", "Error", "Failed", "Fenced",
-    "FileCounts", "Forfeited", "Garbage", "HeldAtOnce", "HeldInterval", "HeldPause", "Kind", "Live", "Mode", "Named", "OutOfMemory",
-    "OutOfRange", "Outbox", "Patience", "Refused", "Reply", "Reserved", "RestoredCheckpoint", "RestoredFresh", "RestoredSavepoint",
-    "RunningTerm", "SavepointTriggered", "Settings", "Shown", "Standing", "Taken", "TooShort", "Triggered", "Undeleted", "Unknown",
-    "calls", "lines", "version",
+    "BadArgument", "BadLine", "Chosen", "Closed", "Coordinator", "Discarded", "Discarder", "Error", "Fenced", "FileCounts",
+    "Forfeited", "Garbage", "Kind", "Live", "Mode", "Named", "OutOfMemory", "OutOfRange", "Outbox", "Patience", "Refused",
+    "Reply", "Reserved", "RunningTerm", "Settings", "Shown", "Standing", "Taken", "TooShort", "Unknown", "calls", "lines",
+    "version",
 ]
+# embed/bindings makes the names of replies
+__all__ += [
+    "AckCompleted", "AckLate", "AckPending", "Cancelled", "Counted", "DeclineAborted", "DeclineFailed", "DeclineLate", "Deleted",
+    "Disposed", "Failed", "HeldAtOnce", "HeldInterval", "HeldPause", "RestoredCheckpoint", "RestoredFresh", "RestoredSavepoint",
+    "SavepointTriggered", "Triggered", "Undeleted",
+]
+# embed/bindings: end

@@ -6,10 +6,7 @@ from typing import Callable, Dict, Optional, Tuple, Union
 
 from relkvanu import header
 from relkvanu.coordinator import U64, Unknown, _done, _shared, _text
-from relkvanu.lines import (
-    _line, ack_line, cancel_line, decline_line, deleted_line, dispose_line, fence_line, forfeit_line, reserve_line, restore_line,
-    savepoint_line, take_line, tick_line, undeleted_line,
-)
+from relkvanu.lines import _line, ack_line, decline_line, fence_line, forfeit_line, reserve_line, restore_line, take_line
 
 
 # embed/bindings makes the kinds
@@ -34,13 +31,14 @@ class CallKind(enum.IntEnum):
 # embed/bindings: end
 
 
+# embed/bindings makes the calls of one number
 @dataclass(frozen=True)
 class Tick:
     now: int
     term: int = 0
 
     def line(self) -> str:
-        return tick_line(self.now, self.term)
+        return _line(CallKind.TICK, now=self.now, term=self.term)
 
 
 @dataclass(frozen=True)
@@ -49,7 +47,53 @@ class Savepoint:
     term: int = 0
 
     def line(self) -> str:
-        return savepoint_line(self.now, self.term)
+        return _line(CallKind.SAVEPOINT, now=self.now, term=self.term)
+
+
+@dataclass(frozen=True)
+class Dispose:
+    id: int
+    term: int = 0
+
+    def line(self) -> str:
+        return _line(CallKind.DISPOSE, number=self.id, term=self.term)
+
+
+@dataclass(frozen=True)
+class Cancel:
+    now: int
+    term: int = 0
+
+    def line(self) -> str:
+        return _line(CallKind.CANCEL, now=self.now, term=self.term)
+
+
+@dataclass(frozen=True)
+class Deleted:
+    file: int
+    term: int = 0
+
+    def line(self) -> str:
+        return _line(CallKind.DELETED, number=self.file, term=self.term)
+
+
+@dataclass(frozen=True)
+class Undeleted:
+    file: int
+    term: int = 0
+
+    def line(self) -> str:
+        return _line(CallKind.UNDELETED, number=self.file, term=self.term)
+
+
+@dataclass(frozen=True)
+class Count:
+    file: int
+    term: int = 0
+
+    def line(self) -> str:
+        return _line(CallKind.COUNT, number=self.file, term=self.term)
+# embed/bindings: end
 
 
 @dataclass(frozen=True)
@@ -81,15 +125,6 @@ class Decline:
 
 
 @dataclass(frozen=True)
-class Dispose:
-    id: int
-    term: int = 0
-
-    def line(self) -> str:
-        return dispose_line(self.id, self.term)
-
-
-@dataclass(frozen=True)
 class Restore:
     """From a savepoint, or from the latest record; in a new shape, or in the current one."""
 
@@ -103,15 +138,6 @@ class Restore:
 
 
 @dataclass(frozen=True)
-class Cancel:
-    now: int
-    term: int = 0
-
-    def line(self) -> str:
-        return cancel_line(self.now, self.term)
-
-
-@dataclass(frozen=True)
 class Take:
     most: int
     term: int = 0
@@ -121,39 +147,12 @@ class Take:
 
 
 @dataclass(frozen=True)
-class Deleted:
-    file: int
-    term: int = 0
-
-    def line(self) -> str:
-        return deleted_line(self.file, self.term)
-
-
-@dataclass(frozen=True)
-class Undeleted:
-    file: int
-    term: int = 0
-
-    def line(self) -> str:
-        return undeleted_line(self.file, self.term)
-
-
-@dataclass(frozen=True)
 class Show:
     id: int
     term: int = 0
 
     def line(self) -> str:
         return _line(CallKind.SHOW, number=self.id, term=self.term)
-
-
-@dataclass(frozen=True)
-class Count:
-    file: int
-    term: int = 0
-
-    def line(self) -> str:
-        return _line(CallKind.COUNT, number=self.file, term=self.term)
 
 
 @dataclass(frozen=True)
@@ -184,13 +183,24 @@ class Forfeit:
         return forfeit_line(self.term, self.names)
 
 
-Call = Union[Tick, Savepoint, Ack, Decline, Dispose, Restore, Cancel, Take, Deleted, Undeleted, Show, Count, Fence, Reserve, Forfeit]
+# embed/bindings makes what a call is
+Call = Union[
+    Tick, Savepoint, Ack, Decline, Dispose, Restore, Cancel, Take, Deleted, Undeleted, Show, Count, Fence, Reserve, Forfeit,
+]
 
-OF_A_MOMENT: Dict[int, Callable[[int, int], Call]] = {CallKind.TICK: Tick, CallKind.SAVEPOINT: Savepoint, CallKind.CANCEL: Cancel}
-OF_A_NUMBER: Dict[int, Callable[[int, int], Call]] = {
-    CallKind.DISPOSE: Dispose, CallKind.TAKE: Take, CallKind.DELETED: Deleted, CallKind.UNDELETED: Undeleted,
-    CallKind.SHOW: Show, CallKind.COUNT: Count,
+OF_A_MOMENT: Dict[int, Callable[[int, int], Call]] = {
+    CallKind.TICK: Tick,
+    CallKind.SAVEPOINT: Savepoint,
+    CallKind.CANCEL: Cancel,
 }
+OF_A_NUMBER: Dict[int, Callable[[int, int], Call]] = {
+    CallKind.DISPOSE: Dispose,
+    CallKind.DELETED: Deleted,
+    CallKind.UNDELETED: Undeleted,
+    CallKind.COUNT: Count,
+}
+# embed/bindings: end
+OF_A_NUMBER.update({CallKind.TAKE: Take, CallKind.SHOW: Show})
 
 
 def line_call(line: bytes) -> Optional[Call]:

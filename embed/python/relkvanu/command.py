@@ -3,10 +3,12 @@ import argparse
 import contextlib
 import importlib
 import ipaddress
+import posixpath
 import re
 import sys
 from typing import Any, Callable, Iterator, List, Optional, Tuple
 
+from relkvanu.others import MARK
 from relkvanu.storage import Folder, Marker
 
 FAILED, LOOK_FIRST = 1, 78  # exit statuses, beside 2 of a wrong word
@@ -96,6 +98,8 @@ def ran(name: str, it: argparse.ArgumentParser, run: Callable[[argparse.Namespac
     given = it.parse_args(arguments)
     if given.folder is not None and "/" in given.prefix + given.suffix:
         it.error("--prefix and --suffix: a '/' would name another folder")
+    if posixpath.basename(given.prefix).startswith(MARK):
+        it.error(f"--prefix: files that begin with {MARK} say whose place it is")
     try:
         return run(given)
     except Stop as stop:

@@ -294,7 +294,7 @@ def _live(answer: header.relkvanu_answer) -> Optional[Live]:
 
 
 def version() -> str:
-    """The version of the loaded library, such as "0.1.0"."""
+    """The version of the loaded library: three numbers, such as "1.2.3"."""
     text: bytes = _shared().relkvanu_version()
     return text.decode()
 
@@ -410,11 +410,31 @@ class Coordinator:
         if getattr(self, "_handle", None) is not None:
             self.close()
 
+    # embed/bindings makes the calls of one number
     def tick(self, now: int) -> Reply:
+        """Time has passed: records that are too old expire, and a checkpoint is triggered if one is due."""
         return self._timed("tick", now)
 
     def savepoint(self, now: int) -> Reply:
+        """Triggers a savepoint. At most 1000 savepoints are pending or done."""
         return self._timed("savepoint", now)
+
+    def dispose(self, id: int) -> Reply:
+        """A user disposes of the completed savepoint id."""
+        return self._replied("dispose", _u64(id))
+
+    def cancel(self, now: int) -> Reply:
+        """The job ends for good."""
+        return self._timed("cancel", now)
+
+    def deleted(self, file: int) -> Reply:
+        """A fetched file is deleted: the coordinator forgets it."""
+        return self._replied("deleted", _u64(file))
+
+    def undeleted(self, file: int) -> Reply:
+        """A fetched file could not be deleted: it waits again, behind all others."""
+        return self._replied("undeleted", _u64(file))
+    # embed/bindings: end
 
     def ack(self, now: int, id: int, vertex: int, index: int, fresh: Sequence[int], reused: Sequence[int] = ()) -> Reply:
         """If it is accepted, the fresh files belong to the coordinator. Otherwise the task deletes a file only if no accepted
@@ -472,9 +492,6 @@ class Coordinator:
         answer = _told(self._call("garbage", _words(files), length, garbage, length, unissued, length), header.GARBAGE)
         return Garbage(tuple(garbage[: answer.a]), tuple(unissued[: answer.b]))
 
-    def dispose(self, id: int) -> Reply:
-        return self._replied("dispose", _u64(id))
-
     def restore(self, now: int, savepoint: Optional[int] = None, shape: Optional[Sequence[int]] = None) -> Reply:
         """Restores the job from a savepoint, or from the latest record if none is given. `shape` may give a new shape. An
         empty or bad shape is a BadArgument, before any refusal."""
@@ -484,21 +501,12 @@ class Coordinator:
             raise BadArgument("BadShape")
         return self._timed("restore", now, _u64(savepoint or 0), _words(shape or ()), len(shape or ()))
 
-    def cancel(self, now: int) -> Reply:
-        return self._timed("cancel", now)
-
     def take(self, most: int) -> Taken:
         """Fetches at most `most` files that wait for deletion. Report each by deleted() or undeleted(). A repeated
         acknowledgement that comes late may hand out a file that no longer exists: report it as deleted."""
         files = (U64 * _u64(most))()
-        answer = _done(self._call("take", files, most))
+        answer = _told(self._call("take", files, most), header.TAKEN)
         return Taken(tuple(files[: answer.a]))
-
-    def deleted(self, file: int) -> Reply:
-        return self._replied("deleted", _u64(file))
-
-    def undeleted(self, file: int) -> Reply:
-        return self._replied("undeleted", _u64(file))
 
     def show(self, id: int) -> Shown:
         """The metadata of a live record."""

@@ -179,6 +179,16 @@ class relkvanu_call(Structure):
     ]
 
 
+class relkvanu_made(Structure):
+    _fields_ = [
+        ("written", c_uint64),
+        ("waited", c_uint64),
+        ("in_use", c_uint64),
+        ("waiting", c_uint64),
+        ("taken", c_uint64),
+    ]
+
+
 # Of each function, its result and its parameters.
 FUNCTIONS: Dict[str, Tuple[Any, List[Any]]] = {
     "relkvanu_version": (c_char_p, []),
@@ -210,6 +220,19 @@ FUNCTIONS: Dict[str, Tuple[Any, List[Any]]] = {
     "relkvanu_line_says": (relkvanu_answer, [POINTER(c_uint8), c_size_t, POINTER(c_uint64), c_size_t]),
     "relkvanu_line_call": (relkvanu_answer, [POINTER(c_uint8), c_size_t, POINTER(relkvanu_call), POINTER(c_uint64), c_size_t, POINTER(c_uint64), c_size_t]),
     "relkvanu_call_line": (relkvanu_answer, [POINTER(relkvanu_call), POINTER(c_uint64), c_size_t, POINTER(c_uint64), c_size_t, POINTER(c_uint8), c_size_t]),
+    "relkvanu_make": (relkvanu_answer, [
+        POINTER(relkvanu),
+        POINTER(relkvanu_call),
+        POINTER(c_uint64),
+        c_size_t,
+        POINTER(c_uint64),
+        c_size_t,
+        POINTER(c_uint64),
+        c_size_t,
+        POINTER(c_uint8),
+        c_size_t,
+        POINTER(relkvanu_made),
+    ]),
     "relkvanu_opening_lines": (relkvanu_answer, [POINTER(relkvanu_settings), POINTER(c_uint64), c_size_t, c_uint64, POINTER(c_uint8), c_size_t]),
     "relkvanu_save": (relkvanu_answer, [POINTER(relkvanu), POINTER(c_uint8), c_size_t]),
     "relkvanu_open_saved": (relkvanu_answer, [POINTER(relkvanu), POINTER(c_uint8), c_size_t, c_uint64, c_uint64]),

@@ -87,12 +87,30 @@ def _line(
 # cut. The term is that of the caller, 0 for none (docs/LOGS.md).
 
 
+# embed/bindings makes the lines of calls of one number
 def tick_line(now: int, term: int = 0) -> str:
     return _line(header.CALL_TICK, now, term=term)
 
 
 def savepoint_line(now: int, term: int = 0) -> str:
     return _line(header.CALL_SAVEPOINT, now, term=term)
+
+
+def dispose_line(id: int, term: int = 0) -> str:
+    return _line(header.CALL_DISPOSE, number=id, term=term)
+
+
+def cancel_line(now: int, term: int = 0) -> str:
+    return _line(header.CALL_CANCEL, now, term=term)
+
+
+def deleted_line(file: int, term: int = 0) -> str:
+    return _line(header.CALL_DELETED, number=file, term=term)
+
+
+def undeleted_line(file: int, term: int = 0) -> str:
+    return _line(header.CALL_UNDELETED, number=file, term=term)
+# embed/bindings: end
 
 
 def ack_line(now: int, id: int, vertex: int, index: int, fresh: Sequence[int], reused: Sequence[int] = (), term: int = 0) -> str:
@@ -103,10 +121,6 @@ def decline_line(now: int, id: int, vertex: int, index: int, term: int = 0) -> s
     return _line(header.CALL_DECLINE, now, id, (vertex, index), term=term)
 
 
-def dispose_line(id: int, term: int = 0) -> str:
-    return _line(header.CALL_DISPOSE, number=id, term=term)
-
-
 def restore_line(now: int, savepoint: Optional[int] = None, shape: Optional[Sequence[int]] = None, term: int = 0) -> str:
     if savepoint == 0:
         raise BadArgument("no savepoint has the number 0")
@@ -115,20 +129,8 @@ def restore_line(now: int, savepoint: Optional[int] = None, shape: Optional[Sequ
     return _line(header.CALL_RESTORE, now, savepoint or 0, first=shape or (), term=term)
 
 
-def cancel_line(now: int, term: int = 0) -> str:
-    return _line(header.CALL_CANCEL, now, term=term)
-
-
 def take_line(most: int, term: int = 0) -> str:
     return _line(header.CALL_TAKE, number=most, term=term)
-
-
-def deleted_line(file: int, term: int = 0) -> str:
-    return _line(header.CALL_DELETED, number=file, term=term)
-
-
-def undeleted_line(file: int, term: int = 0) -> str:
-    return _line(header.CALL_UNDELETED, number=file, term=term)
 
 
 def fence_line(first_name: int) -> str:

@@ -2,14 +2,16 @@
 discarder (`relkvanu discard`) writes down beside its marker how the files of its job are named: in `.relkvanu-JOB.names`."""
 import json
 import posixpath
-from typing import Iterable, List, Optional, Protocol
+import re
+from typing import List, Optional, Protocol
 
 from relkvanu.coordinator import Error
 from relkvanu.storage import MARKER, Marker, Names
 
 MARK = ".relkvanu-"
-NAMES = ".names"
-BESIDE = (NAMES, ".begun", ".new")  # what follows a marker's name in the names of the files beside it
+NAMES, BEGUN = ".names", ".begun"
+BESIDE = (NAMES, BEGUN, ".new")  # what follows a marker's name in the names of the files beside it; an earlier version wrote `.new` first
+JOB = re.compile("[A-Za-z0-9][-_.A-Za-z0-9]{0,63}")  # a job's name
 
 
 class OthersFiles(Error):
@@ -38,22 +40,39 @@ def said_names(contents: Optional[bytes]) -> Optional[Names]:
     return Names(prefix, suffix) if isinstance(prefix, str) and isinstance(suffix, str) else None
 
 
-def markers(found: Iterable[str], own: str) -> List[str]:
-    """The markers of other jobs among the names of files. A file that is beside a marker is none."""
-    known = set(found)
+def is_marker(place: Place, name: str) -> bool:
+    """Whether a file says that it is the marker of the job by which it is named. A job may be named as a file beside another one's marker is."""
+    text = f"relkvanu discard deletes files of the job {name[len(MARK):]}, opened at "
+    return (place.read_beside(name) or b"").startswith(text.encode())
+
+
+def markers(place: Place, own: str) -> List[str]:
+    """The markers of other jobs. A file that is beside a marker is none, and neither is that of a storage without a service."""
+    known = {name for name in place.beside(MARK) if JOB.fullmatch(name, len(MARK))}
 
     def is_beside(name: str) -> bool:
         shorter = next((name[:-len(end)] for end in BESIDE if name.endswith(end)), None)
         return shorter is not None and (shorter == own or shorter in known or is_beside(shorter))
 
-    return sorted(name for name in known if name not in (own, MARKER) and not is_beside(name))
+    def is_other(name: str) -> bool:
+        return name != own and ((name != MARKER and not is_beside(name)) or is_marker(place, name))
+
+    return sorted(filter(is_other, known))
+
+
+def clash(one: str, other: str) -> bool:
+    """Whether a marker is named as a file beside another one."""
+    return any(one == other + end or other == one + end for end in (NAMES, BEGUN))
 
 
 def check_names(place: Place, job: str, names: Names) -> None:
     """Raises OthersFiles if another job's marker is there and its files may have the names of this job's. If it is not known how they are
     named, this one needs a prefix or a suffix. A bucket's prefix may have folders, in which the marker is."""
     mine = Names(posixpath.basename(names.prefix), names.suffix)
-    for other in markers(place.beside(MARK), MARK + job):
+    for other in markers(place, MARK + job):
+        if clash(other, MARK + job):
+            raise OthersFiles(f"other jobs have files in the same place, as {other} says: one of the two jobs needs a place of its own, since the "
+                              "marker of one is named as a file beside the marker of the other")
         if place.read_beside(other) == place.marker.text.encode():
             continue  # this job's, which was being made when its process ended
         theirs = said_names(place.read_beside(other + NAMES))

@@ -76,6 +76,15 @@ def table(found: List[Row]) -> str:
     return "".join("".join(map(str.ljust, line, widths)).rstrip() + "\n" for line in lines)
 
 
+def told_of_none(found: List[Row], names: Names) -> Optional[str]:
+    """What is most likely wrong, if these records have files and all are absent."""
+    absent = next((row.absent[0] for row in found if row.absent), None)
+    if absent is None or any(row.files > len(row.absent) for row in found):
+        return None
+    return (f"no file of these records is there, as {names.of(absent)}: most likely --bucket, --folder, --prefix or --suffix is wrong. So "
+            "cancel nothing before you have looked")
+
+
 def looked_at(given: argparse.Namespace, client: Any) -> List[Row]:
     service = client.Service(*given.service, token=token(given.token_file), patience=given.patience, ca=given.ca)
     job = service.job(given.job)
@@ -95,6 +104,9 @@ def run(given: argparse.Namespace) -> int:
     except (Error, OSError) as error:  # those of requests are OSErrors
         raise Stop(TRY_AGAIN, str(error)) from error
     print(table(found), end="", flush=True)
+    warning = told_of_none(found, Names(given.prefix, given.suffix))
+    if warning:
+        print(f"savepoints: {warning}", file=sys.stderr, flush=True)
     if all(row.absent for row in found):
         raise Stop(NONE_WHOLE, "no such record has all its files there")
     return 0

@@ -176,7 +176,7 @@ class Folder:
         if next(self.pages(1), None):
             raise StorageError(errno.ENOTEMPTY, "a new job needs a folder without state files", self.path)
         if self._read(self.marker.name) is None:
-            part = self.marker.name + PART
+            part = f"{self.marker.name}~"
             self._unlink(part)
             self._make(part, self.marker.name, self.marker.text.encode())
 
@@ -233,7 +233,7 @@ class Folder:
 
     def write_beside(self, name: str, contents: bytes) -> None:
         """Makes or replaces a file beside the marker, whole and durable."""
-        new = f"{name}.new"
+        new = f"{name}~"  # no job has this sign in its name, so no marker has this name
         try:
             to = os.open(new, os.O_WRONLY | os.O_CREAT | os.O_TRUNC | FILE_FLAGS, 0o666, dir_fd=self._folder)
             try:

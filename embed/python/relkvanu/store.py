@@ -81,6 +81,7 @@ class Call:
     second: Sequence[int] = ()
     term: int = 0
 
+    # embed/bindings makes the calls of one number
     @classmethod
     def tick(cls, now: Optional[int] = None) -> "Call":
         return cls(header.CALL_TICK, now)
@@ -88,6 +89,23 @@ class Call:
     @classmethod
     def savepoint(cls, now: Optional[int] = None) -> "Call":
         return cls(header.CALL_SAVEPOINT, now)
+
+    @classmethod
+    def dispose(cls, id: int) -> "Call":
+        return cls(header.CALL_DISPOSE, number=id)
+
+    @classmethod
+    def cancel(cls, now: Optional[int] = None) -> "Call":
+        return cls(header.CALL_CANCEL, now)
+
+    @classmethod
+    def deleted(cls, file: int) -> "Call":
+        return cls(header.CALL_DELETED, number=file)
+
+    @classmethod
+    def undeleted(cls, file: int) -> "Call":
+        return cls(header.CALL_UNDELETED, number=file)
+    # embed/bindings: end
 
     @classmethod
     def ack(
@@ -112,10 +130,6 @@ class Call:
         return cls(header.CALL_FORFEIT, 0, first=names, term=term)
 
     @classmethod
-    def dispose(cls, id: int) -> "Call":
-        return cls(header.CALL_DISPOSE, number=id)
-
-    @classmethod
     def restore(cls, savepoint: Optional[int] = None, shape: Optional[Sequence[int]] = None, now: Optional[int] = None) -> "Call":
         if savepoint == 0:
             raise BadArgument("no savepoint has the number 0")
@@ -124,20 +138,8 @@ class Call:
         return cls(header.CALL_RESTORE, now, savepoint or 0, first=shape or ())
 
     @classmethod
-    def cancel(cls, now: Optional[int] = None) -> "Call":
-        return cls(header.CALL_CANCEL, now)
-
-    @classmethod
     def take(cls, most: int) -> "Call":
         return cls(header.CALL_TAKE, number=most)
-
-    @classmethod
-    def deleted(cls, file: int) -> "Call":
-        return cls(header.CALL_DELETED, number=file)
-
-    @classmethod
-    def undeleted(cls, file: int) -> "Call":
-        return cls(header.CALL_UNDELETED, number=file)
 
 
 @dataclass(frozen=True)
@@ -346,11 +348,23 @@ class Store:
             raise outcome
         return outcome
 
+    # embed/bindings makes the calls of one number of a store
     def tick(self, now: Optional[int] = None) -> Made:
+        """Time has passed: records that are too old expire, and a checkpoint is triggered if one is due."""
         return self.call(Call.tick(now))
 
     def savepoint(self, now: Optional[int] = None) -> Made:
+        """Triggers a savepoint. At most 1000 savepoints are pending or done."""
         return self.call(Call.savepoint(now))
+
+    def dispose(self, id: int) -> Made:
+        """A user disposes of the completed savepoint id."""
+        return self.call(Call.dispose(id))
+
+    def cancel(self, now: Optional[int] = None) -> Made:
+        """The job ends for good."""
+        return self.call(Call.cancel(now))
+    # embed/bindings: end
 
     def ack(self, id: int, vertex: int, index: int, fresh: Sequence[int], reused: Sequence[int] = (), now: Optional[int] = None) -> Made:
         return self.call(Call.ack(id, vertex, index, fresh, reused, now))
@@ -406,9 +420,6 @@ class Store:
 
     def restore(self, savepoint: Optional[int] = None, shape: Optional[Sequence[int]] = None, now: Optional[int] = None) -> Made:
         return self.call(Call.restore(savepoint, shape, now))
-
-    def cancel(self, now: Optional[int] = None) -> Made:
-        return self.call(Call.cancel(now))
 
     def submit(self, calls: Sequence[Call]) -> int:
         """For event loops: as calls(), but returns a token at once. completed() returns it with the outcomes."""

@@ -74,8 +74,10 @@ FORMS: Tuple[Tuple[str, str, str], ...] = (
     (rf"term {NUMBER} of {TASK}", "term", "number task"),
 )
 COMPILED = tuple((re.compile(form), verb, names.split()) for form, verb, names in FORMS)
-LOGGED = re.compile(
-    r"(config|job|start|tick|savepoint|ack|decline|dispose|restore|cancel|take|deleted|undeleted|fence|reserve|forfeit|in) .*|cancel")
+# embed/bindings makes the first words of calls
+_CALLS = "tick|savepoint|ack|decline|dispose|restore|cancel|take|deleted|undeleted|fence|reserve|forfeit"
+# embed/bindings: end
+LOGGED = re.compile(rf"(config|job|start|in|{_CALLS})( .*)?")  # the library says what is missing
 
 
 def _event(verb: str, names: List[str], groups: Iterator[str]) -> Event:

@@ -140,6 +140,28 @@ class Command(InFolder):
             self.assertEqual(self.run_it("--quiet")[0], 3, text)
         self.all_there()
 
+    def test_a_job_that_is_named_as_a_file_of_another_job(self):
+        """Its marker is no file beside that of the other one, and it says so."""
+        plain, text = ["--prefix", "", "--suffix", ""], MARKER.replace("the job orders,", "the job {},")
+        for other in ("orders.names", "orders.begun"):
+            path = self.path / f".relkvanu-{other}"
+            path.write_text(text.format(other), encoding="utf-8")
+            for words in (plain, []):
+                status, told, errors = self.run_it("--delete", *words)
+                self.assertEqual((status, told, f".relkvanu-{other} says: one of the two jobs" in errors), (78, [], True), errors)
+            path.write_text("4 8\n", encoding="utf-8")
+        for other in ("orders.new", "orders.names.new", "storage"):
+            path = self.path / f".relkvanu-{other}"
+            for said, status in ((text.format(other), 78), (MARKER, 0), ("relkvanu: state files of the job x\n", 0)):
+                path.write_text(said, encoding="utf-8")
+                found, told, errors = self.run_it("--quiet", *plain)
+                self.assertEqual((found, f".relkvanu-{other} says" in errors), (status, status == 78), (other, said, errors))
+            path.unlink()
+        self.all_there()
+
+    def test_a_prefix_that_begins_markers(self):
+        self.assertEqual(self.run_it("--prefix", ".relkvanu-")[0], 2)
+
     def test_metrics(self):
         """They have the names of those of `relkvanu sweep`, count over all sweeps, and go on while the service is away."""
         port, began = free_port(), time.time()

@@ -4,7 +4,7 @@ import threading
 import unittest
 
 from relkvanu import (
-    AckPending, BadArgument, Closed, Coordinator, Refused, RestoredCheckpoint, Settings, Shown, Triggered,
+    AckPending, BadArgument, Closed, Coordinator, Refused, RestoredCheckpoint, Settings, Shown, Triggered, calls,
 )
 
 SETTINGS = Settings(interval=1000)
@@ -146,6 +146,9 @@ class Calls(unittest.TestCase):
             lambda: job.line(b"tick 1000"),
         ):
             self.assertRaises(Closed, call)
+        for kind, make in {**calls.OF_A_MOMENT, **calls.OF_A_NUMBER}.items():
+            given = [number for name, number in vars(make(1000, 0)).items() if name != "term"]
+            self.assertRaises(Closed, getattr(job, calls.CallKind(kind).name.lower()), *given)
 
     def test_a_job_is_opened_anew_from_its_last_checkpoint(self):
         with Coordinator(SETTINGS, [2], 0) as job:

@@ -41,6 +41,7 @@ class Empty(unittest.TestCase):
         self.of_job(header.TAKEN, "take", *EMPTY)
         self.of_job(header.FILES, "taken_files", *EMPTY)
         self.of_job(header.SKIPPED, "line", *EMPTY, *EMPTY)
+        self.of_job(0, "make", TICK, *EMPTY, *EMPTY, *EMPTY, *EMPTY, header.relkvanu_made(), code=header.TOO_SHORT, b=len("tick 3"))
         self.assertEqual(self.call("show", self.job, 1, *EMPTY).code, header.TOO_SHORT)
         self.assertEqual(self.call("save", self.job, *EMPTY).code, header.TOO_SHORT)
         self.call("close", self.job)

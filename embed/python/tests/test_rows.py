@@ -3,7 +3,9 @@
 The library reads the lines of a row's script; they print what the row's output says.
 """
 import contextlib
+import dataclasses
 import pathlib
+import re
 import unittest
 
 from relkvanu import (
@@ -40,6 +42,14 @@ TEXTS = {
 }
 
 
+def text_of(reply):
+    """What a reply prints; one without words of its own here: its name and its numbers, as in "paused 7"."""
+    if type(reply) in TEXTS:
+        return TEXTS[type(reply)].format(reply)
+    name = re.sub("(?<=.)([A-Z])", r" \1", type(reply).__name__).lower()
+    return " ".join([name, *map(str, dataclasses.astuple(reply))])
+
+
 def opened(rows):
     """Opens the job as the config, job and start lines of a row say; None if it does not have one of each and then only calls."""
     says = []
@@ -66,7 +76,20 @@ def told(job, number, line):
         return []
     if isinstance(reply, Taken):
         return [" ".join(["take", *map(str, reply.files or ["none"])])]
-    return [TEXTS[type(reply)].format(reply)]
+    return [text_of(reply)]
+
+
+def outcome(call):
+    """The reply of a call, or its refusal in words."""
+    try:
+        return call()
+    except Refused as fault:
+        return str(fault)
+
+
+def numbers_of(call):
+    """Its number, or none, beside the term."""
+    return [number for name, number in vars(call).items() if name != "term"]
 
 
 def said(line):
@@ -88,6 +111,18 @@ class Rows(unittest.TestCase):
                     self.assertEqual(lines.line_says(line), lines.Call())
                     found.add(type(call))
         self.assertEqual(found, set(calls.Call.__args__) - {calls.Fence, calls.Reserve, calls.Forfeit})  # no script has these
+
+    def test_calls_of_one_number_are_those_of_their_lines(self):
+        """Each method of the coordinator and each function of lines that is made of the header."""
+        made = {**calls.OF_A_MOMENT, **calls.OF_A_NUMBER}
+        for kind in set(made) - {calls.CallKind.TAKE, calls.CallKind.SHOW}:
+            name, call = calls.CallKind(kind).name.lower(), made[kind](1000, 0)
+            given = numbers_of(call)
+            self.assertEqual(calls.line_call(" ".join([name, *map(str, given)]).encode()), call)
+            if kind != calls.CallKind.COUNT:
+                self.assertEqual(getattr(lines, f"{name}_line")(*given), call.line())
+            with Coordinator(Settings(interval=1000), [1], 0) as job, Coordinator(Settings(interval=1000), [1], 0) as twin:
+                self.assertEqual(outcome(lambda: getattr(job, name)(*given)), outcome(lambda: twin.line(call.line().encode())), name)
 
     def test_rows(self):
         run = 0

@@ -1,4 +1,5 @@
 /* Calls: their lines are written in the caller's thread, and then they wait in the queue. */
+#include "kinds.h"
 #include "parts.h"
 
 #include <stdlib.h>
@@ -7,8 +8,7 @@ enum { NAMES = 4096, MOST_NAMES = 65536 }; /* of a line; of a list */
 
 static bool is_well_formed(const relkvanu_store_call *call) {
     uint32_t kind = call->call.kind;
-    bool is_made = kind >= RELKVANU_CALL_TICK && kind <= RELKVANU_CALL_FORFEIT && kind != RELKVANU_CALL_SHOW && kind != RELKVANU_CALL_COUNT;
-    return is_made && call->reserved[0] == 0 && call->reserved[1] == 0 &&
+    return rks_is_made(kind) && call->reserved[0] == 0 && call->reserved[1] == 0 &&
            (kind != RELKVANU_CALL_TAKE || call->call.number <= call->files_len);
 }
 

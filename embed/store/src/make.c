@@ -1,16 +1,13 @@
 /* The calls of a group, made in its order by the lines that are logged. */
+#include "kinds.h"
 #include "parts.h"
 
 #include <stdlib.h>
 
-static bool has_moment(uint32_t kind) {
-    return kind >= RELKVANU_CALL_TICK && kind <= RELKVANU_CALL_CANCEL && kind != RELKVANU_CALL_DISPOSE;
-}
-
 /* Whether the moment is so far ahead that one clock must be wrong. It would stop checkpoints until then. */
 static bool is_ahead(relkvanu_store *s, const relkvanu_call *call) {
     uint64_t latest = relkvanu_moment(&s->handle).a, most = s->options.most_ahead;
-    if (!has_moment(call->kind) || call->now == RELKVANU_STORE_NOW || call->now <= latest || call->now - latest <= most) {
+    if (!rks_has_moment(call->kind) || call->now == RELKVANU_STORE_NOW || call->now <= latest || call->now - latest <= most) {
         return false;
     }
     relkvanu_answer expiry = relkvanu_oldest_expiry(&s->handle);

@@ -390,7 +390,7 @@ static void a_fence_without_a_folder(void) {
     relkvanu_store_close(store);
 }
 
-/* A file of a job that version 0.1.0 made, before there were names, as its SQL. */
+/* A file of a job that an early build made, before there were names, as its SQL. */
 static void an_old_file(void) {
     static char sql[1 << 16];
     FILE *from = fopen(OLD_FILE, "r");

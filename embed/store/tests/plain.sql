@@ -1,4 +1,4 @@
--- A job whose file version 0.1.0 of the library made, when jobs had no names: 27 calls, an image after 20 of them, and no close.
+-- A job whose file an early build of the library made, when jobs had no names: 27 calls, an image after 20 of them, and no close.
 PRAGMA application_id=1381387091;
 PRAGMA user_version=1;
 BEGIN TRANSACTION;

@@ -51,14 +51,17 @@ static std::uint64_t due(ckpt::Store &job) {
     return moment;
 }
 
-static void complete(ckpt::Store &job, std::uint64_t file) {
-    std::uint64_t now = due(job);
-    auto ticked = std::get<ckpt::triggered>(job.tick(now));
+static void acknowledge(ckpt::Store &job, std::uint64_t id, std::uint64_t file, std::uint64_t now = RELKVANU_STORE_NOW) {
     for (std::uint16_t index = 0; index < 2; index++) {
         const std::uint64_t fresh[] = {file + index};
-        auto answer = job.ack(ticked.id, 0, index, fresh, {}, now);
+        auto answer = job.ack(id, 0, index, fresh, {}, now);
         CHECK(index == 0 ? std::holds_alternative<ckpt::ack_pending>(answer) : std::holds_alternative<ckpt::ack_completed>(answer));
     }
+}
+
+static void complete(ckpt::Store &job, std::uint64_t file) {
+    std::uint64_t now = due(job);
+    acknowledge(job, std::get<ckpt::triggered>(job.tick(now)).id, file, now);
 }
 
 static void calls(const std::string &path) {
@@ -67,6 +70,7 @@ static void calls(const std::string &path) {
     complete(job, 1);
     CHECK(why(job.tick(std::uint64_t{1} << 61)) == ckpt::error::moment_too_large);
     CHECK(why(job.ack(9, 0, 0, {})) == ckpt::error::unknown_checkpoint);
+    CHECK(why(job.dispose(9)) == ckpt::error::no_such_savepoint);
     const std::uint64_t bad[] = {0};
     CHECK(why(job.restore(0, bad)) == ckpt::store_error::bad_argument); /* no line has such a shape */
     auto other = ckpt::Store::open(path, options(RELKVANU_STORE_RECOVER));
@@ -96,6 +100,23 @@ static void recovery(const std::string &path) {
     CHECK(std::get<ckpt::checkpoint>(restored.from).id == 3);
     list = {1, 2, 5, 11};
     CHECK(!job.unknown(list) && list == std::vector<std::uint64_t>{5});
+}
+
+/* The choice of each trigger: none, a checkpoint, and the savepoint that the job was rolled back to. Other answers have none. */
+static void choices(const std::string &path) {
+    ckpt::Store job = opened(path, RELKVANU_STORE_CREATE);
+    ckpt::choice base = ckpt::savepoint{99};
+    CHECK(std::get<ckpt::triggered>(job.tick(base, due(job))).id == 1 && std::holds_alternative<ckpt::fresh>(base));
+    acknowledge(job, 1, 1);
+    CHECK(std::get<ckpt::savepoint_triggered>(job.savepoint(base)).id == 2 && std::get<ckpt::checkpoint>(base).id == 1);
+    acknowledge(job, 2, 11);
+    CHECK(std::get<ckpt::triggered>(job.await_tick(60000, base)).id == 3 && std::get<ckpt::checkpoint>(base).id == 1);
+    CHECK(std::holds_alternative<ckpt::held_at_once>(job.tick(base, due(job))) && std::holds_alternative<ckpt::fresh>(base));
+    CHECK(std::holds_alternative<ckpt::restored>(job.restore(2)));
+    CHECK(std::get<ckpt::triggered>(job.tick(base, due(job))).id == 4 && std::get<ckpt::savepoint>(base).id == 2);
+    CHECK(why(job.await_tick(0, base)) == ckpt::store_error::timed_out && std::holds_alternative<ckpt::fresh>(base));
+    base = ckpt::checkpoint{99};
+    CHECK(why(job.savepoint(base, std::uint64_t{1} << 61)) == ckpt::error::moment_too_large && std::holds_alternative<ckpt::fresh>(base));
 }
 
 static void submits(const std::string &path) {
@@ -304,6 +325,7 @@ int main(int argc, char **argv) {
     CHECK(std::get<ckpt::not_opened>(ckpt::Store::open(path, options(RELKVANU_STORE_RECOVER))).why == ckpt::store_error::absent);
     calls(path);
     recovery(path);
+    choices(path + "12");
     submits(path);
     discarder(path);
     files(path);

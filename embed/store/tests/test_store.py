@@ -97,6 +97,8 @@ class Calls(Folder):
             self.raises("BadArgument", job.calls, [])
             with self.assertRaises(OutOfRange):
                 job.ack(1 << 64, 0, 0, [])
+            with self.assertRaises(Refused):
+                job.dispose(9)
             with self.assertRaises(BadArgument):
                 Call.restore(0)
 

@@ -113,7 +113,7 @@ public final class Coordinator extends Reads implements AutoCloseable, Outbox {
     }
 
     /**
-     * {@return the version of the native library, such as "0.1.0"}
+     * {@return the version of the native library: three numbers, such as "1.2.3"}
      */
     public static String version() {
         Library.need();
@@ -165,6 +165,7 @@ public final class Coordinator extends Reads implements AutoCloseable, Outbox {
         mostAhead = Checks.natural(millis, "a time");
     }
 
+    // embed/bindings makes the calls of one number
     /**
      * Time has passed: records that are too old expire, and a checkpoint is triggered if one is due.
      *
@@ -184,6 +185,49 @@ public final class Coordinator extends Reads implements AutoCloseable, Outbox {
     public Reply.SavepointTriggered savepoint(long now) {
         return (Reply.SavepointTriggered) timed(now, (at, out) -> Native.savepoint(at, now, out));
     }
+
+    /**
+     * A user disposes of a completed savepoint.
+     *
+     * @param id the savepoint
+     * @return how many files were released
+     */
+    public Reply.Disposed dispose(long id) {
+        return (Reply.Disposed) replied((at, out) -> Native.dispose(at, id, out));
+    }
+
+    /**
+     * The job ends for good.
+     *
+     * @param now the moment
+     * @return how many records were dropped, and how many files released
+     */
+    public Reply.Cancelled cancel(long now) {
+        return (Reply.Cancelled) timed(now, (at, out) -> Native.cancel(at, now, out));
+    }
+
+    /**
+     * A fetched file is deleted: the coordinator forgets it.
+     *
+     * @param file the file
+     * @return the file
+     */
+    @Override
+    public Reply.Deleted deleted(long file) {
+        return (Reply.Deleted) replied((at, out) -> Native.deleted(at, file, out));
+    }
+
+    /**
+     * A fetched file could not be deleted: it waits again, behind all others.
+     *
+     * @param file the file
+     * @return the file
+     */
+    @Override
+    public Reply.Undeleted undeleted(long file) {
+        return (Reply.Undeleted) replied((at, out) -> Native.undeleted(at, file, out));
+    }
+    // embed/bindings: end
 
     /**
      * A subtask has taken its part of a record. If the call is accepted, the fresh files belong to the coordinator. Otherwise the task deletes
@@ -219,16 +263,6 @@ public final class Coordinator extends Reads implements AutoCloseable, Outbox {
         Checks.u16(vertex, "vertex");
         Checks.u16(index, "index");
         return (Reply.Decline) timed(now, (at, out) -> Native.decline(at, now, id, vertex, index, out));
-    }
-
-    /**
-     * A user disposes of a completed savepoint.
-     *
-     * @param id the savepoint
-     * @return how many files were released
-     */
-    public Reply.Disposed dispose(long id) {
-        return (Reply.Disposed) replied((at, out) -> Native.dispose(at, id, out));
     }
 
     /**
@@ -277,16 +311,6 @@ public final class Coordinator extends Reads implements AutoCloseable, Outbox {
 
     private Reply.Restore restore(long now, long savepoint, long[] shape) {
         return (Reply.Restore) timed(now, (at, out) -> Native.restore(at, now, savepoint, shape, out));
-    }
-
-    /**
-     * The job ends for good.
-     *
-     * @param now the moment
-     * @return how many records were dropped, and how many files released
-     */
-    public Reply.Cancelled cancel(long now) {
-        return (Reply.Cancelled) timed(now, (at, out) -> Native.cancel(at, now, out));
     }
 
     /**
@@ -378,28 +402,6 @@ public final class Coordinator extends Reads implements AutoCloseable, Outbox {
         } finally {
             Reference.reachabilityFence(this);
         }
-    }
-
-    /**
-     * A fetched file is deleted: the coordinator forgets it.
-     *
-     * @param file the file
-     * @return the file
-     */
-    @Override
-    public Reply.Deleted deleted(long file) {
-        return (Reply.Deleted) replied((at, out) -> Native.deleted(at, file, out));
-    }
-
-    /**
-     * A fetched file could not be deleted: it waits again, behind all others.
-     *
-     * @param file the file
-     * @return the file
-     */
-    @Override
-    public Reply.Undeleted undeleted(long file) {
-        return (Reply.Undeleted) replied((at, out) -> Native.undeleted(at, file, out));
     }
 
     /**

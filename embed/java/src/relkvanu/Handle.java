@@ -143,6 +143,9 @@ final class Handle implements Runnable {
             long[] files = new long[(int) Math.min(most, counts().waiting())];
             Native.take(open(), files, out);
             Answers.check(out);
+            if (out[1] != Header.TAKEN) {
+                throw new CoordinatorException.Unknown("reply", (int) out[1]);
+            }
             return new Reply.Taken(Arrays.copyOf(files, (int) out[2]));
         } finally {
             lock.unlock();

@@ -77,6 +77,7 @@ public final class Lines {
         return line(kind, 0, 0, now, number, NO_TERM, NONE, NONE);
     }
 
+    // embed/bindings makes the lines of calls of one number
     /**
      * {@return the line of a tick}
      *
@@ -94,6 +95,52 @@ public final class Lines {
     public static String savepoint(long now) {
         return line(Header.CALL_SAVEPOINT, now, 0);
     }
+
+    /**
+     * {@return the line of a dispose}
+     *
+     * @param id the savepoint
+     */
+    public static String dispose(long id) {
+        return line(Header.CALL_DISPOSE, 0, id);
+    }
+
+    /**
+     * {@return the line of a cancel}
+     *
+     * @param now the moment
+     */
+    public static String cancel(long now) {
+        return line(Header.CALL_CANCEL, now, 0);
+    }
+
+    /**
+     * {@return the line of a deleted}
+     *
+     * @param file the file
+     */
+    public static String deleted(long file) {
+        return line(Header.CALL_DELETED, 0, file);
+    }
+
+    /**
+     * {@return the line of an undeleted}
+     *
+     * @param file the file
+     */
+    public static String undeleted(long file) {
+        return line(Header.CALL_UNDELETED, 0, file);
+    }
+
+    /**
+     * {@return the line of a count}
+     *
+     * @param file the file
+     */
+    public static String count(long file) {
+        return line(Header.CALL_COUNT, 0, file);
+    }
+    // embed/bindings: end
 
     /**
      * {@return the line of an acknowledgement}
@@ -119,15 +166,6 @@ public final class Lines {
      */
     public static String decline(long now, long id, int vertex, int index) {
         return declineIn(NO_TERM, now, id, vertex, index);
-    }
-
-    /**
-     * {@return the line of a dispose}
-     *
-     * @param id the savepoint
-     */
-    public static String dispose(long id) {
-        return line(Header.CALL_DISPOSE, 0, id);
     }
 
     /**
@@ -171,15 +209,6 @@ public final class Lines {
     }
 
     /**
-     * {@return the line of a cancel}
-     *
-     * @param now the moment
-     */
-    public static String cancel(long now) {
-        return line(Header.CALL_CANCEL, now, 0);
-    }
-
-    /**
      * {@return the line of a take}
      *
      * @param most the most files, unsigned
@@ -189,39 +218,12 @@ public final class Lines {
     }
 
     /**
-     * {@return the line of a deleted}
-     *
-     * @param file the file
-     */
-    public static String deleted(long file) {
-        return line(Header.CALL_DELETED, 0, file);
-    }
-
-    /**
-     * {@return the line of an undeleted}
-     *
-     * @param file the file
-     */
-    public static String undeleted(long file) {
-        return line(Header.CALL_UNDELETED, 0, file);
-    }
-
-    /**
      * {@return the line of a show}
      *
      * @param id the record
      */
     public static String show(long id) {
         return line(Header.CALL_SHOW, 0, id);
-    }
-
-    /**
-     * {@return the line of a count}
-     *
-     * @param file the file
-     */
-    public static String count(long file) {
-        return line(Header.CALL_COUNT, 0, file);
     }
 
     /**

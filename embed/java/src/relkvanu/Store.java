@@ -219,6 +219,7 @@ public final class Store implements AutoCloseable {
         return calls(List.of(call)).get(0).made();
     }
 
+    // embed/bindings makes the calls of one number
     /**
      * Time has passed. A timer calls {@link #awaitTick}.
      *
@@ -236,6 +237,26 @@ public final class Store implements AutoCloseable {
     public Reply.SavepointTriggered savepoint() {
         return (Reply.SavepointTriggered) call(StoreCall.savepoint()).reply();
     }
+
+    /**
+     * A user disposes of a completed savepoint.
+     *
+     * @param id the savepoint
+     * @return how many files were released
+     */
+    public Reply.Disposed dispose(long id) {
+        return (Reply.Disposed) call(StoreCall.dispose(id)).reply();
+    }
+
+    /**
+     * The job ends for good.
+     *
+     * @return how many records were dropped, and how many files released
+     */
+    public Reply.Cancelled cancel() {
+        return (Reply.Cancelled) call(StoreCall.cancel()).reply();
+    }
+    // embed/bindings: end
 
     /**
      * A subtask has taken its part of a record, as {@link Coordinator#ack}.
@@ -358,16 +379,6 @@ public final class Store implements AutoCloseable {
     }
 
     /**
-     * A user disposes of a completed savepoint.
-     *
-     * @param id the savepoint
-     * @return how many files were released
-     */
-    public Reply.Disposed dispose(long id) {
-        return (Reply.Disposed) call(StoreCall.dispose(id)).reply();
-    }
-
-    /**
      * The job begins again from the latest record, in its shape. Who starts tasks in a job with names needs the term that the restore begins: that
      * is in the outcome of {@code call(StoreCall.restoreLatest())}, and so for each other restore.
      *
@@ -395,15 +406,6 @@ public final class Store implements AutoCloseable {
      */
     public Reply.Restore restoreSavepoint(long id) {
         return (Reply.Restore) call(StoreCall.restoreSavepoint(id)).reply();
-    }
-
-    /**
-     * The job ends for good.
-     *
-     * @return how many records were dropped, and how many files released
-     */
-    public Reply.Cancelled cancel() {
-        return (Reply.Cancelled) call(StoreCall.cancel()).reply();
     }
 
     /**

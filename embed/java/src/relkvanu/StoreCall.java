@@ -42,6 +42,7 @@ public final class StoreCall {
         return it;
     }
 
+    // embed/bindings makes the calls of one number
     /**
      * {@return a tick}
      */
@@ -55,6 +56,41 @@ public final class StoreCall {
     public static StoreCall savepoint() {
         return of(Header.CALL_SAVEPOINT, 0);
     }
+
+    /**
+     * {@return the disposal of a completed savepoint}
+     *
+     * @param id the savepoint
+     */
+    public static StoreCall dispose(long id) {
+        return of(Header.CALL_DISPOSE, id);
+    }
+
+    /**
+     * {@return the end of the job for good}
+     */
+    public static StoreCall cancel() {
+        return of(Header.CALL_CANCEL, 0);
+    }
+
+    /**
+     * {@return the report of a deleted file}
+     *
+     * @param file the file
+     */
+    public static StoreCall deleted(long file) {
+        return of(Header.CALL_DELETED, file);
+    }
+
+    /**
+     * {@return the report of a file that could not be deleted}
+     *
+     * @param file the file
+     */
+    public static StoreCall undeleted(long file) {
+        return of(Header.CALL_UNDELETED, file);
+    }
+    // embed/bindings: end
 
     /**
      * {@return an acknowledgement, as {@link Coordinator#ack}}
@@ -136,15 +172,6 @@ public final class StoreCall {
     }
 
     /**
-     * {@return the disposal of a completed savepoint}
-     *
-     * @param id the savepoint
-     */
-    public static StoreCall dispose(long id) {
-        return of(Header.CALL_DISPOSE, id);
-    }
-
-    /**
      * {@return a restore from the latest record, in its shape}
      */
     public static StoreCall restoreLatest() {
@@ -180,37 +207,12 @@ public final class StoreCall {
     }
 
     /**
-     * {@return the end of the job for good}
-     */
-    public static StoreCall cancel() {
-        return of(Header.CALL_CANCEL, 0);
-    }
-
-    /**
      * {@return a take of files that wait for deletion, at most 2<sup>20</sup>}
      *
      * @param most the most files
      */
     public static StoreCall take(int most) {
         return of(Header.CALL_TAKE, Math.min(Checks.natural(most, "a number of files"), 1 << 20));
-    }
-
-    /**
-     * {@return the report of a deleted file}
-     *
-     * @param file the file
-     */
-    public static StoreCall deleted(long file) {
-        return of(Header.CALL_DELETED, file);
-    }
-
-    /**
-     * {@return the report of a file that could not be deleted}
-     *
-     * @param file the file
-     */
-    public static StoreCall undeleted(long file) {
-        return of(Header.CALL_UNDELETED, file);
     }
 
     private int room() {

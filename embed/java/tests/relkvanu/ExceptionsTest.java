@@ -86,8 +86,11 @@ class ExceptionsTest {
 
     @Test
     void whichLibrariesFit() {
-        assertTrue(Library.fits(Header.VERSION) && Library.fits(Header.VERSION_MAJOR + "." + Header.VERSION_MINOR + "." + (Header.VERSION_PATCH + 1)));
-        for (String other : List.of("", "0", "0.1", "0.1.x", "1.1.0", "0.2.0", "0.99.0", "9.8.7", "0.1.0.0", Header.VERSION_MAJOR + "." + Header.VERSION_MINOR + "." + (Header.VERSION_PATCH - 1))) {
+        int major = Header.VERSION_MAJOR, minor = Header.VERSION_MINOR, patch = Header.VERSION_PATCH;
+        String series = major + "." + minor;
+        assertTrue(Library.fits(Header.VERSION) && Library.fits(series + "." + (patch + 1)));
+        for (String other : List.of("", major + "", series, series + ".x", series + "." + (patch - 1), Header.VERSION + ".0", major + "." + (minor - 1) + ".0", major + "." + (minor + 1) + ".0",
+                (major + 1) + "." + minor + ".0", "0.99.0", "9.8.7")) {
             assertFalse(Library.fits(other), other);
         }
     }

@@ -2,12 +2,14 @@ package relkvanu;
 
 import java.io.IOException;
 import java.io.UncheckedIOException;
+import java.lang.reflect.RecordComponent;
 import java.nio.charset.StandardCharsets;
 import java.nio.file.Files;
 import java.nio.file.Path;
 import java.util.ArrayList;
 import java.util.Arrays;
 import java.util.List;
+import java.util.Locale;
 import java.util.Map;
 import java.util.Optional;
 import java.util.function.Function;
@@ -53,6 +55,19 @@ final class Script {
         prints(Reply.Reserved.class, it -> "reserved " + it.first());
         prints(Reply.Forfeited.class, it -> "forfeited");
         prints(Reply.Named.class, it -> "term 1");
+    }
+
+    /** A reply without words of its own here: its name and its numbers, as in "paused 7". */
+    private static String plain(Reply reply) {
+        StringBuilder text = new StringBuilder(reply.getClass().getSimpleName().replaceAll("(?<=.)([A-Z])", " $1").toLowerCase(Locale.ROOT));
+        try {
+            for (RecordComponent it : reply.getClass().getRecordComponents()) {
+                text.append(' ').append(FileNumbers.toString((long) it.getAccessor().invoke(reply)));
+            }
+        } catch (ReflectiveOperationException fault) {
+            throw new AssertionError(reply.toString(), fault);
+        }
+        return text.toString();
     }
 
     private static String spaced(long[] files) {
@@ -107,7 +122,7 @@ final class Script {
     /** What a line prints. */
     Optional<String> printed(Function<byte[], Optional<Reply>> make, int place) {
         try {
-            return make.apply(lines.get(place)).map(it -> TEXTS.get(it.getClass()).apply(it));
+            return make.apply(lines.get(place)).map(it -> TEXTS.getOrDefault(it.getClass(), Script::plain).apply(it));
         } catch (CoordinatorException.BadLine fault) {
             return fault.fault() == LineFault.NO_CALL ? Optional.empty() : Optional.of("line " + (place + 1) + " fault " + fault.getMessage());
         } catch (CoordinatorException.Refused | CoordinatorException.BadArgument fault) {

@@ -1,5 +1,6 @@
 package relkvanu;
 
+import java.lang.reflect.InvocationTargetException;
 import java.nio.charset.StandardCharsets;
 import java.util.Arrays;
 import java.util.Optional;
@@ -90,7 +91,7 @@ final class Words {
             case "reserve" -> job.reserve(number(1), number(2));
             case "forfeit" -> job.forfeit(number(1), numbers(2).toArray());
             case "in" -> inTerm().callIn(job, number(1));
-            default -> throw new AssertionError(words[0]);
+            default -> (Reply) byName(Coordinator.class, job);
         };
     }
 
@@ -120,8 +121,19 @@ final class Words {
             case "reserve" -> Lines.reserve(number(1), number(2));
             case "forfeit" -> Lines.forfeit(number(1), numbers(2).toArray());
             case "in" -> inTerm().writtenIn(number(1));
-            default -> throw new AssertionError(words[0]);
+            default -> (String) byName(Lines.class, null);
         };
+    }
+
+    /** Makes the call of the first word, which takes one number. */
+    private Object byName(Class<?> owner, Object job) {
+        try {
+            return owner.getMethod(words[0], long.class).invoke(job, number(1));
+        } catch (InvocationTargetException fault) {
+            throw (CoordinatorException) fault.getCause();
+        } catch (ReflectiveOperationException fault) {
+            throw new AssertionError(words[0], fault);
+        }
     }
 
     private String restoreLine() {

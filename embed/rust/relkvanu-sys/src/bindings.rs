@@ -284,6 +284,16 @@ pub struct relkvanu_call {
     pub term: u64,
 }
 
+#[repr(C)]
+#[derive(Clone, Copy, Debug)]
+pub struct relkvanu_made {
+    pub written: u64,
+    pub waited: u64,
+    pub in_use: u64,
+    pub waiting: u64,
+    pub taken: u64,
+}
+
 extern "C" {
     /// The version of the library that is linked, as RELKVANU_VERSION.
     pub fn relkvanu_version() -> *const c_char;
@@ -441,6 +451,21 @@ extern "C" {
         second_len: usize,
         line: *mut u8,
         line_len: usize,
+    ) -> relkvanu_answer;
+
+    /// Makes a call and writes its line: what relkvanu_call_line and then relkvanu_line do, in one call and without reading the line. It is for programs that log each call which was made. call, first and second are those of relkvanu_call_line. The line has no newline and no zero at its end. A take writes the files that it fetches to the start of files. The first of these that applies: RELKVANU_CLOSED; RELKVANU_BAD_ARGUMENT with RELKVANU_BAD_KIND or RELKVANU_BAD_SHAPE; RELKVANU_BAD_LINE with RELKVANU_FAULT_TOO_LONG if the line would be too long; RELKVANU_TOO_SHORT with a 0, and b is how many bytes line needs; what relkvanu_line returns for the line. So RELKVANU_TOO_SHORT with b 0 is that of a take, and a is how many places files needs, or of a show, which returns what relkvanu_show returns with an empty buffer. Only an answer with RELKVANU_DONE changes the handle, files, line or made. Takes memory for the line, and as relkvanu_line does.
+    pub fn relkvanu_make(
+        handle: *mut relkvanu,
+        call: *const relkvanu_call,
+        first: *const u64,
+        first_len: usize,
+        second: *const u64,
+        second_len: usize,
+        files: *mut u64,
+        files_len: usize,
+        line: *mut u8,
+        line_len: usize,
+        made: *mut relkvanu_made,
     ) -> relkvanu_answer;
 
     /// Writes the lines config, job and start of a coordinator whose first record has the number 1, each with its newline. RELKVANU_WRITTEN; RELKVANU_TOO_SHORT, and a is how many bytes it needs; RELKVANU_BAD_ARGUMENT if relkvanu_open returns it, with the same argument: RELKVANU_BAD_CONFIG, RELKVANU_BAD_SHAPE or RELKVANU_BAD_MOMENT. Only RELKVANU_WRITTEN changes the buffer. Takes memory.

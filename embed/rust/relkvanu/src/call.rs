@@ -80,12 +80,33 @@ impl CallKind {
 /// A call for a log. Its line reads back as this call. A term is at least 1: 0 stands for none.
 #[derive(Clone, Copy, Debug, PartialEq, Eq, Hash)]
 pub enum Call<'a> {
+    // embed/bindings makes the calls of one number
     Tick {
         now: u64,
     },
     Savepoint {
         now: u64,
     },
+    Dispose {
+        id: u64,
+    },
+    Cancel {
+        now: u64,
+    },
+    Deleted {
+        file: u64,
+    },
+    Undeleted {
+        file: u64,
+    },
+    Count {
+        file: u64,
+    },
+    /// From this call on the job gives out names, from this one on.
+    Fence {
+        first_name: u64,
+    },
+    // embed/bindings: end
     Ack {
         now: u64,
         id: u64,
@@ -98,35 +119,16 @@ pub enum Call<'a> {
         id: u64,
         subtask: (u16, u16),
     },
-    Dispose {
-        id: u64,
-    },
     Restore {
         now: u64,
         savepoint: Option<NonZeroU64>,
         shape: Option<&'a [u64]>,
     },
-    Cancel {
-        now: u64,
-    },
     Take {
         most: u64,
     },
-    Deleted {
-        file: u64,
-    },
-    Undeleted {
-        file: u64,
-    },
     Show {
         id: u64,
-    },
-    Count {
-        file: u64,
-    },
-    /// From this call on the job gives out names, from this one on.
-    Fence {
-        first_name: u64,
     },
     /// A task of this term reserves so many names.
     Reserve {
@@ -234,8 +236,16 @@ impl<'a> Call<'a> {
         } = call;
         let subtask = (vertex, index);
         Some(match CallKind::of(kind) {
+            // embed/bindings makes what reads the calls of one number
             CallKind::Tick => Call::Tick { now },
             CallKind::Savepoint => Call::Savepoint { now },
+            CallKind::Dispose => Call::Dispose { id: number },
+            CallKind::Cancel => Call::Cancel { now },
+            CallKind::Deleted => Call::Deleted { file: number },
+            CallKind::Undeleted => Call::Undeleted { file: number },
+            CallKind::Count => Call::Count { file: number },
+            CallKind::Fence => Call::Fence { first_name: number },
+            // embed/bindings: end
             CallKind::Ack => Call::Ack {
                 now,
                 id: number,
@@ -248,19 +258,13 @@ impl<'a> Call<'a> {
                 id: number,
                 subtask,
             },
-            CallKind::Dispose => Call::Dispose { id: number },
             CallKind::Restore => Call::Restore {
                 now,
                 savepoint: NonZeroU64::new(number),
                 shape: (!first.is_empty()).then_some(first),
             },
-            CallKind::Cancel => Call::Cancel { now },
             CallKind::Take => Call::Take { most: number },
-            CallKind::Deleted => Call::Deleted { file: number },
-            CallKind::Undeleted => Call::Undeleted { file: number },
             CallKind::Show => Call::Show { id: number },
-            CallKind::Count => Call::Count { file: number },
-            CallKind::Fence => Call::Fence { first_name: number },
             CallKind::Reserve => Call::Reserve {
                 term,
                 count: number,
@@ -272,12 +276,7 @@ impl<'a> Call<'a> {
 
     /// The line of the call, without a newline. A line that would be too long is a [`Fault::BadLine`]. None is cut.
     pub fn line(&self) -> Result<String, Fault> {
-        if let Call::Restore {
-            shape: Some([]), ..
-        } = self
-        {
-            return Err(Fault::BadShape);
-        }
+        self.check_shape()?;
         check_library()?;
         let call = self.fields();
         let (first, second) = self.lists();
@@ -295,6 +294,16 @@ impl<'a> Call<'a> {
                 )
             }
         })
+    }
+
+    /// An empty shape is a bad one: the library takes it for none.
+    pub(crate) fn check_shape(&self) -> Result<(), Fault> {
+        match self {
+            Call::Restore {
+                shape: Some([]), ..
+            } => Err(Fault::BadShape),
+            _ => Ok(()),
+        }
     }
 
     pub(crate) fn lists(&self) -> (&[u64], &[u64]) {
@@ -322,23 +331,25 @@ impl<'a> Call<'a> {
         };
         let in_term = |term, call| sys::relkvanu_call { term, ..call };
         match *self {
+            // embed/bindings makes what writes the calls of one number
             Call::Tick { now } => of(CallKind::Tick, now, 0),
             Call::Savepoint { now } => of(CallKind::Savepoint, now, 0),
+            Call::Dispose { id } => of(CallKind::Dispose, 0, id),
+            Call::Cancel { now } => of(CallKind::Cancel, now, 0),
+            Call::Deleted { file } => of(CallKind::Deleted, 0, file),
+            Call::Undeleted { file } => of(CallKind::Undeleted, 0, file),
+            Call::Count { file } => of(CallKind::Count, 0, file),
+            Call::Fence { first_name } => of(CallKind::Fence, 0, first_name),
+            // embed/bindings: end
             Call::Ack {
                 now, id, subtask, ..
             } => part(CallKind::Ack, now, id, subtask),
             Call::Decline { now, id, subtask } => part(CallKind::Decline, now, id, subtask),
-            Call::Dispose { id } => of(CallKind::Dispose, 0, id),
             Call::Restore { now, savepoint, .. } => {
                 of(CallKind::Restore, now, savepoint.map_or(0, NonZeroU64::get))
             }
-            Call::Cancel { now } => of(CallKind::Cancel, now, 0),
             Call::Take { most } => of(CallKind::Take, 0, most),
-            Call::Deleted { file } => of(CallKind::Deleted, 0, file),
-            Call::Undeleted { file } => of(CallKind::Undeleted, 0, file),
             Call::Show { id } => of(CallKind::Show, 0, id),
-            Call::Count { file } => of(CallKind::Count, 0, file),
-            Call::Fence { first_name } => of(CallKind::Fence, 0, first_name),
             Call::Reserve { term, count } => in_term(term, of(CallKind::Reserve, 0, count)),
             Call::Forfeit { term, .. } => in_term(term, of(CallKind::Forfeit, 0, 0)),
             Call::AckIn {

@@ -57,6 +57,8 @@ pub struct Coordinator {
     /// Bytes that the next image probably fits: a buffer that is too short costs a second image.
     image_room: Cell<usize>,
     most_ahead: u64,
+    /// The greatest moment when it was last asked for. The one of now is not below it.
+    seen: Cell<u64>,
 }
 
 /// Milliseconds.
@@ -165,6 +167,7 @@ impl Coordinator {
             }),
             image_room: Cell::new(256),
             most_ahead: DAY,
+            seen: Cell::new(0),
         };
         // the system's random source, which std keeps for its own maps
         let words = RandomState::new();
@@ -179,6 +182,7 @@ impl Coordinator {
             handle: UnsafeCell::new(handle),
             image_room: Cell::new(256),
             most_ahead: DAY,
+            seen: Cell::new(0),
         }
     }
 
@@ -202,9 +206,14 @@ impl Coordinator {
         self.most_ahead = milliseconds;
     }
 
-    fn check_moment(&self, now: u64) -> Result<(), Fault> {
+    /// Asks the library only if a longer time than `most_ahead` has passed since it was asked.
+    pub(crate) fn check_moment(&self, now: u64) -> Result<(), Fault> {
         let past = now.saturating_sub(self.most_ahead);
-        let is_ahead = past > self.moment()
+        if past <= self.seen.get() {
+            return Ok(());
+        }
+        self.seen.set(self.moment());
+        let is_ahead = past > self.seen.get()
             && past > self.due()
             && past > self.oldest_expiry().unwrap_or_default();
         match is_ahead && now <= LAST_MOMENT {
@@ -213,6 +222,7 @@ impl Coordinator {
         }
     }
 
+    // embed/bindings makes the calls of one number
     /// Time has passed: records past their timeout expire, and a checkpoint is triggered if one is due.
     pub fn tick(&mut self, now: u64) -> Called {
         self.check_moment(now)?;
@@ -226,6 +236,32 @@ impl Coordinator {
         // SAFETY: as in `tick`.
         called(unsafe { sys::relkvanu_savepoint(self.handle(), now) })
     }
+
+    /// A user disposes of a completed savepoint.
+    pub fn dispose(&mut self, id: u64) -> Called {
+        // SAFETY: as in `tick`.
+        called(unsafe { sys::relkvanu_dispose(self.handle(), id) })
+    }
+
+    /// The job ends for good.
+    pub fn cancel(&mut self, now: u64) -> Called {
+        self.check_moment(now)?;
+        // SAFETY: as in `tick`.
+        called(unsafe { sys::relkvanu_cancel(self.handle(), now) })
+    }
+
+    /// A fetched file is deleted.
+    pub fn deleted(&mut self, file: u64) -> Called {
+        // SAFETY: as in `tick`.
+        called(unsafe { sys::relkvanu_deleted(self.handle(), file) })
+    }
+
+    /// A fetched file could not be deleted: it waits again.
+    pub fn undeleted(&mut self, file: u64) -> Called {
+        // SAFETY: as in `tick`.
+        called(unsafe { sys::relkvanu_undeleted(self.handle(), file) })
+    }
+    // embed/bindings: end
 
     /// The acknowledgement of a subtask, which is a vertex and an index. It wrote the fresh files, and names the reused
     /// ones again. The files may come in any order, at most 4096 in all.
@@ -266,12 +302,6 @@ impl Coordinator {
         called(unsafe { sys::relkvanu_decline(self.handle(), now, id, subtask.0, subtask.1) })
     }
 
-    /// A user disposes of a completed savepoint.
-    pub fn dispose(&mut self, id: u64) -> Called {
-        // SAFETY: as in `tick`.
-        called(unsafe { sys::relkvanu_dispose(self.handle(), id) })
-    }
-
     /// Restores the job from a savepoint, or from the latest record if `None` is given. `shape` may give a new shape.
     /// An empty shape is a bad one. A bad shape is reported before any refusal.
     pub fn restore(
@@ -297,32 +327,13 @@ impl Coordinator {
         })
     }
 
-    /// The job ends for good.
-    pub fn cancel(&mut self, now: u64) -> Called {
-        self.check_moment(now)?;
-        // SAFETY: as in `tick`.
-        called(unsafe { sys::relkvanu_cancel(self.handle(), now) })
-    }
-
     /// Fetches files that wait for deletion, at most as many as the buffer has places, and returns those that it wrote
     /// there. Report each by [`deleted`](Self::deleted) or [`undeleted`](Self::undeleted). A repeated acknowledgement
     /// that comes late may hand out a file that no longer exists: report it as deleted.
     pub fn take<'a>(&mut self, files: &'a mut [u64]) -> Result<&'a [u64], Fault> {
         // SAFETY: as in `tick`; the buffer is borrowed for writing, and has as many places as is said.
         let told = unsafe { sys::relkvanu_take(self.handle(), files.as_mut_ptr(), files.len()) };
-        done(told).map(|told| &files[..told.a as usize])
-    }
-
-    /// A fetched file is deleted.
-    pub fn deleted(&mut self, file: u64) -> Called {
-        // SAFETY: as in `tick`.
-        called(unsafe { sys::relkvanu_deleted(self.handle(), file) })
-    }
-
-    /// A fetched file could not be deleted: it waits again.
-    pub fn undeleted(&mut self, file: u64) -> Called {
-        // SAFETY: as in `tick`.
-        called(unsafe { sys::relkvanu_undeleted(self.handle(), file) })
+        reply(told, sys::RELKVANU_TAKEN).map(|told| &files[..told.a as usize])
     }
 }
 

@@ -3,6 +3,7 @@ use crate::lines::LineFault;
 use relkvanu_sys as sys;
 use std::error::Error;
 use std::fmt;
+use std::sync::OnceLock;
 
 // embed/bindings makes the refusals
 /// Why a call was refused: the first of these that applies.
@@ -334,14 +335,17 @@ impl Fault {
 }
 
 /// Says whether the linked library fits the header that the crate was made from: the first two numbers of the versions are the
-/// same.
+/// same. A program asks the library once.
 pub(crate) fn check_library() -> Result<(), Fault> {
-    let series = |version: &'static str| version.rsplit_once('.').map(|(series, _)| series);
-    let library = crate::version();
-    match series(library) == series(sys::RELKVANU_VERSION) {
-        true => Ok(()),
-        false => Err(Fault::OtherLibrary { library }),
-    }
+    static FITS: OnceLock<Result<(), Fault>> = OnceLock::new();
+    *FITS.get_or_init(|| {
+        let series = |version: &'static str| version.rsplit_once('.').map(|(series, _)| series);
+        let library = crate::version();
+        match series(library) == series(sys::RELKVANU_VERSION) {
+            true => Ok(()),
+            false => Err(Fault::OtherLibrary { library }),
+        }
+    })
 }
 
 impl From<Refusal> for Fault {
@@ -422,9 +426,13 @@ pub(crate) fn text_in(
             bytes = vec![0; told.a as usize];
             continue;
         }
-        bytes.truncate(done(told)?.a as usize);
-        // the bytes become the text: a copy of a long image takes milliseconds
-        let text = String::from_utf8(bytes);
-        return Ok(text.unwrap_or_else(|why| String::from_utf8_lossy(why.as_bytes()).into_owned()));
+        return Ok(text_of(bytes, done(told)?.a as usize));
     }
+}
+
+/// The text that was written to the start of a buffer, whose bytes become the text: a copy of a long image takes milliseconds.
+pub(crate) fn text_of(mut bytes: Vec<u8>, len: usize) -> String {
+    bytes.truncate(len);
+    let text = String::from_utf8(bytes);
+    text.unwrap_or_else(|why| String::from_utf8_lossy(why.as_bytes()).into_owned())
 }

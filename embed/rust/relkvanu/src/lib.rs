@@ -36,11 +36,11 @@ pub use call::Call;
 pub use coordinator::{Coordinator, Settings};
 pub use discarder::{Discarded, Discarder, Outbox, Patience};
 pub use fault::*;
-pub use lines::{opening_lines, Line, LineFault, Said};
+pub use lines::{opening_lines, Line, LineFault, Made, Said};
 pub use parse::ParseError;
 pub use shared::SharedCoordinator;
 
-/// The version of the linked library, such as "0.1.0".
+/// The version of the linked library: three numbers, such as "1.2.3".
 pub fn version() -> &'static str {
     // SAFETY: the library returns a string of its own, which ends with a zero and never changes.
     let text = unsafe { std::ffi::CStr::from_ptr(relkvanu_sys::relkvanu_version()) };

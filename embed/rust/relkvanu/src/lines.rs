@@ -1,8 +1,8 @@
 //! Lines of a script (`docs/SCRIPT.md`) and of a log with names (`docs/LOGS.md`), which the library writes and reads.
-use crate::answer::{self, Answer};
+use crate::answer::{self, Answer, FileCounts};
 use crate::call::Call;
 use crate::coordinator::{Coordinator, Settings};
-use crate::fault::{check_library, done, text, Fault};
+use crate::fault::{check_library, done, text, text_of, Fault};
 use relkvanu_sys as sys;
 use std::error::Error;
 use std::fmt;
@@ -75,6 +75,19 @@ pub enum Said<'a> {
     Taken(&'a [u64]),
     /// The metadata of the record, as JSON.
     Shown(String),
+}
+
+/// What a call did, and the line that says it.
+#[derive(Clone, Debug, PartialEq, Eq)]
+pub struct Made<'a> {
+    pub said: Said<'a>,
+    /// The line of the call, without a newline.
+    pub line: String,
+    /// How many files waited for deletion before the call. The files that it released are at the places from this one on
+    /// ([`waiting_file`](Coordinator::waiting_file)).
+    pub waited: u64,
+    /// The numbers of files after the call.
+    pub counts: FileCounts,
 }
 
 /// Which line it is, with the numbers of one that makes no call.
@@ -163,7 +176,101 @@ pub fn opening_lines(settings: &Settings, shape: &[u64], now: u64) -> Result<Str
     })
 }
 
+/// No line has more bytes.
+const LONGEST: usize = 131_072;
+
 impl Coordinator {
+    /// Makes a call, and returns what it did with its line, for a program that logs the calls that were made. It is one call of the
+    /// library, where [`Call::line`] and [`line`](Self::line) are two.
+    ///
+    /// A [`Fault`] has changed nothing: a line that would be too long is a [`Fault::BadLine`], and a take that would fetch more files
+    /// than the buffer has places a [`Fault::TooShort`]. A moment that is far ahead is refused, as it is by the function of the call.
+    pub fn make<'a>(&mut self, call: &Call<'_>, files: &'a mut [u64]) -> Result<Made<'a>, Fault> {
+        call.check_shape()?;
+        self.check_moment(call.fields().now)?;
+        if let Call::Show { id } = call {
+            return self.shown(call, *id);
+        }
+        let (first, second) = call.lists();
+        // a word of an acknowledgement has at most 22 bytes, and what is before its files at most 86
+        let mut room = (128 + 22 * (first.len() + second.len())).min(LONGEST);
+        loop {
+            let (told, line, made) = self.make_into(call, files, vec![0; room]);
+            if told.code == sys::RELKVANU_TOO_SHORT && told.b != 0 {
+                room = told.b as usize;
+                continue;
+            }
+            let told = done(told)?;
+            let said = match told.what {
+                sys::RELKVANU_TAKEN => Said::Taken(&files[..told.a as usize]),
+                _ => Said::Called(answer::answer(told)?),
+            };
+            let counts = FileCounts {
+                in_use: made.in_use,
+                waiting: made.waiting,
+                taken: made.taken,
+            };
+            let (line, waited) = (text_of(line, made.written as usize), made.waited);
+            return Ok(Made {
+                said,
+                line,
+                waited,
+                counts,
+            });
+        }
+    }
+
+    /// The answer, the buffer for the line, and what the call leaves.
+    fn make_into(
+        &mut self,
+        call: &Call<'_>,
+        files: &mut [u64],
+        mut line: Vec<u8>,
+    ) -> (sys::relkvanu_answer, Vec<u8>, sys::relkvanu_made) {
+        let mut made = sys::relkvanu_made {
+            written: 0,
+            waited: 0,
+            in_use: 0,
+            waiting: 0,
+            taken: 0,
+        };
+        let (fields, (first, second)) = (call.fields(), call.lists());
+        // SAFETY: the handle is as the library last left it, and `&mut self` keeps other calls away; the fields, the slices and the
+        // buffers outlive the call, none overlaps another, and each has as many elements as is said.
+        let told = unsafe {
+            sys::relkvanu_make(
+                self.handle(),
+                &fields,
+                first.as_ptr(),
+                first.len(),
+                second.as_ptr(),
+                second.len(),
+                files.as_mut_ptr(),
+                files.len(),
+                line.as_mut_ptr(),
+                line.len(),
+                &mut made,
+            )
+        };
+        (told, line, made)
+    }
+
+    /// A show, whose metadata is written into a buffer of its own.
+    fn shown<'a>(&mut self, call: &Call<'_>, id: u64) -> Result<Made<'a>, Fault> {
+        let (said, line, counts) = (
+            Said::Shown(self.show(id)?),
+            call.line()?,
+            self.file_counts(),
+        );
+        let waited = counts.waiting;
+        Ok(Made {
+            said,
+            line,
+            waited,
+            counts,
+        })
+    }
+
     /// Makes the call of a line: the bytes before its newline. A carriage return at the end is dropped.
     ///
     /// A `take` line fetches at most as many files as it says into the buffer. If it would fetch more than the buffer

@@ -1,8 +1,9 @@
 //! The coordinator of one job, for any number of threads.
 use crate::answer::{Answer, Choice, FileCounts, Garbage, Live, Mode, RunningTerm, Standing};
+use crate::call::Call;
 use crate::coordinator::{Coordinator, Settings};
 use crate::fault::Fault;
-use crate::lines::Said;
+use crate::lines::{Made, Said};
 use std::num::NonZeroU64;
 use std::ops::Range;
 use std::sync::{Arc, Condvar, Mutex, MutexGuard, PoisonError};
@@ -126,6 +127,7 @@ impl SharedCoordinator {
 /// The calls and reads of [`Coordinator`], each under the lock. `next_tick` is not among them: it belongs to the tick before it, so
 /// both are made under one lock, by [`with`](Self::with).
 impl SharedCoordinator {
+    // embed/bindings makes the calls of one number
     pub fn tick(&self, now: u64) -> Called {
         self.with(|it| it.tick(now))
     }
@@ -133,6 +135,23 @@ impl SharedCoordinator {
     pub fn savepoint(&self, now: u64) -> Called {
         self.with(|it| it.savepoint(now))
     }
+
+    pub fn dispose(&self, id: u64) -> Called {
+        self.quietly(|it| it.dispose(id))
+    }
+
+    pub fn cancel(&self, now: u64) -> Called {
+        self.with(|it| it.cancel(now))
+    }
+
+    pub fn deleted(&self, file: u64) -> Called {
+        self.quietly(|it| it.deleted(file))
+    }
+
+    pub fn undeleted(&self, file: u64) -> Called {
+        self.quietly(|it| it.undeleted(file))
+    }
+    // embed/bindings: end
 
     /// [`Coordinator::ack`] says who may then delete the files.
     pub fn ack(
@@ -192,10 +211,6 @@ impl SharedCoordinator {
         self.read(|it| it.garbage(files))
     }
 
-    pub fn dispose(&self, id: u64) -> Called {
-        self.quietly(|it| it.dispose(id))
-    }
-
     pub fn restore(
         &self,
         now: u64,
@@ -205,20 +220,13 @@ impl SharedCoordinator {
         self.with(|it| it.restore(now, savepoint, shape))
     }
 
-    pub fn cancel(&self, now: u64) -> Called {
-        self.with(|it| it.cancel(now))
-    }
-
     pub fn take<'a>(&self, files: &'a mut [u64]) -> Result<&'a [u64], Fault> {
         self.quietly(|it| it.take(files))
     }
 
-    pub fn deleted(&self, file: u64) -> Called {
-        self.quietly(|it| it.deleted(file))
-    }
-
-    pub fn undeleted(&self, file: u64) -> Called {
-        self.quietly(|it| it.undeleted(file))
+    /// Makes a call, and returns its line too: [`Coordinator::make`].
+    pub fn make<'a>(&self, call: &Call<'_>, files: &'a mut [u64]) -> Result<Made<'a>, Fault> {
+        self.with(|it| it.make(call, files))
     }
 
     /// Makes the call of a line: [`Coordinator::line`].

@@ -106,11 +106,19 @@ fn make_checkpoint_3(job: &mut Coordinator) {
     );
     told(job, true, |it| it.tick(2000), triggered(3));
     told(job, true, |it| it.ack(2100, 3, (0, 0), &[4], &[1]), PENDING);
+    let last = Call::Ack {
+        now: 2100,
+        id: 3,
+        subtask: (0, 1),
+        fresh: &[5],
+        reused: &[],
+    };
+    let line = String::from("ack 2100 3 0.1 +5");
     told(
         job,
         true,
-        |it| it.ack(2100, 3, (0, 1), &[5], &[]),
-        completed(1, 2),
+        |it| it.make(&last, &mut []).map(|made| (made.said, made.line)),
+        (Said::Called(completed(1, 2)), line),
     );
 }
 

@@ -94,11 +94,36 @@ fn is_written_again(line: &[u8]) -> bool {
     true
 }
 
+/// Makes the call of a line with its line, on a job that is as the other was before it. The other has made the line. Returns whether the
+/// line says a call.
+fn is_made_alike(job: &mut Coordinator, other: &Coordinator, line: &[u8]) -> bool {
+    let (mut first, mut second) = (Vec::new(), Vec::new());
+    let Ok(Some(call)) = Call::of(line, &mut first, &mut second) else {
+        // a restore to savepoint 0 is refused, and others make no call
+        assert!(job.line(line, &mut [0; 4096]).is_err() || Line::of(line) != Ok(Line::Call));
+        return false;
+    };
+    let (mut files, mut others) = (vec![0; 4096], vec![0; 4096]);
+    let (waited, mut copy) = (
+        job.file_counts().waiting,
+        Coordinator::open_saved(job.save().unwrap().as_bytes()).unwrap(),
+    );
+    let wanted = copy.line(line, &mut others);
+    let made = job.make(&call, &mut files);
+    assert_eq!(made.as_ref().map(|made| &made.said), wanted.as_ref());
+    if let Ok(made) = made {
+        assert_eq!(Ok(&made.line), call.line().as_ref());
+        assert_eq!((made.waited, made.counts), (waited, other.file_counts()));
+    }
+    assert_eq!(job.save(), other.save());
+    true
+}
+
 #[test]
 fn rows() {
     let folder = Path::new(env!("CARGO_MANIFEST_DIR")).join("../../../examples/rows");
     let others = std::fs::read_to_string(folder.join("OTHERS")).unwrap();
-    let (mut run, mut calls) = (0, 0);
+    let (mut run, mut calls, mut made) = (0, 0, 0);
     for entry in std::fs::read_dir(folder).unwrap() {
         let path = entry.unwrap().path();
         if path.extension().is_none_or(|extension| extension != "in") {
@@ -109,13 +134,15 @@ fn rows() {
         let name = path.file_stem().unwrap().to_str().unwrap();
         assert_eq!(job.is_none(), others.lines().any(|it| it == name), "{name}");
         let Some(mut job) = job else { continue };
-        let output: String = row
-            .lines
-            .iter()
-            .enumerate()
-            .filter_map(|(place, line)| told(&mut job, line, place + 1))
-            .map(|line| line + "\n")
-            .collect();
+        let mut other = opened(&row.lines).unwrap();
+        other.set_most_ahead(u64::MAX); // a line is not checked either
+        let mut output = String::new();
+        for (place, line) in row.lines.iter().enumerate() {
+            if let Some(text) = told(&mut job, line, place + 1) {
+                output += &(text + "\n");
+            }
+            made += usize::from(is_made_alike(&mut other, &job, line));
+        }
         assert_eq!(output, row.wanted, "{}", path.display());
         calls += row
             .lines
@@ -125,6 +152,7 @@ fn rows() {
         run += 1;
     }
     assert!(run > 0 && calls > 0, "no row is a list of calls");
+    assert_eq!(made, calls);
 }
 
 #[test]
@@ -163,6 +191,68 @@ fn a_call_is_written_as_its_line() {
         shape: Some(&[]),
     };
     assert_eq!(empty.line(), Err(Fault::BadShape));
+}
+
+#[test]
+fn a_call_is_made_with_its_line() {
+    let mut job = Coordinator::open(&SETTINGS, &[1], 0, 1).unwrap();
+    let tick = job.make(&Call::Tick { now: 1000 }, &mut []).unwrap();
+    let triggered = Answer::Triggered { expired: 0, id: 1 };
+    assert_eq!(tick.said, Said::Called(triggered));
+    assert_eq!((tick.line.as_str(), tick.waited), ("tick 1000", 0));
+    let late = Call::Ack {
+        now: 1100,
+        id: 1,
+        subtask: (0, 0),
+        fresh: &[12, 11],
+        reused: &[],
+    };
+    let made = job.make(&late, &mut []).unwrap();
+    assert_eq!(made.line, "ack 1100 1 0.0 +11 +12");
+    assert_eq!((made.waited, made.counts.in_use), (0, 2));
+    let cancel = job.make(&Call::Cancel { now: 1200 }, &mut []).unwrap();
+    assert_eq!((cancel.waited, cancel.counts.waiting), (0, 2));
+    let take = Call::Take { most: 9 };
+    let short = Err(Fault::TooShort { places: 2 });
+    assert_eq!(job.make(&take, &mut [0]), short);
+    let mut files = [0; 3];
+    let taken = job.make(&take, &mut files).unwrap();
+    assert_eq!(taken.said, Said::Taken(&[11, 12]));
+    assert_eq!((taken.waited, taken.counts.taken), (2, 2));
+    assert_eq!(files[2], 0);
+}
+
+#[test]
+fn a_call_that_is_refused_has_no_line() {
+    let mut job = Coordinator::open(&SETTINGS, &[1], 0, 1).unwrap();
+    let image = job.save();
+    let many: Vec<u64> = (0..9000).map(|place| u64::MAX - place).collect();
+    let ack = |fresh| Call::Ack {
+        now: 5,
+        id: 1,
+        subtask: (0, 0),
+        fresh,
+        reused: &[],
+    };
+    let shape = Some([].as_slice());
+    let savepoint = None;
+    let restore = Call::Restore {
+        now: 5,
+        savepoint,
+        shape,
+    };
+    let far = Call::Tick { now: 1 << 40 };
+    for (call, fault) in [
+        (ack(&many), Fault::BadLine(LineFault::TooLong)),
+        (ack(&many[..4097]), Refusal::TooManyFiles.into()),
+        (ack(&many[..1]), Refusal::UnknownCheckpoint.into()),
+        (restore, Fault::BadShape),
+        (far, Refusal::MomentTooLarge.into()),
+        (Call::Show { id: 7 }, Refusal::NoSuchRecord.into()),
+    ] {
+        assert_eq!(job.make(&call, &mut []), Err(fault));
+        assert_eq!(job.save(), image);
+    }
 }
 
 #[test]

@@ -56,6 +56,17 @@ fn an_answer_that_nobody_knows_is_an_error_and_no_panic() {
     assert_eq!(job.live(0).map(|it| it.kind), Some(Kind::Unknown(999)));
     assert_eq!(job.term(), Err(Fault::Fenced(Fenced::Unknown(999))));
     assert_eq!(job.reserve(1, 1), Err(done));
+    assert_eq!(job.take(&mut []), Err(done));
+    for told in [
+        job.savepoint(0),
+        job.dispose(1),
+        job.cancel(0),
+        job.deleted(1),
+        job.undeleted(1),
+        job.count(1),
+    ] {
+        assert_eq!(told, Err(done));
+    }
     assert!(done.to_string().contains("what 999"));
     assert_eq!(Fenced::Unknown(999).name(), "Unknown 999");
     assert_eq!(Refusal::Unknown(999).name(), "Unknown 999");
