@@ -40,6 +40,9 @@ MANUAL = $(wildcard service/deploy/man/*.1)
 .PHONY: library install uninstall dist first job demo programs check note clean
 
 library: $(LIBRARY) $(STORE)
+ifeq ($(STORE),)
+	@echo 'The durable coordinator is left out: libsqlite3-dev or zlib1g-dev is missing.'
+endif
 
 # A release has no crates: its library, its pages and the samples are there already, and nothing makes them again.
 ifneq ($(wildcard crates),)
@@ -103,7 +106,8 @@ install: $(LIBRARY) $(STORE) $(PAGES)/docs
 	if [ -x build/bin/relkvanu ]; then \
 	    $(INSTALL) -m 755 build/bin/relkvanu $(into)/bin && $(INSTALL) -m 644 $(MANUAL) $(into)/share/man/man1 && \
 	    $(INSTALL) -d $(into)/share/doc/relkvanu/deploy && \
-	    $(INSTALL) -m 644 service/deploy/*.service service/deploy/*.timer service/deploy/*.toml service/deploy/*.yml $(into)/share/doc/relkvanu/deploy || exit 1; \
+	    $(INSTALL) -m 644 service/deploy/*.service service/deploy/*.timer service/deploy/*.toml service/deploy/*.yml $(into)/share/doc/relkvanu/deploy && \
+	    $(INSTALL) -m 755 service/deploy/savepoint $(into)/share/doc/relkvanu/deploy || exit 1; \
 	fi
 	@[ -n "$(DESTDIR)" ] || echo "If programs are to find librelkvanu.so.0 in $(LIBDIR), run ldconfig as root, or set LD_LIBRARY_PATH."
 
