@@ -11,7 +11,7 @@ import pathlib
 import random
 import shutil
 import struct
-from typing import Callable, Dict, Iterable, Iterator, List, NamedTuple, Optional, Sequence, Tuple
+from typing import Callable, Dict, Iterable, Iterator, List, NamedTuple, Optional, Sequence, Set, Tuple
 
 SECTOR = 512
 HEADER = struct.Struct("<IIQQ")  # struct record of shim.c
@@ -152,17 +152,23 @@ class Disk:
         self.now: Dict[str, Entry] = {path: Folder() if it is None else File(it) for path, it in start.items()}
         self.kept = dict(self.now)
         self.waiting: List[Change] = []
+        self.gone: Set[str] = set()  # names that were taken away, and not given again
 
     def rename(self, place: int, names: Dict[str, Entry]) -> None:
         change = Change(place, parent(next(iter(names))), names)
         assert all(parent(path) == change.folder for path in names), f"a rename to another folder: {list(names)}"
         apply(self.now, change)
         self.waiting.append(change)
+        for path, entry in names.items():
+            (self.gone.add if isinstance(entry, Gone) else self.gone.discard)(path)
 
     def file(self, record: Record) -> File:
+        """One whose name another thread took away meanwhile is nobody's."""
         it = self.now.get(record.path)
-        if not isinstance(it, File):  # it was made by a call that was not seen
-            it = File()
+        if isinstance(it, File):
+            return it
+        it = File()
+        if record.path not in self.gone:  # it was made by a call that was not seen
             self.rename(record.place, {record.path: it})
         return it
 

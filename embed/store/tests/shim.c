@@ -22,6 +22,7 @@
 #include <link.h>
 #include <linux/filter.h>
 #include <linux/seccomp.h>
+#include <pthread.h>
 #include <signal.h>
 #include <stdarg.h>
 #include <stdbool.h>
@@ -56,6 +57,30 @@ static struct seen seen[DESCRIPTORS];
 static off_t written_to, synced_to; /* of the file that STORE_FAULT=grow is for */
 static long calls, faulty;
 static __thread unsigned seed;
+
+/* Held from a change of a name until the journal has it: threads change the same names. */
+static pthread_mutex_t names = PTHREAD_MUTEX_INITIALIZER;
+
+static void lock_names(void) {
+    pthread_mutex_lock(&names);
+}
+
+static void unlock_names(void) {
+    pthread_mutex_unlock(&names);
+}
+
+/* A fork waits for the name that another thread changes. */
+__attribute__((constructor)) static void fork_between_changes(void) {
+    pthread_atfork(lock_names, unlock_names, unlock_names);
+}
+
+/* Ends the process: the journal would say too little. */
+static void end_because(const char *why) {
+    char told[200];
+    int len = snprintf(told, sizeof told, "shim.c: %s: %s\n", why, strerror(errno));
+    syscall(SYS_write, STDERR_FILENO, told, len);
+    abort();
+}
 
 static long number(const char *name, long other) {
     return getenv(name) != NULL ? atol(getenv(name)) : other;
@@ -157,7 +182,7 @@ static void tell(enum kind kind, const char *path, uint64_t at, const void *byte
     struct record record = {kind, (uint32_t)strlen(path), at, len};
     struct iovec parts[] = {{&record, sizeof record}, {(void *)path, record.path_len}, {(void *)bytes, len}};
     if (to < 0 || syscall(SYS_writev, to, parts, 3) != (long)(sizeof record + record.path_len + len)) {
-        abort();
+        end_because("the journal can't be written");
     }
     syscall(SYS_close, to);
     errno = before;
@@ -186,22 +211,35 @@ static void wrote(int fd, const char *path, const void *bytes, ssize_t len, off_
     }
 }
 
-/* All bytes of a file that has more of them than were seen. */
+/* Whether the file has a name, and more bytes than were seen. */
+static bool has_unseen(int fd, struct stat *is) {
+    return fstat(fd, is) == 0 && S_ISREG(is->st_mode) && is->st_nlink > 0 &&
+           !(fd < DESCRIPTORS && seen[fd].inode == is->st_ino && seen[fd].end >= is->st_size);
+}
+
+/* All bytes of a file that has more of them than were seen. It may be open for writing alone, so it is opened again, by its descriptor:
+ * another thread may take its name away at any time. */
 static void tell_unseen(int fd, const char *path) {
+    char name[64];
     struct stat is;
-    if (getenv("STORE_JOURNAL") == NULL || fstat(fd, &is) != 0 || !S_ISREG(is.st_mode) ||
-        (fd < DESCRIPTORS && seen[fd].inode == is.st_ino && seen[fd].end >= is.st_size)) {
+    if (getenv("STORE_JOURNAL") == NULL) {
         return;
     }
-    char *bytes = malloc((size_t)is.st_size + 1);
-    int from = (int)syscall(SYS_openat, AT_FDCWD, path, O_RDONLY | O_CLOEXEC);
-    if (bytes == NULL || from < 0 || syscall(SYS_pread64, from, bytes, is.st_size, 0) != is.st_size) {
-        abort();
+    lock_names();
+    if (has_unseen(fd, &is)) {
+        snprintf(name, sizeof name, "/proc/self/fd/%d", fd);
+        char *bytes = malloc((size_t)is.st_size + 1);
+        int from = (int)syscall(SYS_openat, AT_FDCWD, name, O_RDONLY | O_CLOEXEC);
+        ssize_t len = bytes == NULL || from < 0 ? -1 : syscall(SYS_pread64, from, bytes, is.st_size, 0);
+        if (len < 0) {
+            end_because("a file that is synced can't be read");
+        }
+        tell(CONTAINS, path, 0, bytes, (size_t)len);
+        syscall(SYS_close, from);
+        free(bytes);
+        note(fd, len, true);
     }
-    tell(CONTAINS, path, 0, bytes, (size_t)is.st_size);
-    syscall(SYS_close, from);
-    free(bytes);
-    note(fd, is.st_size, true);
+    unlock_names();
 }
 
 static bool is_folder(int fd) {
@@ -382,10 +420,12 @@ int unlinkat(int at, const char *name, int flags) {
     if (is_in(path) && !changes(path)) {
         return -1;
     }
+    lock_names();
     int result = (int)syscall(SYS_unlinkat, at, name, flags);
     if (is_in(path) && result == 0) {
         tell(REMOVES, path, 0, NULL, 0);
     }
+    unlock_names();
     if (is_in(path)) {
         may_die(true);
     }
@@ -403,10 +443,12 @@ static int rename_of(int from, const char *name, int to, const char *other, unsi
     if (is_in(path) && !changes(path)) {
         return -1;
     }
+    lock_names();
     int result = (int)syscall(SYS_renameat2, from, name, to, other, flags);
     if (result == 0 && is_in(path)) {
         tell(RENAMES, path, 0, target, strlen(target));
     }
+    unlock_names();
     if (is_in(path)) {
         may_die(true);
     }
@@ -452,18 +494,45 @@ static void opened(int fd, const char *path, bool is_made, bool is_cut) {
     }
 }
 
+/* Opens a file, and makes it if it is not there, and asks for that. `is_made` gets whether it was. */
+static int open_or_make(int at, const char *name, int flags, int mode, bool *is_made) {
+    *is_made = false;
+    if ((flags & (O_CREAT | O_EXCL)) != O_CREAT) {
+        int result = (int)syscall(SYS_openat, at, name, flags, mode);
+        *is_made = result >= 0 && (flags & O_CREAT) != 0;
+        return result;
+    }
+    for (;;) {
+        int result = (int)syscall(SYS_openat, at, name, flags & ~O_CREAT, mode);
+        if (result >= 0 || errno != ENOENT) {
+            return result;
+        }
+        result = (int)syscall(SYS_openat, at, name, flags | O_EXCL, mode);
+        if (result >= 0 || errno != EEXIST) {
+            *is_made = result >= 0;
+            return result;
+        }
+    }
+}
+
 static int open_of(int at, const char *name, int flags, int mode) {
     char path[PATH];
     struct stat is;
     full_path(at, name, path);
-    bool is_ours = is_in(path), makes = (flags & O_CREAT) != 0 && is_ours && stat(path, &is) != 0;
+    bool is_ours = is_in(path), makes = (flags & O_CREAT) != 0 && is_ours && stat(path, &is) != 0, is_made;
+    if (!is_ours) {
+        return (int)syscall(SYS_openat, at, name, flags, mode);
+    }
     if (makes && !changes(path)) {
         return -1;
     }
-    int result = (int)syscall(SYS_openat, at, name, flags, mode);
-    if (is_ours && result >= 0 && (flags & O_ACCMODE) != O_RDONLY) {
-        opened(result, path, makes, (flags & O_TRUNC) != 0);
+    lock_names();
+    int before = errno, result = open_or_make(at, name, flags, mode, &is_made);
+    errno = result >= 0 ? before : errno;
+    if (result >= 0 && (flags & O_ACCMODE) != O_RDONLY) {
+        opened(result, path, is_made, (flags & O_TRUNC) != 0);
     }
+    unlock_names();
     if (makes && result >= 0) {
         may_die(true);
     }
@@ -510,10 +579,16 @@ static FILE *stream_of(const char *called, const char *name, const char *mode) {
     if (makes && !changes(path)) {
         return NULL;
     }
-    FILE *stream = real(name, mode);
-    if (is_ours && stream != NULL) {
-        opened(fileno(stream), path, makes, *mode == 'w');
+    if (!is_ours) {
+        return real(name, mode);
     }
+    lock_names();
+    bool is_made = stat(path, &is) != 0;
+    FILE *stream = real(name, mode);
+    if (stream != NULL) {
+        opened(fileno(stream), path, is_made, *mode == 'w');
+    }
+    unlock_names();
     return stream;
 }
 
