@@ -1,6 +1,6 @@
 //! The settings of a run, and why a run may fail.
 use crate::lines::tell_line;
-use ckpt_ids::{Config, Shape};
+use ckpt_ids::{Config, ConfigValues, Shape};
 use std::alloc::{AllocError, AllocFailed, Global};
 
 const FILES: &str = "the folder, a file in it or the script can't be read or written";
@@ -152,8 +152,16 @@ impl Settings {
 
     /// The configuration of the job, and its shape at the start.
     pub(crate) fn job(&self, alloc: Global) -> Result<(Config, Shape), DemoFault> {
-        let (interval, timeout, retained) = (self.interval, self.timeout, self.retained);
-        let Ok(config) = Config::new(interval, 0, 4, timeout, 1000, retained, false) else {
+        let values = ConfigValues {
+            interval: self.interval,
+            pause: 0,
+            at_once: 4,
+            timeout: self.timeout,
+            tolerable: 1000,
+            retained: self.retained,
+            keep_on_cancel: false,
+        };
+        let Ok(config) = Config::of(values) else {
             return Err(DemoFault::Limits);
         };
         Ok((config, self.shape(alloc, self.counters)?))

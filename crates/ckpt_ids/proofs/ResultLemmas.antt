@@ -1,10 +1,5 @@
 -- What follows for a result or an option from a test of it.
-use Rattle.ckpt_ids.proofs.Names.{Option, Some, None, IsSome, OnSome, Result, Ok, Err, OnOk, OnErr, ◌≡◌, true, false, refl, both_ways, is_err}
-
--- a fact that is known if there is no error holds for the `Ok`
-pub on_ok : {T E : Type 0} (r : Result T E) (P : Type 0) → is_err r ≡ false → OnOk r P → P
-on_ok (Ok x) P e h = h
-on_ok (Err x) P e h = absurd (both_ways true e refl)
+use Rattle.ckpt_ids.proofs.Names.{Option, Some, None, IsSome, OnSome, Result, Ok, Err, OnErr}
 
 -- a fact that is known if there is a value
 pub on_some : {X : Type 0} (r : Option X) (P : Type 0) → IsSome r → OnSome r P → P

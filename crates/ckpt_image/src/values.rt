@@ -11,7 +11,7 @@ use crate::fault::TextFault;
 use crate::fault::TextFault::NoImage;
 use crate::members::VERSION;
 use ckpt_core::Mode;
-use ckpt_ids::{Config, Kind};
+use ckpt_ids::{Config, ConfigValues, Kind};
 use serde_json::Value;
 
 /// The member of an object under this key.
@@ -127,7 +127,7 @@ pub(crate) fn config(value: &Value, key: &str) -> Result<Config, TextFault>
     let retained = number_at(value, "retained")?;
     let timeout = number_at(value, "timeout")?;
     let tolerable = number_at(value, "tolerable")?;
-    Config::new(
+    Config::of(ConfigValues {
         interval,
         pause,
         at_once,
@@ -135,7 +135,7 @@ pub(crate) fn config(value: &Value, key: &str) -> Result<Config, TextFault>
         tolerable,
         retained,
         keep_on_cancel,
-    )
+    })
     .ok()
     .ok_or(NoImage)
 }

@@ -8,7 +8,7 @@ ghost use Rattle.ckpt_log.specs.Logs.{in_script, log_called, log_done, log_fence
 use crate::outcome::{LogOutcome, LogRefusal};
 use crate::texts::write_log_outcome;
 use ckpt_core::{Core, CoreFault, Secret};
-use ckpt_ids::{Answer, Call, Config, Shape, ShapeFault};
+use ckpt_ids::{Answer, Call, Config, ConfigValues, Shape, ShapeFault};
 use ckpt_lines::{Line, LineFault, Numbers};
 use ckpt_session::{Outcome, ScriptRefusal, write_fault};
 use ckpt_term_lines::{TermLine, parse_term_line};
@@ -168,7 +168,7 @@ impl Log {
                 retained,
                 keep_on_cancel,
             } => {
-                let config = Config::new(
+                let config = Config::of(ConfigValues {
                     interval,
                     pause,
                     at_once,
@@ -176,7 +176,7 @@ impl Log {
                     tolerable,
                     retained,
                     keep_on_cancel,
-                );
+                });
                 Ok(self.configure(config.ok()))
             }
             Line::Job { parallelisms } => self.reshape(&parallelisms),

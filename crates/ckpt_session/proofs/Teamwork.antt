@@ -8,7 +8,7 @@ use Rattle.ckpt_session.proofs.ShownLemmas.{its_record}
 use Rattle.ckpt_model.proofs.Reordering.DealtCalls.{SeatsFrom, seated_answers, all_missing, ComesToTheSame, dealt_calls}
 use Rattle.ckpt_workers.specs.declared.team.Made.{Made}
 use Rattle.ckpt_session.specs.declared.outcome.Outcome.{Outcome}
-use Rattle.ckpt_session.specs.AllLines.{told}
+use Rattle.ckpt_session.specs.AllLines.{outcome_of}
 
 -- the calls of entries, each with its seat
 abbrev seated_calls : List Entry → List (ℕ × Call)
@@ -83,7 +83,7 @@ team_as_in_order h line metadata missing made sound shown are some work = by_pen
 -- what the line leaves and prints, from what the team made
 pub acknowledged_is : (m after : State) (line : AllLine) (metadata : Metadata) (missing : List SubtaskId) (made : Made) (outcome : Outcome) → missing ≡ missing_subtasks metadata
     → line.first + length missing ≤ 2 ^ 64 → IsAsInOrder m (acks_for line missing) made → after ≡ state_of_book made.book
-    → outcome ≡ told (state_of_book made.book) line made.accepted made.refused made.completed → ◌≡◌ {A = Obeyed} (after, outcome) (all_of m line (Some metadata))
+    → outcome ≡ outcome_of (state_of_book made.book) line made.accepted made.refused made.completed → ◌≡◌ {A = Obeyed} (after, outcome) (all_of m line (Some metadata))
 unfolding all_of
 acknowledged_is m after line metadata missing made outcome are few order state says =
     let calls : List Call = acks_for line missing in
@@ -92,9 +92,9 @@ acknowledged_is m after line metadata missing made outcome are few order state s
     ap (λ (s : State). (s, outcome)) (state ∙ order.state)
     ∙ ap (λ (o : Outcome). (replay m calls, o))
     (says
-    ∙ ap (λ (s : State). told s line made.accepted made.refused made.completed) order.state
-    ∙ ap (λ (n : ℕ). told (replay m calls) line n made.refused made.completed) order.accepted
-    ∙ ap (λ (n : ℕ). told (replay m calls) line (count_by is_accepted (answers m calls)) n made.completed) order.refused
-    ∙ ap (told (replay m calls) line (count_by is_accepted (answers m calls)) (count_by (λ a. not (is_accepted a)) (answers m calls))) order.completed)
+    ∙ ap (λ (s : State). outcome_of s line made.accepted made.refused made.completed) order.state
+    ∙ ap (λ (n : ℕ). outcome_of (replay m calls) line n made.refused made.completed) order.accepted
+    ∙ ap (λ (n : ℕ). outcome_of (replay m calls) line (count_by is_accepted (answers m calls)) n made.completed) order.refused
+    ∙ ap (outcome_of (replay m calls) line (count_by is_accepted (answers m calls)) (count_by (λ a. not (is_accepted a)) (answers m calls))) order.completed)
     ∙ ap same are
     ∙ sym (cond-false (ltb (2 ^ 64) (line.first + length (missing_subtasks metadata))) (m, Refused FilesUsedUp) (same (missing_subtasks metadata)) fits)

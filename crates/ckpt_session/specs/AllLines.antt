@@ -57,18 +57,18 @@ end_of m id (Some (dropped, released)) = Completed dropped released
 end_of m id None = Pending (missing_now m id)
 
 -- the outcome of this many accepted and refused calls, and of the completion
-unfoldable pub told : State → AllLine → ℕ → ℕ → Option (ℕ × ℕ) → Outcome
-told m line accepted refused completed = Acknowledged accepted refused (end_of m line.id completed)
+unfoldable pub outcome_of : State → AllLine → ℕ → ℕ → Option (ℕ × ℕ) → Outcome
+outcome_of m line accepted refused completed = Acknowledged accepted refused (end_of m line.id completed)
 
 -- the same once a team has made the calls
-abbrev pub told_of : AllLine → Made → Outcome
-told_of line made = told (state_of_book made.book) line made.accepted made.refused made.completed
+abbrev pub outcome_of_made : AllLine → Made → Outcome
+outcome_of_made line made = outcome_of (state_of_book made.book) line made.accepted made.refused made.completed
 
 abbrev pub acknowledged : State → AllLine → List Call → Obeyed
 acknowledged m line calls =
     let after : State = replay m calls in
     let given : List Answer = answers m calls in
-    (after, told after line (count_by is_accepted given) (count_by (λ a. not (is_accepted a)) given) (first_completed given))
+    (after, outcome_of after line (count_by is_accepted given) (count_by (λ a. not (is_accepted a)) given) (first_completed given))
 
 -- the numbers of the files go up to 2^64 - 1
 unfoldable pub all_of : State → AllLine → Option Metadata → Obeyed

@@ -5,7 +5,7 @@ ghost use Rattle.ckpt_ids.specs.Shapes.{same_subtask};
 ghost use Rattle.ckpt_model.specs.Soundness.{IsSound};
 ghost use Rattle.ckpt_locked.specs.Books.{state_of_book};
 ghost use Rattle.ckpt_answers.specs.MetadataTexts.{missing_subtasks};
-ghost use Rattle.ckpt_session.specs.AllLines.{ack_with, missing_now, pending_metadata, shown_pending, acks_for, told_of, all_of, all_obeyed};
+ghost use Rattle.ckpt_session.specs.AllLines.{ack_with, missing_now, pending_metadata, shown_pending, acks_for, outcome_of_made, all_of, all_obeyed};
 ghost use Rattle.ckpt_session.specs.Seating.{Asks, EntersAll};
 
 use crate::outcome::{AllEnd, Outcome, ScriptRefusal};
@@ -120,10 +120,10 @@ impl AllLine {
     }
 
     /// The outcome of the calls. If the record is still pending, asks for it once more.
-    #[tactic(auto, using(crate::proofs::SeatingLemmas::asks_none), unfolding(crate::specs::AllLines::told))]
+    #[tactic(auto, using(crate::proofs::SeatingLemmas::asks_none), unfolding(crate::specs::AllLines::outcome_of))]
     fn tell(&self, alloc: Global, made: &mut Made) -> Result<Outcome, AllocError>
         ensures state { OnOk result (state_of_book made.new.book ≡ state_of_book made.old.book) }
-        ensures outcome { IfOk result (λ outcome. outcome ≡ told_of self.now made.old) }
+        ensures outcome { IfOk result (λ outcome. outcome ≡ outcome_of_made self.now made.old) }
         ensures entered { OnOk result (Asks made.old.book.entries made.new.book.entries self.now.id) }
     {
         let end = match made.completed {

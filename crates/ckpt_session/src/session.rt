@@ -13,7 +13,7 @@ use crate::outcome::{Outcome, ScriptRefusal};
 use crate::texts::{write_fault, write_not_started, write_outcome};
 use ckpt_answers::write_answer;
 use ckpt_core::Secret;
-use ckpt_ids::{Call, CheckpointId, Config, Shape, ShapeFault};
+use ckpt_ids::{Call, CheckpointId, Config, ConfigValues, Shape, ShapeFault};
 use ckpt_lines::{Line, LineFault, Numbers, parse_line, usual_call};
 use ckpt_locked::Book;
 use ckpt_workers::Team;
@@ -292,7 +292,7 @@ impl Session {
                 retained,
                 keep_on_cancel,
             } => {
-                let config = Config::new(
+                let config = Config::of(ConfigValues {
                     interval,
                     pause,
                     at_once,
@@ -300,7 +300,7 @@ impl Session {
                     tolerable,
                     retained,
                     keep_on_cancel,
-                );
+                });
                 Ok(self.configure(config.ok()))
             }
             Line::Job { parallelisms } => self.reshape(&parallelisms),

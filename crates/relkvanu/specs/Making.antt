@@ -1,14 +1,18 @@
 -- A call that is made of its fields and its lists, and whose line is written.
-use Rattle.std.specs.Prelude.{ℕ, nat_lt, if◌then◌else◌, List, length, Result, Ok, Err}
+use Rattle.std.specs.Prelude.{◌≡◌, ℕ, nat_lt, if◌then◌else◌, List, length, Some, Result, Ok, Err}
 use Rattle.ckpt_model.specs.State.{State}
 use Rattle.ckpt_lines.specs.declared.limits.TheConstants.{LONGEST_LINE}
 use Rattle.relkvanu.specs.declared.answer.Answer.{Answer}
 use Rattle.relkvanu.specs.declared.asked.Asked.{Asked}
+use Rattle.relkvanu.specs.declared.handle.Handle.{Handle}
 use Rattle.relkvanu.specs.declared.making.Made.{Made}
+use Rattle.relkvanu.specs.declared.writing.CallFields.{CallFields}
 use Rattle.relkvanu.specs.Asking.{bad_line}
+use Rattle.relkvanu.specs.Buffers.{StandsInFront}
+use Rattle.relkvanu.specs.Lines.{said_files}
 use Rattle.relkvanu.specs.Reads.{counts_of}
 use Rattle.relkvanu.specs.Told.{bad_argument, too_short_for}
-use Rattle.relkvanu.specs.Writing.{asked_text}
+use Rattle.relkvanu.specs.Writing.{asked_text, given}
 
 -- what is asked for, if its text is no longer than a line may be and than a buffer with this many places
 abbrev pub asked_if_fits : Asked → List ℕ → ℕ → Result Asked Answer
@@ -21,7 +25,23 @@ unfoldable pub to_make : Result Asked ℕ → ℕ → Result Asked Answer
 to_make (Ok asked) places = asked_if_fits asked (asked_text asked) places
 to_make (Err what) places = Err (bad_argument what)
 
+-- what the fields and the two lists make, with a buffer for the line
+abbrev pub making : CallFields → List ℕ → List ℕ → List ℕ → Result Asked Answer
+making call first second line = to_make (given call first second) (length line)
+
+-- the files that the call returns are at the start of the buffer, if it was made
+abbrev pub BringsMadeFiles : State → Result Asked Answer → List ℕ → List ℕ → Answer → Type 0
+BringsMadeFiles m asked old new answer = answer.code ≡ 0 → StandsInFront (said_files m asked) old new
+
 -- the length of the line, how many files waited for deletion, and the numbers of files now
 abbrev pub made_of : ℕ → State → State → Made
 made_of written old new =
     record { written = written; waited = length old.waiting; in_use = (counts_of new).in_use; waiting = length new.waiting; taken = length new.taken }
+
+-- the numbers that a call leaves, if it was made
+abbrev pub IsMade : ℕ → State → State → Made → Answer → Type 0
+IsMade written old new made answer = answer.code ≡ 0 → made ≡ made_of written old new
+
+-- the same through a handle
+abbrev pub IsHandleMade : ℕ → Handle → Handle → Made → Answer → Type 0
+IsHandleMade written old new made answer = (m n : State) → old.value ≡ Some m → new.value ≡ Some n → IsMade written m n made answer

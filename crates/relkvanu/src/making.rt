@@ -7,8 +7,8 @@ ghost use Rattle.ckpt_terms.specs.Machines.{core_in, names_in};
 ghost use Rattle.relkvanu.specs.Buffers.{StandsInFront};
 ghost use Rattle.relkvanu.specs.Calls.{HasNoNumbers, StaysClosed};
 ghost use Rattle.relkvanu.specs.Fenced.{IsHandled, IsTaken};
-ghost use Rattle.relkvanu.specs.Lines.{is_free_line, said_files, said_step};
-ghost use Rattle.relkvanu.specs.Making.{asked_if_fits, made_of, to_make};
+ghost use Rattle.relkvanu.specs.Lines.{is_free_line, said_step};
+ghost use Rattle.relkvanu.specs.Making.{BringsMadeFiles, IsHandleMade, IsMade, asked_if_fits, made_of, making};
 ghost use Rattle.relkvanu.specs.Told.{no_memory};
 ghost use Rattle.relkvanu.specs.Writing.{ReadsBack, SaysBack, call_line_text, given};
 
@@ -58,17 +58,17 @@ pub extern "C" fn relkvanu_make(
     made: &mut Made,
 ) -> Answer
     ensures closed { StaysClosed handle.old.value handle.new.value result }
-    ensures handled { IsHandled (λ k. said_step k (length files.old) (to_make (given call.entry.now first.now second.now) (length line.old))) handle.old handle.new result }
-    ensures files { (m : State) → handle.old.value ≡ Some m → result.code ≡ 0 → StandsInFront (said_files m (to_make (given call.entry.now first.now second.now) (length line.old))) files.old files.new }
+    ensures handled { IsHandled (λ k. said_step k (length files.old) (making call.entry.now first.now second.now line.old)) handle.old handle.new result }
+    ensures files { (m : State) → handle.old.value ≡ Some m → BringsMadeFiles m (making call.entry.now first.now second.now line.old) files.old files.new result }
     ensures line { result.code ≡ 0 → StandsInFront (call_line_text (given call.entry.now first.now second.now)) line.old line.new }
     ensures read { ReadsBack (given call.entry.now first.now second.now) (take made.new.written line.new) result }
     ensures said { SaysBack (given call.entry.now first.now second.now) (take made.new.written line.new) result }
-    ensures made { (m n : State) → handle.old.value ≡ Some m → handle.new.value ≡ Some n → result.code ≡ 0 → made.new ≡ made_of (length (call_line_text (given call.entry.now first.now second.now))) m n }
+    ensures made { IsHandleMade (length (call_line_text (given call.entry.now first.now second.now))) handle.old handle.new made.new result }
     ensures kept { result.code ≢ 0 → (files.new ≡ files.old) × (line.new ≡ line.old) × (made.new ≡ made.old) }
     ensures memory { result.code ≡ no_memory → IsOk (given call.entry.now first.now second.now) }
     ensures numbers { HasNoNumbers result }
     ensures unchanged { result.code ≢ 0 → (handle.new.value ≡ handle.old.value) × (handle.new.names ≡ handle.old.names) }
-    ensures names { is_free_line (to_make (given call.entry.now first.now second.now) (length line.old)) ≡ true → handle.new.names ≡ handle.old.names }
+    ensures names { is_free_line (making call.entry.now first.now second.now line.old) ≡ true → handle.new.names ≡ handle.old.names }
 {
     let Some(mut machine) = handle.take(alloc) else {
         return Answer::closed();
@@ -90,15 +90,15 @@ fn make_given(
     line: &mut [u8],
     made: &mut Made,
 ) -> Answer
-    ensures handled { IsTaken (λ k. said_step k (length files.old) (to_make (given fields.entry.now first.now second.now) (length line.old))) machine.old machine.new result }
-    ensures files { result.code ≡ 0 → StandsInFront (said_files (core_in machine.old) (to_make (given fields.entry.now first.now second.now) (length line.old))) files.old files.new }
+    ensures handled { IsTaken (λ k. said_step k (length files.old) (making fields.entry.now first.now second.now line.old)) machine.old machine.new result }
+    ensures files { BringsMadeFiles (core_in machine.old) (making fields.entry.now first.now second.now line.old) files.old files.new result }
     ensures line { result.code ≡ 0 → StandsInFront (call_line_text (given fields.entry.now first.now second.now)) line.old line.new }
     ensures read { ReadsBack (given fields.entry.now first.now second.now) (take made.new.written line.new) result }
-    ensures made { result.code ≡ 0 → made.new ≡ made_of (length (call_line_text (given fields.entry.now first.now second.now))) (core_in machine.old) (core_in machine.new) }
+    ensures made { IsMade (length (call_line_text (given fields.entry.now first.now second.now))) (core_in machine.old) (core_in machine.new) made.new result }
     ensures kept { result.code ≢ 0 → (files.new ≡ files.old) × (line.new ≡ line.old) × (made.new ≡ made.old) }
     ensures memory { result.code ≡ no_memory → IsOk (given fields.entry.now first.now second.now) }
     ensures numbers { HasNoNumbers result }
-    ensures names { is_free_line (to_make (given fields.entry.now first.now second.now) (length line.old)) ≡ true → names_in machine.new ≡ names_in machine.old }
+    ensures names { is_free_line (making fields.entry.now first.now second.now line.old) ≡ true → names_in machine.new ≡ names_in machine.old }
     ensures unchanged { result.code ≢ 0 → machine.new ≡ machine.old }
 {
     let asked = match asked_of(alloc, fields, first, second) {
@@ -122,10 +122,10 @@ fn make_fitting(
     made: &mut Made,
 ) -> Answer
     ensures handled { IsTaken (λ k. said_step k (length files.old) (asked_if_fits asked.now text.now (length line.old))) machine.old machine.new result }
-    ensures files { result.code ≡ 0 → StandsInFront (said_files (core_in machine.old) (asked_if_fits asked.now text.now (length line.old))) files.old files.new }
+    ensures files { BringsMadeFiles (core_in machine.old) (asked_if_fits asked.now text.now (length line.old)) files.old files.new result }
     ensures line { result.code ≡ 0 → StandsInFront text.now line.old line.new }
     ensures short { result.code ≡ 0 → length text.now ≤ LONGEST_LINE }
-    ensures made { result.code ≡ 0 → made.new ≡ made_of (length text.now) (core_in machine.old) (core_in machine.new) }
+    ensures made { IsMade (length text.now) (core_in machine.old) (core_in machine.new) made.new result }
     ensures kept { result.code ≢ 0 → (files.new ≡ files.old) × (line.new ≡ line.old) × (made.new ≡ made.old) }
     ensures numbers { HasNoNumbers result }
     ensures names { is_free_line (asked_if_fits asked.now text.now (length line.old)) ≡ true → names_in machine.new ≡ names_in machine.old }

@@ -13,7 +13,7 @@ use crate::calls::BAD_SHAPE;
 use crate::handle::Handle;
 use ckpt_core::{Core, OpenFault};
 use ckpt_hash::Secret;
-use ckpt_ids::{Config, Shape, ShapeFault};
+use ckpt_ids::{Config, ConfigValues, Shape, ShapeFault};
 use ckpt_terms::Machine;
 use std::alloc::Global;
 
@@ -128,16 +128,16 @@ pub(crate) fn config_of(settings: &Settings) -> Result<Config, Answer>
     ensures fault { IfErr result (λ answer. is_within_limits (configuration_of settings.now) ≡ false) }
     ensures told { IfErr result (λ answer. answer ≡ bad_argument bad_config) }
 {
-    let config = Config::new(
-        settings.interval,
-        settings.pause,
-        settings.at_once,
-        settings.timeout,
-        settings.tolerable,
-        settings.retained,
-        settings.keep_on_cancel,
-    );
-    match config {
+    let values = ConfigValues {
+        interval: settings.interval,
+        pause: settings.pause,
+        at_once: settings.at_once,
+        timeout: settings.timeout,
+        tolerable: settings.tolerable,
+        retained: settings.retained,
+        keep_on_cancel: settings.keep_on_cancel,
+    };
+    match Config::of(values) {
         Ok(config) => Ok(config),
         Err(_) => Err(Answer::bad_argument(BAD_CONFIG)),
     }
