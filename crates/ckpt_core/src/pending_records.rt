@@ -1,5 +1,6 @@
 //! The pending records, in rising number.
-ghost use Rattle.std.specs.Prelude.{◌≡◌, ℕ, ◌+◌, ◌<◌, ◌≤◌, true, false, not, ◌&&◌, ◌||◌, nat_lt, nat_le, ◌==◌, [], ◌∷◌, ◌++◌, map, filter, find, length, count_by, Some, IfSome, IfNone, OnOk, OnErr, option_copied, option_map, slice_get, vec_capacity, vec_len};
+ghost use Rattle.std.specs.Prelude.{◌≡◌, ℕ, ◌+◌, ◌<◌, ◌≤◌, true, false, not, ◌&&◌, ◌||◌, nat_lt, nat_le, ◌==◌, [], ◌∷◌, ◌++◌, map, filter, find, length, count_by};
+ghost use Rattle.std.specs.Prelude.{Some, IfSome, IfNone, OnOk, OnErr, option_copied, option_map, slice_get, vec_capacity, vec_len};
 ghost use Rattle.std.specs.List.{list_any};
 ghost use Rattle.ckpt_core.specs.Inside.PendingRecords.{acked, retracted};
 ghost use Rattle.ckpt_core.specs.Inside.RecordFacts.{IsIn, IsInOrder, IsPending, Record, has_acknowledged, id_before, is_checkpoint};

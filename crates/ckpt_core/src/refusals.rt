@@ -7,7 +7,8 @@ ghost use Rattle.ckpt_ids.specs.declared.reply.Refusal.TheVariants.{NotRunning, 
 ghost use Rattle.ckpt_core.specs.Inside.FileFacts.{IsAscending, is_present};
 ghost use Rattle.ckpt_core.specs.Inside.RecordFacts.{Record};
 ghost use Rattle.ckpt_core.specs.Inside.Parts.{AreSound, IsPendingAt, IsPlaceIn, IsPlaceOf, early_refusal, is_known_in, part_refusal, records_in, state_of, with_pins};
-ghost use Rattle.ckpt_model.specs.Refusals.{files_refusal, has_repeats, is_cancelled, is_done_savepoint, is_foreign, is_running, moment_too_large, named, pending_of, refusal, refuse_if, savepoints, was_not_given};
+ghost use Rattle.ckpt_model.specs.Refusals.{files_refusal, has_repeats, is_cancelled, is_done_savepoint, is_foreign, is_running, moment_too_large};
+ghost use Rattle.ckpt_model.specs.Refusals.{named, pending_of, refusal, refuse_if, savepoints, was_not_given};
 
 use crate::parts::Parts;
 use ckpt_ids::{

@@ -28,5 +28,6 @@ same_acked = eq_of_both (on (λ a. a.subtask) (eq_of_both (on (λ s. s.vertex) n
 
 pub same_acked-equivalence : IsEquivalence same_acked
 same_acked-equivalence =
-    let same_numbers : IsEquivalence (eq_of_both (on (λ (s : SubtaskId). s.vertex) nat_eq) (on (λ (s : SubtaskId). s.index) nat_eq)) = and_equiv (on_equiv (λ (s : SubtaskId). s.vertex) nat_eq_equiv) (on_equiv (λ (s : SubtaskId). s.index) nat_eq_equiv) in
+    let same_numbers : IsEquivalence (eq_of_both (on (λ (s : SubtaskId). s.vertex) nat_eq) (on (λ (s : SubtaskId). s.index) nat_eq)) =
+    and_equiv (on_equiv (λ (s : SubtaskId). s.vertex) nat_eq_equiv) (on_equiv (λ (s : SubtaskId). s.index) nat_eq_equiv) in
     and_equiv (on_equiv (λ (a : Acked). a.subtask) same_numbers) (on_equiv (λ (a : Acked). a.files) (lists_equiv nat_eq_equiv))

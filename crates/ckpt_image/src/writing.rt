@@ -14,7 +14,8 @@ ghost use Rattle.serde_json.specs.Data.{no_members};
 ghost use Rattle.serde_json.specs.View.{members_view, view};
 ghost use Rattle.ckpt_image.specs.Fits.{AckFits, Fits, RecordFits};
 ghost use Rattle.ckpt_image.specs.Images.{image_read};
-ghost use Rattle.ckpt_image.specs.Written.{ack_data, clock_data, config_data, image_bytes, image_data, image_members, later_members, mode_name, naturals, opening_data, optional, outbox_data, record_data};
+ghost use Rattle.ckpt_image.specs.Written.{ack_data, clock_data, config_data, image_bytes, image_data, image_members, later_members};
+ghost use Rattle.ckpt_image.specs.Written.{mode_name, naturals, opening_data, optional, outbox_data, record_data};
 
 use crate::members::VERSION;
 use ckpt_answers::metadata::{files_value, kind_name, shape_value, state_name};

@@ -64,7 +64,8 @@ const NOT_OPENED: [(&str, &str); 4] = [
     ("\"first\":7", "\"first\":8"),
     (
         "\"next\":7,\n\"opening\":{\n  \"config\":{\"at_once\":1,\"interval\":10,\"keep_on_cancel\":false,\"pause\":0,\"retained\":1,\"timeout\":1,\"tolerable\":0},\n  \"first\":7",
-        "\"next\":4611686018427387904,\n\"opening\":{\n  \"config\":{\"at_once\":1,\"interval\":10,\"keep_on_cancel\":false,\"pause\":0,\"retained\":1,\"timeout\":1,\"tolerable\":0},\n  \"first\":4611686018427387904",
+        "\"next\":4611686018427387904,\n\"opening\":{\n  \"config\":{\"at_once\":1,\"interval\":10,\"keep_on_cancel\":false,\
+         \"pause\":0,\"retained\":1,\"timeout\":1,\"tolerable\":0},\n  \"first\":4611686018427387904",
     ),
 ];
 
@@ -145,8 +146,10 @@ fn refuses_each_kind_of_damage(rt: HostRuntime) -> Result<(), Fail> {
 
 /// A checkpoint is pending, and the next one is done: an older one is done when a newer one is.
 const NEWER_DONE: [(&str, &str); 1] = [(
-    ",{\"files\":[14],\"index\":1,\"vertex\":0}],\n   \"id\":2,\"kind\":\"checkpoint\",\"pins\":[],\"shape\":[2],\"started\":700,\"state\":\"done\"},\n  {\"acks\":[{\"files\":[15],\"index\":0,\"vertex\":0}],\n   \"id\":3,\"kind\":\"checkpoint\",\"pins\":[14,13],\"shape\":[2],\"started\":1400,\"state\":\"pending\"",
-    "],\n   \"id\":2,\"kind\":\"checkpoint\",\"pins\":[],\"shape\":[2],\"started\":700,\"state\":\"pending\"},\n  {\"acks\":[{\"files\":[15],\"index\":0,\"vertex\":0},{\"files\":[],\"index\":1,\"vertex\":0}],\n   \"id\":3,\"kind\":\"checkpoint\",\"pins\":[],\"shape\":[2],\"started\":1400,\"state\":\"done\"",
+    ",{\"files\":[14],\"index\":1,\"vertex\":0}],\n   \"id\":2,\"kind\":\"checkpoint\",\"pins\":[],\"shape\":[2],\"started\":700,\"state\":\"done\"},\n  \
+     {\"acks\":[{\"files\":[15],\"index\":0,\"vertex\":0}],\n   \"id\":3,\"kind\":\"checkpoint\",\"pins\":[14,13],\"shape\":[2],\"started\":1400,\"state\":\"pending\"",
+    "],\n   \"id\":2,\"kind\":\"checkpoint\",\"pins\":[],\"shape\":[2],\"started\":700,\"state\":\"pending\"},\n  \
+     {\"acks\":[{\"files\":[15],\"index\":0,\"vertex\":0},{\"files\":[],\"index\":1,\"vertex\":0}],\n   \"id\":3,\"kind\":\"checkpoint\",\"pins\":[],\"shape\":[2],\"started\":1400,\"state\":\"done\"",
 )];
 
 #[test]

@@ -6,7 +6,8 @@ use Rattle.ckpt_lines.specs.declared.fault.LineFault.TheVariants as fault
 use Rattle.ckpt_lines.specs.declared.keyword.Keyword.TheVariants as keyword
 use Rattle.ckpt_lines.specs.declared.line.Line.TheVariants.{Skip, Config, Job, Start, Call, BadShape}
 use Rattle.ckpt_lines.specs.Keywords.{keyword_of}
-use Rattle.ckpt_lines.specs.Reading.{reading, line_of, row, number_line, only_number, start_line, job_line, ack_line, restore_line, config_line, number_place, subtask_place, target_place, retention_place, file_places, each, ended}
+use Rattle.ckpt_lines.specs.Reading.{reading, line_of, row, number_line, only_number, start_line, job_line, ack_line, restore_line, config_line, number_place}
+use Rattle.ckpt_lines.specs.Reading.{subtask_place, target_place, retention_place, file_places, each, ended}
 use Rattle.ckpt_lines.specs.Usual.{IsUsual}
 use Rattle.ckpt_lines.specs.Values.{number_of, part_of, subtask_of, target_of, file_word}
 

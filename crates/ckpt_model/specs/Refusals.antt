@@ -7,7 +7,8 @@ use Rattle.ckpt_ids.specs.declared.call.Target.TheVariants as target
 use Rattle.ckpt_ids.specs.declared.call.Call.{Call}
 use Rattle.ckpt_ids.specs.declared.call.Call.TheVariants.{Tick, Savepoint, Ack, Decline, Dispose, Restore, Cancel, Deleted, Undeleted, Show}
 use Rattle.ckpt_ids.specs.declared.reply.Refusal.{Refusal}
-use Rattle.ckpt_ids.specs.declared.reply.Refusal.TheVariants.{MomentTooLarge, NotRunning, TooManyFiles, RepeatedFile, UnknownCheckpoint, UnknownSubtask, AlreadyAcknowledged, NameTaken, FileGone, NoSuchSavepoint, InUse, TooManySavepoints, NotTaken, NoSuchRecord, IdsUsedUp}
+use Rattle.ckpt_ids.specs.declared.reply.Refusal.TheVariants.{MomentTooLarge, NotRunning, TooManyFiles, RepeatedFile, UnknownCheckpoint, UnknownSubtask, AlreadyAcknowledged}
+use Rattle.ckpt_ids.specs.declared.reply.Refusal.TheVariants.{NameTaken, FileGone, NoSuchSavepoint, InUse, TooManySavepoints, NotTaken, NoSuchRecord, IdsUsedUp}
 pub use Rattle.ckpt_ids.specs.Ordered.{has_repeats}
 use Rattle.ckpt_ids.specs.Records.{Record, uses, is_present, has_acknowledged}
 use Rattle.ckpt_ids.specs.Shapes.{is_subtask}

@@ -57,7 +57,14 @@ pub ack_words_in_any_order : answers (opening usual (3 ∷ [])) (
     Tick 1000 ∷ Ack 1000 1 (subtask 0 0) (3 ∷ []) [] ∷ Ack 5 1 (subtask 0 2) (4 ∷ []) (3 ∷ []) ∷ Show 1 ∷ Count 3 ∷ Count 4 ∷ []
     ) ≡ (
     Done (reply.Ticked 0 (end.Triggered 1)) ∷ Done (reply.AckPending 2) ∷ Done (reply.AckPending 1)
-    ∷ Done (reply.Shown (record { id = 1; kind = kind.Checkpoint; done = false; shape = (3 ∷ []); started = 1000; acks = (record { subtask = subtask 0 0; files = (3 ∷ []) } ∷ record { subtask = subtask 0 2; files = (3 ∷ 4 ∷ []) } ∷ []) }))
+    ∷ Done (reply.Shown (record {
+      id = 1;
+      kind = kind.Checkpoint;
+      done = false;
+      shape = (3 ∷ []);
+      started = 1000;
+      acks = (record { subtask = subtask 0 0; files = (3 ∷ []) } ∷ record { subtask = subtask 0 2; files = (3 ∷ 4 ∷ []) } ∷ []);
+    }))
     ∷ Done (reply.Counted 3 2) ∷ Done (reply.Counted 4 1) ∷ []
     )
 unfolding step_computes
@@ -87,7 +94,14 @@ pub arrival_order : answers (opening usual (1 ∷ 2 ∷ [])) (
     ∷ Show 1 ∷ []
     ) ≡ (
     Done (reply.Ticked 0 (end.Triggered 1)) ∷ Done (reply.AckPending 2) ∷ Done (reply.AckPending 1) ∷ Done (reply.AckCompleted 0 0)
-    ∷ Done (reply.Shown (record { id = 1; kind = kind.Checkpoint; done = true; shape = (1 ∷ 2 ∷ []); started = 1000; acks = (record { subtask = subtask 0 0; files = (32 ∷ []) } ∷ record { subtask = subtask 1 0; files = (33 ∷ []) } ∷ record { subtask = subtask 1 1; files = (31 ∷ []) } ∷ []) }))
+    ∷ Done (reply.Shown (record {
+      id = 1;
+      kind = kind.Checkpoint;
+      done = true;
+      shape = (1 ∷ 2 ∷ []);
+      started = 1000;
+      acks = (record { subtask = subtask 0 0; files = (32 ∷ []) } ∷ record { subtask = subtask 1 0; files = (33 ∷ []) } ∷ record { subtask = subtask 1 1; files = (31 ∷ []) } ∷ []);
+    }))
     ∷ []
     )
 unfolding step_computes
@@ -311,7 +325,14 @@ pub rescaling_at_restore : answers (opening usual (1 ∷ [])) (
     Done (reply.Ticked 0 (end.Triggered 1)) ∷ Done (reply.AckCompleted 0 0) ∷ Done (reply.Restored (choice.Checkpoint 1) 0)
     ∷ Done (reply.Ticked 0 end.HeldInterval) ∷ Done (reply.Ticked 0 (end.Triggered 2)) ∷ Done (reply.AckPending 2)
     ∷ Done (reply.AckPending 1) ∷ Done (reply.AckCompleted 1 0) ∷ Done (reply.Counted 1 2)
-    ∷ Done (reply.Shown (record { id = 2; kind = kind.Checkpoint; done = true; shape = (2 ∷ 1 ∷ []); started = 2500; acks = (record { subtask = subtask 0 0; files = (1 ∷ 2 ∷ []) } ∷ record { subtask = subtask 0 1; files = (1 ∷ []) } ∷ record { subtask = subtask 1 0; files = [] } ∷ []) }))
+    ∷ Done (reply.Shown (record {
+      id = 2;
+      kind = kind.Checkpoint;
+      done = true;
+      shape = (2 ∷ 1 ∷ []);
+      started = 2500;
+      acks = (record { subtask = subtask 0 0; files = (1 ∷ 2 ∷ []) } ∷ record { subtask = subtask 0 1; files = (1 ∷ []) } ∷ record { subtask = subtask 1 0; files = [] } ∷ []);
+    }))
     ∷ Refused (refusal.NoSuchSavepoint) ∷ []
     )
 unfolding step_computes

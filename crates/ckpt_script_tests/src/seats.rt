@@ -96,12 +96,19 @@ fn a_line_has_a_seat_of_its_own(rt: HostRuntime) -> Result<(), Fail> {
 // asks for the record again. The others complete theirs.
 #[test]
 fn an_all_line_deals_its_calls_to_seats(rt: HostRuntime) -> Result<(), Fail> {
-    let script =
-        b"config 1000 0 1 600000 0 1 delete\njob 5\nstart 0\ntick 1000\nack 1000 1 0.4 +101\nall 1000 1 3 100\nall 1000 1 2 200\ntick 2000\nall 2000 2 64 300\ntick 3000\nall 3000 3 1 400\n".as_slice();
+    let script = b"config 1000 0 1 600000 0 1 delete\njob 5\nstart 0\n\
+          tick 1000\nack 1000 1 0.4 +101\nall 1000 1 3 100\nall 1000 1 2 200\n\
+          tick 2000\nall 2000 2 64 300\ntick 3000\nall 3000 3 1 400\n"
+        .as_slice();
     let output =
-        b"tick expired 0 triggered 1\nack pending 4\nall 3 1 pending 1\nall 1 0 completed 0 0\ntick expired 0 triggered 2\nall 5 0 completed 1 5\ntick expired 0 triggered 3\nall 5 0 completed 1 5\n".as_slice();
+        b"tick expired 0 triggered 1\nack pending 4\nall 3 1 pending 1\nall 1 0 completed 0 0\n\
+          tick expired 0 triggered 2\nall 5 0 completed 1 5\ntick expired 0 triggered 3\nall 5 0 completed 1 5\n"
+            .as_slice();
     let entries =
-        "64 tick 1000\n64 ack 1000 1 0.4 +101\n64 show 1\n0 ack 1000 1 0.0 +100\n1 ack 1000 1 0.1 +101\n2 ack 1000 1 0.2 +102\n0 ack 1000 1 0.3 +103\n64 show 1\n64 show 1\n0 ack 1000 1 0.1 +200\n64 tick 2000\n64 show 2\n0 ack 2000 2 0.0 +300\n1 ack 2000 2 0.1 +301\n2 ack 2000 2 0.2 +302\n3 ack 2000 2 0.3 +303\n4 ack 2000 2 0.4 +304\n64 tick 3000\n64 show 3\n";
+        "64 tick 1000\n64 ack 1000 1 0.4 +101\n64 show 1\n0 ack 1000 1 0.0 +100\n1 ack 1000 1 0.1 +101\n2 ack 1000 1 0.2 +102\n\
+         0 ack 1000 1 0.3 +103\n64 show 1\n64 show 1\n0 ack 1000 1 0.1 +200\n\
+         64 tick 2000\n64 show 2\n0 ack 2000 2 0.0 +300\n1 ack 2000 2 0.1 +301\n2 ack 2000 2 0.2 +302\n3 ack 2000 2 0.3 +303\n4 ack 2000 2 0.4 +304\n\
+         64 tick 3000\n64 show 3\n";
     let summary = Summary {
         lines: 11,
         faults: 0,

@@ -79,7 +79,8 @@ pub record IssuedOnce (o : Opening) (first : ℕ) (calls : List FencedCall) : Ty
   pub made : AreCalls (core_calls (fenced o first) calls)
   pub core : (fenced_replay (fenced o first) calls).core ≡ replay (opened o) (core_calls (fenced o first) calls)
   pub none_again : NoneAgain [] (opened o) (core_calls (fenced o first) calls)
-  pub handed : (f : ℕ) → IsIn f (along handed_by (opened o) (core_calls (fenced o first) calls)) ↔ (IsIn f (along registered_by (opened o) (core_calls (fenced o first) calls)) × (count (uses (fenced_replay (fenced o first) calls).core.records) f ≡ 0))
+  pub handed : (f : ℕ) → IsIn f (along handed_by (opened o) (core_calls (fenced o first) calls))
+      ↔ (IsIn f (along registered_by (opened o) (core_calls (fenced o first) calls)) × (count (uses (fenced_replay (fenced o first) calls).core.records) f ≡ 0))
 
 -- a call of a task
 abbrev pub is_from_task : FencedCall → Bool

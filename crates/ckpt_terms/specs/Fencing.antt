@@ -65,7 +65,9 @@ abbrev pub fence : Fenced → FencedCall → Option FencedRefusal
 fence m (Reserve term count) =
     if not (term == m.term)
     then Some OldTerm
-    else (if is_cancelled m.core.mode then Some Ended else (if (count == 0) || nat_lt MOST_NAMES count then Some BadCount else (if nat_lt NAMES_END (m.next_name + count) then Some NamesUsedUp else None)))
+    else (if is_cancelled m.core.mode then Some Ended
+    else (if (count == 0) || nat_lt MOST_NAMES count then Some BadCount
+    else (if nat_lt NAMES_END (m.next_name + count) then Some NamesUsedUp else None)))
 fence m (Forfeit term names) = if not (term == m.term) then Some OldTerm else None
 fence m (Make term call) =
     if is_of_task call && not (term == m.term)

@@ -4,7 +4,8 @@ ghost use Rattle.std.specs.Prelude.{ℕ, List};
 ghost use Rattle.ckpt_model.specs.State.{Opening};
 ghost use Rattle.ckpt_terms.specs.declared.call.FencedCall.{FencedCall};
 ghost use Rattle.ckpt_terms.specs.Fencing.{Fenced};
-ghost use Rattle.ckpt_terms.specs.FencedLaws.{CanFence, CanGoOn, AreFencedCalls, IsFencedAfter, Classified, GarbageForGood, DeletionsAreSafe, IssuedOnce, ZombiesAreFenced, SweepIsExact, CancelledIsSwept};
+ghost use Rattle.ckpt_terms.specs.FencedLaws.{CanFence, CanGoOn, AreFencedCalls, IsFencedAfter, Classified, GarbageForGood};
+ghost use Rattle.ckpt_terms.specs.FencedLaws.{DeletionsAreSafe, IssuedOnce, ZombiesAreFenced, SweepIsExact, CancelledIsSwept};
 ghost use Rattle.ckpt_terms.specs.TermsImages.{AreFencedAlike, CanHoldFenced, FencedGoesOnAs, IsFencedCut, fenced_settled};
 
 /// What always holds for a fenced coordinator holds after every list of calls.
