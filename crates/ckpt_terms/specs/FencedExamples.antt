@@ -20,8 +20,12 @@ use Rattle.ckpt_terms.specs.Fencing as fencing
 -- a checkpoint each second, of which one is kept; the names begin at this one
 abbrev layer : ℕ → fencing.Fenced
 layer first_name =
-    fencing.fenced (record { config = record { interval = 1000; pause = 0; at_once = 1; timeout = 600000; tolerable = 0; retained = 1; keep_on_cancel = false };
-        shape = 1 ∷ []; start = 0; first = 1 }) first_name
+    fencing.fenced (record {
+      config = record { interval = 1000; pause = 0; at_once = 1; timeout = 600000; tolerable = 0; retained = 1; keep_on_cancel = false };
+      shape = 1 ∷ [];
+      start = 0;
+      first = 1;
+    }) first_name
 
 abbrev subtask : SubtaskId
 subtask = record { vertex = 0; index = 0 }
