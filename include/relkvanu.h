@@ -105,7 +105,7 @@ typedef struct {
     uint64_t written; /* bytes of its line */
     uint64_t waited;  /* files that waited for deletion before the call */
     uint64_t in_use;  /* files that live records use now, each counted once */
-    uint64_t waiting; /* files that wait now: those from the place waited on, if there are some, are the ones that the call released */
+    uint64_t waiting; /* files that wait now: the call put those from the place waited on there */
     uint64_t taken;   /* files that were fetched, and are not yet reported */
 } relkvanu_made;
 

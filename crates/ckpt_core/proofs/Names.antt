@@ -43,7 +43,7 @@ pub use Rattle.ckpt_model.specs.Refusals.{first_some, has_repeats, is_done_savep
 pub use Rattle.ckpt_model.specs.Steps.{Stepped, at_moment, cancelled, cleared, dropped_by, fails_the_job, failures_with, pending_checkpoints, replaced, rolled_back, show, step, superseded, with_base}
 pub use Rattle.ckpt_model.specs.declared.{faults.CoreFault.CoreFault, faults.CoreFault.TheVariants.Memory, faults.CoreFault.TheVariants.Refused, image.Image.Image, image.Saved.Saved}
 pub use Rattle.ckpt_model.specs.declared.{mode.Mode.Mode, mode.Mode.TheVariants.Cancelled, mode.Mode.TheVariants.Failed, mode.Mode.TheVariants.Running, reads.Live.Live, reads.Standing.Standing}
-pub use Rattle.ckpt_model.specs.{Images.CanHold, Images.HasSoundNumbers, Images.record_in, Images.state_in, Laws.names}
+pub use Rattle.ckpt_model.specs.{Images.CanHold, Images.HasSoundNumbers, Images.record_in, Images.state_in, Laws.id_of_choice}
 pub use Rattle.ckpt_model.specs.{Memory.answer_wants, Memory.may_want_memory, State.Opening, State.State, State.chosen, State.files_of, State.in_outbox, State.is_checkpoint, State.is_done_checkpoint}
 pub use Rattle.ckpt_model.specs.{Soundness.AreSoundRecords, Soundness.IsCall, Soundness.IsRecord, Soundness.IsSound, Soundness.id_before, Soundness.is_pending_checkpoint, Steps.with_records}
 pub use Rattle.ckpt_model.specs.{State.is_expired, State.is_pending, State.is_subsumed, State.is_surplus, State.kept, State.last_checkpoint, State.record_of, State.released_by, State.unpinned}

@@ -1,4 +1,4 @@
--- What the types of an image guarantee: a state that fits is written as a text that reads back as the state.
+-- What the types of an image guarantee: a state that fits is written as JSON values that read back as the state.
 use Rattle.std.specs.Prelude.{◌^◌, ◌<◌}
 use Rattle.ckpt_ids.specs.declared.ack.Acked.{Acked}
 use Rattle.ckpt_ids.specs.Acknowledged.{AreInSubtaskOrder}

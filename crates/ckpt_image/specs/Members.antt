@@ -37,7 +37,7 @@ each one (item d ds) = option_and_then (λ x. option_map (λ xs. x ∷ xs) (each
 abbrev pub list_of : {X : Type 0} → (Data → Option X) → Data → Option (List X)
 list_of one d = option_and_then (each one) (as_array d)
 
--- an integer of at most 2^64 - 1
+-- an integer that is not negative; of a text one of at most 2^64 - 1
 abbrev pub number_of : Data → Option ℕ
 number_of d = option_and_then as_u64 (as_number d)
 

@@ -39,6 +39,7 @@ AreHandedForGood h = (before calls : List Call) → calls_of h.entries ≡ befor
 abbrev pub SavepointsStay : History → Type 0
 SavepointsStay h = (before calls : List Call) → calls_of h.entries ≡ before ++ calls → Savepoints h.opening before calls
 
--- a record that `call` triggered still has the files that the job would have been restored from then
+-- an acknowledgement for a record that `call` triggered is not refused FileGone for a file that the job would have been
+-- restored from then
 abbrev pub PinsHold : History → Type 0
 PinsHold h = (before : List Call) (call : Call) (calls : List Call) → calls_of h.entries ≡ before ++ call ∷ calls → Pinned h.opening before call calls

@@ -34,8 +34,8 @@ pub use Rattle.ckpt_model.specs.Histories.{answers, replay}
 pub use Rattle.ckpt_model.specs.Images.{AreAlike, CanHold, GoesOnAs, settled}
 pub use Rattle.ckpt_model.specs.Interleavings.{AnyOrder, AreApart, AreMissing, NewFile, SameBySeat, SameOutcome, ack_with, calls_of, first_completed, is_completing, of_seat}
 pub use Rattle.ckpt_model.specs.Laws.{Accounted, Acknowledgements, AreCalls, Balance, CanOpen, ChoiceIsLive, Exchange, Handed, IsNeverDisposed, NoneAgain, Numbers, Outbox, Part, Pinned, Savepoints}
-pub use Rattle.ckpt_model.specs.Laws.{ShareNone, UsedNoMore, accepted_by, ack_of, along, deleted_as, deleted_by, given_as, given_by, handed_by, is_ack_pending, is_ack_taken, is_disposed_by, names}
-pub use Rattle.ckpt_model.specs.Laws.{new_by, registered_as, registered_by}
+pub use Rattle.ckpt_model.specs.Laws.{ShareNone, UsedNoMore, accepted_by, ack_of, along, deleted_as, deleted_by, given_as, given_by, handed_by, is_ack_pending, is_ack_taken}
+pub use Rattle.ckpt_model.specs.Laws.{id_of_choice, is_disposed_by, new_by, registered_as, registered_by}
 pub use Rattle.ckpt_model.specs.Opening.{open_fault}
 pub use Rattle.ckpt_model.specs.Reads.{NoneIsEarlyFrom, NoneTriggersBefore, next_due, triggered_one, was_early}
 pub use Rattle.ckpt_model.specs.Refusals.{first_some, has_repeats, is_done_savepoint, is_foreign, is_number, is_repeat, is_running}

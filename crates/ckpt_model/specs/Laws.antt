@@ -1,5 +1,6 @@
 -- Laws of a coordinator: of two calls, and of every list of calls.
-use Rattle.std.specs.Prelude.{◌≡◌, ℕ, ◌+◌, ◌<◌, ◌≤◌, Bool, true, false, not, ◌&&◌, ◌==◌, List, [], ◌∷◌, ◌++◌, filter, length, drop, if◌then◌else◌, ◌↔◌, Option, Some, None, ⊤}
+use Rattle.std.specs.Prelude.{◌≡◌, ℕ, ◌+◌, ◌<◌, ◌≤◌, Bool, true, false, not, ◌&&◌, ◌==◌, List, [], ◌∷◌, ◌++◌, filter, length, if◌then◌else◌, ◌↔◌, Option, Some, None, ⊤}
+use Rattle.std.specs.Prelude as prelude
 use Rattle.std.specs.List.{range_with_len}
 use Rattle.ckpt_ids.specs.declared.limits.TheConstants.{MOMENTS_END, NUMBERS_END}
 use Rattle.ckpt_ids.specs.declared.subtask.SubtaskId.{SubtaskId}
@@ -99,7 +100,7 @@ registered_by m call = []
 -- the files that a call hands out: what it puts at the end of waiting; an Undeleted puts back what was handed out before
 abbrev pub handed_by : State → Call → List ℕ
 handed_by m (Undeleted file) = []
-handed_by m call = drop (length m.waiting) (step m call).0.waiting
+handed_by m call = prelude.drop (length m.waiting) (step m call).0.waiting
 
 -- each time that a file is registered it is handed out once, or is present still
 abbrev pub Balance : Opening → List Call → Type 0
@@ -195,17 +196,17 @@ Savepoints o before calls =
     (r : Record) → IsIn r m.records → r.done ≡ true → is_checkpoint r ≡ false → IsNeverDisposed r.id m calls → IsIn r (replay m calls).records
 
 -- the number of the record that a choice names
-abbrev pub names : Choice → Option ℕ
-names (choice.Checkpoint id) = Some id
-names (choice.Savepoint id) = Some id
-names choice.Fresh = None
+abbrev pub id_of_choice : Choice → Option ℕ
+id_of_choice (choice.Checkpoint id) = Some id
+id_of_choice (choice.Savepoint id) = Some id
+id_of_choice choice.Fresh = None
 
 -- the record that the choice names is live and done, and its files are present
 abbrev pub ChoiceIsLive : Opening → List Call → Type 0
 ChoiceIsLive o calls =
     let m : State = replay (opened o) calls in
     (id : ℕ)
-    → names (choice_of m) ≡ Some id
+    → id_of_choice (choice_of m) ≡ Some id
     → (r : Record)
     × (record_of m id ≡ Some r)
     × (r.done ≡ true)

@@ -1,4 +1,5 @@
--- What always holds for a coordinator's state: after the opening, and after each call.
+-- What holds for a coordinator's state after the opening, and after each call. What holds for its clock, and for the values
+-- of its opening, is in `Images`.
 use Rattle.std.specs.Prelude.{◌≡◌, ◌≢◌, ℕ, ◌<◌, ◌≤◌, Bool, true, false, not, ◌&&◌, nat_lt, List, [], ◌++◌, count_by, Some, IfSome, ⊤}
 use Rattle.ckpt_ids.specs.declared.limits.TheConstants.{MOMENTS_END, MOST_SAVEPOINTS, NUMBERS_END}
 use Rattle.ckpt_ids.specs.declared.ack.Acked.{Acked}

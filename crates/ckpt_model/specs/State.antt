@@ -1,6 +1,6 @@
 -- The state of a coordinator: one flat list of records, and the two lists of the outbox.
--- Sources: the Flink documentation 1.15 to 1.19 (Checkpointing, Checkpoints, Savepoints, State Backends, Configuration)
--- and Carbone et al. 2015, "Lightweight Asynchronous Snapshots for Distributed Dataflows"; what names none of them is
+-- Modelled, from memory, on the Flink documentation 1.15 to 1.19 (Checkpointing, Checkpoints, Savepoints, State Backends, Configuration)
+-- and on Carbone et al. 2015, "Lightweight Asynchronous Snapshots for Distributed Dataflows"; what names none of them is
 -- this project's own rule.
 use Rattle.std.specs.Prelude.{ℕ, ◌+◌, Bool, true, false, not, ◌&&◌, ◌||◌, nat_lt, nat_le, ◌==◌, List, [], ◌∷◌, ◌++◌, map, filter, find, count_by, if◌then◌else◌, Option, Some, None}
 use Rattle.std.specs.List.{list_any}

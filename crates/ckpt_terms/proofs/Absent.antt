@@ -4,7 +4,7 @@ use Rattle.std.specs.Prelude.{Option, Some, None, find, is_some, IfSome}
 use Rattle.std.specs.List.{list_any}
 use Rattle.std.proofs.lemmas.Bool.{cond-true, cond-false, or_parts}
 use Rattle.ckpt_terms.specs.declared.names.Span.{Span}
-use Rattle.ckpt_terms.specs.Spans.{HasAt, in_span, names_in}
+use Rattle.ckpt_terms.specs.Spans.{HasAt, in_span, names_of}
 use Rattle.ckpt_terms.proofs.SpanLemmas.{in_spans}
 use Rattle.ckpt_terms.proofs.RangeLemmas.{found_is}
 
@@ -12,10 +12,10 @@ abbrev pub is_absent : List ℕ → ℕ → Bool
 is_absent names f = not (list_any (λ g. eqb f g) names)
 
 -- what a search among the ranges says of a name
-pub absent_is : (spans read : List Span) (names : List ℕ) (name : ℕ) (r : Option (ℕ × Span)) → read ≡ spans → names_in spans ≡ names → IfSome r (λ found. HasAt read found.0 found.1 name)
+pub absent_is : (spans read : List Span) (names : List ℕ) (name : ℕ) (r : Option (ℕ × Span)) → read ≡ spans → names_of spans ≡ names → IfSome r (λ found. HasAt read found.0 found.1 name)
     → (r ≡ None → list_any (in_span name) read ≡ false) → is_absent names name ≡ not (is_some r)
 absent_is spans read names name r same its some none =
-    ap (λ (ns : List ℕ). is_absent ns name) (sym its) ∙ ap (λ (xs : List Span). is_absent (names_in xs) name) (sym same) ∙ ap not (in_spans name read ∙ sym (found_is read name r some none))
+    ap (λ (ns : List ℕ). is_absent ns name) (sym its) ∙ ap (λ (xs : List Span). is_absent (names_of xs) name) (sym same) ∙ ap not (in_spans name read ∙ sym (found_is read name r some none))
 
 -- the first element that passes a test, where those before it do not
 pub find_first : {X : Type 0} (p : X → Bool) (xs : List X) (i : ℕ) (d : X) → i < length xs → list_any p (take i xs) ≡ false → p (get_or xs i d) ≡ true → find p xs ≡ Some (get_or xs i d)

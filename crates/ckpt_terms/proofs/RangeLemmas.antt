@@ -13,7 +13,7 @@ use Rattle.ckpt_ids.proofs.PlaceLemmas.{get_or_any}
 use Rattle.ckpt_ids.proofs.OrderedLemmas.{IsIn-append_right, IsIn-append_left, ComesBefore-at, IsInOrder-filter, filter-all, test-from_IsIn}
 use Rattle.ckpt_terms.specs.declared.names.Span.{Span}
 use Rattle.ckpt_terms.specs.Fencing.{without_all}
-use Rattle.ckpt_terms.specs.Spans.{row, in_span, names_in, AreRanges, AreKept, HasAt, IsCut}
+use Rattle.ckpt_terms.specs.Spans.{row, in_span, names_of, AreRanges, AreKept, HasAt, IsCut}
 use Rattle.ckpt_terms.proofs.SpanLemmas.{span, row-from_bounds, row_empty, row_split, in_spans, added_rises, added_is, without-append, without_below, without_above, without_itself, append_rises}
 use Rattle.ckpt_terms.proofs.SpanLemmas.{rises_behind, ranges_at}
 
@@ -21,37 +21,37 @@ use Rattle.ckpt_terms.proofs.SpanLemmas.{rises_behind, ranges_at}
 abbrev pub HaveNames : List Span → Type 0
 HaveNames xs = All (λ s. s.from < s.to) xs
 
-names_append : (xs ys : List Span) → names_in (xs ++ ys) ≡ names_in xs ++ names_in ys
+names_append : (xs ys : List Span) → names_of (xs ++ ys) ≡ names_of xs ++ names_of ys
 names_append [] ys = refl
-names_append (x ∷ xs) ys = ap (λ zs. row x ++ zs) (names_append xs ys) ∙ sym (append_assoc (row x) (names_in xs) (names_in ys))
+names_append (x ∷ xs) ys = ap (λ zs. row x ++ zs) (names_append xs ys) ∙ sym (append_assoc (row x) (names_of xs) (names_of ys))
 
 -- the names before a range, its own, and those behind it
-pub names_at : (xs : List Span) (i : ℕ) (d : Span) → i < length xs → names_in xs ≡ names_in (take i xs) ++ (row (get_or xs i d) ++ names_in (drop (i + 1) xs))
-names_at xs i d h = ap names_in (sym (take-append-drop i xs)) ∙ names_append (take i xs) (drop i xs) ∙ ap (λ ys. names_in (take i xs) ++ ys) (ranges_at xs i d h)
+pub names_at : (xs : List Span) (i : ℕ) (d : Span) → i < length xs → names_of xs ≡ names_of (take i xs) ++ (row (get_or xs i d) ++ names_of (drop (i + 1) xs))
+names_at xs i d h = ap names_of (sym (take-append-drop i xs)) ∙ names_append (take i xs) (drop i xs) ∙ ap (λ ys. names_of (take i xs) ++ ys) (ranges_at xs i d h)
 
-names_from : (xs : List Span) (i : ℕ) (d : Span) (f : ℕ) → i < length xs → IsIn f (row (get_or xs i d)) → IsIn f (names_in xs)
+names_from : (xs : List Span) (i : ℕ) (d : Span) (f : ℕ) → i < length xs → IsIn f (row (get_or xs i d)) → IsIn f (names_of xs)
 names_from xs i d f h k =
     let In : List ℕ → Type 0 = λ ys. IsIn f ys in
     let its : List ℕ = row (get_or xs i d) in
-    let behind : List ℕ = names_in (drop (i + 1) xs) in
-    subst In (sym (names_at xs i d h)) (IsIn-append_right f (names_in (take i xs)) (its ++ behind) (IsIn-append_left f its behind k))
+    let behind : List ℕ = names_of (drop (i + 1) xs) in
+    subst In (sym (names_at xs i d h)) (IsIn-append_right f (names_of (take i xs)) (its ++ behind) (IsIn-append_left f its behind k))
 
 pub length-row : (a n : ℕ) → length (range_with_len a n) ≡ n
 length-row a zero = refl
 length-row a (suc n) = ap suc (length-row (a + 1) n)
 
 -- there are no fewer names than ranges
-pub fewer : (xs : List Span) → HaveNames xs → length xs ≤ length (names_in xs)
+pub fewer : (xs : List Span) → HaveNames xs → length xs ≤ length (names_of xs)
 fewer [] a = omega arith
 fewer (s ∷ xs) a =
     let first : s.from < s.to = All-head (λ s. s.from < s.to) s xs a in
-    let rest : length xs ≤ length (names_in xs) = fewer xs (All-tail (λ s. s.from < s.to) s xs a) in
-    let both : length (row s ++ names_in xs) ≡ length (row s) + length (names_in xs) = length-append (row s) (names_in xs) in
+    let rest : length xs ≤ length (names_of xs) = fewer xs (All-tail (λ s. s.from < s.to) s xs a) in
+    let both : length (row s ++ names_of xs) ≡ length (row s) + length (names_of xs) = length-append (row s) (names_of xs) in
     let its : length (row s) ≡ s.to - s.from = length-row s.from (s.to - s.from) in
     omega arith
 
 -- a range ends before a later one begins
-ends_before : (xs : List Span) (d : Span) → HaveNames xs → IsAscendingSet (names_in xs) → (i j : ℕ) → i < j → j < length xs → (get_or xs i d).to ≤ (get_or xs j d).from
+ends_before : (xs : List Span) (d : Span) → HaveNames xs → IsAscendingSet (names_of xs) → (i j : ℕ) → i < j → j < length xs → (get_or xs i d).to ≤ (get_or xs j d).from
 ends_before [] d a r i j h l = absurd (omega arith)
 ends_before (s ∷ xs) d a r i zero h l = absurd (omega arith)
 ends_before (s ∷ xs) d a r zero (suc j) h l =
@@ -60,10 +60,10 @@ ends_before (s ∷ xs) d a r zero (suc j) h l =
     let first : s.from < s.to = All-head (λ s. s.from < s.to) s xs a in
     let some : t.from < t.to = All-get_or (λ s. s.from < s.to) xs j d within (All-tail (λ s. s.from < s.to) s xs a) in
     let last : IsIn (s.to - 1) (row s) = row-from_bounds s.from s.to (s.to - 1) (omega arith) (omega arith) in
-    let there : IsIn t.from (names_in xs) = names_from xs j d t.from within (row-from_bounds t.from t.to t.from (omega arith) some) in
-    let below : s.to - 1 < t.from = append_rises (row s) (names_in xs) (s.to - 1) t.from r last there in
+    let there : IsIn t.from (names_of xs) = names_from xs j d t.from within (row-from_bounds t.from t.to t.from (omega arith) some) in
+    let below : s.to - 1 < t.from = append_rises (row s) (names_of xs) (s.to - 1) t.from r last there in
     omega arith
-ends_before (s ∷ xs) d a r (suc i) (suc j) h l = ends_before xs d (All-tail (λ s. s.from < s.to) s xs a) (rises_behind (row s) (names_in xs) r) i j (omega arith) (omega arith)
+ends_before (s ∷ xs) d a r (suc i) (suc j) h l = ends_before xs d (All-tail (λ s. s.from < s.to) s xs a) (rises_behind (row s) (names_of xs) r) i j (omega arith) (omega arith)
 
 -- so their ends rise
 pub ends_rise : (xs : List Span) → AreRanges xs → (i j : ℕ) (d : Span) → i ≤ j → j < length xs → (get_or xs i d).to ≤ (get_or xs j d).to
@@ -119,29 +119,29 @@ without_one name before after a =
 
 -- the names of the ranges without one, which is in the range at a place
 abbrev pub cut_names : List Span → ℕ → Span → ℕ → List ℕ
-cut_names xs i d name = names_in (take i xs) ++ (row (span (get_or xs i d).from name) ++ (row (span (name + 1) (get_or xs i d).to) ++ names_in (drop (i + 1) xs)))
+cut_names xs i d name = names_of (take i xs) ++ (row (span (get_or xs i d).from name) ++ (row (span (name + 1) (get_or xs i d).to) ++ names_of (drop (i + 1) xs)))
 
-cut_by : (xs ys : List Span) (i name : ℕ) (d : Span) → i < length xs → in_span name (get_or xs i d) ≡ true → AreRanges xs → HaveNames ys → names_in ys ≡ cut_names xs i d name → IsCut xs ys name
+cut_by : (xs ys : List Span) (i name : ℕ) (d : Span) → i < length xs → in_span name (get_or xs i d) ≡ true → AreRanges xs → HaveNames ys → names_of ys ≡ cut_names xs i d name → IsCut xs ys name
 cut_by xs ys i name d h in_it a some e =
     let s : Span = get_or xs i d in
     let ends = and_parts (leb s.from name) (ltb name s.to) in_it in
     let l : s.from ≤ name = leb-true s.from name ends.0 in
     let r : name < s.to = ltb-true name s.to ends.1 in
-    let front : List ℕ = names_in (take i xs) in
-    let back : List ℕ = names_in (drop (i + 1) xs) in
+    let front : List ℕ = names_of (take i xs) in
+    let back : List ℕ = names_of (drop (i + 1) xs) in
     let low : List ℕ = row (span s.from name) in
     let high : List ℕ = row (span (name + 1) s.to) in
     let before : List ℕ = front ++ low in
     let after : List ℕ = high ++ back in
-    let whole : names_in xs ≡ before ++ name ∷ after = names_at xs i d h ∙ ap (λ zs. front ++ (zs ++ back)) (row_split s.from s.to name l r) ∙ (simp append_assoc) in
-    let left : names_in ys ≡ before ++ after = e ∙ (simp append_assoc) in
-    let names : names_in ys ≡ without_all (name ∷ []) (names_in xs) = left ∙ sym (without_one name before after (subst IsAscendingSet whole a.ascending)) ∙ ap (without_all (name ∷ [])) (sym whole) in
-    let long : length (names_in xs) ≡ length before + length (name ∷ after) = ap length whole ∙ length-append before (name ∷ after) in
-    let short : length (names_in ys) ≡ length before + length after = ap length left ∙ length-append before after in
+    let whole : names_of xs ≡ before ++ name ∷ after = names_at xs i d h ∙ ap (λ zs. front ++ (zs ++ back)) (row_split s.from s.to name l r) ∙ (simp append_assoc) in
+    let left : names_of ys ≡ before ++ after = e ∙ (simp append_assoc) in
+    let names : names_of ys ≡ without_all (name ∷ []) (names_of xs) = left ∙ sym (without_one name before after (subst IsAscendingSet whole a.ascending)) ∙ ap (without_all (name ∷ [])) (sym whole) in
+    let long : length (names_of xs) ≡ length before + length (name ∷ after) = ap length whole ∙ length-append before (name ∷ after) in
+    let short : length (names_of ys) ≡ length before + length after = ap length left ∙ length-append before after in
     record {
       names = names;
       count = omega arith;
-      ranges = record { some = some; ascending = subst IsAscendingSet (sym names) (IsInOrder-filter ltb (λ f. not (list_any (λ g. eqb f g) (name ∷ []))) (names_in xs) a.ascending) };
+      ranges = record { some = some; ascending = subst IsAscendingSet (sym names) (IsInOrder-filter ltb (λ f. not (list_any (λ g. eqb f g) (name ∷ []))) (names_of xs) a.ascending) };
     }
 
 -- the range is gone
@@ -149,18 +149,18 @@ pub cut_out : (xs : List Span) (i name : ℕ) (d : Span) → i < length xs → i
     → IsCut xs (take i xs ++ drop (i + 1) xs) name
 cut_out xs i name d h in_it a low high =
     let s : Span = get_or xs i d in
-    let front : List ℕ = names_in (take i xs) in
-    let back : List ℕ = names_in (drop (i + 1) xs) in
-    let e : names_in (take i xs ++ drop (i + 1) xs) ≡ cut_names xs i d name =
+    let front : List ℕ = names_of (take i xs) in
+    let back : List ℕ = names_of (drop (i + 1) xs) in
+    let e : names_of (take i xs ++ drop (i + 1) xs) ≡ cut_names xs i d name =
     names_append (take i xs) (drop (i + 1) xs) ∙ ap (λ zs. front ++ (zs ++ back)) (sym (row_empty (name + 1) s.to high))
     ∙ ap (λ zs. front ++ (zs ++ (row (span (name + 1) s.to) ++ back))) (sym (row_empty s.from name low)) in
     cut_by xs (take i xs ++ drop (i + 1) xs) i name d h in_it a
     (All-append (λ s. s.from < s.to) (take i xs) (drop (i + 1) xs) (All-take (λ s. s.from < s.to) i xs a.some) (All-drop (λ s. s.from < s.to) (i + 1) xs a.some)) e
 
-names_set : (xs : List Span) (i : ℕ) (y : Span) → i < length xs → names_in (set xs i y) ≡ names_in (take i xs) ++ (row y ++ names_in (drop (i + 1) xs))
+names_set : (xs : List Span) (i : ℕ) (y : Span) → i < length xs → names_of (set xs i y) ≡ names_of (take i xs) ++ (row y ++ names_of (drop (i + 1) xs))
 names_set xs i y h =
     let n : suc i ≡ i + 1 = omega arith in
-    ap names_in (set_split xs i y h) ∙ names_append (take i xs) (y ∷ drop (suc i) xs) ∙ ap (λ k. names_in (take i xs) ++ (row y ++ names_in (drop k xs))) n
+    ap names_of (set_split xs i y h) ∙ names_append (take i xs) (y ∷ drop (suc i) xs) ∙ ap (λ k. names_of (take i xs) ++ (row y ++ names_of (drop k xs))) n
 
 -- the name was the last of the range
 pub cut_last : (xs : List Span) (i name : ℕ) (d : Span) → i < length xs → in_span name (get_or xs i d) ≡ true → AreRanges xs → (get_or xs i d).from < name → (get_or xs i d).to ≤ name + 1
@@ -168,8 +168,8 @@ pub cut_last : (xs : List Span) (i name : ℕ) (d : Span) → i < length xs → 
 cut_last xs i name d h in_it a low high =
     let s : Span = get_or xs i d in
     let y : Span = span s.from name in
-    let back : List ℕ = names_in (drop (i + 1) xs) in
-    let e : names_in (set xs i y) ≡ cut_names xs i d name = names_set xs i y h ∙ ap (λ zs. names_in (take i xs) ++ (row y ++ (zs ++ back))) (sym (row_empty (name + 1) s.to high)) in
+    let back : List ℕ = names_of (drop (i + 1) xs) in
+    let e : names_of (set xs i y) ≡ cut_names xs i d name = names_set xs i y h ∙ ap (λ zs. names_of (take i xs) ++ (row y ++ (zs ++ back))) (sym (row_empty (name + 1) s.to high)) in
     cut_by xs (set xs i y) i name d h in_it a (All-set (λ s. s.from < s.to) xs i y low a.some) e
 
 -- it was the first
@@ -178,8 +178,8 @@ pub cut_first : (xs : List Span) (i name : ℕ) (d : Span) → i < length xs →
 cut_first xs i name d h in_it a low high =
     let s : Span = get_or xs i d in
     let y : Span = span (name + 1) s.to in
-    let back : List ℕ = names_in (drop (i + 1) xs) in
-    let e : names_in (set xs i y) ≡ cut_names xs i d name = names_set xs i y h ∙ ap (λ zs. names_in (take i xs) ++ (zs ++ (row y ++ back))) (sym (row_empty s.from name low)) in
+    let back : List ℕ = names_of (drop (i + 1) xs) in
+    let e : names_of (set xs i y) ≡ cut_names xs i d name = names_set xs i y h ∙ ap (λ zs. names_of (take i xs) ++ (zs ++ (row y ++ back))) (sym (row_empty s.from name low)) in
     cut_by xs (set xs i y) i name d h in_it a (All-set (λ s. s.from < s.to) xs i y high a.some) e
 
 -- it was between two others
@@ -192,10 +192,10 @@ cut_between xs i name d h in_it a low high =
     let P : Span → Type 0 = λ s. s.from < s.to in
     let zs : List Span = set xs i z in
     let all : HaveNames zs = All-set P xs i z high a.some in
-    let front : names_in (take i zs) ≡ names_in (take i xs) = ap names_in (take-set xs i z) in
-    let back : names_in (drop i zs) ≡ row z ++ names_in (drop (i + 1) xs) = ap names_in (drop-set xs i z h) in
-    let e : names_in (take i zs ++ y ∷ drop i zs) ≡ cut_names xs i d name =
-    names_append (take i zs) (y ∷ drop i zs) ∙ ap (λ ys. ys ++ (row y ++ names_in (drop i zs))) front ∙ ap (λ ys. names_in (take i xs) ++ (row y ++ ys)) back in
+    let front : names_of (take i zs) ≡ names_of (take i xs) = ap names_of (take-set xs i z) in
+    let back : names_of (drop i zs) ≡ row z ++ names_of (drop (i + 1) xs) = ap names_of (drop-set xs i z h) in
+    let e : names_of (take i zs ++ y ∷ drop i zs) ≡ cut_names xs i d name =
+    names_append (take i zs) (y ∷ drop i zs) ∙ ap (λ ys. ys ++ (row y ++ names_of (drop i zs))) front ∙ ap (λ ys. names_of (take i xs) ++ (row y ++ ys)) back in
     cut_by xs (take i zs ++ y ∷ drop i zs) i name d h in_it a (All-append P (take i zs) (y ∷ drop i zs) (All-take P i zs all) (All-cons P y (drop i zs) low (All-drop P i zs all))) e
 
 -- one name after the other
@@ -213,9 +213,9 @@ without_more gone name (f ∷ names) =
     (cases_Bool (list_any (λ g. eqb f g) gone))
 
 -- a name that is in no range
-pub absent_stays : (xs : List Span) (name : ℕ) → list_any (in_span name) xs ≡ false → names_in xs ≡ without_all (name ∷ []) (names_in xs)
+pub absent_stays : (xs : List Span) (name : ℕ) → list_any (in_span name) xs ≡ false → names_of xs ≡ without_all (name ∷ []) (names_of xs)
 absent_stays xs name none =
-    let names : List ℕ = names_in xs in
+    let names : List ℕ = names_of xs in
     let absent : list_any (λ g. eqb name g) names ≡ false = in_spans name xs ∙ none in
     let In : ℕ → Type 0 = λ z. IsIn z names in
     sym (filter-all (λ f. not (list_any (λ g. eqb f g) (name ∷ []))) names
@@ -266,28 +266,28 @@ split_at xs i name s h a =
     subst P (h.there s) (cut_between xs i name s h.within (is_there xs i name s h) a)
 
 -- a range that is split has two names more
-pub two_more : (xs : List Span) (i name : ℕ) (s : Span) → HasAt xs i s name → AreRanges xs → s.from < name → name + 1 < s.to → length xs + 2 ≤ length (names_in xs)
+pub two_more : (xs : List Span) (i name : ℕ) (s : Span) → HasAt xs i s name → AreRanges xs → s.from < name → name + 1 < s.to → length xs + 2 ≤ length (names_of xs)
 two_more xs i name s h a low high =
     let zs : List Span = set xs i (span (name + 1) s.to) in
     let ys : List Span = take i zs ++ span s.from name ∷ drop i zs in
     let k : IsCut xs ys name = split_at xs i name s h a low high in
-    let few : length ys ≤ length (names_in ys) = fewer ys k.ranges.some in
+    let few : length ys ≤ length (names_of ys) = fewer ys k.ranges.some in
     let long : length ys ≡ length (take i zs) + length (span s.from name ∷ drop i zs) = length-append (take i zs) (span s.from name ∷ drop i zs) in
     let same : length zs ≡ length (take i zs) + length (drop i zs) = ap length (sym (take-append-drop i zs)) ∙ length-append (take i zs) (drop i zs) in
     let kept : length zs ≡ length xs = length-set xs i (span (name + 1) s.to) in
-    let counted : length (names_in ys) + 1 ≡ length (names_in xs) = k.count in
+    let counted : length (names_of ys) + 1 ≡ length (names_of xs) = k.count in
     omega arith
 
 -- an added range
-pub added : (spans : List Span) (first count held len room held2 room2 : ℕ) → AreKept spans held len room → ((f : ℕ) → IsIn f (names_in spans) → f < first) → 0 < count → held2 ≡ held + count
+pub added : (spans : List Span) (first count held len room held2 room2 : ℕ) → AreKept spans held len room → ((f : ℕ) → IsIn f (names_of spans) → f < first) → 0 < count → held2 ≡ held + count
     → held2 + len + 1 ≤ room2 + room2 → AreKept (spans ++ span first (first + count) ∷ []) held2 (len + 1) room2
 added spans first count held len room held2 room2 k above some is fits =
     let new : Span = span first (first + count) in
     let P : Span → Type 0 = λ s. s.from < s.to in
-    let its : names_in (spans ++ new ∷ []) ≡ names_in spans ++ range_with_len first count = added_is spans first count in
-    let long : length (names_in (spans ++ new ∷ [])) ≡ length (names_in spans) + length (range_with_len first count) = ap length its ∙ length-append (names_in spans) (range_with_len first count) in
+    let its : names_of (spans ++ new ∷ []) ≡ names_of spans ++ range_with_len first count = added_is spans first count in
+    let long : length (names_of (spans ++ new ∷ [])) ≡ length (names_of spans) + length (range_with_len first count) = ap length its ∙ length-append (names_of spans) (range_with_len first count) in
     let row_ : length (range_with_len first count) ≡ count = length-row first count in
-    let names : length (names_in spans) ≡ held = k.names in
+    let names : length (names_of spans) ≡ held = k.names in
     record {
       ranges = record { some = All-append P spans (new ∷ []) k.ranges.some (All-cons P new [] (omega arith) (All-nil P)); ascending = added_rises spans first count k.ranges.ascending above };
       names = omega arith;

@@ -11,15 +11,15 @@ use Rattle.ckpt_ids.specs.Ascending.{IsAscendingSet}
 use Rattle.ckpt_ids.proofs.OrderedLemmas.{IsIn-append_right, ComesBefore-at, filter-same, filter-all, list_any-none, list_any-from_IsIn, IsInOrder-append}
 use Rattle.ckpt_terms.specs.declared.names.Span.{Span}
 use Rattle.ckpt_terms.specs.Fencing.{without_all}
-use Rattle.ckpt_terms.specs.Spans.{row, in_span, names_in}
+use Rattle.ckpt_terms.specs.Spans.{row, in_span, names_of}
 use Rattle.ckpt_terms.proofs.Stepping.{in_row, row_ascends}
 
 abbrev pub span : ℕ → ℕ → Span
 span from to = record { from = from; to = to }
 
-pub names_push : (xs : List Span) (s : Span) → names_in (xs ++ s ∷ []) ≡ names_in xs ++ row s
+pub names_push : (xs : List Span) (s : Span) → names_of (xs ++ s ∷ []) ≡ names_of xs ++ row s
 names_push [] s = append-nil (row s)
-names_push (x ∷ xs) s = ap (λ ys. row x ++ ys) (names_push xs s) ∙ sym (append_assoc (row x) (names_in xs) (row s))
+names_push (x ∷ xs) s = ap (λ ys. row x ++ ys) (names_push xs s) ∙ sym (append_assoc (row x) (names_of xs) (row s))
 
 -- the names of a range
 pub row-bounds : (from to f : ℕ) → IsIn f (row (span from to)) → (from ≤ f) × (f < to)
@@ -71,9 +71,9 @@ in_one f s =
     ne_eqb f g (λ same. both_ways (in_span f s) e (subst (λ x. in_span x s ≡ true) (sym same) (and_from (leb s.from g) (ltb g s.to) (le-leb s.from g b.0) (lt-ltb g s.to b.1))))) ∙ sym e)
     (cases_Bool (in_span f s))
 
-pub in_spans : (f : ℕ) (spans : List Span) → list_any (λ g. eqb f g) (names_in spans) ≡ list_any (in_span f) spans
+pub in_spans : (f : ℕ) (spans : List Span) → list_any (λ g. eqb f g) (names_of spans) ≡ list_any (in_span f) spans
 in_spans f [] = refl
-in_spans f (s ∷ spans) = list_any-append (λ g. eqb f g) (row s) (names_in spans) ∙ ap (λ b. b || list_any (λ g. eqb f g) (names_in spans)) (in_one f s) ∙ ap (λ b. in_span f s || b) (in_spans f spans)
+in_spans f (s ∷ spans) = list_any-append (λ g. eqb f g) (row s) (names_of spans) ∙ ap (λ b. b || list_any (λ g. eqb f g) (names_of spans)) (in_one f s) ∙ ap (λ b. in_span f s || b) (in_spans f spans)
 
 -- leaving names out
 pub without-append : (gone xs ys : List ℕ) → without_all gone (xs ++ ys) ≡ without_all gone xs ++ without_all gone ys
@@ -112,21 +112,21 @@ rises_behind [] ys a = a
 rises_behind (x ∷ xs) ys a = rises_behind xs ys a.1
 
 -- an added range
-pub added_rises : (spans : List Span) (first count : ℕ) → IsAscendingSet (names_in spans) → ((f : ℕ) → IsIn f (names_in spans) → f < first)
-    → IsAscendingSet (names_in (spans ++ span first (first + count) ∷ []))
+pub added_rises : (spans : List Span) (first count : ℕ) → IsAscendingSet (names_of spans) → ((f : ℕ) → IsIn f (names_of spans) → f < first)
+    → IsAscendingSet (names_of (spans ++ span first (first + count) ∷ []))
 added_rises spans first count a above =
     let its : List ℕ = row (span first (first + count)) in
     subst IsAscendingSet (sym (names_push spans (span first (first + count))))
-    (IsInOrder-append ltb (names_in spans) its a (row_ascends first ((first + count) - first))
+    (IsInOrder-append ltb (names_of spans) its a (row_ascends first ((first + count) - first))
     (λ x y h k. let b : x < first = above x h in let d : first ≤ y = (row-bounds first (first + count) y k).0 in lt-ltb x y (omega arith)))
 
-pub added_is : (spans : List Span) (first count : ℕ) → names_in (spans ++ span first (first + count) ∷ []) ≡ names_in spans ++ range_with_len first count
-added_is spans first count = let e : (first + count) - first ≡ count = omega arith in names_push spans (span first (first + count)) ∙ ap (λ n. names_in spans ++ range_with_len first n) e
+pub added_is : (spans : List Span) (first count : ℕ) → names_of (spans ++ span first (first + count) ∷ []) ≡ names_of spans ++ range_with_len first count
+added_is spans first count = let e : (first + count) - first ≡ count = omega arith in names_push spans (span first (first + count)) ∙ ap (λ n. names_of spans ++ range_with_len first n) e
 
 -- the rest of a list, at a place in it
 pub next_cons : {X : Type 0} (xs : List X) (i : ℕ) (d : X) → i < length xs → drop i xs ≡ get_or xs i d ∷ drop (i + 1) xs
 next_cons xs i d h = let s : suc i ≡ i + 1 = omega arith in drop-cons xs i d h ∙ ap (λ k. get_or xs i d ∷ drop k xs) s
 
 -- the ranges from a place on
-pub ranges_at : (spans : List Span) (i : ℕ) (d : Span) → i < length spans → names_in (drop i spans) ≡ row (get_or spans i d) ++ names_in (drop (i + 1) spans)
-ranges_at spans i d h = ap names_in (next_cons spans i d h)
+pub ranges_at : (spans : List Span) (i : ℕ) (d : Span) → i < length spans → names_of (drop i spans) ≡ row (get_or spans i d) ++ names_of (drop (i + 1) spans)
+ranges_at spans i d h = ap names_of (next_cons spans i d h)

@@ -42,7 +42,8 @@ pub record IsFenced (m : Fenced) : Type 0 where
   pub term_to : m.term ≤ LAST_TERM
   pub names_from : 1 ≤ m.next_name
   pub names_to : m.next_name ≤ NAMES_END
-  -- a file that is in use, waits for deletion or was fetched has a name that was given out, and that no task holds
+  -- a file that is in use, waits for deletion or was fetched has a name that was given out, or lies below the first one, and no task
+  -- holds it
   pub known : (f : ℕ) → is_known m.core f ≡ true → f < m.next_name
   pub reserved : (f : ℕ) → IsIn f m.unspent → f < m.next_name
   pub apart : (f : ℕ) → IsIn f m.unspent → is_known m.core f ≡ false
@@ -54,8 +55,8 @@ pub record IsFenced (m : Fenced) : Type 0 where
 abbrev pub IsFencedAfter : Opening → ℕ → List FencedCall → Type 0
 IsFencedAfter o first calls = IsFenced (fenced_replay (fenced o first) calls)
 
--- Each number is one of: not given out, held by a task of the running term, in use, waiting for deletion, fetched for it,
--- garbage; and it is there once.
+-- Each number is one of: to be given out yet, held by a task of the running term, in use, waiting for deletion, fetched for it,
+-- garbage; and it is there once. A number below the first name is never given out; it is garbage unless a record names it.
 abbrev pub Classified : Opening → ℕ → List FencedCall → Type 0
 Classified o first calls =
     let m : Fenced = fenced_replay (fenced o first) calls in
@@ -93,8 +94,8 @@ term_of (Reserve term count) = term
 term_of (Forfeit term names) = term
 term_of (Make term call) = term
 
--- Once a restore or a cancel is accepted, the tasks that ran before change nothing, whatever else is called, and each is
--- told so.
+-- Once a restore or a cancel is accepted, no reservation, forfeit, acknowledgement or decline of the tasks that ran before
+-- changes anything, whatever else is called, and each is told so.
 abbrev pub ZombiesAreFenced : Opening → ℕ → List FencedCall → List FencedCall → Type 0
 ZombiesAreFenced o first before calls =
     let m : Fenced = fenced_replay (fenced o first) before in
@@ -104,8 +105,9 @@ ZombiesAreFenced o first before calls =
     → let n : Fenced = fenced_replay (fenced_step m end).0 calls in
     (late : FencedCall) → is_from_task late ≡ true → term_of late ≤ m.term → fenced_step n late ≡ (n, answer.Fenced OldTerm)
 
--- Right after an accepted restore or cancel no name is held: each that was given out is in use, waits for deletion, was
--- fetched for it, or is garbage. So a sweep then misses no orphan.
+-- Right after an accepted restore or cancel no name is held: each one below the next is in use, waits for deletion, was
+-- fetched for it, or is garbage. So a sweep then misses no file that has such a name and is garbage; a task that should be
+-- dead may still write one later.
 abbrev pub SweepIsExact : Opening → ℕ → List FencedCall → Type 0
 SweepIsExact o first before =
     let m : Fenced = fenced_replay (fenced o first) before in

@@ -22,7 +22,7 @@ pub record Fenced : Type 0 where
   pub term : ℕ
   -- the names from here on were never reserved
   pub next_name : ℕ
-  -- the names that the running term reserved, and that no accepted acknowledgement has named yet, ascending
+  -- the names that the running term reserved, and that neither an accepted acknowledgement nor a forfeit has named yet, ascending
   pub unspent : List ℕ
 
 abbrev pub fenced : Opening → ℕ → Fenced
@@ -125,8 +125,8 @@ abbrev pub core_calls : Fenced → List FencedCall → List Call
 core_calls m [] = []
 core_calls m (call ∷ calls) = passed call (fenced_step m call).1 ++ core_calls (fenced_step m call).0 calls
 
--- A name that was given out and that nobody holds: no live record uses its file, it does not wait for deletion and was not
--- fetched for it, and no task of the running term may write it.
+-- A name that was given out, or that lies below the first one, and that nobody holds: no live record uses its file, it does
+-- not wait for deletion and was not fetched for it, and no task of the running term may write it.
 abbrev pub is_garbage : Fenced → ℕ → Bool
 is_garbage m f = nat_lt f m.next_name && not (is_unspent m f) && not (is_known m.core f)
 

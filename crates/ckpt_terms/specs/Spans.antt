@@ -13,25 +13,25 @@ row s = range_with_len s.from (s.to - s.from)
 abbrev pub in_span : ℕ → Span → Bool
 in_span name s = nat_le s.from name && nat_lt name s.to
 
-abbrev pub names_in : List Span → List ℕ
-names_in spans = flat_map row spans
+abbrev pub names_of : List Span → List ℕ
+names_of spans = flat_map row spans
 
 -- in ascending order, and none is empty
 pub record AreRanges (spans : List Span) : Type 0 where
   pub some : All (λ s. s.from < s.to) spans
-  pub ascending : IsAscendingSet (names_in spans)
+  pub ascending : IsAscendingSet (names_of spans)
 
 -- ranges with this many names, and room for as many ranges as these can be split into
 pub record AreKept (spans : List Span) (held len room : ℕ) : Type 0 where
   pub ranges : AreRanges spans
-  pub names : length (names_in spans) ≡ held
+  pub names : length (names_of spans) ≡ held
   pub fits : held + len ≤ room + room
 
 -- ranges with this many names, all of them below an end
 pub record AreRangesBelow (spans : List Span) (end held : ℕ) : Type 0 where
   pub ranges : AreRanges spans
-  pub names : length (names_in spans) ≡ held
-  pub below : (f : ℕ) → IsIn f (names_in spans) → f < end
+  pub names : length (names_of spans) ≡ held
+  pub below : (f : ℕ) → IsIn f (names_of spans) → f < end
 
 -- the range at this place has the name
 pub record HasAt (spans : List Span) (place : ℕ) (s : Span) (name : ℕ) : Type 0 where
@@ -42,6 +42,6 @@ pub record HasAt (spans : List Span) (place : ℕ) (s : Span) (name : ℕ) : Typ
 
 -- a name is taken out
 pub record IsCut (old new : List Span) (name : ℕ) : Type 0 where
-  pub names : names_in new ≡ without_all (name ∷ []) (names_in old)
-  pub count : length (names_in new) + 1 ≡ length (names_in old)
+  pub names : names_of new ≡ without_all (name ∷ []) (names_of old)
+  pub count : length (names_of new) + 1 ≡ length (names_of old)
   pub ranges : AreRanges new

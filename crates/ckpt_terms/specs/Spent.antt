@@ -1,4 +1,4 @@
--- Names that were given out, and that no task holds: those of known files.
+-- Names that no task holds, and that none will: those of known files.
 use Rattle.std.specs.Prelude.{ℕ, Bool, ◌&&◌, not, nat_lt}
 use Rattle.std.specs.List.{list_all}
 use Rattle.ckpt_ids.specs.Records.{Record}
@@ -7,7 +7,8 @@ use Rattle.ckpt_terms.specs.declared.image.TermsImage.{TermsImage}
 use Rattle.ckpt_terms.specs.Fencing.{Fenced, is_unspent}
 use Rattle.ckpt_terms.specs.TermsImages.{fenced_in}
 
--- a name that was given out, and that no task holds
+-- A name that was given out, or that lies below the first one, and that no task holds. It was acknowledged or forfeited, or its
+-- term has ended.
 abbrev pub is_spent : Fenced → ℕ → Bool
 is_spent m f = nat_lt f m.next_name && not (is_unspent m f)
 

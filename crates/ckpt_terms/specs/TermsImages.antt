@@ -6,7 +6,7 @@ use Rattle.ckpt_terms.specs.declared.call.FencedAnswer.{FencedAnswer}
 use Rattle.ckpt_terms.specs.declared.image.TermsImage.{TermsImage}
 use Rattle.ckpt_terms.specs.Fencing.{Fenced, FencedStepped, fenced_step, fenced_replay}
 use Rattle.ckpt_terms.specs.FencedLaws.{IsFenced}
-use Rattle.ckpt_terms.specs.Spans.{AreRanges, names_in}
+use Rattle.ckpt_terms.specs.Spans.{AreRanges, names_of}
 
 -- the answers to a list of calls
 abbrev pub fenced_answers : Fenced → List FencedCall → List FencedAnswer
@@ -33,7 +33,7 @@ pub record CanHoldFenced (m : Fenced) : Type 0 where
 
 -- the state of an image
 abbrev pub fenced_in : TermsImage → Fenced
-fenced_in i = record { core = state_in i.core; term = i.term; next_name = i.next_name; unspent = names_in i.unspent.items }
+fenced_in i = record { core = state_in i.core; term = i.term; next_name = i.next_name; unspent = names_of i.unspent.items }
 
 -- An image that a coordinator can be made from: its ranges are in ascending order and none is empty, and its state is one
 -- that an image may have.

@@ -8,7 +8,7 @@ ghost use Rattle.ckpt_model.specs.Images.{HasSoundNumbers, record_in, state_in};
 ghost use Rattle.ckpt_model.specs.Refusals.{is_cancelled};
 ghost use Rattle.ckpt_model.specs.Soundness.{IsSound};
 ghost use Rattle.ckpt_terms.specs.FencedLaws.{IsFenced};
-ghost use Rattle.ckpt_terms.specs.Spans.{AreRanges, AreRangesBelow, names_in};
+ghost use Rattle.ckpt_terms.specs.Spans.{AreRanges, AreRangesBelow, names_of};
 ghost use Rattle.ckpt_terms.specs.Spent.{files_are_spent, is_spent, record_is_spent};
 ghost use Rattle.ckpt_terms.specs.TermsImages.{CanOpenFenced, fenced_in, fenced_settled};
 
@@ -84,7 +84,7 @@ impl Terms {
 /// whatever that of the coordinator is. Takes no memory.
 fn sound_names(image: &TermsImage) -> Option<u64>
     ensures ranges { IfSome result (λ held. AreRanges image.now.unspent.items) }
-    ensures held { IfSome result (λ held. length (names_in image.now.unspent.items) ≡ held) }
+    ensures held { IfSome result (λ held. length (names_of image.now.unspent.items) ≡ held) }
     ensures fenced { IfSome result (λ held. IsSound (state_in image.now.core) → IsFenced (fenced_in image.now)) }
     ensures none { result ≡ None → CanOpenFenced image.now → ⊥ }
 {
@@ -109,7 +109,7 @@ fn sound_names(image: &TermsImage) -> Option<u64>
 /// or if one has a name from `end` on.
 fn count_names(ranges: &[Span], end: u64) -> Option<u64>
     ensures some { IfSome result (λ held. AreRangesBelow ranges.now end held) }
-    ensures none { result ≡ None → AreRanges ranges.now → ((f : ℕ) → IsIn f (names_in ranges.now) → f < end) → ⊥ }
+    ensures none { result ≡ None → AreRanges ranges.now → ((f : ℕ) → IsIn f (names_of ranges.now) → f < end) → ⊥ }
 {
     let mut held = 0;
     let mut last = 0;

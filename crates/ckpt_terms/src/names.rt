@@ -5,7 +5,7 @@ ghost use Rattle.std.specs.List.{list_any, range_with_len};
 ghost use Rattle.std.specs.Prelude.{◌==◌};
 ghost use Rattle.ckpt_ids.specs.Ordered.{IsIn};
 ghost use Rattle.ckpt_terms.specs.Fencing.{without_all};
-ghost use Rattle.ckpt_terms.specs.Spans.{AreRanges, HasAt, IsCut, in_span, names_in};
+ghost use Rattle.ckpt_terms.specs.Spans.{AreRanges, HasAt, IsCut, in_span, names_of};
 
 use ckpt_ids::{FileId, Files};
 use std::alloc::{AllocError, Global};
@@ -53,11 +53,11 @@ impl Drop for Names {
 
 impl Model for Names {
     ghost use Rattle.std.specs.Prelude.{ℕ, List, vec_capacity, vec_len};
-    ghost use Rattle.ckpt_terms.specs.Spans.{AreKept, names_in};
+    ghost use Rattle.ckpt_terms.specs.Spans.{AreKept, names_of};
 
     ghost Value = { List ℕ };
 
-    ghost view = { λ n. names_in n.spans.items };
+    ghost view = { λ n. names_of n.spans.items };
 
     ghost invariant = { λ n. AreKept n.spans.items n.held (vec_len n.spans) (vec_capacity n.spans) };
 }
@@ -79,8 +79,8 @@ impl Names {
     /// Condition: the ranges are in ascending order, and none is empty.
     pub(crate) fn of(alloc: Global, ranges: &[Span], held: u64) -> Result<Names, AllocError>
         requires ranges { AreRanges ranges.now }
-        requires held { length (names_in ranges.now) ≡ held }
-        ensures { IfOk result (λ names. names ≡ names_in ranges.now) }
+        requires held { length (names_of ranges.now) ≡ held }
+        ensures { IfOk result (λ names. names ≡ names_of ranges.now) }
     {
         let mut spans = copy_of(alloc, ranges)?;
         make_room(&mut spans, held)?;
@@ -89,7 +89,7 @@ impl Names {
 
     /// The ranges of the names.
     pub fn ranges(&self) -> &[Span]
-        ensures names { names_in result.now ≡ self.now }
+        ensures names { names_of result.now ≡ self.now }
         ensures ranges { AreRanges result.now }
     {
         &self.spans
@@ -97,7 +97,7 @@ impl Names {
 
     /// A copy of the ranges. Fails only if memory runs out.
     pub fn copied_ranges(&self) -> Result<Vec<Span>, AllocError>
-        ensures names { IfOk result (λ spans. names_in spans.items ≡ self.now) }
+        ensures names { IfOk result (λ spans. names_of spans.items ≡ self.now) }
         ensures ranges { IfOk result (λ spans. AreRanges spans.items) }
     {
         copy_of(self.alloc, &self.spans)
@@ -189,7 +189,7 @@ fn copy_of(alloc: Global, ranges: &[Span]) -> Result<Vec<Span>, AllocError>
 /// Condition: the ranges are in ascending order, and none is empty.
 pub(crate) fn hold(ranges: &[Span], name: FileId) -> bool
     requires { AreRanges ranges.now }
-    ensures { result ≡ list_any (λ g. name == g) (names_in ranges.now) }
+    ensures { result ≡ list_any (λ g. name == g) (names_of ranges.now) }
 {
     range_with(ranges, name.0).is_some()
 }
@@ -255,9 +255,9 @@ fn make_room(spans: &mut Vec<Span>, held: u64) -> Result<(), AllocError>
 fn cut(spans: &mut Vec<Span>, place: usize, span: Span, name: u64)
     requires at { HasAt spans.old.items place span name }
     requires ranges { AreRanges spans.old.items }
-    requires room { length (names_in spans.old.items) + vec_len spans.old ≤ vec_capacity spans.old + vec_capacity spans.old }
+    requires room { length (names_of spans.old.items) + vec_len spans.old ≤ vec_capacity spans.old + vec_capacity spans.old }
     ensures cut { IsCut spans.old.items spans.new.items name }
-    ensures room { length (names_in spans.new.items) + vec_len spans.new ≤ vec_capacity spans.new + vec_capacity spans.new }
+    ensures room { length (names_of spans.new.items) + vec_len spans.new ≤ vec_capacity spans.new + vec_capacity spans.new }
 {
     let before = Span {
         from: span.from,

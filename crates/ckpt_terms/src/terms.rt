@@ -6,7 +6,7 @@ ghost use Rattle.ckpt_model.specs.Soundness.{IsCall};
 ghost use Rattle.ckpt_terms.specs.declared.call.FencedCall.TheVariants.{Reserve, Forfeit, Make};
 ghost use Rattle.ckpt_terms.specs.Fencing.{fence, fenced, fenced_step, fresh_of, is_garbage, is_unspent, not_held, not_reserved};
 ghost use Rattle.ckpt_terms.specs.FencedLaws.{IsFenced, IsFencedCall};
-ghost use Rattle.ckpt_terms.specs.Spans.{AreRanges, names_in};
+ghost use Rattle.ckpt_terms.specs.Spans.{AreRanges, names_of};
 ghost use Rattle.ckpt_terms.specs.TermsOpening.{terms_fault};
 ghost use Rattle.ckpt_terms.specs.Wants.{wants_memory};
 
@@ -235,7 +235,7 @@ impl Terms {
 
     /// The names that the running term holds: ranges in ascending order, none of them empty.
     pub fn unspent(&self) -> &[Span]
-        ensures names { names_in result.now ≡ self.now.unspent }
+        ensures names { names_of result.now ≡ self.now.unspent }
         ensures ranges { AreRanges result.now }
     {
         self.unspent.ranges()

@@ -20,13 +20,13 @@ bad_line what = answer 6 what 0 0
 abbrev pub no_call : Answer
 no_call = bad_line 6
 
-abbrev pub fault_told : LineFault → Answer
-fault_told fault.TooLong = bad_line 1
-fault_told fault.Word = bad_line 2
-fault_told fault.Missing = bad_line 3
-fault_told fault.Number = bad_line 4
-fault_told fault.Extra = bad_line 5
-fault_told fault.Memory = out_of_memory
+abbrev pub line_fault_told : LineFault → Answer
+line_fault_told fault.TooLong = bad_line 1
+line_fault_told fault.Word = bad_line 2
+line_fault_told fault.Missing = bad_line 3
+line_fault_told fault.Number = bad_line 4
+line_fault_told fault.Extra = bad_line 5
+line_fault_told fault.Memory = out_of_memory
 
 -- a line of a script that makes no call
 abbrev pub other_told : Line → Answer
@@ -42,7 +42,7 @@ asked_by line.NoCall = Err no_call
 
 abbrev pub line_said : Result TermLine LineFault → Result Asked Answer
 line_said (Ok line) = asked_by line
-line_said (Err why) = Err (fault_told why)
+line_said (Err why) = Err (line_fault_told why)
 
 -- what the line asks for, or the answer if it asks for nothing
 unfoldable pub said : List ℕ → Result Asked Answer

@@ -21,7 +21,7 @@ use Rattle.relkvanu.specs.declared.answer.Answer.{Answer}
 use Rattle.relkvanu.specs.declared.asked.Asked.{Asked}
 use Rattle.relkvanu.specs.declared.asked.Asked.TheVariants as ask
 use Rattle.relkvanu.specs.declared.handle.Handle.{Handle}
-use Rattle.relkvanu.specs.Asking.{fault_told, said}
+use Rattle.relkvanu.specs.Asking.{line_fault_told, said}
 use Rattle.relkvanu.specs.Buffers.{files_in, show_told, StandsInFront}
 use Rattle.relkvanu.specs.Fenced.{call_step, fence_step, machine_in, no_names, term_step, term_wants}
 use Rattle.relkvanu.specs.Told.{answer_told, done, no_memory, too_short}
@@ -146,7 +146,7 @@ numbers_told what numbers places = if nat_lt places (length numbers) then too_sh
 abbrev pub says_told : Result TermLine LineFault → ℕ → Answer
 says_told (Ok (Other line)) places = numbers_told (line_number line) (line_numbers line) places
 says_told (Ok line) places = numbers_told 42 [] places
-says_told (Err why) places = fault_told why
+says_told (Err why) places = line_fault_told why
 
 abbrev pub says_numbers : Result TermLine LineFault → List ℕ
 says_numbers (Ok (Other line)) = line_numbers line

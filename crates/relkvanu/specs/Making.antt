@@ -33,15 +33,15 @@ making call first second line = to_make (given call first second) (length line)
 abbrev pub BringsMadeFiles : State → Result Asked Answer → List ℕ → List ℕ → Answer → Type 0
 BringsMadeFiles m asked old new answer = answer.code ≡ 0 → StandsInFront (said_files m asked) old new
 
--- the length of the line, how many files waited for deletion, and the numbers of files now
+-- the length of the line, how many files waited for deletion before the call, and the numbers of files after it
 abbrev pub made_of : ℕ → State → State → Made
 made_of written old new =
     record { written = written; waited = length old.waiting; in_use = (counts_of new).in_use; waiting = length new.waiting; taken = length new.taken }
 
 -- the numbers that a call leaves, if it was made
-abbrev pub IsMade : ℕ → State → State → Made → Answer → Type 0
-IsMade written old new made answer = answer.code ≡ 0 → made ≡ made_of written old new
+abbrev pub TellsCounts : ℕ → State → State → Made → Answer → Type 0
+TellsCounts written old new made answer = answer.code ≡ 0 → made ≡ made_of written old new
 
 -- the same through a handle
-abbrev pub IsHandleMade : ℕ → Handle → Handle → Made → Answer → Type 0
-IsHandleMade written old new made answer = (m n : State) → old.value ≡ Some m → new.value ≡ Some n → IsMade written m n made answer
+abbrev pub HandleTellsCounts : ℕ → Handle → Handle → Made → Answer → Type 0
+HandleTellsCounts written old new made answer = (m n : State) → old.value ≡ Some m → new.value ≡ Some n → TellsCounts written m n made answer

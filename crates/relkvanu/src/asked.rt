@@ -4,7 +4,7 @@ ghost use Rattle.std.specs.Prelude.{◌≡◌, ◌≢◌, true, Ok, Err, IfOk, I
 ghost use Rattle.ckpt_terms.specs.declared.call.FencedCall.TheVariants.{Make};
 ghost use Rattle.ckpt_term_lines.specs.TermReading.{term_may_want_memory};
 ghost use Rattle.relkvanu.specs.declared.asked.Asked.TheVariants as ask;
-ghost use Rattle.relkvanu.specs.Asking.{asked_by, fault_told, said};
+ghost use Rattle.relkvanu.specs.Asking.{asked_by, line_fault_told, said};
 ghost use Rattle.relkvanu.specs.Calls.{HasNoNumbers};
 ghost use Rattle.relkvanu.specs.Told.{no_memory};
 
@@ -83,7 +83,7 @@ fn asked_by(line: TermLine) -> Result<Asked, Answer>
 
 /// The answer if a line can't be read.
 pub(crate) fn of_line_fault(why: LineFault) -> Answer
-    ensures { result ≡ fault_told why }
+    ensures { result ≡ line_fault_told why }
 {
     match why {
         LineFault::TooLong => Answer::bad_line(FAULT_TOO_LONG),

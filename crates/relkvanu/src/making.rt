@@ -8,7 +8,7 @@ ghost use Rattle.relkvanu.specs.Buffers.{StandsInFront};
 ghost use Rattle.relkvanu.specs.Calls.{HasNoNumbers, StaysClosed};
 ghost use Rattle.relkvanu.specs.Fenced.{IsHandled, IsTaken};
 ghost use Rattle.relkvanu.specs.Lines.{is_free_line, said_step};
-ghost use Rattle.relkvanu.specs.Making.{BringsMadeFiles, IsHandleMade, IsMade, asked_if_fits, made_of, making};
+ghost use Rattle.relkvanu.specs.Making.{BringsMadeFiles, HandleTellsCounts, TellsCounts, asked_if_fits, made_of, making};
 ghost use Rattle.relkvanu.specs.Told.{no_memory};
 ghost use Rattle.relkvanu.specs.Writing.{ReadsBack, SaysBack, call_line_text, given};
 
@@ -32,7 +32,8 @@ pub struct Made {
     pub waited: u64,
     /// How many files live records use, each counted once.
     pub in_use: u64,
-    /// How many files wait for deletion. Those from the place `waited` on are the ones that it released.
+    /// How many files wait for deletion. The call put those from the place `waited` on there: files that it
+    /// released, that came too late, or that were not deleted.
     pub waiting: u64,
     /// How many files were fetched for deletion and are not yet reported.
     pub taken: u64,
@@ -41,10 +42,11 @@ pub struct Made {
 /// Makes a call as `relkvanu_line` makes that of its line, and writes this line as
 /// `relkvanu_call_line` writes it.
 ///
-/// A take writes its files to the start of `files`. If a buffer is too short, the answer says how
-/// many places it needs: first that of the files, and second that of the line. A show says how many
-/// bytes its JSON has, as if its buffer were empty. An answer with another code than `DONE` changes
-/// nothing. Takes memory for the lists and the line, even if the call is then refused, and for the
+/// A take writes its files to the start of `files`. If `line` is too short, the second number of the
+/// answer says how many bytes it needs, whatever room `files` has. Otherwise, if `files` is too short,
+/// the first number says how many places it needs. A show of a live record is not made here: it has no
+/// buffer for its JSON, and the answer says how many bytes that has. An answer with another code than
+/// `DONE` changes nothing. Takes memory for the lists and the line, even if the call is then refused, and for the
 /// call.
 #[unsafe(no_mangle)]
 pub extern "C" fn relkvanu_make(
@@ -63,7 +65,7 @@ pub extern "C" fn relkvanu_make(
     ensures line { result.code ≡ 0 → StandsInFront (call_line_text (given call.entry.now first.now second.now)) line.old line.new }
     ensures read { ReadsBack (given call.entry.now first.now second.now) (take made.new.written line.new) result }
     ensures said { SaysBack (given call.entry.now first.now second.now) (take made.new.written line.new) result }
-    ensures made { IsHandleMade (length (call_line_text (given call.entry.now first.now second.now))) handle.old handle.new made.new result }
+    ensures made { HandleTellsCounts (length (call_line_text (given call.entry.now first.now second.now))) handle.old handle.new made.new result }
     ensures kept { result.code ≢ 0 → (files.new ≡ files.old) × (line.new ≡ line.old) × (made.new ≡ made.old) }
     ensures memory { result.code ≡ no_memory → IsOk (given call.entry.now first.now second.now) }
     ensures numbers { HasNoNumbers result }
@@ -94,7 +96,7 @@ fn make_given(
     ensures files { BringsMadeFiles (core_in machine.old) (making fields.entry.now first.now second.now line.old) files.old files.new result }
     ensures line { result.code ≡ 0 → StandsInFront (call_line_text (given fields.entry.now first.now second.now)) line.old line.new }
     ensures read { ReadsBack (given fields.entry.now first.now second.now) (take made.new.written line.new) result }
-    ensures made { IsMade (length (call_line_text (given fields.entry.now first.now second.now))) (core_in machine.old) (core_in machine.new) made.new result }
+    ensures made { TellsCounts (length (call_line_text (given fields.entry.now first.now second.now))) (core_in machine.old) (core_in machine.new) made.new result }
     ensures kept { result.code ≢ 0 → (files.new ≡ files.old) × (line.new ≡ line.old) × (made.new ≡ made.old) }
     ensures memory { result.code ≡ no_memory → IsOk (given fields.entry.now first.now second.now) }
     ensures numbers { HasNoNumbers result }
@@ -125,7 +127,7 @@ fn make_fitting(
     ensures files { BringsMadeFiles (core_in machine.old) (asked_if_fits asked.now text.now (length line.old)) files.old files.new result }
     ensures line { result.code ≡ 0 → StandsInFront text.now line.old line.new }
     ensures short { result.code ≡ 0 → length text.now ≤ LONGEST_LINE }
-    ensures made { IsMade (length text.now) (core_in machine.old) (core_in machine.new) made.new result }
+    ensures made { TellsCounts (length text.now) (core_in machine.old) (core_in machine.new) made.new result }
     ensures kept { result.code ≢ 0 → (files.new ≡ files.old) × (line.new ≡ line.old) × (made.new ≡ made.old) }
     ensures numbers { HasNoNumbers result }
     ensures names { is_free_line (asked_if_fits asked.now text.now (length line.old)) ≡ true → names_in machine.new ≡ names_in machine.old }

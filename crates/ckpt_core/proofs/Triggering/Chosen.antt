@@ -2,7 +2,7 @@
 use Rattle.ckpt_core.proofs.Names.{◌≡◌, ℕ, ◌<◌, Bool, true, false, not, eqb, List, [], ◌∷◌, map, sym, ap, subst, ◌∙◌, ⊎_elim, arith, Some, filter, find, flat_map, cases_Bool, cond-true, cond-false}
 use Rattle.ckpt_core.proofs.Names.{eqb-true, ltb-true, ne_eqb, none-some, same_Some, Acked, Choice, ascending_set, IsIn, IsInOrder, Record, Use, Pin, Subtask, same_holder, uses, uses_of}
 use Rattle.ckpt_core.proofs.Names.{ComesBefore-at, IsIn-append_cases, IsIn-from_flat_map, IsIn-from_map, filter-all, filter-none, filter-filter, files_by, Parts, AreTied, state_of, files_chosen}
-use Rattle.ckpt_core.proofs.Names.{names, IsSound, id_before, State, choice_of, chosen, files_of, pins_now, record_of, chosen_is_done}
+use Rattle.ckpt_core.proofs.Names.{id_of_choice, IsSound, id_before, State, choice_of, chosen, files_of, pins_now, record_of, chosen_is_done}
 use Rattle.ckpt_core.proofs.Using.Order.{uses-filter}
 use Rattle.ckpt_ids.specs.declared.reply.Choice.TheVariants as choice
 
@@ -32,13 +32,13 @@ files_by-uses id rs r order found none = let named : Use → Bool = λ u. eqb u.
     ap (λ us. ascending_set (map (λ (u : Use). u.file) us)) (sym (filter-filter acked named (uses rs)) ∙ ap (filter acked) own ∙ filter-all acked (uses (r ∷ [])) (not_pinned r none))
 
 -- the record that the choice names has no pins
-files_by-choice : (p : Parts) → AreTied p → IsSound (state_of p) → (id : ℕ) → names (choice_of (state_of p)) ≡ Some id → files_by id p.registry ≡ files_of (record_of (state_of p) id)
+files_by-choice : (p : Parts) → AreTied p → IsSound (state_of p) → (id : ℕ) → id_of_choice (choice_of (state_of p)) ≡ Some id → files_by id p.registry ≡ files_of (record_of (state_of p) id)
 unfolding state_of
 files_by-choice p tied sound id e = let m : State = state_of p in let q = chosen_is_done m id sound e in
     ap (files_by id) tied.uses_are ∙ files_by-uses id m.records q.0 sound.records.in_order q.2 ((sound.records.each q.0 q.1).unpinned q.3) ∙ ap files_of (sym q.2)
 
 pub files_chosen-pins : (p : Parts) → AreTied p → IsSound (state_of p) → (c : Choice) → c ≡ choice_of (state_of p) → files_chosen c p.registry ≡ pins_now (state_of p)
 unfolding pins_now
-files_chosen-pins p tied sound (choice.Checkpoint id) e = files_by-choice p tied sound id (ap names (sym e)) ∙ ap (λ d. files_of (chosen d (state_of p))) e
-files_chosen-pins p tied sound (choice.Savepoint id) e = files_by-choice p tied sound id (ap names (sym e)) ∙ ap (λ d. files_of (chosen d (state_of p))) e
+files_chosen-pins p tied sound (choice.Checkpoint id) e = files_by-choice p tied sound id (ap id_of_choice (sym e)) ∙ ap (λ d. files_of (chosen d (state_of p))) e
+files_chosen-pins p tied sound (choice.Savepoint id) e = files_by-choice p tied sound id (ap id_of_choice (sym e)) ∙ ap (λ d. files_of (chosen d (state_of p))) e
 files_chosen-pins p tied sound choice.Fresh e = ap (λ d. files_of (chosen d (state_of p))) e

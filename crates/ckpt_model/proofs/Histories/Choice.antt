@@ -1,6 +1,7 @@
 -- The record that the choice names is live and done.
 use Rattle.ckpt_model.proofs.Names.{◌≡◌, ℕ, true, cond, eqb, List, [], ◌∷◌, refl, ◌⊎◌, Option, Some, None, cases_Bool, and_parts, eqb-true, Call, IsIn, IsInOrder, Record, IsIn-from_list_any, State}
-use Rattle.ckpt_model.proofs.Names.{Opening, opened, is_done_checkpoint, last_checkpoint, choice_from, choice_of, record_of, replay, IsSound, id_before, names, ChoiceIsLive, common_steps, arith}
+use Rattle.ckpt_model.proofs.Names.{Opening, opened, is_done_checkpoint, last_checkpoint, choice_from, choice_of, record_of, replay, IsSound, id_before}
+use Rattle.ckpt_model.proofs.Names.{id_of_choice, ChoiceIsLive, common_steps, arith}
 use Rattle.ckpt_model.proofs.Records.{present-from_IsHeld, same_record}
 use Rattle.ckpt_model.proofs.Reordering.ExchangeLemmas.{find-only}
 use Rattle.ckpt_model.proofs.Soundness.{is_savepoint, held-from_files_of}
@@ -17,7 +18,7 @@ last_is_done [] id e = absurd (cc)
 last_is_done (r ∷ rs) id e = last_among r rs id (last_checkpoint rs) (λ i k. last_is_done rs i k) refl e
 
 -- what a choice names is a done checkpoint, or the base
-names_is : (last base : Option ℕ) (id : ℕ) → names (choice_from last base) ≡ Some id → (last ≡ Some id) ⊎ (base ≡ Some id)
+names_is : (last base : Option ℕ) (id : ℕ) → id_of_choice (choice_from last base) ≡ Some id → (last ≡ Some id) ⊎ (base ≡ Some id)
 names_is last base id h3 = grind (arith, common_steps)
 
 -- a record is found by its number
@@ -25,7 +26,7 @@ pub found : (m : State) (r : Record) → IsInOrder id_before m.records → IsIn 
 found m r order there = grind (arith, common_steps, find-only (λ x. eqb x.id r.id) r m.records, same_record, eqb-true)
 
 -- the record that the choice of a sound state names
-pub chosen_is_done : (m : State) (id : ℕ) → IsSound m → names (choice_of m) ≡ Some id → (r : Record) × IsIn r m.records × (record_of m id ≡ Some r) × (r.done ≡ true)
+pub chosen_is_done : (m : State) (id : ℕ) → IsSound m → id_of_choice (choice_of m) ≡ Some id → (r : Record) × IsIn r m.records × (record_of m id ≡ Some r) × (r.done ≡ true)
 unfolding choice_of
 chosen_is_done m id s e =
     let is = names_is (last_checkpoint m.records) m.base id e in

@@ -1,6 +1,6 @@
 -- What a record that is triggered pins does not change if no done record is dropped.
 use Rattle.ckpt_model.proofs.Names.{◌≡◌, ℕ, Bool, true, eqb, List, [], ◌∷◌, map, refl, sym, ap, ◌∙◌, Some, filter, cases_Bool, both_ways, and_parts, eqb-true, IsIn, IsInOrder, Record, State}
-use Rattle.ckpt_model.proofs.Names.{last_checkpoint, choice_of, record_of, pins_now, IsSound, id_before, names, common_steps, arith}
+use Rattle.ckpt_model.proofs.Names.{last_checkpoint, choice_of, record_of, pins_now, IsSound, id_before, id_of_choice, common_steps, arith}
 use Rattle.ckpt_model.proofs.Records.Counts.{IsIn-changed, IsIn-from_find}
 use Rattle.ckpt_model.proofs.Records.Lists.{in_order-changed}
 use Rattle.ckpt_model.proofs.Histories.Choice.{found, chosen_is_done}
@@ -11,7 +11,7 @@ last_stays q [] keeps = refl
 last_stays q (r ∷ rs) keeps = grind (arith, common_steps, keeps, both_ways, and_parts, cases_Bool, last_stays q rs)
 
 -- it reads the base, the last done checkpoint and the record of the choice alone
-pub pins_same : (m k : State) → k.base ≡ m.base → last_checkpoint k.records ≡ last_checkpoint m.records → ((id : ℕ) → names (choice_of m) ≡ Some id → record_of k id ≡ record_of m id)
+pub pins_same : (m k : State) → k.base ≡ m.base → last_checkpoint k.records ≡ last_checkpoint m.records → ((id : ℕ) → id_of_choice (choice_of m) ≡ Some id → record_of k id ≡ record_of m id)
     → pins_now k ≡ pins_now m
 unfolding pins_now choice_of
 pins_same m k base last same = grind (arith, common_steps)

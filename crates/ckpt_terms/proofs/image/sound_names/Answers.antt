@@ -4,7 +4,7 @@ use Rattle.std.proofs.lemmas.Bool.{both_ways}
 use Rattle.ckpt_ids.specs.Ordered.{IsIn}
 use Rattle.ckpt_terms.specs.declared.names.Span.{Span}
 use Rattle.ckpt_terms.specs.Fencing.{Fenced}
-use Rattle.ckpt_terms.specs.Spans.{AreRanges, AreRangesBelow, names_in}
+use Rattle.ckpt_terms.specs.Spans.{AreRanges, AreRangesBelow, names_of}
 use Rattle.ckpt_terms.specs.TermsImages.{fenced_in}
 use Rattle.ckpt_terms.proofs.Counted.{no_names}
 use Rattle.ckpt_terms.proofs.Imaged.{fenced_tested, same_files, tested_fenced}
@@ -13,13 +13,13 @@ use Rattle.ckpt_terms.proofs.image.sound_names.Goals as goal
 pub returns-in_err-held-clause-none : goal.returns-in_err-held-clause-none
 returns-in_err-held-clause-none c = λ _ can.
     let Are : List Span → Type 0 = λ xs. AreRanges xs in
-    let Below : List Span → Type 0 = λ xs. (f : ℕ) → IsIn f (names_in xs) → f < c.args.image.now.next_name in
+    let Below : List Span → Type 0 = λ xs. (f : ℕ) → IsIn f (names_of xs) → f < c.args.image.now.next_name in
     c.count_names.ensures.none c.in_err-held.was (subst Are (sym c.deref.ensures.value) can.ranges) (subst Below (sym c.deref.ensures.value) can.state.fenced.reserved)
 
 pub returns-then-not-may_hold-clause-none : goal.returns-then-not-may_hold-clause-none
 returns-then-not-may_hold-clause-none c = λ _ can.
-    let Are : List Span → Type 0 = λ xs. length (names_in xs) ≡ c.in_ok-held.held in
-    let its : length (names_in c.args.image.now.unspent.items) ≡ c.in_ok-held.held = subst Are c.deref.ensures.value c.in_ok-held.ensures.some.names in
+    let Are : List Span → Type 0 = λ xs. length (names_of xs) ≡ c.in_ok-held.held in
+    let its : length (names_of c.args.image.now.unspent.items) ≡ c.in_ok-held.held = subst Are c.deref.ensures.value c.in_ok-held.ensures.some.names in
     both_ways c.may_hold.result c.if-not-may_hold.true (c.may_hold.ensures.1 (λ e. sym its ∙ ap length (can.state.fenced.ended e)))
 
 pub returns-then-files_are_spent-clause-fenced : goal.returns-then-files_are_spent-clause-fenced

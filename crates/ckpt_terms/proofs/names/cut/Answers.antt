@@ -1,14 +1,14 @@
 -- Answers the goals of `cut`.
 use Rattle.std.proofs.Common.{◌≤◌, ◌+◌, List, length, arith, sym, subst}
 use Rattle.ckpt_terms.specs.declared.names.Span.{Span}
-use Rattle.ckpt_terms.specs.Spans.{IsCut, names_in}
+use Rattle.ckpt_terms.specs.Spans.{IsCut, names_of}
 use Rattle.ckpt_terms.proofs.RangeLemmas.{removed, shortened, begun_later, split_at, two_more}
 use Rattle.ckpt_terms.proofs.names.cut.Goals as goal
 
 pub unreachable-requires : goal.unreachable-requires
 unreachable-requires c =
     let xs : List Span = c.args.spans.now.items in
-    let more : length xs + 2 ≤ length (names_in xs) = two_more xs c.args.place c.args.name c.args.span c.requires.at c.requires.ranges c.in-true-true.is-0 c.in-true-true.is-1 in
+    let more : length xs + 2 ≤ length (names_of xs) = two_more xs c.args.place c.args.name c.args.span c.requires.at c.requires.ranges c.in-true-true.is-0 c.in-true-true.is-1 in
     omega (arith, c.in-Err.ensures.full)
 
 pub returns-in-Ok-clause-cut : goal.returns-in-Ok-clause-cut

@@ -2,7 +2,7 @@
 use Rattle.std.proofs.Common.{ℕ, List, sym, ap, ◌∙◌, eqb}
 use Rattle.std.specs.List.{list_any}
 use Rattle.ckpt_terms.specs.declared.names.Span.{Span}
-use Rattle.ckpt_terms.specs.Spans.{names_in}
+use Rattle.ckpt_terms.specs.Spans.{names_of}
 use Rattle.ckpt_terms.proofs.SpanLemmas.{in_spans}
 use Rattle.ckpt_terms.proofs.RangeLemmas.{found_is}
 use Rattle.ckpt_terms.proofs.names.hold.Goals as goal
@@ -11,4 +11,4 @@ pub returns : goal.returns
 returns c =
     let xs : List Span = c.args.ranges.now in
     let n : ℕ = c.name.inside.0 in
-    c.is_some.ensures ∙ found_is xs n c.range_with.result c.range_with.ensures.some c.range_with.ensures.none ∙ sym (in_spans n xs) ∙ ap (λ m. list_any (λ g. eqb m g) (names_in xs)) c.name.view_is
+    c.is_some.ensures ∙ found_is xs n c.range_with.result c.range_with.ensures.some c.range_with.ensures.none ∙ sym (in_spans n xs) ∙ ap (λ m. list_any (λ g. eqb m g) (names_of xs)) c.name.view_is

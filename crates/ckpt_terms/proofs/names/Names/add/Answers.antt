@@ -2,7 +2,7 @@
 use Rattle.std.proofs.Common.{◌≡◌, ◌<◌, ◌≤◌, ◌+◌, ◌++◌, ◌∷◌, [], ℕ, List, length, arith, sym, subst, ap, ◌∙◌, vec_len, vec_capacity}
 use Rattle.ckpt_ids.specs.Ordered.{IsIn}
 use Rattle.ckpt_terms.specs.declared.names.Span.{Span}
-use Rattle.ckpt_terms.specs.Spans.{AreKept, names_in}
+use Rattle.ckpt_terms.specs.Spans.{AreKept, names_of}
 use Rattle.ckpt_terms.proofs.SpanLemmas.{span}
 use Rattle.ckpt_terms.proofs.RangeLemmas.{fewer, added}
 use Rattle.ckpt_terms.proofs.names.Names.add.Goals as goal
@@ -10,8 +10,8 @@ use Rattle.ckpt_terms.proofs.names.Names.add.Goals as goal
 pub push_reserved-requires : goal.push_reserved-requires
 push_reserved-requires c =
     let xs : List Span = c.self.inside.spans.items in
-    let few : length xs ≤ length (names_in xs) = fewer xs c.self.invariant.ranges.some in
-    let same : length (names_in xs) ≡ c.self.inside.held = c.self.invariant.names in
+    let few : length xs ≤ length (names_of xs) = fewer xs c.self.invariant.ranges.some in
+    let same : length (names_of xs) ≡ c.self.inside.held = c.self.invariant.names in
     let sum : c.in-Some.held ≡ c.self.inside.held + c.args.count = c.in-Some.ensures.1 in
     omega (arith, c.in_ok-make_room.ensures.room, c.in_ok-make_room.ensures.len)
 

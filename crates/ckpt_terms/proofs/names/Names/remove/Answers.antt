@@ -3,7 +3,7 @@ use Rattle.std.proofs.Common.{◌≡◌, ℕ, List, [], ◌∷◌, false, subst}
 use Rattle.std.specs.List.{list_any}
 use Rattle.ckpt_terms.specs.declared.names.Span.{Span}
 use Rattle.ckpt_terms.specs.Fencing.{without_all}
-use Rattle.ckpt_terms.specs.Spans.{in_span, names_in}
+use Rattle.ckpt_terms.specs.Spans.{in_span, names_of}
 use Rattle.ckpt_terms.proofs.RangeLemmas.{absent_stays}
 use Rattle.ckpt_terms.proofs.names.Names.remove.Goals as goal
 
@@ -12,6 +12,6 @@ returns-in_default c =
     let xs : List Span = c.self.inside.spans.items in
     let n : ℕ = c.name.inside.0 in
     let None_has : List Span → Type 0 = λ ys. list_any (in_span n) ys ≡ false in
-    let At : ℕ → Type 0 = λ m. names_in xs ≡ without_all (m ∷ []) (names_in xs) in
+    let At : ℕ → Type 0 = λ m. names_of xs ≡ without_all (m ∷ []) (names_of xs) in
     let Of : List ℕ → Type 0 = λ names. names ≡ without_all (c.args.name ∷ []) names in
     subst Of c.self.view_is (subst At c.name.view_is (absent_stays xs n (subst None_has c.deref.ensures.value (c.range_near.ensures.none c.in_default.is))))
