@@ -7,7 +7,7 @@ pub use Rattle.ckpt_ids.specs.Records.{Holder, Pin, Subtask, Use, holder_before,
 pub use Rattle.ckpt_ids.specs.Shapes.{IsShape, is_subtask, same_subtask, subtasks, subtasks_from}
 pub use Rattle.ckpt_ids.specs.SubtaskOrder.{same_parts}
 pub use Rattle.ckpt_ids.specs.declared.subtask.SubtaskId.{SubtaskId}
-pub use Rattle.std.proofs.Common.{Bool, Err, IfErr, IfOk, IsSome, List, Ok, OnErr, OnOk, OnSome, Option, Ordering, Result, Some, [], ap, arith, cond, drop, eqb, false, get_or, inl, inr, leb, length}
+pub use Rattle.std.proofs.Common.{Bool, Err, IfErr, IfOk, IsSome, List, Ok, OnErr, OnSome, Option, Ordering, Result, Some, [], ap, arith, cond, drop, eqb, false, get_or, inl, inr, leb, length}
 pub use Rattle.std.proofs.Common.{length-append, ltb, map, not, refl, rules, subst, suc, sum, sym, take, true, zero, ℕ, ◌&&◌, ◌++◌, ◌+◌, ◌-◌, ◌<◌, ◌||◌, ◌∙◌, ◌∷◌, ◌≡◌, ◌≤◌, ◌⊎◌}
 pub use Rattle.std.proofs.lemmas.Bool.{MatchBool-at_true, and_right, both_ways, cases_Bool, cases_lt, cond-false, eq-eqb, eqb-true}
 pub use Rattle.std.proofs.lemmas.Bool.{le-ltb, leb-true, lt-ltb, ltb-false, ltb-true, or_from}
@@ -28,6 +28,5 @@ pub use Rattle.std.specs.List.Retain.{DiffersFromLast, IsFiltered}
 pub use Rattle.std.specs.List.Sorted.{IsBinarySearchResult, IsNonDecreasingBy, IsPartitionPoint, IsPartitionedBy, IsPermutation, IsSearchInRange, IsSorted}
 pub use Rattle.std.specs.Ordering.{nat_cmp, ordering_index}
 pub use Rattle.std.specs.Prelude.{None, count_by, filter, find, slice_get}
-pub use Rattle.std.specs.Result.{is_err}
 pub use Rattle.std.specs.declared.cmp.Ordering.TheVariants.{Equal, Greater, Less}
 pub use Rattle.std.proofs.lemmas.Grind.{common_steps}
