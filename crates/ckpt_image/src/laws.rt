@@ -6,7 +6,7 @@ ghost use Rattle.ckpt_image.specs.Fits.{Fits};
 ghost use Rattle.ckpt_image.specs.Images.{image_of};
 ghost use Rattle.ckpt_image.specs.Written.{image_data};
 
-/// The text that is written for a state is read as that state.
+/// The JSON value that is written for a state is read as that state.
 pub fn reads_back()
     ensures { (m : State) → Fits m → image_of (image_data m) ≡ Some m }
 {}

@@ -135,7 +135,7 @@ Handed o calls =
     NoneAgain [] (opened o) calls
     → (f : ℕ) → IsIn f (along handed_by (opened o) calls) ↔ (IsIn f (along registered_by (opened o) calls) × (count (uses m.records) f ≡ 0))
 
--- a registered file that no live record uses waits for deletion, or was fetched for it, or was deleted
+-- a registered file that no live record uses waits for deletion, or was fetched for it, or was reported as deleted
 abbrev pub Accounted : Opening → List Call → Type 0
 Accounted o calls =
     let m : State = replay (opened o) calls in

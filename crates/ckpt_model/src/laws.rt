@@ -35,7 +35,7 @@ pub fn handed()
 {}
 
 /// A registered file that no live record uses waits for deletion, or was fetched for it, or was
-/// deleted.
+/// reported as deleted.
 pub fn accounted()
     ensures { (o : Opening) (calls : List Call) → CanOpen o → AreCalls calls → Accounted o calls }
 {}

@@ -7,7 +7,7 @@ ghost use Rattle.ckpt_image.specs.Images.{image_of};
 ghost use Rattle.ckpt_names_image.specs.Named.{Fenced, Named, Plain, named_data, saved_of};
 ghost use Rattle.serde_json.specs.Data.{Data};
 
-/// The text that is written for a state with names is read as that state.
+/// The JSON value that is written for a state with names is read as that state.
 pub fn reads_back()
     ensures { (m : Named) → Fits m.core → saved_of (named_data m) ≡ Some (Fenced m) }
 {}
