@@ -3,6 +3,7 @@ pub mod Answering
 pub mod Due
 pub mod Histories
 pub mod Images
+pub mod Keeping
 mod Names
 pub mod Records
 pub mod Reordering

@@ -1,7 +1,7 @@
 -- The names that the proofs take from the crates below and from `specs`.
 pub use Rattle.ckpt_ids.proofs.AscendingLemmas.{IsAscending-ascending, ascending_already, numbers_in_order, same_from_times, times-ascending}
-pub use Rattle.ckpt_ids.proofs.CountLemmas.{AreDistinct-from_times, IsIn-from_counted, IsIn-from_times, count_by-append, count_by-cons, count_by-same, count_by_no, count_by_yes, counted-from_IsIn}
-pub use Rattle.ckpt_ids.proofs.CountLemmas.{times-append, times-filter, times-from_IsIn, times_at_most_once}
+pub use Rattle.ckpt_ids.proofs.CountLemmas.{AreDistinct-from_times, IsIn-from_counted, IsIn-from_times, count_by-append, count_by-cons, count_by-none, count_by-same, count_by_no, count_by_yes}
+pub use Rattle.ckpt_ids.proofs.CountLemmas.{counted-from_IsIn, times-append, times-filter, times-from_IsIn, times_at_most_once}
 pub use Rattle.ckpt_ids.proofs.OrderLemmas.{same_subtask-Decides, subtasks_in_order}
 pub use Rattle.ckpt_ids.proofs.OrderedLemmas.{AreDistinct-apart, AreDistinct-append, AreDistinct-filter, AreDistinct-from_order, AreDistinct-left, AreDistinct-right, ComesBefore-at, IsIn-append_cases}
 pub use Rattle.ckpt_ids.proofs.OrderedLemmas.{IsIn-append_left, IsIn-append_right, IsIn-filter, IsIn-flat_map, IsIn-from_filter, IsIn-from_flat_map, IsIn-from_in_order, IsIn-from_in_order_once}
@@ -33,6 +33,7 @@ pub use Rattle.ckpt_ids.specs.declared.subtask.SubtaskId.{SubtaskId}
 pub use Rattle.ckpt_model.specs.Histories.{answers, replay}
 pub use Rattle.ckpt_model.specs.Images.{AreAlike, CanHold, GoesOnAs, settled}
 pub use Rattle.ckpt_model.specs.Interleavings.{AnyOrder, AreApart, AreMissing, NewFile, SameBySeat, SameOutcome, ack_with, calls_of, first_completed, is_completing, of_seat}
+pub use Rattle.ckpt_model.specs.Keeping.{IsNewest, Keeps, KeepsThrough, LeavesDone, TakesNewest, has_done_checkpoint, is_accepted, may_drop, newer_than}
 pub use Rattle.ckpt_model.specs.Laws.{Accounted, Acknowledgements, AreCalls, Balance, CanOpen, ChoiceIsLive, Exchange, Handed, IsNeverDisposed, NoneAgain, Numbers, Outbox, Part, Pinned, Savepoints}
 pub use Rattle.ckpt_model.specs.Laws.{ShareNone, UsedNoMore, accepted_by, ack_of, along, deleted_as, deleted_by, given_as, given_by, handed_by, is_ack_pending, is_ack_taken}
 pub use Rattle.ckpt_model.specs.Laws.{id_of_choice, is_disposed_by, new_by, registered_as, registered_by}

@@ -4,6 +4,7 @@ pub mod FaultTexts
 pub mod Histories
 pub mod Images
 pub mod Interleavings
+pub mod Keeping
 pub mod Laws
 pub mod Memory
 pub mod Opening

@@ -9,6 +9,7 @@ ghost use Rattle.ckpt_model.specs.Soundness.{IsSound};
 ghost use Rattle.ckpt_model.specs.Laws.{Exchange, Part, CanOpen, AreCalls, Balance, Handed, Accounted, UsedNoMore, Outbox, Acknowledgements, Numbers, Savepoints, ChoiceIsLive, PinsStay};
 ghost use Rattle.ckpt_model.specs.Images.{AreAlike, CanHold, GoesOnAs, IsCut, settled};
 ghost use Rattle.ckpt_model.specs.Interleavings.{NewFile, SeatedCalls, AnyOrder};
+ghost use Rattle.ckpt_model.specs.Keeping.{TakesNewest, LeavesDone, Keeps, KeepsThrough};
 
 /// Two acknowledgements of different subtasks of one record, one right after the other, go in
 /// either order, with the same answers in turn and the same state after.
@@ -59,6 +60,25 @@ pub fn savepoints()
 /// The record that the choice names is live and done, and its files are present.
 pub fn choice()
     ensures { (o : Opening) (calls : List Call) → CanOpen o → AreCalls calls → ChoiceIsLive o calls }
+{}
+
+/// A restart takes the live done checkpoint with the greatest number. If there is none, it takes the
+/// savepoint that the job was rolled back to, and otherwise nothing.
+pub fn latest()
+    ensures { (m : State) → IsSound m → TakesNewest m }
+{}
+
+/// The record of an acknowledgement that is answered AckCompleted is live and done after it. If that
+/// is a checkpoint, a restart takes it.
+pub fn completed()
+    ensures { (m : State) (now id : ℕ) (p : Part) → IsSound m → LeavesDone m now id p }
+{}
+
+/// A done checkpoint stays, unchanged, but for a restore to a savepoint, a cancel that does not keep
+/// it, and a completion that leaves as many newer ones as are retained.
+pub fn kept()
+    ensures step { (m : State) (call : Call) → IsSound m → Keeps m call }
+    ensures calls { (m : State) (calls : List Call) → IsSound m → AreCalls calls → KeepsThrough m calls }
 {}
 
 /// An acknowledgement for a pending record that reuses only files of the choice at that record's

@@ -17,6 +17,12 @@ pub count_by-changed : {X Y : Type 0} (t : Y → Bool) (s : X → Bool) (f : X �
 count_by-changed t s f keep [] h = grind (arith, common_steps)
 count_by-changed {X} {Y} t s f keep (x ∷ xs) h = grind (arith, common_steps, count_by-changed t s f keep xs)
 
+-- and no fewer than passed some test before, if those are kept and pass
+pub count_by-left : {X Y : Type 0} (t : Y → Bool) (s : X → Bool) (f : X → Y) (keep : X → Bool) (xs : List X) → ((x : X) → IsIn x xs → s x ≡ true → (keep x ≡ true) × (t (f x) ≡ true))
+    → count_by s xs ≤ count_by t (map f (filter keep xs))
+count_by-left t s f keep [] h = grind (arith, common_steps)
+count_by-left {X} {Y} t s f keep (x ∷ xs) h = grind (arith, common_steps, count_by-left t s f keep xs)
+
 -- an element of a list that was filtered and changed comes from one that was kept
 pub IsIn-from_changed : {X Y : Type 0} (f : X → Y) (keep : X → Bool) (y : Y) (xs : List X) → IsIn y (map f (filter keep xs)) → (x : X) × IsIn x xs × (keep x ≡ true) × (y ≡ f x)
 IsIn-from_changed f keep y xs h = grind (arith, common_steps, IsIn-from_filter, IsIn-from_map)

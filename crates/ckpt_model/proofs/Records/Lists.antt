@@ -143,3 +143,20 @@ newest_at_most p n (x ∷ xs) a =
     count_by-same test test_rest xs (λ r h. let less = ltb-true x.id r.id (ComesBefore-at id_before x r xs a.0 h) in rw (later_rest p x r xs (omega arith)) refl) in
     let fewer : count_by test_rest xs ≤ count_by p xs = count_by-le test_rest p xs (λ r h t. (and_parts (p r) _ t).0) in
     grind (arith, common_steps, newest_at_most p n xs a.1, not-true, and_parts, leb-false, count_by_yes, later_first, count_by_no, cases_Bool)
+
+-- with fewer than n that pass, each has fewer than n later ones
+few_later : (p : Record → Bool) (n : ℕ) (r : Record) (rs : List Record) → count_by p rs < n → (p r && not (leb n (later p r rs))) ≡ p r
+few_later p n r rs few =
+    let fewer : later p r rs ≤ count_by p rs = count_by-le (λ s. p s && ltb r.id s.id) p rs (λ s h t. (and_parts (p s) _ t).0) in
+    grind (arith, common_steps, and_true, cases_Bool)
+
+-- and they are n at least, if n pass
+pub newest_at_least : (p : Record → Bool) (n : ℕ) (rs : List Record) → IsInOrder id_before rs → n ≤ count_by p rs → n ≤ count_by (λ r. p r && not (leb n (later p r rs))) rs
+newest_at_least p n [] a h = h
+newest_at_least p n (x ∷ xs) a h =
+    let test : Record → Bool = λ r. p r && not (leb n (later p r (x ∷ xs))) in
+    let test_rest : Record → Bool = λ r. p r && not (leb n (later p r xs)) in
+    let tail : count_by test xs ≡ count_by test_rest xs =
+    count_by-same test test_rest xs (λ r h. let less = ltb-true x.id r.id (ComesBefore-at id_before x r xs a.0 h) in rw (later_rest p x r xs (omega arith)) refl) in
+    let all : count_by p xs < n → count_by test_rest xs ≡ count_by p xs = λ few. count_by-same test_rest p xs (λ r h. few_later p n r xs few) in
+    grind (arith, common_steps, newest_at_least p n xs a.1, leb-false, count_by_yes, later_first, count_by_no, cases_Bool, all)
