@@ -326,9 +326,11 @@ void relkvanu_store_stop(relkvanu_store *store);
  * to it. So it is opened with RELKVANU_STORE_BACKUP, once, and without that flag it is refused: RELKVANU_STORE_STORAGE. (With the flag
  * another file is refused: RELKVANU_STORE_BAD_ARGUMENT.) Before it is opened over the storage of the job, each process and task of the job
  * has ended, also on other hosts, since terms and numbers of records are given again. The opening counts as later than all that have used
- * the storage, so another store over this folder puts and deletes nothing more. It gives out each name up to the greatest that
- * options.storage has a file of; without options.storage the engine reserves so many before its restore. Then the engine restores a record
- * whose files are all there (docs/DURABLE.md, A backup), and sweeps. */
+ * the storage, so another store over this folder puts and deletes nothing more, and the file that was the job before is refused. It gives
+ * out each name up to the greatest that options.storage has a file of, and is refused (RELKVANU_STORE_STORAGE) if that is 2^24 or more above
+ * the names of the backup; without options.storage the engine reserves so many before its restore. Then the engine restores a record whose
+ * files are all there, and sweeps. READ docs/DURABLE.md, A backup, FIRST: its steps prepare the file over a folder of its own, so that nothing has
+ * changed if no record is whole, and have no such limit. */
 int relkvanu_store_backup(relkvanu_store *store, const char *path, char *message, size_t message_len);
 
 /* Counts since the opening. */
