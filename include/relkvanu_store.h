@@ -107,7 +107,8 @@ typedef struct {
  * would publish the same again. What it prepared for a savepoint is published when a later checkpoint completes, or when a restore begins from
  * that savepoint. What a sink prepared for records after the one that a restore returned is given up. */
 #define RELKVANU_STORE_END_TASKS 1u   /* with names: tell the earlier tasks to end, and wait for none. Without: make sure that none runs, and that no message of one arrives */
-#define RELKVANU_STORE_RESTORE 2u     /* make a RELKVANU_CALL_RESTORE: its answer says where the job begins again */
+#define RELKVANU_STORE_RESTORE 2u     /* make a RELKVANU_CALL_RESTORE: its answer says where the job begins again. Load all files of that record, or look that each
+    is there, before the sweep: an opening does not. If one is missing, end the process, and sweep nothing */
 #define RELKVANU_STORE_SWEEP 3u       /* relkvanu_store_sweep; or delete the files that relkvanu_store_unknown returns */
 #define RELKVANU_STORE_START_TASKS 4u /* start tasks, a timer (relkvanu_store_await_tick) and a discarder (relkvanu_store_discard) */
 #define RELKVANU_STORE_DISCARD 5u     /* start a discarder alone: the job is cancelled */
