@@ -277,8 +277,8 @@ int relkvanu_store_discard(relkvanu_store *store, size_t batch, relkvanu_store_d
  * take it, and a task may acknowledge it. After any other status the task forfeits the name and declines. The number is not given again: a sweep
  * deletes what is left. In a job with names the number is one that the task has reserved.
  *
- * RELKVANU_STORE_PRESENT: there is a file of this number, or a part of one; RELKVANU_STORE_STORAGE: the folder lacks its marker, or another opening has it
- * (then end this process);
+ * RELKVANU_STORE_PRESENT: there is a file of this number, or a part of one; RELKVANU_STORE_STORAGE: the folder lacks its marker, or another opening has it:
+ * the sweep after the next restore returns the same, and then the process ends;
  * RELKVANU_STORE_NOT_PUT. */
 int relkvanu_store_put(relkvanu_store *store, uint64_t file, const void *contents, size_t len);
 
@@ -292,7 +292,7 @@ void relkvanu_store_delete_files(void *store, const uint64_t *files, size_t file
  * after a cancel, when all tasks have ended.
  *
  * RELKVANU_STORE_NOT_NOW as relkvanu_store_unknown; RELKVANU_STORE_STORAGE: the folder lacks its marker, another opening has it, or it can't be
- * read or synced. */
+ * read or synced. End this process: the next opening says which. */
 int relkvanu_store_sweep(relkvanu_store *store, size_t *left);
 
 /* The folder options.storage as a storage (relkvanu_storage.h), which needs no closing, and whose functions may be called until the store is closed. Its

@@ -6,7 +6,7 @@
 - Without a savepoint no record is whole. Then nothing has changed, and the job goes on.
 - A put-back that ends at a call that writes is made again. In between an engine goes on, or is refused and touches no file.
 - What was set aside is the job again when it is put back, also after the file in its place was opened.
-- While an engine runs, nothing is put back.
+- While an engine runs, nothing is put back. One that was forgotten on another host puts and deletes nothing after the next opening, and ends.
 
 ROUNDS in the environment has so many times as many of the ends; 0 is each."""
 import contextlib
@@ -17,6 +17,7 @@ import shutil
 import subprocess
 import sys
 import tempfile
+import time
 
 from engines import await_opening, known, recovers
 from relkvanu import Settings
@@ -166,6 +167,26 @@ def while_an_engine_runs(it):
     recovers(folder, it.engine, known(folder)[3] + 5)
 
 
+def a_forgotten_engine(it):
+    """The marker names a later opening: the engine that runs puts and deletes nothing more, and ends."""
+    folder, _ = it.job_behind()
+    marker = folder / "state/.relkvanu-job"
+    with subprocess.Popen([*it.engine, folder], stderr=subprocess.PIPE, text=True) as process:
+        await_opening(folder, process)
+        time.sleep(1)
+        job, _, epoch = marker.read_text().rstrip().rpartition(" ")
+        later = folder / "later"
+        later.write_text(f"{job} {int(epoch) + 1}\n")
+        later.rename(marker)
+        time.sleep(0.2)  # a put or a deletion that was under way
+        before = files(folder)
+        _, told = process.communicate(timeout=60)
+    assert process.returncode not in (0, None) and "Storage" in told, (process.returncode, told)
+    assert files(folder) == before, sorted(files(folder).keys() ^ before.keys())
+    marker.write_text(f"{job} {epoch}\n")
+    recovers(folder, it.engine, known(folder)[3] + 5)
+
+
 def at_each_end(it):
     """A put-back that ends before or after a call that writes."""
     base, copy = it.job_behind()
@@ -190,7 +211,8 @@ def at_each_end(it):
         shutil.rmtree(started)
 
 
-TESTS = (with_a_savepoint, from_an_older_savepoint, far_above_the_names, without_a_savepoint, no_backup, back_again, while_an_engine_runs, at_each_end)
+TESTS = (with_a_savepoint, from_an_older_savepoint, far_above_the_names, without_a_savepoint, no_backup, back_again, while_an_engine_runs,
+         a_forgotten_engine, at_each_end)
 
 
 def main(samples, shim):
