@@ -22,7 +22,7 @@
  * - A failed job is restored by the engine: when the mode is failed (relkvanu_store_await_tick tells it, and so do the answers) it ends all tasks,
  *   restores, sweeps, tells the sinks again and starts the tasks. A task that ends while the job runs needs the same: no task starts alone.
  *   For the files of a job with names it is enough that the old tasks are told to end: what they send later is refused with RELKVANU_OLD_TERM.
- * - An engine that reads the coordinator's files from another thread than the one that called sees committed calls only.
+ * - A read (relkvanu_store_read) sees committed calls only, whichever thread made them.
  * - Nobody acts on an answer unless the status is RELKVANU_STORE_OK and its code is RELKVANU_DONE: no file is deleted or kept, no barrier
  *   is sent. With any other status each answer is RELKVANU_STORE_NOT_MADE.
  * - From RELKVANU_STORE_FAILED on a status closes the store: each later call returns RELKVANU_STORE_CLOSED. Calls that returned it may or may not
