@@ -251,7 +251,7 @@ class PutBack:
     before leaves what it can put back again."""
 
     name = "put_back.py"
-    syncs = (("the new file", lambda path: path.startswith("new/job.db")), ("its folder", lambda path: path == ""))
+    syncs = (("the new file", lambda path: path.startswith("job.db.new")), ("its folder", lambda path: path == ""))
 
     def __init__(self, samples):
         self.samples, self.root = samples, samples.work / "power-put_back"

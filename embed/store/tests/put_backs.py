@@ -3,7 +3,7 @@
 
 - With a savepoint the job goes on from the backup, and its folder is exact. So it is from an older savepoint, whose checkpoint is gone, and with
   files far above the names of the backup.
-- Without a savepoint no record is whole. Then nothing has changed, and the job goes on.
+- Without a savepoint no record is whole, and a backup may be that of another job. Then nothing has changed, and the job goes on.
 - A put-back that ends at a call that writes is made again. In between an engine goes on, or is refused and touches no file.
 - What was set aside is the job again when it is put back, also after the file in its place was opened.
 - While an engine runs, nothing is put back. One that was forgotten on another host puts and deletes nothing after the next opening, and ends.
@@ -53,7 +53,7 @@ class PutBacks:
         """Returns the record that the job goes on from."""
         told = self.run("put_back.py", folder, copy)
         assert told.returncode == 0 and "goes on from record" in told.stdout, told.stdout
-        assert not (folder / "new").exists()
+        assert not list(folder.glob("*new*"))
         return int(told.stdout.split("from record ")[1].partition(".")[0])
 
     def job_behind(self):
@@ -127,6 +127,10 @@ def without_a_savepoint(it):
     told = it.run("put_back.py", folder, copy)
     assert told.returncode != 0 and "the job is as it was" in told.stdout, told.stdout
     assert contents(folder) == before, sorted(contents(folder))
+    _, other = it.job_behind()
+    told = it.run("put_back.py", folder, other)
+    assert told.returncode != 0 and "another job" in told.stdout, told.stdout
+    assert contents(folder) == before and not (folder / "new-state").exists(), sorted(contents(folder))
     assert known(folder)[3] >= 30
     recovers(folder, it.engine, 40)
 
