@@ -8,17 +8,18 @@ import tempfile
 
 from engines import recovers
 
-# The 7th put, for record 3, hangs for some seconds, and the 8th fails.
+# The 7th put, for record 3, hangs until many others were made, and the 8th fails.
 HANGING = """
 import itertools, runpy, sys, time
 from relkvanu.store import Store, StoreError
 
-put, calls = Store.put, itertools.count(1)
+put, calls, made, end = Store.put, itertools.count(1), [], time.monotonic() + 60
 
 def hangs(job, file, contents):
     nth = next(calls)
-    if nth == 7:
-        time.sleep(6)
+    made.append(nth)
+    while nth == 7 and len(made) < 120 and time.monotonic() < end:
+        time.sleep(0.01)
     if nth == 8:
         raise StoreError("NotPut", "a fault", False)
     put(job, file, contents)
