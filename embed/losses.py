@@ -267,6 +267,7 @@ class PutBack:
     def check(self, lost, folder):
         if not any(b"goes on from record" in it for it in lost.told):
             self.run("put_back.py", folder, self.copy)
+        assert lost_jobs.opened(folder / "job.db", folder / "state").choice == 20, "it is the job that was set aside"
         self.run("stored.py", folder, "40")
         job = lost_jobs.opened(folder / "job.db", folder / "state")
         assert job.choice == 40 and not job.taken and lost_jobs.numbers(folder / "state") == job.used | job.waiting, job
@@ -281,9 +282,10 @@ class PutBack:
         life([sys.executable, self.samples.work / self.name, self.root, self.copy], shimmed(self.samples, self.root, self.journal), self.journal, None)
         journal = Journal.read(self.journal, self.root, start)
         trials = Trials(self.samples.work / f"losses of {self.name}", self.check)
-        trials.all(journal, some_of(journal, 60, chance), chance)
+        end = journal.points()[-len(Loss):]  # it has told the record
+        trials.all(journal, [*some_of(journal, 30, chance), *end], chance)
         for name, ignored in self.syncs:
-            trials.control(name, journal, journal.some(CONTROLLED, chance), chance, ignored)
+            trials.control(name, journal, end, chance, ignored)
         return f"{trials.told(trials.tried // 4)}; each of {len(self.syncs)} syncs is missed"
 
 
