@@ -246,6 +246,49 @@ class ReadmeJob(StoreJob):
         return choice + 3
 
 
+class PutBack:
+    """put_back.py, over the job of stored.py that has run on after back_up.py. Once it has told the record an engine goes on from that. A loss
+    before leaves what it can put back again."""
+
+    name = "put_back.py"
+    syncs = (("the new file", lambda path: path.startswith("job.db.new")), ("its folder", lambda path: path == ""))
+
+    def __init__(self, samples):
+        self.samples, self.root = samples, samples.work / "power-put_back"
+        self.copy, self.journal = samples.work / "put_back.db", samples.work / "journal-put_back"
+        self.env = shimmed(samples, "/nowhere", "/nowhere")
+        del self.env["LD_PRELOAD"]
+
+    def run(self, name, folder, *words):
+        ran = subprocess.run([sys.executable, self.samples.work / name, folder, *words], env=self.env, stdout=subprocess.PIPE, stderr=subprocess.STDOUT,
+                             timeout=SECONDS)
+        assert ran.returncode == 0, ran.stdout.decode()
+
+    def check(self, lost, folder):
+        if not any(b"goes on from record" in it for it in lost.told):
+            self.run("put_back.py", folder, self.copy)
+        assert lost_jobs.opened(folder / "job.db", folder / "state").choice == 20, "it is the job that was set aside"
+        self.run("stored.py", folder, "40")
+        job = lost_jobs.opened(folder / "job.db", folder / "state")
+        assert job.choice == 40 and not job.taken and lost_jobs.numbers(folder / "state") == job.used | job.waiting, job
+
+    def lost(self):
+        chance = random.Random(self.name)
+        (self.root / "state").mkdir(parents=True)
+        self.run("stored.py", self.root, "20")
+        self.run("back_up.py", self.root, self.copy)
+        self.run("stored.py", self.root, "30")
+        start = read_tree(self.root)
+        life([sys.executable, self.samples.work / self.name, self.root, self.copy], shimmed(self.samples, self.root, self.journal), self.journal, None)
+        journal = Journal.read(self.journal, self.root, start)
+        trials = Trials(self.samples.work / f"losses of {self.name}", self.check)
+        end = journal.points()[-len(Loss):]  # it has told the record
+        trials.all(journal, [*some_of(journal, 30, chance), *end], chance)
+        for name, ignored in self.syncs:
+            trials.control(name, journal, end, chance, ignored)
+        return f"{trials.told(trials.tried // 4)}; each of {len(self.syncs)} syncs is missed"
+
+
 def jobs(samples):
     python = [sys.executable]
     yield LogJob(samples, "log.c", ["stdbuf", "-oL", samples.work / "log"], None)
@@ -254,6 +297,8 @@ def jobs(samples):
     for name, command in samples.durable.items():
         yield StoreJob(samples, name, command, 60)
     yield StoreJob(samples, "files.py", [*python, samples.work / "files.py"], 60, is_marked=False)
+    if samples.durable:
+        yield PutBack(samples)
 
 
 def tests(samples):

@@ -104,8 +104,8 @@ typedef struct {
  * what is no regular file is no file of a listing. A put writes beside the name, syncs, gives the file its name and syncs the folder. A
  * file system that can't sync a folder (EINVAL of that sync) is taken: there a loss of power may take files that were put. Each other error
  * of a sync is reported, and so is EINVAL of a file's: the file was not put, and no file counts as deleted. The name of the job has to be
- * one that no other job has, in any environment: a second job of the same name would sweep the files of the first. Several jobs may share a folder if their
- * prefixes or suffixes differ.
+ * one that no other job has, in any environment: a second job of the same name would sweep the files of the first. Several jobs may share a
+ * folder if their prefixes or suffixes differ.
  *
  * RELKVANU_STORAGE_BAD_ARGUMENT, RELKVANU_STORAGE_NO_MEMORY, RELKVANU_STORAGE_NOT_THERE (also: there is no folder; errno says more),
  * RELKVANU_STORAGE_OTHER_JOB, RELKVANU_STORAGE_NOT_EMPTY or RELKVANU_STORAGE_FAILED: then nothing is open, and storage->with is NULL. */

@@ -22,7 +22,7 @@
  * - A failed job is restored by the engine: when the mode is failed (relkvanu_store_await_tick tells it, and so do the answers) it ends all tasks,
  *   restores, sweeps, tells the sinks again and starts the tasks. A task that ends while the job runs needs the same: no task starts alone.
  *   For the files of a job with names it is enough that the old tasks are told to end: what they send later is refused with RELKVANU_OLD_TERM.
- * - An engine that reads the coordinator's files from another thread than the one that called sees committed calls only.
+ * - A read (relkvanu_store_read) sees committed calls only, whichever thread made them.
  * - Nobody acts on an answer unless the status is RELKVANU_STORE_OK and its code is RELKVANU_DONE: no file is deleted or kept, no barrier
  *   is sent. With any other status each answer is RELKVANU_STORE_NOT_MADE.
  * - From RELKVANU_STORE_FAILED on a status closes the store: each later call returns RELKVANU_STORE_CLOSED. Calls that returned it may or may not
@@ -107,7 +107,8 @@ typedef struct {
  * would publish the same again. What it prepared for a savepoint is published when a later checkpoint completes, or when a restore begins from
  * that savepoint. What a sink prepared for records after the one that a restore returned is given up. */
 #define RELKVANU_STORE_END_TASKS 1u   /* with names: tell the earlier tasks to end, and wait for none. Without: make sure that none runs, and that no message of one arrives */
-#define RELKVANU_STORE_RESTORE 2u     /* make a RELKVANU_CALL_RESTORE: its answer says where the job begins again */
+#define RELKVANU_STORE_RESTORE 2u     /* make a RELKVANU_CALL_RESTORE: its answer says where the job begins again. Load all files of that record, or look that each
+    is there, before the sweep: an opening does not. If one is missing, end the process, and sweep nothing */
 #define RELKVANU_STORE_SWEEP 3u       /* relkvanu_store_sweep; or delete the files that relkvanu_store_unknown returns */
 #define RELKVANU_STORE_START_TASKS 4u /* start tasks, a timer (relkvanu_store_await_tick) and a discarder (relkvanu_store_discard) */
 #define RELKVANU_STORE_DISCARD 5u     /* start a discarder alone: the job is cancelled */
@@ -276,8 +277,8 @@ int relkvanu_store_discard(relkvanu_store *store, size_t batch, relkvanu_store_d
  * take it, and a task may acknowledge it. After any other status the task forfeits the name and declines. The number is not given again: a sweep
  * deletes what is left. In a job with names the number is one that the task has reserved.
  *
- * RELKVANU_STORE_PRESENT: there is a file of this number, or a part of one; RELKVANU_STORE_STORAGE: the folder lacks its marker, or another opening has it
- * (then end this process);
+ * RELKVANU_STORE_PRESENT: there is a file of this number, or a part of one; RELKVANU_STORE_STORAGE: the folder lacks its marker, or another opening has it:
+ * the sweep after the next restore returns the same, and then the process ends;
  * RELKVANU_STORE_NOT_PUT. */
 int relkvanu_store_put(relkvanu_store *store, uint64_t file, const void *contents, size_t len);
 
@@ -291,7 +292,7 @@ void relkvanu_store_delete_files(void *store, const uint64_t *files, size_t file
  * after a cancel, when all tasks have ended.
  *
  * RELKVANU_STORE_NOT_NOW as relkvanu_store_unknown; RELKVANU_STORE_STORAGE: the folder lacks its marker, another opening has it, or it can't be
- * read or synced. */
+ * read or synced. End this process: the next opening says which. */
 int relkvanu_store_sweep(relkvanu_store *store, size_t *left);
 
 /* The folder options.storage as a storage (relkvanu_storage.h), which needs no closing, and whose functions may be called until the store is closed. Its
@@ -326,9 +327,11 @@ void relkvanu_store_stop(relkvanu_store *store);
  * to it. So it is opened with RELKVANU_STORE_BACKUP, once, and without that flag it is refused: RELKVANU_STORE_STORAGE. (With the flag
  * another file is refused: RELKVANU_STORE_BAD_ARGUMENT.) Before it is opened over the storage of the job, each process and task of the job
  * has ended, also on other hosts, since terms and numbers of records are given again. The opening counts as later than all that have used
- * the storage, so another store over this folder puts and deletes nothing more. It gives out each name up to the greatest that
- * options.storage has a file of; without options.storage the engine reserves so many before its restore. Then the engine restores a record
- * whose files are all there (docs/DURABLE.md, A backup), and sweeps. */
+ * the storage, so another store over this folder puts and deletes nothing more, and the file that was the job before is refused. It gives
+ * out each name up to the greatest that options.storage has a file of, and is refused (RELKVANU_STORE_STORAGE) if that is 2^24 or more above
+ * the names of the backup; without options.storage the engine reserves so many before its restore. Then the engine restores a record whose
+ * files are all there, and sweeps. Read docs/DURABLE.md, A backup, first: its steps prepare the file over a folder of its own, so that nothing has
+ * changed if no record is whole, and they have no such limit. */
 int relkvanu_store_backup(relkvanu_store *store, const char *path, char *message, size_t message_len);
 
 /* Counts since the opening. */

@@ -1,0 +1,236 @@
+#!/usr/bin/env python3
+"""put_backs.py SAMPLES SHIM: puts backups of the job of stored.py back, by the programs of the page, after the job has run on.
+
+- With a savepoint the job goes on from the backup, and its folder is exact. So it is from an older savepoint, whose checkpoint is gone, and with
+  files far above the names of the backup.
+- Without a savepoint no record is whole, and a backup may be that of another job. Then nothing has changed, and the job goes on.
+- A put-back that ends at a call that writes is made again. In between an engine goes on, or is refused and touches no file.
+- What was set aside is the job again when it is put back, also after the file in its place was opened.
+- While an engine runs, nothing is put back. One that was forgotten on another host puts and deletes nothing after the next opening, and ends.
+
+ROUNDS in the environment has so many times as many of the ends; 0 is each."""
+import contextlib
+import os
+import pathlib
+import random
+import shutil
+import subprocess
+import sys
+import tempfile
+import time
+
+from engines import await_opening, known, recovers
+from relkvanu import Settings
+from relkvanu.store import Store
+
+ROUNDS, ENDS = int(os.environ.get("ROUNDS", "1")), 12
+JOB = ("job.db", "job.db-wal", "job.db-shm")
+
+
+class PutBacks:
+    def __init__(self, samples, shim, work):
+        self.samples, self.shim, self.work, self.made = samples, shim, work, 0
+        self.engine = [sys.executable, str(samples / "stored.py")]
+
+    def run(self, name, *words, **env):
+        return subprocess.run([sys.executable, self.samples / name, *words], env={**os.environ, **env}, stdout=subprocess.PIPE, stderr=subprocess.STDOUT,
+                              text=True, timeout=120)
+
+    def folder(self, of=None):
+        self.made += 1
+        folder = self.work / f"job-{self.made}"
+        if of is None:
+            (folder / "state").mkdir(parents=True)
+        else:
+            shutil.copytree(of, folder)
+        return folder
+
+    def backs_up(self, folder, copy):
+        told = self.run("back_up.py", folder, copy)
+        assert told.returncode == 0 and "dispose of savepoint" in told.stdout, told.stdout
+
+    def puts_back(self, folder, copy):
+        """Returns the record that the job goes on from."""
+        told = self.run("put_back.py", folder, copy)
+        assert told.returncode == 0 and "goes on from record" in told.stdout, told.stdout
+        assert not list(folder.glob("*new*"))
+        return int(told.stdout.split("from record ")[1].partition(".")[0])
+
+    def job_behind(self):
+        """A job that has run on after a backup with a savepoint, and the backup."""
+        folder, copy = self.folder(), self.work / f"backup-{self.made}.db"
+        recovers(folder, self.engine, 20)
+        self.backs_up(folder, copy)
+        recovers(folder, self.engine, 30)
+        return folder, copy
+
+
+def plain_backup(folder, copy):
+    with Store(folder / "job.db", Settings(interval=10), [3], storage=folder / "state") as job:
+        job.backup(copy)
+
+
+def contents(folder):
+    return {str(it.relative_to(folder)): it.read_bytes() for it in sorted(folder.rglob("*")) if it.is_file() and it.name != "job.db.lock"}
+
+
+def files(folder):
+    return {name: text for name, text in contents(folder / "state").items() if name.isdecimal()}
+
+
+def way_back(folder):
+    """As the page says: the files that were set aside, and last of all the marker."""
+    (aside,) = folder.glob("aside-*")
+    for name in JOB:
+        with contextlib.suppress(FileNotFoundError):
+            (folder / name).unlink()
+    for name in JOB:
+        if (aside / name).exists():
+            shutil.copyfile(aside / name, folder / name)
+    shutil.copyfile(aside / ".relkvanu-job", folder / "state/.relkvanu-job")
+    shutil.rmtree(aside)
+
+
+def with_a_savepoint(it):
+    folder, copy = it.job_behind()
+    assert it.puts_back(folder, copy) == 20
+    assert known(folder)[3] < 30, "the job does not go on from the backup"
+    recovers(folder, it.engine, 40)
+
+
+def from_an_older_savepoint(it):
+    folder, _ = it.job_behind()
+    copy = it.work / "older.db"
+    plain_backup(folder, copy)
+    recovers(folder, it.engine, 40)
+    savepoint = it.puts_back(folder, copy)
+    assert 20 < savepoint < 25, savepoint
+    recovers(folder, it.engine, 50)
+
+
+def far_above_the_names(it):
+    folder, copy = it.job_behind()
+    far = folder / "state" / str((1 << 24) + (1 << 20))
+    far.write_text("state")
+    (folder / "state" / f"{(1 << 24) + (1 << 20) + 1}.part").write_text("sta")
+    assert it.puts_back(folder, copy) == 20 and far.exists()
+    recovers(folder, it.engine, 40)
+    assert not far.exists()
+
+
+def without_a_savepoint(it):
+    folder, copy = it.folder(), it.work / "without.db"
+    recovers(folder, it.engine, 20)
+    plain_backup(folder, copy)
+    recovers(folder, it.engine, 30)
+    before = contents(folder)
+    told = it.run("put_back.py", folder, copy)
+    assert told.returncode != 0 and "the job is as it was" in told.stdout, told.stdout
+    assert contents(folder) == before, sorted(contents(folder))
+    _, other = it.job_behind()
+    told = it.run("put_back.py", folder, other)
+    assert told.returncode != 0 and "another job" in told.stdout, told.stdout
+    assert contents(folder) == before and not (folder / "new-state").exists(), sorted(contents(folder))
+    assert known(folder)[3] >= 30
+    recovers(folder, it.engine, 40)
+
+
+def no_backup(it):
+    """There is a file of this name. Then no savepoint stays either."""
+    folder, copy = it.job_behind()
+    before = known(folder)[0]
+    told = it.run("back_up.py", folder, copy)
+    assert told.returncode != 0 and "Present" in told.stdout, told.stdout
+    assert known(folder)[0] == before
+    recovers(folder, it.engine, 40)
+
+
+def back_again(it):
+    """What was set aside is the job again, whether the file in its place was opened or not. That was not swept yet."""
+    base, copy = it.job_behind()
+    for is_opened in (False, True):
+        folder = it.folder(base)
+        before = known(folder)
+        it.puts_back(folder, copy)
+        if is_opened:
+            assert known(folder)[3] < before[3]
+        way_back(folder)
+        assert known(folder) == before, (known(folder), before)
+        recovers(folder, it.engine, 40)
+
+
+def while_an_engine_runs(it):
+    folder, copy = it.job_behind()
+    with subprocess.Popen([*it.engine, folder], stderr=subprocess.DEVNULL) as process:
+        await_opening(folder, process)
+        told = it.run("put_back.py", folder, copy)
+        is_running = process.poll() is None
+        process.kill()
+    assert is_running and told.returncode != 0 and "BlockingIOError" in told.stdout, told.stdout
+    assert not list(folder.glob("aside-*"))
+    recovers(folder, it.engine, known(folder)[3] + 5)
+
+
+def a_forgotten_engine(it):
+    """The marker names a later opening: the engine that runs puts and deletes nothing more, and ends."""
+    folder, _ = it.job_behind()
+    marker = folder / "state/.relkvanu-job"
+    with subprocess.Popen([*it.engine, folder], stderr=subprocess.PIPE, text=True) as process:
+        await_opening(folder, process)
+        time.sleep(1)
+        job, _, epoch = marker.read_text().rstrip().rpartition(" ")
+        later = folder / "later"
+        later.write_text(f"{job} {int(epoch) + 1}\n")
+        later.rename(marker)
+        time.sleep(0.2)  # a put or a deletion that was under way
+        before = files(folder)
+        _, told = process.communicate(timeout=60)
+    assert process.returncode not in (0, None) and "Storage" in told, (process.returncode, told)
+    assert files(folder) == before, sorted(files(folder).keys() ^ before.keys())
+    marker.write_text(f"{job} {epoch}\n")
+    recovers(folder, it.engine, known(folder)[3] + 5)
+
+
+def at_each_end(it):
+    """A put-back that ends before or after a call that writes."""
+    base, copy = it.job_behind()
+    count = it.work / "count"
+    folder = it.folder(base)
+    told = it.run("put_back.py", folder, copy, LD_PRELOAD=it.shim, STORE_IN=str(folder), STORE_DIE=str(1 << 40), STORE_COUNT=str(count))
+    assert told.returncode == 0, told.stdout
+    places = [(place, after) for place in range(1, int(count.read_text()) + 1) for after in ("0", "1")]
+    for place, after in places if ROUNDS == 0 else sorted(random.sample(places, min(ENDS * ROUNDS, len(places)))):
+        folder = it.folder(base)
+        told = it.run("put_back.py", folder, copy, LD_PRELOAD=it.shim, STORE_IN=str(folder), STORE_DIE=str(place), STORE_DIE_AFTER=after)
+        assert told.returncode != 0, f"no end at call {place}"
+        started, before = it.folder(folder), files(folder)
+        ran = it.run("stored.py", started, "40")
+        if ran.returncode == 0:
+            recovers(started, it.engine, 45)
+        else:
+            assert files(started) == before and "job.db" in ran.stdout, (place, after, ran.stdout)
+        it.puts_back(folder, copy)
+        recovers(folder, it.engine, 40)
+        shutil.rmtree(folder)
+        shutil.rmtree(started)
+
+
+TESTS = (with_a_savepoint, from_an_older_savepoint, far_above_the_names, without_a_savepoint, no_backup, back_again, while_an_engine_runs,
+         a_forgotten_engine, at_each_end)
+
+
+def main(samples, shim):
+    failed = 0
+    for test in TESTS:
+        with tempfile.TemporaryDirectory() as name:
+            try:
+                test(PutBacks(pathlib.Path(samples).resolve(), str(pathlib.Path(shim).resolve()), pathlib.Path(name)))
+            except AssertionError as wrong:
+                print(f"{test.__name__}: {wrong}")
+                failed += 1
+    print(f"{len(TESTS) - failed} passed, {failed} failed")
+    return failed != 0
+
+
+if __name__ == "__main__":
+    sys.exit(main(*sys.argv[1:]))
