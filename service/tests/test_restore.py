@@ -233,10 +233,15 @@ def test_the_page_restores_files_of_a_bucket():
         return "a savepoint that has its files"
 
 
-def copied(text, server, at, record, before):
-    """A block of docs/SERVICE-BACKUP.md that copies files of savepoint 12 to another machine or back, over folders and for this savepoint."""
+def copied(text, server, at, record, before, by_notes=False):
+    """A block of docs/SERVICE-BACKUP.md that copies files of savepoint 12 to another machine or back, over folders and for this savepoint, which the
+    notes may name."""
     with open(f"{TOP}/docs/SERVICE-BACKUP.md", encoding="utf-8") as it:
-        block = it.read().partition(text)[2].split("```")[1]
+        page = it.read()
+    block = page.partition(text)[2].split("```")[1]
+    if by_notes:
+        [lines] = re.findall(r"^notes=.*\nrecord=.*$", page, re.MULTILINE)
+        block = block.replace("record=12 before=11", lines.replace("/var/lib/relkvanu-savepoint/orders", f"{at}/notes"))
     given = {
         "http://127.0.0.1:7780": server.url, "/etc/relkvanu/write-token": f"{at}/token", "backup.example:/srv/backup": f"{at}/backup", "/srv/orders": f"{at}/files",
         "record=12 before=11": f"record={record} before={before}", "/orders/12/": f"/orders/{record}/",
@@ -267,8 +272,13 @@ def test_the_page_copies_state_files_and_brings_them_back():
                 it.write(f"of {name}")
         job.calls([savepoint(), ack(1, "0.0", [1, 2]), savepoint(), ack(2, "0.0", [3], [2])])
         there, back = "### A copy of the state files", "**If the files of a savepoint were [copied to another machine]"
-        for record in (1, 2, 2):
-            copied(there, server, at, record, record - 1)
+        os.mkdir(f"{at}/notes")
+        for name in ("20260101T000000Z.1", "20260102T000000Z.2", "new"):
+            open(f"{at}/notes/{name}", "w", encoding="utf-8").close()
+        for record, by_notes in ((1, False), (2, False), (2, True)):
+            copied(there, server, at, record, record - 1, by_notes)
+        shutil.rmtree(f"{at}/backup/orders/2")
+        copied(there, server, at, 2, 1, by_notes=True)
         made = {record: set(os.listdir(f"{at}/backup/orders/{record}")) for record in (1, 2)}
         assert made == {1: {"state-1.bin", "state-2.bin", "savepoint-1.json"}, 2: {"state-2.bin", "state-3.bin", "savepoint-2.json"}}, made
         assert os.path.samefile(f"{at}/backup/orders/1/state-2.bin", f"{at}/backup/orders/2/state-2.bin")
