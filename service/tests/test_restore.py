@@ -1,5 +1,6 @@
 """A backup that is restored: which records have all their files, which files nobody knows, and the page's commands for PostgreSQL."""
 import glob
+import itertools
 import json
 import os
 import re
@@ -231,6 +232,89 @@ def test_the_page_restores_files_of_a_bucket():
         assert ran([*sweeper, "--delete"])[0] == 0 and names_in(files) == ["s-1", "s-2"], names_in(files)
         server.stop()
         return "a savepoint that has its files"
+
+
+DAMAGED = {name: f"damaged {name}" for name in ("relkvanu.db", "relkvanu.db-wal", "relkvanu.db.history")}
+
+
+class Place:
+    """A folder in which the commands of docs/SERVICE-BACKUP.md that put a copy in place run, with a program that does nothing, and a service that
+    writes a log beside its database."""
+
+    def __init__(self, at, after):
+        self.at, self.lib = at, f"{at}/lib/relkvanu"
+        with open(f"{TOP}/docs/SERVICE-BACKUP.md", encoding="utf-8") as it:
+            block = it.read().partition(after)[2].split("```")[1].strip()
+        for old, new in (("/var/lib", f"{at}/lib"), ("/usr/local/bin", f"{at}/bin"), ("/run/", f"{at}/run/")):
+            block = block.replace(old, new)
+        self.lines = block.splitlines()
+
+    def fill(self, damaged=tuple(DAMAGED)):
+        shutil.rmtree(self.at, ignore_errors=True)
+        for name in ("lib/relkvanu", "bin", "run"):
+            os.makedirs(f"{self.at}/{name}")
+        told = {f"{self.lib}/{name}": DAMAGED[name] for name in damaged}
+        told |= {f"{self.at}/bin/{name}": "#!/bin/sh\n" for name in ("relkvanu", "relkvanu-before")}
+        told[f"{self.at}/bin/systemctl"] = f"#!/bin/sh\n[ $1 != enable ] || printf 'log of the copy' > {self.lib}/relkvanu.db-wal\n[ $1 != is-failed ]\n"
+        for path, text in {**told, f"{self.at}/copy.db": "copy", f"{self.at}/before-upgrade-1.db": "copy"}.items():
+            with open(path, "w", encoding="utf-8") as it:
+                it.write(text)
+            os.chmod(path, 0o755)
+
+    def run(self, count=None, aside=None):
+        """Runs these commands, or this many lines of them. Returns the status, and what they say."""
+        lines = self.lines if count is None else [*self.lines[:count], "exit 9)"]
+        text = "\n".join(lines).replace("/aside", f"/{aside}") if aside else "\n".join(lines)
+        environment = {**os.environ, "PATH": f"{self.at}/bin:{os.environ['PATH']}"}
+        told = subprocess.run(["bash", "-c", text], cwd=self.at, env=environment, stdout=subprocess.PIPE, stderr=subprocess.STDOUT, text=True, check=False)
+        return told.returncode, told.stdout
+
+    def is_in_place(self, aside):
+        """The copy is there, without the log of another database, and these files are set aside, each from the same database."""
+        files, found = self.there()
+        return files in ({"relkvanu.db": "copy"}, {"relkvanu.db": "copy", "relkvanu.db-wal": "log of the copy"}) and found == aside
+
+    def there(self):
+        """The files of the folder, and those that were set aside."""
+        files = {entry.name: content(entry.path) for entry in os.scandir(self.lib) if entry.is_file()}
+        [aside] = [entry.path for entry in os.scandir(self.lib) if entry.is_dir() and re.fullmatch("aside(-upgrade)?", entry.name)]
+        return files, {entry.name: content(entry.path) for entry in os.scandir(aside)}
+
+
+def test_a_restore_that_ends_at_each_line():
+    """As by a loss of power, also when some files are set aside. All commands again put the copy in place and keep all that was set aside."""
+    ends = 0
+    with folder() as at:
+        for after in ("Here for SQLite and the job", "If the start ends with 78 all the same"):
+            place = Place(f"{at}/place", after)
+            # no line within a loop
+            counts = [count for count in range(1, len(place.lines)) if not place.lines[count].startswith((" ", "done"))]
+            for count in counts:
+                place.fill()
+                assert place.run(count)[0] == 9, place.lines[count - 1]
+                again = place.run()
+                if "already: name another folder" in again[1]:
+                    # the copy was in place
+                    assert again[0] == 1 and place.is_in_place(DAMAGED), (place.lines[count - 1], place.there())
+                    again = place.run(aside="another")
+                assert again[0] == 0 and place.is_in_place(DAMAGED), (place.lines[count - 1], again, place.there())
+                assert not os.listdir(f"{place.at}/run"), os.listdir(f"{place.at}/run")
+                ends += 1
+            for moved in itertools.chain.from_iterable(itertools.combinations(DAMAGED, size) for size in range(4)):
+                place.fill()
+                [made] = [count for count, line in enumerate(place.lines, 1) if line.startswith("mkdir -p")]
+                place.run(made)
+                [aside] = [entry.path for entry in os.scandir(place.lib) if entry.is_dir()]
+                for name in moved:
+                    os.rename(f"{place.lib}/{name}", f"{aside}/{name}")
+                assert place.run()[0] == 0 and place.is_in_place(DAMAGED), (moved, place.there())
+                ends += 1
+            for damaged in ((), ("relkvanu.db",)):
+                place.fill(damaged)
+                assert place.run()[0] == 0 and place.is_in_place({name: DAMAGED[name] for name in damaged}), place.there()
+            # a log of the copy does not get beside the database that was set aside without one
+            assert place.run()[0] == 1 and place.is_in_place({"relkvanu.db": DAMAGED["relkvanu.db"]}), place.there()
+        return f"{ends} ends"
 
 
 def copied(text, server, at, record, before, by_notes=False):
