@@ -281,15 +281,37 @@ class Place:
         return files, {entry.name: content(entry.path) for entry in os.scandir(aside)}
 
 
+def ends(lines):
+    """How many lines of a block may run before it ends: none within a loop."""
+    return [count for count in range(1, len(lines)) if not lines[count].startswith((" ", "done"))]
+
+
+def test_an_upgrade_that_ends_at_each_line():
+    """There is a program at each moment. All commands again put the new one in place, and the old one stays for the way back."""
+    with folder() as at:
+        place = Place(f"{at}/place", "## To upgrade")
+        program, before, old, new = f"{place.at}/bin/relkvanu", f"{place.at}/bin/relkvanu-before", "#!/bin/sh\n", "#!/bin/sh\n# new\n"
+        for count in ends(place.lines):
+            place.fill()
+            os.remove(before)
+            with open(f"{place.at}/relkvanu-new", "w", encoding="utf-8") as it:
+                it.write(new)
+            os.chmod(f"{place.at}/relkvanu-new", 0o755)
+            told = place.run(count)
+            assert told[0] == 9 and os.access(program, os.X_OK) and content(program) in (old, new), (place.lines[count - 1], told)
+            told = place.run()
+            assert told[0] == 0 and (content(program), content(before)) == (new, old), (place.lines[count - 1], told)
+            assert sorted(os.listdir(f"{place.at}/bin")) == ["relkvanu", "relkvanu-before", "systemctl"], os.listdir(f"{place.at}/bin")
+        return f"{len(ends(place.lines))} ends"
+
+
 def test_a_restore_that_ends_at_each_line():
     """As by a loss of power, also when some files are set aside. All commands again put the copy in place and keep all that was set aside."""
-    ends = 0
+    tried = 0
     with folder() as at:
         for after in ("Here for SQLite and the job", "If the start ends with 78 all the same"):
             place = Place(f"{at}/place", after)
-            # no line within a loop
-            counts = [count for count in range(1, len(place.lines)) if not place.lines[count].startswith((" ", "done"))]
-            for count in counts:
+            for count in ends(place.lines):
                 place.fill()
                 assert place.run(count)[0] == 9, place.lines[count - 1]
                 again = place.run()
@@ -299,7 +321,7 @@ def test_a_restore_that_ends_at_each_line():
                     again = place.run(aside="another")
                 assert again[0] == 0 and place.is_in_place(DAMAGED), (place.lines[count - 1], again, place.there())
                 assert not os.listdir(f"{place.at}/run"), os.listdir(f"{place.at}/run")
-                ends += 1
+                tried += 1
             for moved in itertools.chain.from_iterable(itertools.combinations(DAMAGED, size) for size in range(4)):
                 place.fill()
                 [made] = [count for count, line in enumerate(place.lines, 1) if line.startswith("mkdir -p")]
@@ -308,13 +330,13 @@ def test_a_restore_that_ends_at_each_line():
                 for name in moved:
                     os.rename(f"{place.lib}/{name}", f"{aside}/{name}")
                 assert place.run()[0] == 0 and place.is_in_place(DAMAGED), (moved, place.there())
-                ends += 1
+                tried += 1
             for damaged in ((), ("relkvanu.db",)):
                 place.fill(damaged)
                 assert place.run()[0] == 0 and place.is_in_place({name: DAMAGED[name] for name in damaged}), place.there()
             # a log of the copy does not get beside the database that was set aside without one
             assert place.run()[0] == 1 and place.is_in_place({"relkvanu.db": DAMAGED["relkvanu.db"]}), place.there()
-        return f"{ends} ends"
+        return f"{tried} ends"
 
 
 def copied(text, server, at, record, before, by_notes=False):
