@@ -279,7 +279,8 @@ def test_a_job_begins_from_a_savepoint_of_another():
 
 
 def test_a_task_that_can_not_take_part():
-    """It declines, so nobody waits, and a sweep deletes what it has written: on a full disk, and if its acknowledgement is refused."""
+    """It declines, so nobody waits, and a sweep deletes what it has written: on a full disk, and if its acknowledgement is refused, also of a record
+    that the service does not know, as after a backup was restored."""
     def full(path, state):
         write(path, state[:2])
         raise OSError(28, "No space left on device")
@@ -293,11 +294,12 @@ def test_a_task_that_can_not_take_part():
             exec(page_code(2, ("/srv/orders", at)), names)
             assert job.call(savepoint())["id"] == number
             names["take_part"](number, "0.0", b"state", old)
+        names["take_part"](99, "0.0", b"state", [])
         assert [(it["id"], it["done"]) for it in job.state()["live"]] == [(3, True)], job.state()["live"]
-        assert len(os.listdir(at)) == 4 and sweep(server, at).returncode == 0
+        assert len(os.listdir(at)) == 5 and sweep(server, at).returncode == 0
         [left] = [name for name in os.listdir(at) if not name.startswith(".")]
         assert {left} == {f"state-{file}.bin" for file in known(job)}, left
-        return "two declines, and one that takes part"
+        return "two declines, one that takes part, and a record that is not known"
 
 
 def test_numbers_of_files():
