@@ -1,5 +1,5 @@
-"""The script of the savepoints and the drop-in of docs/SERVICE-BACKUP.md that makes dumps, over a folder, with programs that are made up: a clock, a
-service and pg_dump."""
+"""The script of the savepoints, the unit of the backups and the drop-in of docs/SERVICE-BACKUP.md that makes dumps, over a folder, with programs that
+are made up: a clock, a service and pg_dump."""
 import os
 import re
 import shutil
@@ -9,7 +9,7 @@ from harness import SERVICE, TOP, folder
 
 # Each run is a minute later. The savepoint N is triggered at 1000 + N. It tells what it disposes of. `{list}` prints the savepoints.
 PROGRAMS = {
-    "date": 'n=$(($(cat {at}/clock) + 1)); echo $n > {at}/clock; printf "20260101T00%02d00Z\\n" $n',
+    "date": 'n=$(($(cat {at}/clock) + 1)); echo $n > {at}/clock; printf "%s0101T00%02d00Z\\n" "$(cat {at}/year)" $n',
     "relkvanu": """case $* in
 "savepoint "*--json*)
     n=$(($(cat {at}/last) + 1)); echo $n > {at}/last; echo "$n $((1000 + n))" >> {at}/there
@@ -18,6 +18,8 @@ PROGRAMS = {
     {list};;
 "dispose "*)
     sed -i "/^$3 /d" {at}/there; echo $3 >> {at}/disposed;;
+backup*)
+    echo "$@" > "${{5}}";;
 esac""",
     "pg_dump": 'for it; do case $it in --file=*) echo "$@" > "${{it#--file=}}";; esac; done',
 }
@@ -34,7 +36,7 @@ def made_up(at, listing=PRINTED):
         with open(f"{at}/bin/{name}", "w", encoding="utf-8") as it:
             it.write(f"#!/bin/sh\n{text.format(at=at, list=listing.format(at=at))}\n")
         os.chmod(f"{at}/bin/{name}", 0o755)
-    for name, text in {"clock": "0\n", "last": "0\n", "there": "", "disposed": ""}.items():
+    for name, text in {"clock": "0\n", "year": "2026\n", "last": "0\n", "there": "", "disposed": ""}.items():
         with open(f"{at}/{name}", "w", encoding="utf-8") as it:
             it.write(text)
     for name in ("backups", "notes"):
@@ -85,6 +87,38 @@ def test_savepoints_go_as_dumps_do():
     return "7 nights, with 4 dumps and 3 copies, by two forms of the same JSON"
 
 
+def test_a_savepoint_of_a_night_with_a_wrong_clock():
+    """The clock is behind in the fourth night, so its note has the oldest name. Its savepoint is kept as long as its copy."""
+    with folder() as at:
+        environment = made_up(at)
+
+        def night():
+            ran(script(at), at, environment)
+            ran(f"touch {at}/backups/$(date).db; rm new", at, environment)
+
+        for _ in range(3):
+            night()
+        os.remove(f"{at}/backups/{min(os.listdir(f'{at}/backups'))}")
+        set_year(at, 1970)
+        night()
+        assert lines(f"{at}/disposed") == ["1"], lines(f"{at}/disposed")
+        assert {name.partition(".")[2] for name in os.listdir(f"{at}/notes")} == {"2", "3", "4"}, os.listdir(f"{at}/notes")
+        set_year(at, 2026)
+        night()
+        assert lines(f"{at}/disposed") == ["1"], lines(f"{at}/disposed")
+        # the copy of that night goes first, and then its savepoint does
+        [old] = [name for name in os.listdir(f"{at}/backups") if name.startswith("1970")]
+        os.remove(f"{at}/backups/{old}")
+        night()
+        assert lines(f"{at}/disposed") == ["1", "4"], lines(f"{at}/disposed")
+        return "6 nights"
+
+
+def set_year(at, year):
+    with open(f"{at}/year", "w", encoding="utf-8") as it:
+        it.write(f"{year}\n")
+
+
 def test_answers_that_the_script_can_not_use():
     """It notes nothing and disposes of nothing. The file `new` of an earlier night goes, so it does not stand for a savepoint of this one."""
     another = """echo '[{{"id":9,"kind":"savepoint","triggered":1009}}]'"""
@@ -112,20 +146,62 @@ def failed_night(at, environment):
     return told
 
 
+def started(text, at):
+    """The command of the last line ExecStart of a unit or a drop-in, over the folder."""
+    [*_, made] = re.findall(r"^ExecStart=/bin/sh -c '(.*)'$", text, re.MULTILINE)
+    given = {"%%": "%", "$$": "$", "%d": "/run/credentials", "/var/backups/relkvanu": f"{at}/backups", "/usr/local/bin/": ""}
+    return re.sub("|".join(map(re.escape, given)), lambda found: given[found[0]], made)
+
+
+def check_a_wrong_clock(make, at, environment, kind):
+    """A copy that was just made is kept if the clock is behind, and no other is deleted then. One from the future is told of each night."""
+    def night(year):
+        set_year(at, year)
+        before = set(os.listdir(f"{at}/backups"))
+        told = subprocess.run(["sh", "-c", make], cwd=at, env=environment, stdout=subprocess.PIPE, stderr=subprocess.STDOUT, text=True, check=False)
+        after = set(os.listdir(f"{at}/backups"))
+        [new] = after - before
+        assert new.startswith(str(year)) and new.endswith(kind), (before, after)
+        return told, before - after
+
+    told, gone = night(1970)
+    assert told.returncode == 1 and "the clock is or was wrong" in told.stdout and not gone, (told, gone)
+    told, gone = night(2026)
+    assert told.returncode == 0 and len(gone) == 2 and min(gone).startswith("1970"), (told, gone)
+    told, gone = night(2099)
+    assert told.returncode == 0 and len(gone) == 1, (told, gone)
+    for _ in range(2):
+        told, gone = night(2026)
+        assert told.returncode == 1 and "2099" in told.stdout and not gone, (told, gone)
+    [future] = [name for name in os.listdir(f"{at}/backups") if name.startswith("2099")]
+    os.remove(f"{at}/backups/{future}")
+    told, gone = night(2026)
+    assert told.returncode == 0 and len(gone) == 2 and len(os.listdir(f"{at}/backups")) == 14, (told, gone)
+
+
+def test_the_unit_makes_copies():
+    with folder() as at, open(f"{SERVICE}/deploy/relkvanu-backup.service", encoding="utf-8") as it:
+        environment, make = made_up(at), started(it.read(), at)
+        for _ in range(16):
+            ran(make, at, environment)
+        assert sorted(os.listdir(f"{at}/backups")) == [f"20260101T00{minute:02}00Z.db" for minute in range(3, 17)], os.listdir(f"{at}/backups")
+        check_a_wrong_clock(make, at, environment, ".db")
+        return "16 copies, and 6 nights with a clock that is wrong"
+
+
 def test_the_unit_makes_dumps():
-    """By the drop-in of the page: a dump has its name once it is whole, and the 14 newest stay."""
+    """By the drop-in of the page: a dump has its name once it is whole, and the 14 newest of copies and dumps stay."""
     with open(f"{TOP}/docs/SERVICE-BACKUP.md", encoding="utf-8") as it:
         page = it.read()
     drop_ins = {name: page.split(f"{name} << 'END'\n")[1].partition("END\n")[0] for name in ("05-dump.conf", "10-savepoints.conf")}
     with folder() as at:
-        environment = made_up(at)
-        starts = re.findall(r"^(ExecStart|ExecStartPost)=/bin/sh -c '(.*)'$", drop_ins["05-dump.conf"], re.MULTILINE)
-        assert [name for name, _ in starts] == ["ExecStart", "ExecStartPost"], starts
-        given = {"%%": "%", "$$": "$", "%d": "/run/credentials", "/var/backups/relkvanu": f"{at}/backups"}
-        make, keep = (re.sub(r"%%|\$\$|%d|/var/backups/relkvanu", lambda found: given[found[0]], text) for _, text in starts)
-        for _ in range(16):
+        environment, make = made_up(at), started(drop_ins["05-dump.conf"], at)
+        # copies of before a move to PostgreSQL
+        for day in range(10, 20):
+            open(f"{at}/backups/202512{day}T000000Z.db", "w", encoding="utf-8").close()
+        for count in range(1, 17):
             ran(make, at, environment)
-            ran(keep, at, environment)
+            assert len(os.listdir(f"{at}/backups")) == min(10 + count, 14), os.listdir(f"{at}/backups")
         wanted = [f"20260101T00{minute:02}00Z.dump" for minute in range(3, 17)]
         assert sorted(os.listdir(f"{at}/backups")) == wanted, os.listdir(f"{at}/backups")
         said = lines(f"{at}/backups/{wanted[0]}")
@@ -133,10 +209,14 @@ def test_the_unit_makes_dumps():
         # a dump that fails gets no name, and the unit fails
         with open(f"{at}/bin/pg_dump", "a", encoding="utf-8") as it:
             it.write("exit 1\n")
-        failed = subprocess.run(["sh", "-c", make], env=environment, check=False)
+        failed = subprocess.run(["sh", "-c", make], cwd=at, env=environment, check=False)
         assert failed.returncode == 1 and sorted(os.listdir(f"{at}/backups")) == [*wanted, "20260101T001700Z.dump.part"], os.listdir(f"{at}/backups")
+        os.remove(f"{at}/backups/20260101T001700Z.dump.part")
+        with open(f"{at}/bin/pg_dump", "w", encoding="utf-8") as it:
+            it.write(f"#!/bin/sh\n{PROGRAMS['pg_dump'].format(at=at)}\n")
+        check_a_wrong_clock(make, at, environment, ".dump")
         if not shutil.which("systemd-analyze"):
-            return "16 dumps"
+            return "16 dumps, and 6 nights with a clock that is wrong"
         units = f"{at}/units"
         os.makedirs(f"{units}/relkvanu-backup.service.d")
         for name in ("relkvanu-backup.service", "relkvanu-savepoint@.service"):
@@ -147,4 +227,4 @@ def test_the_unit_makes_dumps():
         words, environment = ["systemd-analyze", "verify", f"{units}/relkvanu-backup.service"], {**os.environ, "SYSTEMD_UNIT_PATH": f"{units}:"}
         told = subprocess.run(words, env=environment, stdout=subprocess.PIPE, stderr=subprocess.STDOUT, text=True, check=False)
         assert units not in told.stdout and "relkvanu-backup" not in told.stdout, told.stdout
-        return "16 dumps, and systemd reads the drop-in"
+        return "16 dumps, 6 nights with a clock that is wrong, and systemd reads the drop-in"

@@ -30,15 +30,16 @@ class Engine(threading.Thread):
     def __init__(self, server, folder, settings):
         super().__init__(daemon=True)
         self.server, self.folder, self.job = server, folder, Service(server.url).job("orders")
-        replaced = ("http://127.0.0.1:7780", server.url), ('{"interval": 60_000}', repr(settings))
+        replaced = ("http://127.0.0.1:7780", server.url), ('{"interval": 10_000}', repr(settings))
         self.code, self.ended = page_code(1, *replaced, ("/srv/orders", folder)), None
         self.task = page_code(2, ("/srv/orders", folder))
         self.starts, self.terms, self.sessions, self.take_part = [], [], [], None
-        self.acknowledges, self.told = threading.Event(), []
+        self.acknowledges, self.told, self.said = threading.Event(), [], []
         self.acknowledges.set()
 
     def run(self):
         names = {name: getattr(self, name) for name in ("end_tasks", "numbers_of_files", "start_tasks", "tell_sources", "tell_tasks")}
+        names["print"] = lambda *said, **_: self.said.append(" ".join(said))
         try:
             exec(self.code, names)
         except (SystemExit, Failed) as ended:
@@ -201,7 +202,8 @@ def test_the_loop_ends_if_a_backup_was_restored():
         with engine_of(server, files, settings) as engine:
             pass
         latest = job.state()["choice"]["id"]
-        assert isinstance(engine.ended, SystemExit) and f"checkpoint {latest} lacks the files" in str(engine.ended), engine.ended
+        assert isinstance(engine.ended, SystemExit) and engine.ended.code == 78, engine.ended
+        assert len(engine.said) == 1 and f"checkpoint {latest} lacks the files" in engine.said[0], engine.said
         # the savepoint has all of its files. Tasks get no names of files that are there
         job.call(restore(first))
         listed = subprocess.run([PROGRAM, "sweep", "orders", "--folder", files, *NAMES, "--url", server.url], stdout=subprocess.PIPE, text=True, check=False)
@@ -274,6 +276,30 @@ def test_a_job_begins_from_a_savepoint_of_another():
         told = names["to_load"](service, new.begin(), savepoint=record)
         assert told == ("/srv/orders-2", own), told
         return "two starts from the savepoint, and one from its own checkpoint"
+
+
+def test_a_task_that_can_not_take_part():
+    """It declines, so nobody waits, and a sweep deletes what it has written: on a full disk, and if its acknowledgement is refused, also of a record
+    that the service does not know, as after a backup was restored."""
+    def full(path, state):
+        write(path, state[:2])
+        raise OSError(28, "No space left on device")
+
+    with folder() as at, served(names=True) as server:
+        job = Service(server.url).open("orders", {"interval": 1 << 40}, [1])
+        job.claim(at)
+        term = job.begin().term
+        for number, (writes, old) in enumerate([(full, []), (write, [77]), (write, [])], 1):
+            names = {"job": job, "term": term, "write": writes}
+            exec(page_code(2, ("/srv/orders", at)), names)
+            assert job.call(savepoint())["id"] == number
+            names["take_part"](number, "0.0", b"state", old)
+        names["take_part"](99, "0.0", b"state", [])
+        assert [(it["id"], it["done"]) for it in job.state()["live"]] == [(3, True)], job.state()["live"]
+        assert len(os.listdir(at)) == 5 and sweep(server, at).returncode == 0
+        [left] = [name for name in os.listdir(at) if not name.startswith(".")]
+        assert {left} == {f"state-{file}.bin" for file in known(job)}, left
+        return "two declines, one that takes part, and a record that is not known"
 
 
 def test_numbers_of_files():

@@ -37,6 +37,7 @@ def test_metrics_say_what_was_done():
             'relkvanu_files{job_name="orders",state="in_use"}': 2,
             'relkvanu_pending_records{job_name="orders",kind="savepoint"}': 1,
             'relkvanu_pending_records{job_name="orders",kind="checkpoint"}': 0,
+            'relkvanu_savepoints{job_name="orders"}': 0,
             'relkvanu_interval_seconds{job_name="orders"}': 3600,
             'relkvanu_timeout_seconds{job_name="orders"}': 600,
             'relkvanu_mode{job_name="orders"}': 1,
@@ -51,6 +52,7 @@ def test_metrics_say_what_was_done():
         job.calls([ack(1, "0.1")])
         until(lambda: scraped(server)[1].get('relkvanu_records_total{how="completed",job_name="orders",kind="savepoint"}') == 1)
         assert scraped(server)[1]['relkvanu_completion_seconds_count{job_name="orders",kind="savepoint"}'] == 1
+        assert scraped(server)[1]['relkvanu_savepoints{job_name="orders"}'] == 1
         needed("promtool")
         told = subprocess.run(["promtool", "check", "metrics"], input=text, text=True, stdout=subprocess.PIPE, stderr=subprocess.STDOUT, check=False)
         assert told.returncode == 0 and not told.stdout.strip(), told.stdout

@@ -1,14 +1,17 @@
 """A backup that is restored: which records have all their files, which files nobody knows, and the page's commands for PostgreSQL."""
 import glob
+import itertools
+import json
 import os
 import re
 import shlex
 import shutil
 import subprocess
 
-from harness import PROGRAM, SERVICE, TOP, Server, folder, lose_history, served, until
+from harness import PROGRAM, SERVICE, TOP, Server, caught_up, folder, lose_history, served, until
 from postgres import postgres
 from relkvanu_service import Service, ack, dispose, restore, savepoint
+from run import Skipped
 from test_commands import SETTINGS, Asked
 from test_sweep import names_in
 
@@ -54,6 +57,13 @@ def test_records_that_have_all_their_files():
         latest = job.state()["choice"]["id"]
         assert latest == pending
         write(files, 1, 2, 3)
+        told = subprocess.run([PROGRAM, *words, *ask.more], stdout=subprocess.PIPE, stderr=subprocess.PIPE, text=True, timeout=60, check=False)
+        assert told.returncode == 0 and "has no marker of this job, .relkvanu-orders" in told.stderr, told
+        # the command in Python needs the marker
+        status, lines, told = savepoints_by_python(server.url, files)
+        assert (status, lines) == (78, []) and "no marker" in told, (status, told)
+        with open(f"{files}/{job.marker()[0]}", "w", encoding="utf-8") as it:
+            it.write(job.marker()[1])
         rows = ask.json(*words)
         # of two checkpoints only the latest is one to restore to; its file is not there
         assert {row["id"]: (row["kind"], row["latest"], row["files"], row["absent"]) for row in rows} == {
@@ -62,11 +72,7 @@ def test_records_that_have_all_their_files():
         text = {line.split()[0]: line for line in ask(*words).splitlines()}
         assert text[str(first)].split()[-2:] == ["2", "none"], text
         assert text[str(latest)].endswith("1: 4") and "checkpoint, the latest" in text[str(latest)], text
-        # the command in Python needs the marker, and says the same
-        status, lines, told = savepoints_by_python(server.url, files)
-        assert (status, lines) == (78, []) and "no marker" in told, (status, told)
-        with open(f"{files}/{job.marker()[0]}", "w", encoding="utf-8") as it:
-            it.write(job.marker()[1])
+        # the command in Python says the same
         write(files, "4.bin.part")
         assert savepoints_by_python(server.url, files)[:2] == (0, ask(*words).splitlines())
         os.remove(f"{files}/s-3.bin")
@@ -79,6 +85,31 @@ def test_records_that_have_all_their_files():
         assert savepoints_by_python("http://127.0.0.1:1", files, "--patience", "1s")[:2] == (75, [])
         assert "No such file" in ask("savepoints", "orders", "--folder", f"{files}/none", status=78)
         return "a savepoint and a checkpoint"
+
+
+def test_files_that_are_too_short():
+    """By the bytes that tasks have said. A file of two subtasks counts twice, and one of which nobody said its bytes does not count."""
+    with served() as server:
+        files = f"{server.folder}/files"
+        os.mkdir(files)
+        job = Service(server.url).open("orders", SETTINGS, [2])
+        job.claim(files)
+        write(files, 1, 2, 3)
+        job.calls([savepoint(), ack(1, "0.0", [1, 2], sizes=[5, 5]), ack(1, "0.1", [3])])
+        job.calls([savepoint(), ack(2, "0.0", [], [1, 3]), ack(2, "0.1", [], [1])])
+        caught_up(job)
+        words = [PROGRAM, "savepoints", "orders", "--folder", files, "--prefix", "s-", "--suffix", ".bin", "--url", server.url]
+
+        def warned():
+            told = subprocess.run(words, stdout=subprocess.PIPE, stderr=subprocess.PIPE, text=True, timeout=60, check=False)
+            assert told.returncode == 0, told
+            return re.findall(r"the files of record (\d+) have (\d+) bytes there, and its tasks said (\d+)", told.stderr)
+
+        assert warned() == []
+        os.truncate(f"{files}/s-1.bin", 4)
+        os.truncate(f"{files}/s-3.bin", 0)
+        assert warned() == [("1", "9", "10"), ("2", "8", "10")], warned()
+        return "two records"
 
 
 def test_a_place_that_has_no_file_of_any_record():
@@ -201,6 +232,173 @@ def test_the_page_restores_files_of_a_bucket():
         assert ran([*sweeper, "--delete"])[0] == 0 and names_in(files) == ["s-1", "s-2"], names_in(files)
         server.stop()
         return "a savepoint that has its files"
+
+
+DAMAGED = {name: f"damaged {name}" for name in ("relkvanu.db", "relkvanu.db-wal", "relkvanu.db.history")}
+
+
+class Place:
+    """A folder in which the commands of docs/SERVICE-BACKUP.md that put a copy in place run, with a program that does nothing, and a service that
+    writes a log beside its database."""
+
+    def __init__(self, at, after):
+        self.at, self.lib = at, f"{at}/lib/relkvanu"
+        with open(f"{TOP}/docs/SERVICE-BACKUP.md", encoding="utf-8") as it:
+            block = it.read().partition(after)[2].split("```")[1].strip()
+        for old, new in (("/var/lib", f"{at}/lib"), ("/usr/local/bin", f"{at}/bin"), ("/run/", f"{at}/run/")):
+            block = block.replace(old, new)
+        self.lines = block.splitlines()
+
+    def fill(self, damaged=tuple(DAMAGED)):
+        shutil.rmtree(self.at, ignore_errors=True)
+        for name in ("lib/relkvanu", "bin", "run"):
+            os.makedirs(f"{self.at}/{name}")
+        told = {f"{self.lib}/{name}": DAMAGED[name] for name in damaged}
+        told |= {f"{self.at}/bin/{name}": "#!/bin/sh\n" for name in ("relkvanu", "relkvanu-before")}
+        told[f"{self.at}/bin/systemctl"] = f"#!/bin/sh\n[ $1 != enable ] || printf 'log of the copy' > {self.lib}/relkvanu.db-wal\n[ $1 != is-failed ]\n"
+        for path, text in {**told, f"{self.at}/copy.db": "copy", f"{self.at}/before-upgrade-1.db": "copy"}.items():
+            with open(path, "w", encoding="utf-8") as it:
+                it.write(text)
+            os.chmod(path, 0o755)
+
+    def run(self, count=None, aside=None):
+        """Runs these commands, or this many lines of them. Returns the status, and what they say."""
+        lines = self.lines if count is None else [*self.lines[:count], "exit 9)"]
+        text = "\n".join(lines).replace("/aside", f"/{aside}") if aside else "\n".join(lines)
+        environment = {**os.environ, "PATH": f"{self.at}/bin:{os.environ['PATH']}"}
+        told = subprocess.run(["bash", "-c", text], cwd=self.at, env=environment, stdout=subprocess.PIPE, stderr=subprocess.STDOUT, text=True, check=False)
+        return told.returncode, told.stdout
+
+    def is_in_place(self, aside):
+        """The copy is there, without the log of another database, and these files are set aside, each from the same database."""
+        files, found = self.there()
+        return files in ({"relkvanu.db": "copy"}, {"relkvanu.db": "copy", "relkvanu.db-wal": "log of the copy"}) and found == aside
+
+    def there(self):
+        """The files of the folder, and those that were set aside."""
+        files = {entry.name: content(entry.path) for entry in os.scandir(self.lib) if entry.is_file()}
+        [aside] = [entry.path for entry in os.scandir(self.lib) if entry.is_dir() and re.fullmatch("aside(-upgrade)?", entry.name)]
+        return files, {entry.name: content(entry.path) for entry in os.scandir(aside)}
+
+
+def ends(lines):
+    """How many lines of a block may run before it ends: none within a loop."""
+    return [count for count in range(1, len(lines)) if not lines[count].startswith((" ", "done"))]
+
+
+def test_an_upgrade_that_ends_at_each_line():
+    """There is a program at each moment. All commands again put the new one in place, and the old one stays for the way back."""
+    with folder() as at:
+        place = Place(f"{at}/place", "## To upgrade")
+        program, before, old, new = f"{place.at}/bin/relkvanu", f"{place.at}/bin/relkvanu-before", "#!/bin/sh\n", "#!/bin/sh\n# new\n"
+        for count in ends(place.lines):
+            place.fill()
+            os.remove(before)
+            with open(f"{place.at}/relkvanu-new", "w", encoding="utf-8") as it:
+                it.write(new)
+            os.chmod(f"{place.at}/relkvanu-new", 0o755)
+            told = place.run(count)
+            assert told[0] == 9 and os.access(program, os.X_OK) and content(program) in (old, new), (place.lines[count - 1], told)
+            told = place.run()
+            assert told[0] == 0 and (content(program), content(before)) == (new, old), (place.lines[count - 1], told)
+            assert sorted(os.listdir(f"{place.at}/bin")) == ["relkvanu", "relkvanu-before", "systemctl"], os.listdir(f"{place.at}/bin")
+        return f"{len(ends(place.lines))} ends"
+
+
+def test_a_restore_that_ends_at_each_line():
+    """As by a loss of power, also when some files are set aside. All commands again put the copy in place and keep all that was set aside."""
+    tried = 0
+    with folder() as at:
+        for after in ("Here for SQLite and the job", "If the start ends with 78 all the same"):
+            place = Place(f"{at}/place", after)
+            for count in ends(place.lines):
+                place.fill()
+                assert place.run(count)[0] == 9, place.lines[count - 1]
+                again = place.run()
+                if "already: name another folder" in again[1]:
+                    # the copy was in place
+                    assert again[0] == 1 and place.is_in_place(DAMAGED), (place.lines[count - 1], place.there())
+                    again = place.run(aside="another")
+                assert again[0] == 0 and place.is_in_place(DAMAGED), (place.lines[count - 1], again, place.there())
+                assert not os.listdir(f"{place.at}/run"), os.listdir(f"{place.at}/run")
+                tried += 1
+            for moved in itertools.chain.from_iterable(itertools.combinations(DAMAGED, size) for size in range(4)):
+                place.fill()
+                [made] = [count for count, line in enumerate(place.lines, 1) if line.startswith("mkdir -p")]
+                place.run(made)
+                [aside] = [entry.path for entry in os.scandir(place.lib) if entry.is_dir()]
+                for name in moved:
+                    os.rename(f"{place.lib}/{name}", f"{aside}/{name}")
+                assert place.run()[0] == 0 and place.is_in_place(DAMAGED), (moved, place.there())
+                tried += 1
+            for damaged in ((), ("relkvanu.db",)):
+                place.fill(damaged)
+                assert place.run()[0] == 0 and place.is_in_place({name: DAMAGED[name] for name in damaged}), place.there()
+            # a log of the copy does not get beside the database that was set aside without one
+            assert place.run()[0] == 1 and place.is_in_place({"relkvanu.db": DAMAGED["relkvanu.db"]}), place.there()
+        return f"{tried} ends"
+
+
+def copied(text, server, at, record, before, by_notes=False):
+    """A block of docs/SERVICE-BACKUP.md that copies files of savepoint 12 to another machine or back, over folders and for this savepoint, which the
+    notes may name."""
+    with open(f"{TOP}/docs/SERVICE-BACKUP.md", encoding="utf-8") as it:
+        page = it.read()
+    block = page.partition(text)[2].split("```")[1]
+    if by_notes:
+        [lines] = re.findall(r"^notes=.*\nrecord=.*$", page, re.MULTILINE)
+        block = block.replace("record=12 before=11", lines.replace("/var/lib/relkvanu-savepoint/orders", f"{at}/notes"))
+    given = {
+        "http://127.0.0.1:7780": server.url, "/etc/relkvanu/write-token": f"{at}/token", "backup.example:/srv/backup": f"{at}/backup", "/srv/orders": f"{at}/files",
+        "record=12 before=11": f"record={record} before={before}", "/orders/12/": f"/orders/{record}/",
+    }
+    for old, new in given.items():
+        block = block.replace(old, new)
+    told = subprocess.run(["bash", "-euc", block], cwd=at, stdout=subprocess.PIPE, stderr=subprocess.STDOUT, text=True, timeout=60, check=False)
+    assert told.returncode == 0 and "/12/" not in block and "record=12" not in block, (block, told.stdout)
+    return told.stdout
+
+
+def content(path):
+    with open(path, encoding="utf-8") as it:
+        return it.read()
+
+
+def test_the_page_copies_state_files_and_brings_them_back():
+    """To a folder in place of a machine: a file of two savepoints takes room once. What comes back replaces nothing, and a file that differs is told."""
+    if not shutil.which("rsync") or not shutil.which("curl"):
+        raise Skipped("rsync or curl is not here")
+    with served() as server:
+        at, files = server.folder, f"{server.folder}/files"
+        os.mkdir(files)
+        job = Service(server.url).open("orders", SETTINGS, [1])
+        job.claim(files)
+        for name in ("token", *(f"files/state-{number}.bin" for number in range(1, 5))):
+            with open(f"{at}/{name}", "w", encoding="utf-8") as it:
+                it.write(f"of {name}")
+        job.calls([savepoint(), ack(1, "0.0", [1, 2]), savepoint(), ack(2, "0.0", [3], [2])])
+        there, back = "### A copy of the state files", "**If the files of a savepoint were [copied to another machine]"
+        os.mkdir(f"{at}/notes")
+        for name in ("20260101T000000Z.1", "20260102T000000Z.2", "new"):
+            open(f"{at}/notes/{name}", "w", encoding="utf-8").close()
+        for record, by_notes in ((1, False), (2, False), (2, True)):
+            copied(there, server, at, record, record - 1, by_notes)
+        shutil.rmtree(f"{at}/backup/orders/2")
+        copied(there, server, at, 2, 1, by_notes=True)
+        made = {record: set(os.listdir(f"{at}/backup/orders/{record}")) for record in (1, 2)}
+        assert made == {1: {"state-1.bin", "state-2.bin", "savepoint-1.json"}, 2: {"state-2.bin", "state-3.bin", "savepoint-2.json"}}, made
+        assert os.path.samefile(f"{at}/backup/orders/1/state-2.bin", f"{at}/backup/orders/2/state-2.bin")
+        acks = json.loads(content(f"{at}/backup/orders/2/savepoint-2.json"))["live"]["acks"]
+        assert [(it["subtask"], sorted(it["files"])) for it in acks] == [("0.0", ["2", "3"])], acks
+        for name in (f"{at}/files/state-3.bin", f"{files}/.relkvanu-orders"):
+            os.remove(name)
+        with open(f"{files}/state-2.bin", "w", encoding="utf-8") as it:
+            it.write("of")
+        told = [copied(back, server, at, 2, 1) for _ in range(2)]
+        assert all("state-2.bin" in text and "state-1.bin" not in text and "state-4.bin" not in text for text in told), told
+        assert set(os.listdir(files)) == {f"state-{number}.bin" for number in range(1, 5)}, os.listdir(files)
+        assert (content(f"{files}/state-3.bin"), content(f"{files}/state-2.bin")) == ("of files/state-3.bin", "of")
+        return "two savepoints"
 
 
 def page_commands(after, port):

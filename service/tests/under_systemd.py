@@ -56,13 +56,13 @@ def is_ready():
     return request("GET", "/readyz")[0] == 200
 
 
-def as_the_page_says(*names):
+def as_the_page_says(*names, status=0):
     """Runs commands of the service's pages in one shell, but for those that fetch packages."""
     with open("/try/commands", encoding="utf-8") as it:
         blocks = json.load(it)
     lines = [line for name in names for line in blocks[name].splitlines() if not line.startswith("apt-get ")]
     told = subprocess.run(["bash", "-euc", "\n".join(lines)], stdout=subprocess.PIPE, stderr=subprocess.STDOUT, text=True, check=False)
-    assert told.returncode == 0, (names, told.stdout)
+    assert told.returncode == status, (names, told.stdout, journal()[-1000:])
     return told.stdout
 
 
@@ -145,18 +145,7 @@ def check_a_backup_is_restored():
     assert savepoint_of(41) > kept
     calls("later", {"call": "cancel"})
     os.mkdir("/var/lib/relkvanu/relkvanu.db.history.bad")
-    as_the_page_says("restore")
-    until(is_ready)
-    after = request("GET", "/v1/jobs/orders")[1]
-    assert after["mode"] == "running" and after["seq"] == before["seq"] and after["live"] == before["live"], (before, after)
-    assert words()[-1] == "--accept-clock" and not os.path.exists("/run/relkvanu.options")
-    [aside] = [name for name in os.listdir("/var/lib/relkvanu") if name.startswith("aside-")]
-    found = set(os.listdir(f"/var/lib/relkvanu/{aside}"))
-    assert {"relkvanu.db", "relkvanu.db-wal", "relkvanu.db.history", "relkvanu.db.history.bad"} <= found, found
-    with sqlite3.connect(f"/var/lib/relkvanu/{aside}/relkvanu.db") as base:
-        assert base.execute("select count(*) from call where line like 'cancel%'").fetchone() == (1,)
-    base.close()
-    shutil.rmtree(f"/var/lib/relkvanu/{aside}")
+    check_files_set_aside(before)
     assert run("systemctl", "is-enabled", "relkvanu") == "enabled"
     for unit in ("relkvanu-discard@orders", "relkvanu-sweep@orders", "relkvanu-backup.timer"):
         assert run("systemctl", "is-enabled", unit, check=False) == "disabled"
@@ -167,20 +156,88 @@ def check_a_backup_is_restored():
     assert as_the_page_says("orphans").splitlines() == ["/srv/orders/state-41.bin"]
 
 
+def check_restored(before):
+    """The service serves what the copy has when the commands of the page have ended."""
+    assert "orders" in as_the_page_says("restore") and is_ready()
+    after = request("GET", "/v1/jobs/orders")[1]
+    assert after["mode"] == "running" and after["seq"] == before["seq"] and after["live"] == before["live"], (before, after)
+    assert words()[-1] == "--accept-clock" and not os.path.exists("/run/relkvanu.options")
+    assert "restored.db" not in os.listdir("/var/lib/relkvanu")
+
+
+def check_files_set_aside(before):
+    """None is replaced, in whichever state the commands found them: once the copy is in place, after a loss of power while they were moved, and after
+    the disk was lost."""
+    aside = "/var/lib/relkvanu/aside"
+
+    def check_aside():
+        found = set(os.listdir(aside))
+        assert {"relkvanu.db", "relkvanu.db-wal", "relkvanu.db.history", "relkvanu.db.history.bad"} <= found, found
+        with sqlite3.connect(f"{aside}/relkvanu.db") as base:
+            assert base.execute("select count(*) from call where line like 'cancel%'").fetchone() == (1,)
+        base.close()
+
+    check_restored(before)
+    check_aside()
+    there = sorted(os.listdir(aside))
+    assert "aside has relkvanu.db already" in as_the_page_says("restore", status=1) and sorted(os.listdir(aside)) == there
+    assert "restored.db" not in os.listdir("/var/lib/relkvanu")
+    as_the_page_says("go back")
+    until(is_ready)
+    assert request("GET", "/v1/jobs/orders")[1]["mode"] == "cancelled" and not os.path.exists(aside)
+    # the power was lost when one of the files was moved
+    run("systemctl", "stop", "relkvanu")
+    shutil.rmtree("/var/lib/relkvanu/not-used")
+    assert os.path.exists("/var/lib/relkvanu/relkvanu.db-wal")
+    os.mkdir(aside)
+    os.rename("/var/lib/relkvanu/relkvanu.db", f"{aside}/relkvanu.db")
+    check_restored(before)
+    check_aside()
+    for is_linked in (True, False):
+        run("systemctl", "stop", "relkvanu")
+        shutil.rmtree("/var/lib/private/relkvanu")
+        if not is_linked:
+            os.remove("/var/lib/relkvanu")
+        check_restored(before)
+    os.rmdir(aside)
+
+
+def check_all_units_are_stopped():
+    """Those that are enabled are written down once, and all start again."""
+    units = ["relkvanu-discard@orders.service", "relkvanu-sweep@orders.service"]
+    run("systemctl", "enable", *units)
+    for _ in range(2):
+        as_the_page_says("all units")
+        with open("/root/units", encoding="utf-8") as it:
+            assert it.read().split() == units
+        assert all(run("systemctl", "is-enabled", unit, check=False) == "disabled" for unit in units)
+    os.remove("/root/units")
+
+
+def check_the_old_machine_starts_no_service():
+    as_the_page_says("moved")
+    told = subprocess.run(["systemctl", "start", "relkvanu"], stdout=subprocess.PIPE, stderr=subprocess.STDOUT, text=True, check=False)
+    assert told.returncode != 0 and property_of("ActiveState") != "active", told
+    assert not [name for name in os.listdir("/var/lib/relkvanu") if name.startswith("relkvanu.db")], os.listdir("/var/lib/relkvanu")
+    assert os.path.exists("/var/lib/relkvanu/moved/relkvanu.db")
+
+
 def check_an_upgrade_and_its_way_back():
-    """By the same program."""
+    """By the same program, with a byte more."""
     shutil.copy("/relkvanu", "relkvanu-new")
+    with open("relkvanu-new", "ab") as it:
+        it.write(b"x")
     # an upgrade of before had a backup too, which is not the one to go back to
     with open("before-upgrade-20200101T000000Z.db", "w", encoding="utf-8") as it:
         it.write("old")
     seq = request("GET", "/v1/jobs/orders")[1]["seq"]
-    as_the_page_says("upgrade")
-    until(is_ready)
+    assert "orders" in as_the_page_says("upgrade") and is_ready()
     assert request("GET", "/v1/jobs/orders")[1]["seq"] == seq and os.path.exists("/usr/local/bin/relkvanu-before")
     calls("after the upgrade", {"call": "savepoint"})
-    as_the_page_says("way back")
-    until(is_ready)
+    assert "orders" in as_the_page_says("way back") and is_ready()
     assert request("GET", "/v1/jobs/orders")[1]["seq"] == seq and not os.path.exists("/usr/local/bin/relkvanu-before")
+    assert os.path.getsize("/usr/local/bin/relkvanu") == os.path.getsize("/relkvanu")
+    shutil.rmtree("/var/lib/relkvanu/aside-upgrade")
     assert run("systemctl", "is-enabled", "relkvanu") == "enabled"
 
 
@@ -480,6 +537,7 @@ def main():
     after_kill = after(signal.SIGKILL)
     after_stop = after_a_stop(2)
     check_a_backup_is_restored()
+    check_all_units_are_stopped()
     check_an_upgrade_and_its_way_back()
     check_backups_of_each_night()
     check_savepoints_before_backups()
@@ -490,6 +548,7 @@ def main():
     assert property_of("Result") == "success" and property_of("ExecMainStatus") == "0"
     exposure = exposure_of("relkvanu.service")
     check_a_bad_setting_ends_it()
+    check_the_old_machine_starts_no_service()
     check_tls_from_nothing()
     told = journal()
     assert "serves on" in told and WRITE not in told, told[-1000:]

@@ -19,7 +19,7 @@ pub async fn savepoints(job: &Job, given: &Savepoints) -> Result<(), Ended> {
     let there = given.folder.as_deref().map(|folder| listed(folder, &given.names)).transpose()?;
     let state = job.state().await?;
     let latest = state["choice"]["id"].as_u64();
-    let mut rows = Vec::new();
+    let (mut rows, mut warnings) = (Vec::new(), Vec::new());
     for record in done(&state).filter(|record| record["kind"] == "savepoint" || record["id"].as_u64() == latest) {
         let id = record["id"].as_u64().unwrap_or_default();
         let told = job.record(id).await?;
@@ -29,6 +29,9 @@ pub async fn savepoints(job: &Job, given: &Savepoints) -> Result<(), Ended> {
         }
         let files = files_of(&told);
         let absent = there.as_ref().map(|there| files.difference(there).map(u64::to_string).collect::<Vec<_>>());
+        if let Some(folder) = given.folder.as_deref().filter(|_| absent.as_ref().is_some_and(Vec::is_empty)) {
+            warnings.extend(shorter(&told, folder, &given.names));
+        }
         rows.push(json!({
             "id": id, "kind": record["kind"], "latest": Some(id) == latest, "triggered": told["live"]["started"],
             "files": files.len(), "absent": absent,
@@ -37,6 +40,16 @@ pub async fn savepoints(job: &Job, given: &Savepoints) -> Result<(), Ended> {
     let is_whole = |row: &Value| row["absent"].as_array().is_some_and(Vec::is_empty);
     let none_whole = there.is_some() && !rows.iter().any(is_whole);
     said(given.at.json, &json!(rows), tables::savepoints)?;
+    if let Some(folder) = &given.folder {
+        let owner = owner(&given.job, &state);
+        let is_marked = owner.has(folder).map_err(|why| Ended::Folder { path: folder.clone(), why })?;
+        warnings.extend(
+            (!is_marked).then(|| format!("{} has no marker of this job, {}", folder.display(), owner.marker())),
+        );
+    }
+    for text in &warnings {
+        log::warn(text);
+    }
     if let Some((folder, file)) = given.folder.as_deref().zip(none_there(&rows)) {
         log::warn(&format!(
             "no file of these records is in {}, as {}: most likely --folder, --prefix or --suffix is wrong, or the disk of the \
@@ -49,6 +62,19 @@ pub async fn savepoints(job: &Job, given: &Savepoints) -> Result<(), Ended> {
         return Err(Ended::NoneWhole);
     }
     Ok(())
+}
+
+/// What is wrong if the files of a record have fewer bytes than its tasks have said. A file of several subtasks counts for each.
+fn shorter(record: &Value, folder: &Path, names: &Names) -> Option<String> {
+    let said = record["history"]["full_bytes"].as_u64()?;
+    let length = |file| std::fs::metadata(folder.join(names.of(file))).map_or(0, |it| it.len());
+    let there = named(record).map(length).fold(0, u64::saturating_add);
+    let id = &record["id"];
+    (there < said).then(|| {
+        format!(
+            "the files of record {id} have {there} bytes there, and its tasks said {said}: at least one is too short"
+        )
+    })
 }
 
 /// One of the files of these records, if they have some and all are absent.
@@ -92,13 +118,18 @@ fn listed(folder: &Path, names: &Names) -> Result<BTreeSet<u64>, Ended> {
 }
 
 fn is_marked(given: &Orphans, state: &Value) -> Result<(), Ended> {
-    let opened = state["opened"].as_u64().unwrap_or_default();
-    let owner = Owner { job: given.job.clone(), opened, is_first: false, has_names: false };
+    let owner = owner(&given.job, state);
     match owner.has(&given.folder) {
         Ok(true) => Ok(()),
         Ok(false) => Err(Ended::Unmarked(given.folder.clone(), owner.marker())),
         Err(why) => Err(Ended::Folder { path: given.folder.clone(), why }),
     }
+}
+
+/// Whose marker the folder has to have.
+fn owner(job: &str, state: &Value) -> Owner {
+    let opened = state["opened"].as_u64().unwrap_or_default();
+    Owner { job: job.to_string(), opened, is_first: false, has_names: false }
 }
 
 /// The state of a job whose calls the history has read.
@@ -136,8 +167,13 @@ fn done(state: &Value) -> impl Iterator<Item = &Value> {
 
 /// The files that a record's acknowledgements name.
 fn files_of(record: &Value) -> BTreeSet<u64> {
+    named(record).collect()
+}
+
+/// The same of each acknowledgement, so a file may come again.
+fn named(record: &Value) -> impl Iterator<Item = u64> + '_ {
     let files = items(&record["live"]["acks"]).iter().flat_map(|ack| items(&ack["files"]));
-    files.filter_map(|file| file.as_str()?.parse().ok()).collect()
+    files.filter_map(|file| file.as_str()?.parse().ok())
 }
 
 /// Whether no record uses a file, and it is not to be deleted. If memory ran out for the answer, it counts as known.

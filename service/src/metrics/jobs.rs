@@ -13,6 +13,7 @@ pub struct Gauges {
     opened: GaugeVec,
     files: IntGaugeVec,
     pending: IntGaugeVec,
+    savepoints: IntGaugeVec,
     log_calls: IntGaugeVec,
     kept_calls: IntGaugeVec,
     image_at: GaugeVec,
@@ -43,6 +44,11 @@ impl Gauges {
                 "relkvanu_pending_records",
                 "Records that wait for acknowledgements.",
                 &["job_name", "kind"],
+            )?,
+            savepoints: gauge(
+                "relkvanu_savepoints",
+                "Complete savepoints that nobody has disposed of. A job has at most 1000.",
+                &["job_name"],
             )?,
             log_calls: gauge(
                 "relkvanu_log_calls",
@@ -79,11 +85,12 @@ impl Gauges {
     }
 
     /// Those of whole numbers.
-    fn whole(&self) -> [&IntGaugeVec; 10] {
+    fn whole(&self) -> [&IntGaugeVec; 11] {
         let Gauges {
             mode,
             files,
             pending,
+            savepoints,
             log_calls,
             kept_calls,
             image_bytes,
@@ -93,7 +100,7 @@ impl Gauges {
             next_name,
             ..
         } = self;
-        [mode, files, pending, log_calls, kept_calls, image_bytes, since_image, history, term, next_name]
+        [mode, files, pending, savepoints, log_calls, kept_calls, image_bytes, since_image, history, term, next_name]
     }
 
     pub fn register(&self, registry: &Registry) -> Result<(), prometheus::Error> {
@@ -125,6 +132,7 @@ impl Gauges {
         set(&self.files, &[name, "taken"], job.files.taken);
         set(&self.pending, &[name, "checkpoint"], job.pending_checkpoints as u64);
         set(&self.pending, &[name, "savepoint"], job.pending_savepoints as u64);
+        set(&self.savepoints, &[name], job.savepoints() as u64);
         if let Some(now) = job.term {
             set(&self.term, &[name], now.term);
             set(&self.next_name, &[name], now.next_name);

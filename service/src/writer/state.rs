@@ -30,6 +30,13 @@ pub struct JobState {
     pub term: Option<RunningTerm>,
 }
 
+impl JobState {
+    /// How many savepoints are complete and nobody has disposed of.
+    pub fn savepoints(&self) -> usize {
+        self.live.iter().filter(|(record, _)| record.done && record.kind == Kind::Savepoint).count()
+    }
+}
+
 #[derive(Debug)]
 pub struct RecordState {
     /// The coordinator's metadata, as JSON; `None` if memory ran out.
