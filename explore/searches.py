@@ -7,6 +7,8 @@ import sys
 from dataclasses import dataclass
 
 TOP = pathlib.Path(__file__).resolve().parent.parent
+# Far more than a search of the gate takes on a busy machine: only what hangs takes as long.
+MOST_SECONDS = 3600
 PYTHON = TOP / "embed/python"
 RESULT = re.compile("# (fault|holds|cut|seen) ")
 # What the reader of traces says of a fault that the explorer names.
@@ -49,7 +51,7 @@ def scopes(kind):
     return [words for found, *words in table("SCOPES") if found == kind]
 
 
-def explore(program, words, seconds=600):
+def explore(program, words, seconds=MOST_SECONDS):
     """Runs the explorer. Its own faults and a time-out raise."""
     ran = subprocess.run([program, *words], stdout=subprocess.PIPE, text=True, timeout=seconds, check=False)
     if ran.returncode not in (0, 1):
@@ -70,5 +72,5 @@ def rules(table):
 def conform(trace):
     """The status of relkvanu-conform over a trace, and what it says."""
     ran = subprocess.run([sys.executable, "-m", "relkvanu.conform", "-"], input=trace, stdout=subprocess.PIPE, stderr=subprocess.STDOUT, text=True,
-                         cwd=PYTHON, timeout=600, check=False)
+                         cwd=PYTHON, timeout=MOST_SECONDS, check=False)
     return ran.returncode, ran.stdout

@@ -10,6 +10,8 @@ import sys
 TOP = pathlib.Path(__file__).resolve().parent.parent
 # What the script itself refuses, before the coordinator sees it.
 BY_SCRIPT = {"Started", "NotStarted", "NotReady", "BadConfig", "BadShape", "BadThreads", "NotPending", "FilesUsedUp"}
+# Far more than a run takes on a busy machine: only one that hangs takes as long.
+MOST_SECONDS = 900
 # What each picture says, also if it is 0.
 CALLS = ("records", "accepted", "refused")
 START = b"config 1000 0 1 600000 0 1 delete\njob 3\nstart 0\ntick 1000\n"
@@ -23,7 +25,7 @@ REFUSED = [
 
 def told(job, script):
     """The lines that the program prints of the script."""
-    run = subprocess.run([job], input=script, capture_output=True, timeout=120)
+    run = subprocess.run([job], input=script, capture_output=True, timeout=MOST_SECONDS)
     return run.stdout.decode().splitlines()
 
 
@@ -70,7 +72,7 @@ def wanted(job, script):
 
 def drawn(chart, script):
     """The numbers of the picture, or None if there is none."""
-    run = subprocess.run([chart], input=script, capture_output=True, timeout=120)
+    run = subprocess.run([chart], input=script, capture_output=True, timeout=MOST_SECONDS)
     text = run.stdout.decode()
     found = re.search(r">(\d+) records; (\d+) calls accepted, (\d+) refused<", text)
     if run.returncode == 2 or not found:

@@ -6,7 +6,8 @@ import sys
 import tempfile
 
 TOP = os.path.dirname(os.path.dirname(os.path.abspath(__file__)))
-MOST_SECONDS = 120
+# Far more than a run takes on a busy machine: only one that hangs takes as long.
+MOST_SECONDS = 900
 
 
 def program():
@@ -52,7 +53,16 @@ class Counts:
     how many of the allocations were refused."""
 
     def __init__(self, text):
-        self.allocations, self.reads, self.writes, self.reads_late, self.writes_late, self.threads, self.refused = map(int, text.split())
+        try:
+            self.allocations, self.reads, self.writes, self.reads_late, self.writes_late, self.threads, self.refused = map(int, text.split())
+        except ValueError:
+            sys.exit(f"{sys.argv[0]}: devices.c left no counts but {text!r}: is the disk full?")
+
+
+def forget(path):
+    """So that the counts of an earlier run are not taken for those of the next one."""
+    if os.path.exists(path):
+        os.remove(path)
 
 
 class Tests:
@@ -65,11 +75,13 @@ class Tests:
     def run(self, script, **given):
         """Runs a script, with what devices.c is to do, and returns the run and the counts."""
         counts = f"{self.folder.name}/counts"
-        if os.path.exists(counts):
-            os.remove(counts)
+        forget(counts)
         around = {"LD_PRELOAD": self.devices, "COUNTS": counts, **{key.upper(): str(it) for key, it in given.items()}}
         run = subprocess.run([self.program], input=script, capture_output=True, env=around, timeout=MOST_SECONDS)
-        return run, Counts(bytes_of(counts).decode()) if os.path.exists(counts) else None
+        if not os.path.exists(counts):
+            # it was killed, so nothing can be said of what it asked for
+            sys.exit(f"{sys.argv[0]}: {given} of {script[:200]}: the program left no counts. It ended with {run.returncode}: {run.stderr[-300:]}")
+        return run, Counts(bytes_of(counts).decode())
 
     def check(self, what, holds, run=None):
         self.passed += bool(holds)

@@ -555,4 +555,5 @@ def main():
     print(json.dumps({"exposure": exposure, "discard_exposure": discard_exposure, "after_kill": after_kill, "after_stop": after_stop, "long_start": long_start}))
 
 
-main()
+if __name__ == "__main__":
+    main()

@@ -1,0 +1,167 @@
+"""What test_end_units.py does inside the container: the blocks of the pages, on a machine that was set up by other blocks of theirs. Prints what
+it found as JSON, or an error."""
+import json
+import os
+import re
+import shutil
+import sys
+
+from under_systemd import WRITE, as_the_page_says, install, is_ready, property_of, request, run, until
+
+sys.path.insert(0, "/try")
+from relkvanu_service import Service, savepoint  # noqa: E402
+
+FOLDER, MARKER = "/srv/orders", ".relkvanu-orders"
+UNITS = ("relkvanu-discard@orders", "relkvanu-sweep@orders")
+SETTINGS = [f"/etc/systemd/system/{unit}.service.d" for unit in UNITS] + ["/etc/relkvanu/discard-orders.conf", "/etc/relkvanu/sweep-orders.conf"]
+NOTES = "/var/lib/relkvanu-savepoint/orders"
+# How many records a job has here. The pages save the last, and dispose of savepoint 12.
+RECORDS = 40
+DROP_IN = "/etc/systemd/system/relkvanu-backup.service.d/10-savepoints.conf"
+
+
+def service():
+    return Service("http://127.0.0.1:7780", token=WRITE)
+
+
+def files():
+    return sorted(name for name in os.listdir(FOLDER) if not name.startswith("."))
+
+
+def write(name):
+    with open(f"{FOLDER}/state-{name}.bin", "x", encoding="utf-8") as it:
+        it.write("state")
+
+
+def pending(job):
+    return [it["id"] for it in job.state()["live"] if not it["done"]]
+
+
+def acknowledge(task, record):
+    name = task.name()
+    write(name)
+    task.ack(record, "0.0", [name])
+
+
+def worked(**settings):
+    """A job, its discarder and its sweeper, as the pages set them up. Its records are 40, each with a file: savepoint 12, and checkpoints, of which
+    the second waits until the savepoint is there. One more file is begun, and its task ends before it is acknowledged. Returns the job."""
+    job = service().open("orders", {"interval": 10, **settings}, [1], names=True)
+    as_the_page_says("discard")
+    until(lambda: os.path.exists(f"{FOLDER}/{MARKER}"))
+    as_the_page_says("sweep")
+    task, last = job.begin().session(block=100), 0
+    while last < RECORDS:
+        until(lambda: pending(job))
+        [last] = pending(job)
+        if last == 11:
+            assert job.call(savepoint())["id"] == 12
+            acknowledge(task, 12)
+        acknowledge(task, last)
+    write(task.name())
+    for unit in UNITS:
+        assert property_of("ActiveState", unit) == "active", run("systemctl", "status", unit, check=False)
+    return job
+
+
+def no_savepoints_before_backups():
+    """Step 2, which has no block: the lines of the job go out of the drop-in, and its folder goes. Then a backup needs no savepoint of it."""
+    with open(DROP_IN, encoding="utf-8") as it:
+        lines = [line for line in it.read().splitlines() if "orders" not in line]
+    with open(DROP_IN, "w", encoding="utf-8") as it:
+        it.write("\n".join([*lines, ""]))
+    run("systemctl", "daemon-reload")
+    shutil.rmtree(NOTES)
+    run("systemctl", "start", "relkvanu-backup")
+
+
+def has_left(in_use):
+    """Whether the discarder has nothing to do any more, by the command of step 4."""
+    told = as_the_page_says("show")
+    found = re.search(r"(\d+) in use, (\d+) waiting, (\d+) taken", told)
+    assert found, told
+    return tuple(map(int, found.groups())) == (in_use, 0, 0)
+
+
+def ended(in_use):
+    """Steps 3 to 6. So many files stay in use."""
+    assert re.search(r"^12 +savepoint", as_the_page_says("cancel"), re.MULTILINE)
+    until(lambda: has_left(in_use))
+    until(lambda: re.search(r"\bgarbage=0\b", as_the_page_says("garbage")))
+    assert len(files()) == in_use, files()
+    as_the_page_says("units")
+    for unit in UNITS:
+        assert run("systemctl", "is-enabled", unit, check=False) == "disabled" and property_of("ActiveState", unit) != "active", unit
+    assert not [path for path in SETTINGS if os.path.exists(path)]
+
+
+def is_gone():
+    return request("GET", "/v1/jobs/orders")[0] == 404
+
+
+def drop_marker():
+    """Step 8: what is left are the marker and the files beside it."""
+    assert not files()
+    left = os.listdir(FOLDER)
+    assert MARKER in left and all(name.startswith(MARKER) for name in left), left
+    for name in left:
+        os.remove(f"{FOLDER}/{name}")
+
+
+def check_the_end_of_a_job():
+    worked()
+    os.makedirs(NOTES, exist_ok=True)
+    no_savepoints_before_backups()
+    ended(0)
+    as_the_page_says("delete")
+    assert is_gone()
+    drop_marker()
+    return RECORDS + 1
+
+
+def check_a_job_that_keeps_its_checkpoints():
+    """Its record is saved, and the job goes without it. Its files stay until somebody deletes them."""
+    worked(keep_on_cancel=True)
+    ended(1)
+    as_the_page_says("save")
+    with open("orders-40.json", encoding="utf-8") as it:
+        saved = json.load(it)["live"]["acks"]
+    kept = [f"state-{name}.bin" for ack in saved for name in ack["files"]]
+    assert [ack["subtask"] for ack in saved] == ["0.0"] and kept == files(), (saved, files())
+    assert "files of the job are left" in run("relkvanu", "delete", "orders", "--token-file", "/etc/relkvanu/write-token", check=False)
+    as_the_page_says("abandon")
+    assert is_gone() and kept == files()
+    for name in kept:
+        os.remove(f"{FOLDER}/{name}")
+    drop_marker()
+    return len(kept)
+
+
+def check_the_old_machine_of_a_move():
+    """Nothing of it runs afterwards, nor starts again with the machine. The copy has each call."""
+    job = worked()
+    calls = job.state()["seq"]
+    units = ("relkvanu-backup.timer", "relkvanu", *UNITS)
+    assert all(run("systemctl", "is-enabled", unit) == "enabled" for unit in units)
+    as_the_page_says("move")
+    for unit in units:
+        assert run("systemctl", "is-enabled", unit, check=False) == "disabled", unit
+        assert run("systemctl", "is-active", unit, check=False) in ("inactive", "failed"), unit
+    told = run("relkvanu", "check", "--database", "copy.db")
+    assert re.search(r"^job orders: ", told, re.MULTILINE) and int(re.search(r"(\d+) calls", told)[1]) >= calls, (calls, told)
+    return calls
+
+
+def main():
+    install()
+    until(is_ready)
+    run("useradd", "--system", "orders")
+    os.makedirs(FOLDER)
+    shutil.chown(FOLDER, "orders")
+    as_the_page_says("timer")
+    as_the_page_says("savepoint units")
+    told = {"ended": check_the_end_of_a_job(), "kept": check_a_job_that_keeps_its_checkpoints(), "calls": check_the_old_machine_of_a_move()}
+    print(json.dumps(told))
+
+
+main()

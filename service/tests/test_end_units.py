@@ -1,0 +1,50 @@
+"""The blocks of two pages under a real systemd, word for word: the end of a job with its units, of one with `keep_on_cancel` too, and what the old
+machine runs before a move. end_under_systemd.py runs them in a container."""
+import glob
+import json
+import os
+import shutil
+
+from harness import SERVICE, TOP, folder
+from run import Skipped
+from test_unit import BOOT, booted, commands
+
+# The text before each block.
+PLACES = {
+    "cancel": "3. **Cancel the job**, also one that has failed", "show": "4. **Let the [discarder]", "garbage": "5. **Delete the garbage**: repeat this",
+    "units": "6. **Disable the units** of the job", "delete": "7. **Delete the job.** With `keep_on_cancel`", "abandon": "**To delete them**, delete all files",
+    "save": "**To keep them**, leave out steps 7 and 8", "move": "2. On the old machine stop and disable the timer of backups",
+}
+
+
+def blocks():
+    """The first block after each place, by its name."""
+    text = ""
+    for path in sorted(glob.glob(f"{TOP}/docs/SERVICE*.md")):
+        with open(path, encoding="utf-8") as it:
+            text += it.read()
+    lost = [place for place in PLACES.values() if text.count(place) != 1]
+    assert not lost, f"the pages have other words than these: {lost}"
+    return {name: text.partition(place)[2].split("```")[1] for name, place in PLACES.items()}
+
+
+def text_of(path):
+    with open(path, encoding="utf-8") as it:
+        return it.read()
+
+
+def test_the_end_of_a_job_and_a_move():
+    if os.geteuid() != 0 or not shutil.which("systemd-nspawn"):
+        raise Skipped("systemd can't be booted here without root and systemd-container")
+    with folder() as at:
+        shutil.copy(f"{SERVICE}/client/python/relkvanu_service.py", at)
+        for name, text in [("try.service", BOOT.replace("/under_systemd.py", "/end_under_systemd.py")), ("commands", json.dumps(commands() | blocks()))]:
+            with open(f"{at}/{name}", "w", encoding="utf-8") as it:
+                it.write(text)
+        boot = booted(at)
+        if not os.path.exists(f"{at}/errors"):
+            raise Skipped(f"systemd does not boot here: {boot.stdout[-300:]!r}")
+        errors = text_of(f"{at}/errors")
+        assert not errors, errors[-3000:]
+        told = json.loads(text_of(f"{at}/told"))
+        return f"a job ended with its {told['ended']} files, one kept {told['kept']}, and a copy for another machine has {told['calls']} calls"
