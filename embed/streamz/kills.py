@@ -123,7 +123,7 @@ def at_random(base, text, expected, seconds, chance):
             status = os.waitstatus_to_exitcode(os.waitpid(process, 0)[1])
             assert status in (0, -signal.SIGKILL), f"a process ended with status {status}: see above"
             killed += not told.exists()
-            longest *= 1.05
+            longest *= 1.1
         check(folder, told, expected)
         jobs += 1
     return killed, jobs
