@@ -12,7 +12,7 @@ import time
 from typing import Callable, Dict
 
 import lost_jobs
-from power import Journal, Lost, Trials, read_tree
+from power import Journal, Lost, Trials, read_tree, settle
 
 SYNCS = (
     ("the store's log", lambda path: path == "job.db-wal"),
@@ -21,7 +21,8 @@ SYNCS = (
     ("the storage", lambda path: path == "storage"),
     ("the job's folder", lambda path: path == ""),
 )
-MOST, CALLS, LONGEST = 240, 150, 300  # losses; calls of a process; seconds, on a busy machine
+MOST, CALLS, LONGEST = 240, 150, 900  # losses; calls of a process; seconds, on a busy machine
+OURS = ("job.db", "storage")  # the beginnings of what is in the journal
 
 
 def environment(shim: pathlib.Path, work: pathlib.Path) -> Dict[str, str]:
@@ -34,18 +35,25 @@ def environment(shim: pathlib.Path, work: pathlib.Path) -> Dict[str, str]:
 
 
 def await_calls(work: pathlib.Path, process: "subprocess.Popen[bytes]") -> None:
-    """Until the engine has been answered some more calls."""
+    """Until the engine has been answered some more calls. What it prints is in WORK/printed."""
     end, least = time.monotonic() + LONGEST, answered(work) + CALLS
     while answered(work) < least:
-        assert process.poll() is None and time.monotonic() < end, f"{answered(work)} calls of {least}, status {process.poll()}"
+        status, is_late = process.poll(), time.monotonic() >= end
+        if status is not None or is_late:
+            why = f"no end after {LONGEST} s" if status is None else f"the engine ended with status {status}"
+            raise AssertionError(f"{why}, after {answered(work)} calls of {least}; it printed: {last_words(work / 'printed')}")
         time.sleep(0.02)
 
 
+def last_words(printed: pathlib.Path) -> str:
+    return printed.read_text(encoding="utf-8", errors="replace")[-4000:] if printed.exists() else "nothing"
+
+
 def answered(work: pathlib.Path) -> int:
-    """The place that the last line of the trace has in front."""
+    """The greatest place that a whole line of the trace has in front. Not each line has it: who does not know it says 0."""
     told = work / "told"
-    lines = told.read_bytes().splitlines() if told.exists() else []
-    return int(lines[-1].split(b" ")[0]) if lines else 0
+    lines = told.read_bytes().rpartition(b"\n")[0].splitlines() if told.exists() else []
+    return max((int(line.split(b" ", 1)[0]) for line in lines), default=0)
 
 
 def run(name: str, work: pathlib.Path, live: Callable[[pathlib.Path], None], go_on: Callable[[pathlib.Path], None], ends: int) -> None:
@@ -54,6 +62,7 @@ def run(name: str, work: pathlib.Path, live: Callable[[pathlib.Path], None], go_
     start, numbers, most = read_tree(folder), itertools.count(1), MOST * max(rounds, 1)
     for _ in range(2):
         live(folder)
+        settle(work / "journal", folder, start, OURS)
     journal = Journal.read(work / "journal", folder, start)
 
     def check(lost: Lost, left: pathlib.Path) -> None:

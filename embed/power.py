@@ -347,6 +347,37 @@ def cut(path: "str | pathlib.Path") -> None:
     os.truncate(path, max((it[1] for it in whole_records(journal)), default=0))
 
 
+def settle(path: "str | pathlib.Path", root: "str | pathlib.Path", start: Optional[Tree] = None, begins: Sequence[str] = ("",)) -> None:
+    """Cuts the journal behind its last whole record, and adds what a process had done, and not told yet, when it was killed. The files tell that
+    which are there below the root, and whose names begin so. The next process goes on from them, so the journal has to, too."""
+    cut(path)
+    disk = Disk(start or {})
+    for record in Journal.read(path, root, start).records:
+        disk.make(record)
+    told, there = disk.whole(), read_tree(root)
+    with open(path, "ab", buffering=0) as to:
+        for name in sorted({*told, *there}):
+            if name.startswith(tuple(begins)) and not name.endswith("-shm"):  # SQLite maps that one, and nobody sees it written
+                for kind, at, given in untold(name in told, told.get(name), name in there, there.get(name)):
+                    whole = f"{root}/{name}".encode()
+                    to.write(HEADER.pack(kind, len(whole), at, len(given)) + whole + given)
+
+
+def untold(was_there: bool, was: Optional[bytes], is_there: bool, now: Optional[bytes]) -> Iterator[Tuple[Kind, int, bytes]]:
+    """What makes one file or folder of another."""
+    if not is_there:
+        yield from [(Kind.REMOVES, 0, b"")] if was_there else []
+        return
+    if not was_there:
+        yield Kind.MAKES_FOLDER if now is None else Kind.MAKES, 0, b""
+    was, now = was or b"", now or b""
+    if len(now) < len(was):
+        yield Kind.CUTS, len(now), b""
+    if was[:len(now)] != now:
+        others = [at for at in range(len(now)) if was[at:at + 1] != now[at:at + 1]]
+        yield Kind.WRITES, others[0], now[others[0]:others[-1] + 1]
+
+
 def below(path: str, root: str) -> Optional[str]:
     return "" if path == root else path[len(root) + 1:] if path.startswith(root + "/") else None
 

@@ -34,6 +34,7 @@ static void tell(const char *what, const char *name) {
     }
     int len = snprintf(line, sizeof line, "%s %s\n", what, name);
     if (to > 0 && writes(to, line, (size_t)len) != len) {
+        perror("faults.c: TOLD can't be written");
         abort();
     }
 }

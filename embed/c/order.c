@@ -37,7 +37,8 @@ static void tell(const char *word, const void *bytes, size_t len) {
     int kept = errno, to = trace != NULL ? open(trace, O_CREAT | O_WRONLY | O_APPEND | O_CLOEXEC, 0600) : -1;
     if (to >= 0) {
         struct iovec parts[] = {{(void *)word, strlen(word)}, {(void *)bytes, len}, {"\n", 1}};
-        if (writev(to, parts, 3) < 0) {
+        if (writev(to, parts, 3) != (ssize_t)(strlen(word) + len + 1)) {
+            perror("order.c: the trace can't be written");
             abort();
         }
         close(to);
@@ -68,6 +69,7 @@ int sqlite3_bind_text(void *statement, int place, const char *text, int len, voi
     void *sqlite = dlopen("libsqlite3.so.0", RTLD_NOW | RTLD_NOLOAD);
     bind_function *real = sqlite != NULL ? (bind_function *)dlsym(sqlite, "sqlite3_bind_text") : NULL;
     if (real == NULL) {
+        fprintf(stderr, "order.c: SQLite has no sqlite3_bind_text: %s\n", dlerror());
         abort();
     }
     if (len > 4 && (strncmp(text, "ack ", 4) == 0 || (strncmp(text, "in ", 3) == 0 && memmem(text, (size_t)len, " ack ", 5) != NULL))) {

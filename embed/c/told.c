@@ -27,6 +27,7 @@ static void tell(const char *what, uint64_t number) {
     }
     int len = snprintf(line, sizeof line, "%s %" PRIu64 "\n", what, number);
     if (to > 0 && write(to, line, (size_t)len) != len) {
+        perror("told.c: TOLD can't be written");
         abort();
     }
 }

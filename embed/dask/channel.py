@@ -53,7 +53,7 @@ class Channel(threading.Thread):
         try:
             return self.result(getattr(self.actor, method)(*arguments))
         except (OSError, ValueError) as fault:
-            if self.worker.has_ended(within=5):  # the connection breaks a moment before
+            if self.worker.has_ended(within=60):  # the connection breaks a moment before
                 raise Lost from fault
             raise
 

@@ -13,15 +13,16 @@ import dask
 from distributed import Client, LocalCluster
 
 HERE = pathlib.Path(__file__).resolve().parent
-WAIT = 120  # seconds for what takes one on a fast machine
+WAIT = 300  # seconds for what takes one on a fast machine
 # on a busy machine a worker takes a connection late; a call of one that has ended is given up before (channel.py)
 dask.config.set({"distributed.comm.timeouts.connect": f"{WAIT}s"})
 
 
-def wait_for(condition: Callable[[], Any]) -> None:
+def wait_for(condition: Callable[[], Any], what: str, more: Callable[[], str] = str) -> None:
+    """Waits for what these words name. If it does not come, `more` says what else there is to say."""
     end = time.monotonic() + WAIT
     while not condition():
-        assert time.monotonic() < end, "what is waited for does not come"
+        assert time.monotonic() < end, f"{what} did not come in {WAIT} s {more()}"
         time.sleep(0.005)
 
 
@@ -38,14 +39,17 @@ class Worker:
     def __init__(self, scheduler: str, folder: str) -> None:
         self.name, self.address = f"worker-{next(self.numbers)}", ""
         command = ["-m", "distributed.cli.dask_worker", scheduler, "--name", self.name, "--no-nanny", "--no-dashboard", "--nthreads", "1"]
-        command += ["--host", "127.0.0.1", "--memory-limit", "0", "--local-directory", folder, "--death-timeout", "60"]
+        command += ["--host", "127.0.0.1", "--memory-limit", "0", "--local-directory", folder, "--death-timeout", str(WAIT)]
         environment = {**os.environ, "PYTHONPATH": str(HERE)}
-        self.process = subprocess.Popen(
-            [sys.executable, *command], env=environment, stdout=subprocess.DEVNULL, stderr=subprocess.DEVNULL
-        )
+        self.printed = pathlib.Path(folder) / f"{self.name}.printed"
+        with open(self.printed, "wb") as printed:
+            self.process = subprocess.Popen([sys.executable, *command], env=environment, stdout=printed, stderr=printed)
+
+    def last_words(self) -> str:
+        return f"(status {self.process.poll()}): {self.printed.read_text(errors='replace')[-2000:]}"
 
     def wait(self, client: Client) -> None:
-        wait_for(lambda: self.name in addresses(client))
+        wait_for(lambda: self.name in addresses(client), self.name, self.last_words)
         self.address = addresses(client)[self.name]
 
     def has_ended(self, within: float = 0) -> bool:
@@ -90,7 +94,7 @@ class Cluster:
         """Kills it, and waits until the scheduler has seen its end."""
         worker.kill()
         self.workers.remove(worker)
-        wait_for(lambda: worker.name not in addresses(self.client))
+        wait_for(lambda: worker.name not in addresses(self.client), f"the end of {worker.name}")
 
     def stop_worker(self, worker: Worker) -> None:
         """It stands still, and gets no further tasks."""
@@ -102,7 +106,7 @@ class Cluster:
         stopped, self.stopped = self.stopped, []
         for worker in stopped:
             worker.kill()
-            wait_for(lambda: worker.name not in addresses(self.client))
+            wait_for(lambda: worker.name not in addresses(self.client), f"the end of {worker.name}")
 
     def __enter__(self) -> "Cluster":
         return self

@@ -20,7 +20,7 @@ HERE = pathlib.Path(__file__).resolve().parent
 PLACES = ["before a write", "after a write", "after a call", None]  # None: from outside
 MOST_WRITES, MOST_CALLS, MOST_SECONDS = 400, 120, 8.0
 STANDS_STILL = 1.5  # seconds
-LONGEST = 300  # seconds, on a busy machine
+LONGEST = 900  # seconds, on a busy machine
 LIBC = ctypes.CDLL(None)
 PR_SET_PDEATHSIG, PR_SET_CHILD_SUBREAPER = 1, 36
 
@@ -93,9 +93,11 @@ def run_and_kill(folder: pathlib.Path, seed: int, nth: int, chance: random.Rando
             driver.signal_workers(signal.SIGSTOP)
         told.seek(0)
         wanted = -signal.SIGKILL if place else None
-        assert status == wanted, f"driver {nth} was not killed {place}, but ended with {status}: {told.read()}"
-    if before is not None:
-        before.end_workers()
+        if before is not None:
+            before.end_workers()
+        if status != wanted:
+            driver.end_workers()
+            raise AssertionError(f"driver {nth} was not killed {place}, but ended with {status}: {told.read()}")
     return driver
 
 

@@ -154,9 +154,9 @@ def check_unmounted(killed: pathlib.Path, work: pathlib.Path) -> None:
 
 
 def interrupts_soon() -> None:
-    """A user's Ctrl-C, while a sync lasts."""
-    os.environ["STORE_DELAY"] = "1000000"  # microseconds
-    threading.Timer(0.3, os.kill, (os.getpid(), signal.SIGINT)).start()
+    """A user's Ctrl-C, while a sync lasts. The call begins at once, so it comes within one also if this process stands still for a second."""
+    os.environ["STORE_DELAY"] = "3000000"  # microseconds
+    threading.Timer(1, os.kill, (os.getpid(), signal.SIGINT)).start()
 
 
 def check_no_answer(killed: pathlib.Path, work: pathlib.Path) -> None:

@@ -188,7 +188,7 @@ class Stored:
     def settle(self, storage: Storage) -> None:
         """Waits until the discarder has deleted all that it may, before any task writes. Then the folder has the files in use, and no other but
         those that tasks of the driver before still write: garbage."""
-        wait_for(self.has_discarded)
+        wait_for(self.has_discarded, "the deletion of all that waits")
         names, used = storage.numbers(), self.used()
         others = sorted(names - used)
         assert used <= names and sorted(self.job.garbage(others).garbage) == others, (others, used - names)

@@ -27,7 +27,7 @@ func equal[Value any](t *testing.T, got, wanted Value) {
 // within fails the test if the condition does not come.
 func within(t *testing.T, condition func() bool) {
 	t.Helper()
-	for end := time.Now().Add(30 * time.Second); !condition(); time.Sleep(time.Millisecond) {
+	for end := time.Now().Add(300 * time.Second); !condition(); time.Sleep(time.Millisecond) {
 		if time.Now().After(end) {
 			t.Fatal("what is waited for does not come")
 		}

@@ -54,6 +54,7 @@ void coordinator_look(struct coordinator *c) {
          live = relkvanu_live_from(handle, live.a + 1)) {
         for (unsigned index = 0; index < TASKS && live.b == 1; index++) {
             relkvanu_answer found = relkvanu_files_of(handle, live.a, 0, (uint16_t)index, files, MOST_FILES);
+            CHECK(found.code == RELKVANU_DONE, "the files of record %" PRIu64 ": code %" PRIu32, live.a, found.code);
             look_for(relkvanu_store_folder(c->store), live.a, files, found.what == RELKVANU_FILES ? found.a : 0);
         }
     }

@@ -7,7 +7,7 @@
 #include <string.h>
 #include <sys/stat.h>
 
-enum { TICKS_MS = 20, FAILURES_MS = 1000, GUARD_MS = 300000, LEAST_IMAGES = 2 };
+enum { TICKS_MS = 20, FAILURES_MS = 1000, GUARD_MS = 900000, LEAST_IMAGES = 2 };
 
 /* Why the tasks are started, or stop. */
 enum end { BEGINS, FAILED, ROLLS_BACK, RESCALES, OVER };
@@ -268,11 +268,14 @@ static enum end drive_on(struct job *job) {
             return ROLLS_BACK;
         } else if (has_passed(job, 75) && progress.is_rolled_back && !is_rescaled) {
             return RESCALES;
-        } else if (is_over(job) && is_rescaled && progress.completed != 0 && (progress.images >= LEAST_IMAGES || trace_is_on()) &&
-                   job->victim == TASKS) {
+        } else if (is_over(job) && is_rescaled && progress.is_rolled_back && progress.completed != 0 &&
+                   (progress.images >= LEAST_IMAGES || trace_is_on()) && job->victim == TASKS) {
             return OVER;
         }
-        CHECK(now() - job->started < job->seconds * 1000 + GUARD_MS, "the job comes to no end");
+        CHECK(now() - job->started < job->seconds * 1000 + GUARD_MS,
+            "the job comes to no end: rescaled %d, rolled back %d, savepoint %" PRIu64 ", %" PRIu64 " records completed, %" PRIu64
+            " images",
+            is_rescaled, progress.is_rolled_back, progress.savepoint, progress.completed, progress.images);
     }
 }
 

@@ -19,7 +19,8 @@ def main(engine, shim):
         known = {**os.environ, **engine_losses.environment(pathlib.Path(shim).resolve(), work)}
 
         def live(folder):
-            with subprocess.Popen([engine, folder, "1", "600"], env=known, stdout=subprocess.DEVNULL) as process:
+            words = [engine, folder, "1", "600"]
+            with open(work / "printed", "wb") as printed, subprocess.Popen(words, env=known, stdout=printed, stderr=printed) as process:
                 try:
                     engine_losses.await_calls(work, process)
                 finally:

@@ -9,7 +9,7 @@
 #include <sys/wait.h>
 #include <unistd.h>
 
-enum { MOST_NTH = 150, MOST_RESERVATIONS = 40, MOST_WRITES = 400, MOST_MS = 1200, GUARD_MS = 300000 };
+enum { MOST_NTH = 150, MOST_RESERVATIONS = 40, MOST_WRITES = 400, MOST_MS = 1200, GUARD_MS = 900000 };
 
 static void print_end(const struct job *job) {
     const struct coordinator *c = &job->coordinator;
@@ -91,7 +91,8 @@ static void run_and_kill(const char *folder, uint64_t seed, uint64_t nth) {
         kill(child, SIGKILL);
         waitpid(child, &status, 0);
     }
-    CHECK(WIFSIGNALED(status) && WTERMSIG(status) == SIGKILL, "process %" PRIu64 " was not killed, but failed", nth);
+    CHECK(
+        WIFSIGNALED(status) && WTERMSIG(status) == SIGKILL, "process %" PRIu64 " was not killed, but ended with %x", nth, (unsigned)status);
 }
 
 int main(int argc, char **argv) {

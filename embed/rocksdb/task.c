@@ -133,6 +133,7 @@ static bool uploads(struct task *task, uint64_t id, const char *folder) {
         return true;
     }
     relkvanu_answer answer = task_ack(task, &upload);
+    CHECK(answer.code != RELKVANU_FENCED, "a task of the term that runs is fenced: %" PRIu32 " %" PRIu64, answer.what, answer.a);
     if (answer.code == RELKVANU_REFUSED) {
         CHECK(answer.what == RELKVANU_FILE_GONE, "an acknowledgement is refused: %" PRIu32, answer.what);
         give_up(task, &upload);

@@ -11,6 +11,7 @@ import random
 import signal
 import sys
 import time
+import traceback
 
 import streamz  # noqa: F401 (once, for all children)
 
@@ -20,6 +21,7 @@ import sample
 
 LINES = 200
 MOST = 44  # calls at which a process ends
+LONGEST = 120  # seconds, on a busy machine
 # What a checkpoint calls: an object, and the name of its function.
 CALLS = ((os, "open"), (os, "fsync"), (os, "unlink"), (relkvanu.store.Store, "calls"), (relkvanu.store.Store, "sweep"))
 
@@ -55,7 +57,8 @@ class Ends:
 
 
 def life(folder, text, told, pause, at=None):
-    """One process of the job. It writes what it prints to a file, with the number of calls that it made. It returns its process."""
+    """One process of the job. It writes what it prints to a file, with the number of calls that it made: the file is there whole, or not at all,
+    because the process may be killed meanwhile. It returns its process."""
     process = os.fork()
     if process:
         return process
@@ -66,8 +69,12 @@ def life(folder, text, told, pause, at=None):
         words.count = lambda counts, word: (time.sleep(pause), count(counts, word))[1]
         with contextlib.redirect_stdout(out):
             words.main(folder, text, "new", 10)
-        told.write_text(json.dumps([json.loads(out.getvalue()), ends.seen]))
+        part = told.with_name(f"{told.name}.part")
+        part.write_text(json.dumps([json.loads(out.getvalue()), ends.seen]))
+        part.replace(told)
         status = 0
+    except BaseException:
+        traceback.print_exc()
     finally:
         os._exit(status)
 
@@ -85,7 +92,7 @@ def check(folder, told, expected):
     with relkvanu.streamz.Checkpoints(source, folder) as checkpoints:
         states = [node.state for node in nodes]
         assert checkpoints.position > 0 and states == [expected["counts"], expected["letters"]], states
-        end = time.monotonic() + 20
+        end = time.monotonic() + LONGEST
         while checkpoints.counts()[1:] != (0, 0) and time.monotonic() < end:
             time.sleep(0.01)
         assert checkpoints.counts() == (3, 0, 0), checkpoints.counts()
@@ -98,22 +105,25 @@ def each_call(base, text, expected):
     for at in [*range(MOST), None]:
         if not told.exists():
             _, status = os.waitpid(life(folder, text, told, 0.0002, at), 0)
-            assert os.waitstatus_to_exitcode(status) in (0, 9), status
+            assert os.waitstatus_to_exitcode(status) in (0, 9), f"the process that was to end at call {at} had the status {status}: see above"
             ended += os.waitstatus_to_exitcode(status) == 9
     check(folder, told, expected)
     return ended
 
 
 def at_random(base, text, expected, seconds, chance):
+    """The kills of a job come later and later, so it comes to its end also on a machine where a process does little in half a second."""
     end, killed, jobs = time.monotonic() + seconds, 0, 0
-    while time.monotonic() < end or jobs == 0:
-        folder, told = base / f"random{jobs}", base / f"told{jobs}"
+    while time.monotonic() < end or killed == 0:
+        folder, told, longest = base / f"random{jobs}", base / f"told{jobs}", 0.4
         while not told.exists():
             process = life(folder, text, told, 0.0003)
-            time.sleep(chance.uniform(0.01, 0.4))
+            time.sleep(chance.uniform(0.01, longest))
             os.kill(process, signal.SIGKILL)
-            os.waitpid(process, 0)
+            status = os.waitstatus_to_exitcode(os.waitpid(process, 0)[1])
+            assert status in (0, -signal.SIGKILL), f"a process ended with status {status}: see above"
             killed += not told.exists()
+            longest *= 1.1
         check(folder, told, expected)
         jobs += 1
     return killed, jobs

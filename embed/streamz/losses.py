@@ -16,11 +16,11 @@ sys.path.insert(0, str(HERE.parent))
 import kills
 import lost_jobs
 import sample
-from power import Journal, Trials, write_tree
+from power import Journal, Trials, settle, write_tree
 
 MOST, EACH_GOES_ON, EVERY = 180, 30, 10  # losses, one in so many of them, milliseconds
-KILLED_AFTER = 8  # checkpoints
-SECONDS = 60
+KILLED_AFTER, MOST_TOLD = 8, 40  # checkpoints of the process that is killed
+SECONDS = 600  # of a process, on a busy machine
 STATES = "words/states"
 SYNCS = (
     ("the store's log", lambda path: path == "words/job.db-wal"),
@@ -32,8 +32,9 @@ SYNCS = (
 )
 
 
-def live(folder, text, told):
-    """The program, as a process of its own, which tells each checkpoint once it is complete."""
+def live(folder, text, told, most):
+    """The program, as a process of its own, which tells each checkpoint once it is complete. After so many it waits for its kill, which may come late
+    on a busy machine; 0: it comes to its end."""
     from relkvanu.streamz import Checkpoints
 
     words, taken = sample.module(), Checkpoints.checkpoint
@@ -44,6 +45,8 @@ def live(folder, text, told):
             to = os.open(told, os.O_CREAT | os.O_WRONLY | os.O_APPEND, 0o600)
             os.write(to, b"record %d is complete\n" % id)
             os.close(to)
+            if told_of(pathlib.Path(told)) == int(most):
+                time.sleep(SECONDS)
         return id
 
     Checkpoints.checkpoint = told_checkpoint
@@ -58,12 +61,15 @@ def recorded(shim, work, text):
     folder.mkdir()
     known = {**os.environ, "LD_PRELOAD": shim, "STORE_IN": f"{folder}", "STORE_JOURNAL": str(journal), "STORE_TOLD": str(told)}
     words = [sys.executable, __file__, "--live", folder / "words", text, told]
-    with subprocess.Popen(words, env=known, stdout=subprocess.DEVNULL) as process:
-        while process.poll() is None and told_of(told) < KILLED_AFTER:
+    with subprocess.Popen([*words, str(MOST_TOLD)], env=known, stdout=subprocess.DEVNULL) as process:
+        end = time.monotonic() + SECONDS
+        while process.poll() is None and told_of(told) < KILLED_AFTER and time.monotonic() < end:
             time.sleep(0.01)
         process.kill()
-    assert process.returncode == -signal.SIGKILL, f"it came to its end after {told_of(told)} checkpoints"
-    subprocess.run(words, env=known, stdout=subprocess.DEVNULL, check=True, timeout=SECONDS)
+    assert process.returncode == -signal.SIGKILL, f"it ended with status {process.returncode} after {told_of(told)} checkpoints"
+    assert told_of(told) >= KILLED_AFTER, f"{told_of(told)} checkpoints after {SECONDS} s"
+    settle(journal, folder)
+    subprocess.run([*words, "0"], env=known, stdout=subprocess.DEVNULL, check=True, timeout=SECONDS)
     return Journal.read(journal, folder)
 
 
@@ -75,7 +81,8 @@ def told_of(told):
 def goes_on(left, text, expected):
     told = left / "told"
     process = kills.life(left / "words", text, told, 0)
-    assert os.waitstatus_to_exitcode(os.waitpid(process, 0)[1]) == 0
+    status = os.waitstatus_to_exitcode(os.waitpid(process, 0)[1])
+    assert status == 0, f"the process that goes on ended with status {status}: see above"
     kills.check(left / "words", told, expected)
 
 

@@ -50,7 +50,7 @@ class Base(unittest.TestCase):
             time.sleep(0.002)
 
     def wait(self, until):
-        end = time.monotonic() + 20
+        end = time.monotonic() + 120
         while not until() and time.monotonic() < end:
             time.sleep(0.005)
         self.assertTrue(until())

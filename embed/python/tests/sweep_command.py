@@ -4,6 +4,7 @@ import contextlib
 import io
 import json
 import pathlib
+import random
 import socket
 import subprocess
 import sys
@@ -24,9 +25,12 @@ DELETED = 'relkvanu_sweep_files_total,outcome="deleted"'
 
 
 def free_port():
-    with socket.socket() as it:
-        it.bind(("127.0.0.1", 0))
-        return it.getsockname()[1]
+    """One that is free, and that the kernel gives nobody who asks for any: such a one might be taken before the sweeper has it."""
+    least = int(pathlib.Path("/proc/sys/net/ipv4/ip_local_port_range").read_text(encoding="utf-8").split()[0])
+    while True:
+        with contextlib.suppress(OSError), socket.socket() as it:
+            it.bind(("127.0.0.1", random.randrange(least // 2, least) if least > 4096 else 0))
+            return it.getsockname()[1]
 
 
 class Command(InFolder):
@@ -186,13 +190,14 @@ class Command(InFolder):
 
     def until(self, port, is_so):
         """The metrics, once they are so. The label of the job is left out."""
-        for _ in range(600):
+        told, end = None, time.monotonic() + 300
+        while time.monotonic() < end:
             with contextlib.suppress(OSError):
                 told = self.told_by(port)
                 if is_so(told):
                     return told
             time.sleep(0.05)
-        raise AssertionError("the metrics never said so")
+        raise AssertionError(f"the metrics never said so: {told}")
 
     def test_an_address_that_is_taken(self):
         with socket.socket() as it:
@@ -204,7 +209,7 @@ class Command(InFolder):
         self.all_there()
 
     def told_by(self, port):
-        with urllib.request.urlopen(f"http://127.0.0.1:{port}/metrics", timeout=10) as told:
+        with urllib.request.urlopen(f"http://127.0.0.1:{port}/metrics", timeout=60) as told:
             lines = told.read().decode().splitlines()
         found = [line.rpartition(" ") for line in lines if not line.startswith("#")]
         self.assertTrue(all('{job_name="orders"' in name for name, _, _ in found), found)
@@ -255,7 +260,7 @@ class Command(InFolder):
             while "deleted=1" not in (line := sweeper.stdout.readline()):
                 self.assertIn("deleted=0", line)
             (self.path / ".relkvanu-orders").unlink()
-            self.assertEqual(sweeper.wait(30), 78, "somebody has to look")
+            self.assertEqual(sweeper.wait(300), 78, "somebody has to look")
         finally:
             sweeper.kill()
             sweeper.communicate()

@@ -21,7 +21,7 @@ def cancelled(test):
 
 
 def wait_for(condition):
-    end = time.monotonic() + 30
+    end = time.monotonic() + 300
     while not condition():
         assert time.monotonic() < end, "what is waited for does not come"
         time.sleep(0.001)
@@ -129,11 +129,11 @@ class Discarding(unittest.TestCase):
 
             def delete(file):
                 is_deleting.set()
-                is_closed.wait(30)
+                is_closed.wait(300)
                 raise PermissionError
 
             discarder = Discarder(job, delete, QUICK)
-            is_deleting.wait(30)
+            self.assertTrue(is_deleting.wait(300))
             job.close()
             is_closed.set()
             discarder.stop()
@@ -180,7 +180,7 @@ class Waiting(unittest.TestCase):
             waiter = threading.Thread(target=job.wait_for_call, args=(seen,))
             waiter.start()
             self.assertRaises(Refused, job.tick, 2000)
-            waiter.join(30)
+            waiter.join(300)
             self.assertFalse(waiter.is_alive())
 
     def test_calls_under_one_lock_have_none_between(self):
@@ -191,7 +191,7 @@ class Waiting(unittest.TestCase):
                 other.start()
                 time.sleep(0.01)
                 self.assertEqual(job.missing(1), 1)
-            other.join(30)
+            other.join(300)
             self.assertEqual(job.missing(1), None)
 
     def test_the_version_is_that_of_the_header(self):

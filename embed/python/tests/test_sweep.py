@@ -1,5 +1,6 @@
 """The sweeper over a folder: only garbage goes, at any time, and beside a job that runs."""
 import threading
+import time
 import unittest
 from unittest import mock
 
@@ -98,7 +99,7 @@ class Sweeping(WithAJob):
 
         def ask(files):
             told = self.job.garbage(files)
-            both.wait(10)
+            both.wait(300)
             return told
 
         swept = []
@@ -148,10 +149,14 @@ class BesideAJob(WithAJob):
             for now in range(10, 3010, 10):
                 last = self.checkpoint(job, now, last)
                 self.assertEqual(faults, [])
+            end = time.monotonic() + 300
+            while sum(it.deleted for it in swept) <= 100 and not faults and time.monotonic() < end:  # of 360; on a busy machine they may come late
+                time.sleep(0.01)
         finally:
             over.set()
             for it in sweepers:
                 it.join()
+        self.assertEqual(faults, [])
         job.restore(4000)
         self.assertEqual(sweep(self.folder, job.garbage, delete=True).failed, {})
         self.assertEqual(self.names(), sorted(map(str, last)))

@@ -113,7 +113,7 @@ static bool passes(const char *within, const struct test *test) {
     fflush(NULL);
     pid_t child = fork();
     if (child == 0) {
-        alarm(120);
+        alarm(900); /* on a busy machine, or under valgrind */
         test->run();
         exit(0);
     }

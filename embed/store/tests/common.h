@@ -41,9 +41,11 @@ struct told told_of(const relkvanu_store_call *call);
 /* The same, with the storage folder FOLDER/storage. */
 relkvanu_store_options options_in(const char *folder, uint32_t flags, uint64_t image_calls);
 
-/* Opens the file of told calls, and appends one to it if it has a line. */
+/* Opens the file of told calls, and appends one to it if it has a line, or a row of a log. Each begins with a newline and ends with a semicolon:
+ * a process that is killed may have written a part of one. */
 int told_file(const char *name);
 void tell(int told_file, const relkvanu_store_call *call);
+void tell_row(int told_file, const struct told *told);
 
 /* A second coordinator. */
 struct shadow {

@@ -17,6 +17,8 @@ from relkvanu.store import Store, StoreError
 TASKS = int(os.environ.get("TASKS", 3))
 FILES = 4 * TASKS
 MARKER = os.environ.get("MARKER", ".relkvanu-job")
+SEED = os.environ.get("SEED", str(time.time()))
+LONGEST = 600  # seconds of a process, on a busy machine
 
 
 def known(folder):
@@ -55,14 +57,14 @@ def listed(folder):
 
 def await_opening(folder, process):
     """Waits until the process has the lock of the job."""
-    lock, end = folder / "job.db.lock", time.monotonic() + 60
+    lock, end = folder / "job.db.lock", time.monotonic() + LONGEST
     while process.poll() is None and time.monotonic() < end and not (lock.exists() and lock.read_text() == f"{process.pid}\n"):
         time.sleep(0.001)
 
 
 def await_checkpoints(folder, process, before):
     """Waits until the process has made some files, so that a kill comes among checkpoints also on a busy machine."""
-    end, seen = time.monotonic() + 60, set()
+    end, seen = time.monotonic() + LONGEST, set()
     while process.poll() is None and time.monotonic() < end and len(seen) < FILES:
         seen |= listed(folder) - before
         time.sleep(0.001)
@@ -70,7 +72,7 @@ def await_checkpoints(folder, process, before):
 
 def recovers(folder, command, last):
     """The engine goes on up to this checkpoint. Returns the files in use."""
-    ran = subprocess.run([*command, folder, str(last)], stderr=subprocess.PIPE, text=True, timeout=120)
+    ran = subprocess.run([*command, folder, str(last)], stderr=subprocess.PIPE, text=True, timeout=LONGEST)
     assert ran.returncode == 0, ran.stderr
     used, waiting, taken, _ = known(folder)
     assert not taken, f"nobody deletes {taken}"  # what a process took that was killed, too
@@ -79,7 +81,7 @@ def recovers(folder, command, last):
 
 
 def main(kills, *command):
-    chance = random.Random(os.environ.get("SEED", time.time()))
+    chance = random.Random(SEED)
     with tempfile.TemporaryDirectory() as name:
         folder = pathlib.Path(name)
         (folder / "state").mkdir()
@@ -108,4 +110,8 @@ def main(kills, *command):
 
 
 if __name__ == "__main__":
-    main(*sys.argv[1:])
+    try:
+        main(*sys.argv[1:])
+    except BaseException:
+        print(f"engines.py: with SEED={SEED}", file=sys.stderr)
+        raise

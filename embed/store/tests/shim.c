@@ -663,6 +663,6 @@ __attribute__((constructor)) static void see_raw_calls(void) {
     bool is_one_part = code[0] != 0 && code[0] >> 32 == code[1] >> 32;
     if (!is_one_part || sigaction(SIGSYS, &action, NULL) != 0 || prctl(PR_SET_NO_NEW_PRIVS, 1, 0, 0, 0) != 0 ||
         prctl(PR_SET_SECCOMP, SECCOMP_MODE_FILTER, &program) != 0) {
-        abort();
+        end_because("system calls can't be seen");
     }
 }

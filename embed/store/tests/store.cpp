@@ -114,6 +114,8 @@ static void choices(const std::string &path) {
     CHECK(std::holds_alternative<ckpt::held_at_once>(job.tick(base, due(job))) && std::holds_alternative<ckpt::fresh>(base));
     CHECK(std::holds_alternative<ckpt::restored>(job.restore(2)));
     CHECK(std::get<ckpt::triggered>(job.tick(base, due(job))).id == 4 && std::get<ckpt::savepoint>(base).id == 2);
+    CHECK(std::holds_alternative<ckpt::held_at_once>(job.tick(due(job)))); // no tick is due from then on, however late the next line comes
+    base = ckpt::savepoint{99};
     CHECK(why(job.await_tick(0, base)) == ckpt::store_error::timed_out && std::holds_alternative<ckpt::fresh>(base));
     base = ckpt::checkpoint{99};
     CHECK(why(job.savepoint(base, std::uint64_t{1} << 61)) == ckpt::error::moment_too_large && std::holds_alternative<ckpt::fresh>(base));

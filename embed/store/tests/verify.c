@@ -14,6 +14,14 @@ static int by_place(const void *one, const void *other) {
     return (a > b) - (a < b);
 }
 
+/* Takes the end away by which a line is known as whole: nobody was told of the part of one. */
+static bool is_whole(char *line) {
+    size_t len = strcspn(line, "\n");
+    bool has_end = len != 0 && line[len - 1] == ';';
+    line[has_end ? len - 1 : len] = 0;
+    return has_end;
+}
+
 static struct told *read_told(const char *name, size_t *len) {
     FILE *from = fopen(name, "r");
     struct told *told = calloc(MOST_TOLD, sizeof *told);
@@ -21,6 +29,9 @@ static struct told *read_told(const char *name, size_t *len) {
     *len = 0;
     CHECK(told != NULL, "no memory");
     while (from != NULL && fgets(line, sizeof line, from) != NULL) {
+        if (!is_whole(line)) {
+            continue;
+        }
         struct told *it = &told[(*len)++];
         CHECK(*len < MOST_TOLD, "too many calls");
         CHECK(
@@ -110,7 +121,7 @@ static void compare(struct check *c) {
             CHECK(row == 0 && r != NULL, "call %" PRIu64 ", %s, is not in the log", t->place, t->line);
         } else {
             c->beside++;
-            dprintf(c->to, "%" PRIu64 " %" PRIu32 " %" PRIu64 " %" PRIu64 " %s\n", r->place, r->what, r->a, r->b, r->line);
+            tell_row(c->to, r);
         }
         make(c, is_told ? t : r);
         told += is_told;

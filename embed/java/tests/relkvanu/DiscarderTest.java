@@ -27,7 +27,7 @@ class DiscarderTest {
     private static final Patience QUICK = Patience.DEFAULT.withBatch(4).withAttempts(3).withWaits(SHORT, Duration.ofMillis(4), SHORT);
 
     private static void waitFor(BooleanSupplier condition) throws InterruptedException {
-        long end = System.nanoTime() + 30_000_000_000L;
+        long end = System.nanoTime() + 300_000_000_000L;
         while (!condition.getAsBoolean()) {
             assertTrue(System.nanoTime() < end, "what is waited for does not come");
             Thread.sleep(1);

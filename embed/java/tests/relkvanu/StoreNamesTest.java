@@ -28,7 +28,7 @@ import org.junit.jupiter.api.io.TempDir;
 
 /** Terms and names of a durable job, with values that are worked out from the rules. */
 @Tag("store")
-@Timeout(value = 120, unit = TimeUnit.SECONDS)
+@Timeout(value = 600, unit = TimeUnit.SECONDS)
 class StoreNamesTest {
     private static final Settings SETTINGS = Settings.every(10).withTimeout(1 << 30);
     private static final byte[] STATE = {1};

@@ -33,7 +33,7 @@ import org.junit.jupiter.api.io.TempDir;
 
 /** A coordinator whose calls are durable, of a job without names. */
 @Tag("store")
-@Timeout(value = 120, unit = TimeUnit.SECONDS)
+@Timeout(value = 600, unit = TimeUnit.SECONDS)
 class StoreTest {
     private static final Settings SETTINGS = Settings.every(10).withTimeout(1 << 30);
     private static final long[] SHAPE = {2};

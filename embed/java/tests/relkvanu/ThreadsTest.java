@@ -147,7 +147,7 @@ class ThreadsTest {
             Thread.sleep(1);
         }
         job.close();
-        waiter.join(30_000);
+        waiter.join(300_000);
         assertFalse(waiter.isAlive());
         assertEquals(1, closed.get());
     }
@@ -187,7 +187,7 @@ class ThreadsTest {
                 }
             }, new AtomicLong());
             assertThrows(CoordinatorException.Refused.class, () -> job.tick(2000));
-            waiter.join(30_000);
+            waiter.join(300_000);
             assertFalse(waiter.isAlive());
         }
     }
@@ -204,7 +204,7 @@ class ThreadsTest {
                 assertEquals(OptionalLong.of(1), job.missing(1));
                 return thread;
             });
-            other.join(30_000);
+            other.join(300_000);
             assertEquals(OptionalLong.empty(), job.missing(1));
         }
     }

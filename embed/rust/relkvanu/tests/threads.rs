@@ -40,7 +40,7 @@ fn cancelled() -> SharedCoordinator {
 }
 
 fn wait_for(condition: impl Fn() -> bool) {
-    let end = Instant::now() + Duration::from_secs(30);
+    let end = Instant::now() + Duration::from_secs(300);
     while !condition() {
         assert!(Instant::now() < end, "what is waited for does not come");
         thread::sleep(Duration::from_millis(1));
