@@ -57,6 +57,8 @@ def free_port():
 
 # How many times as long a busy machine may take.
 BUSY = 8
+# Seconds in which others let go of an SQLite database, and in which a command ends.
+LOCKED, COMMAND = BUSY * 20, BUSY * 60
 
 
 class Server:
@@ -102,19 +104,29 @@ class Server:
         raise AssertionError(f"the service is not ready: {self.log()[-600:]}")
 
     def kill(self):
-        self.process.send_signal(signal.SIGKILL)
-        self.process.wait()
+        process = self.process  # somebody may start it again at once (`kept`)
+        process.send_signal(signal.SIGKILL)
+        process.wait()
 
     def stop(self):
-        if self.process and self.process.poll() is None:
-            self.process.send_signal(signal.SIGCONT)
-            self.process.terminate()
+        process = self.process
+        if process and process.poll() is None:
+            process.send_signal(signal.SIGCONT)
+            process.terminate()
             try:
-                self.process.wait(20)
+                process.wait(BUSY * 20)
             except subprocess.TimeoutExpired:
-                self.process.kill()
-                self.process.wait()
-        return self.process and self.process.returncode
+                print(f"a service did not stop: {self.log()[-600:]}")
+                process.kill()
+                process.wait()
+        return process and process.returncode
+
+    def ended(self, seconds=20):
+        """Waits until it ends by itself, and returns its status."""
+        try:
+            return self.process.wait(BUSY * seconds)
+        except subprocess.TimeoutExpired:
+            raise AssertionError(f"the service has not ended: {self.log()[-600:]}") from None
 
     def log(self):
         with open(self.log_path, encoding="utf-8", errors="replace") as it:
@@ -131,7 +143,8 @@ class Server:
         """A status, the headers and the body; 0 if there is no answer."""
         import http.client
 
-        connection = http.client.HTTPConnection("127.0.0.1", self.port, timeout=70)
+        # longer than the longest poll
+        connection = http.client.HTTPConnection("127.0.0.1", self.port, timeout=60 + BUSY * 10)
         sent = {"Content-Type": "application/json", **dict(headers)}
         if token:
             sent["Authorization"] = f"Bearer {token}"
@@ -155,6 +168,7 @@ def kept(*servers):
     """Until the end of the block each of these services is started again if it ended, as systemd does. Gives the statuses that they ended with."""
     ended, over = [], threading.Event()
 
+    # (an error here shows as one of a thread, which fails the test)
     def keep(server):
         while not over.wait(0.05):
             status = server.process.poll()
@@ -173,10 +187,25 @@ def kept(*servers):
             thread.join()
 
 
+def tell_logs(at):
+    """Prints how the logs of services and databases in a folder end, of a test that fails."""
+    for path in sorted(path for name in ("log-*", "*/log-*", "*/log") for path in glob.glob(f"{at}/{name}") if os.path.isfile(path)):
+        with open(path, "rb") as it:
+            it.seek(max(0, os.path.getsize(path) - 1500))
+            print(f"{path} ends:\n{it.read().decode(errors='replace')}")
+
+
 @contextmanager
 def folder():
-    with tempfile.TemporaryDirectory(prefix="relkvanu-") as it:
-        yield it
+    # a process that was killed a moment ago may still make a file in it, as one of PostgreSQL's
+    with tempfile.TemporaryDirectory(prefix="relkvanu-", ignore_cleanup_errors=True) as it:
+        try:
+            yield it
+        except Skipped:
+            raise
+        except Exception:
+            tell_logs(it)
+            raise
 
 
 @contextmanager
@@ -317,7 +346,7 @@ class Archive:
                 create trigger archived before delete on call begin insert into archive values({old}); end;""")
 
     def base(self):
-        return sqlite3.connect(self.path, timeout=20)
+        return sqlite3.connect(self.path, timeout=LOCKED)
 
     def log(self, job):
         with self.base() as base:

@@ -6,13 +6,14 @@ from contextlib import contextmanager
 
 from harness import Archive, PgArchive, Server, configured, folder, until
 from relkvanu_service import Service
-from writers import SETTINGS, NamedWriter, Writer, check, end
+from writers import SETTINGS, NamedWriter, Writer, check, end, made_by
 
 JOBS = ["orders", "users"]
 SETTINGS = {**SETTINGS, "interval": 15}
 SHAPE = [4, 8]
 # so kills come near images and cuts
 KEEPING = "image_calls = 40\nkeep_calls = 100\n"
+EACH = 20  # calls at least between two kills
 
 
 @contextmanager
@@ -53,17 +54,21 @@ def run(kills, database=None, config=KEEPING, seed=1, names=False):
     with folder() as at:
         server = Server(at, database and database.url, configured(at, config)).start()
         archive = PgArchive(database) if database else Archive(server.database)
-        with writers_at([server.url], told, archive, names):
+        with writers_at([server.url], told, archive, names) as writers:
             for _ in range(kills):
+                # on a busy machine they make few calls meanwhile
+                before = made_by(writers)
+                until(lambda: made_by(writers) > before + EACH, 60)
                 time.sleep(chance.uniform(0.1, 0.7))
                 server.kill()
                 server.start()
-            # on a busy machine the writers may have made few calls
-            until(lambda: any(archive.cut(job) for job in JOBS), 60)
+            until(lambda: any(archive.cut(job) for job in JOBS) and all(archive.images(job) for job in JOBS), 60)
         server.kill()
+        if database:
+            database.quiet()
         images = check_images(server, archive)
         server.stop()
-    assert told[1] > 20 * kills, f"the writers did next to nothing: {told[0]}"
+    assert told[1] > EACH * kills, f"the writers did next to nothing: {told[0]}"
     return f"{kills} kills, {told[0]}; {images}"
 
 

@@ -160,7 +160,7 @@ def main(seconds=10, where="sqlite"):
     with folder() as at:
         print(f"bare syncs of a page: {syncs(at):.0f}/s", flush=True)
         if where == "postgres":
-            with postgres() as database:
+            with postgres(syncs=True) as database:
                 for rows in (1, 64, 1000):
                     print(f"bare PostgreSQL commits of {rows} rows: {bare_postgres(database, rows):.0f}/s", flush=True)
                 return measure(at, seconds, database)

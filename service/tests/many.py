@@ -88,7 +88,7 @@ def member_of(server):
 
 
 def measured(jobs, count, seconds):
-    with postgres() as database, folder() as at:
+    with postgres(syncs=True) as database, folder() as at:
         servers = [member(at, database.url, TEXT) for _ in range(count)]
         for server in servers:
             server.start()

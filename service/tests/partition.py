@@ -19,7 +19,7 @@ SETTINGS = {**SETTINGS, "interval": 25, "timeout": 3000}
 SHAPE = [2, 4]
 CONFIG = "lease_seconds = 2\nimage_calls = 200\nkeep_calls = 400\n"
 HOUR = 3600
-LEAST, BUSY = 100, 300  # calls of each client; seconds more, on a busy machine
+LEAST, BUSY = 100, 900  # calls of each client; seconds more, on a busy machine
 
 
 class Line(threading.Thread):
@@ -140,20 +140,26 @@ class Faults:
     def place(self):
         return self.chance.randrange(len(self.servers))
 
-    def go_on(self, clients, seconds):
-        """Starts these clients, and makes faults for so many seconds, and until each kind was made and each client has made some calls. They end
-        once all is whole again."""
+    def go_on(self, clients, seconds, least_epoch=0):
+        """Starts these clients, and makes faults for so many seconds, and until each kind was made, each client has made some calls, and so many
+        leaders have led. They end once all is whole again."""
         for client in clients:
             client.start()
         deadline = time.monotonic() + seconds
-        while time.monotonic() < deadline or 0 in self.made.values() or min(len(client.made) for client in clients) < LEAST:
-            assert time.monotonic() < deadline + BUSY, [len(client.made) for client in clients]
+        while time.monotonic() < deadline or self.is_too_little(clients) or self.epoch() < least_epoch:
+            assert time.monotonic() < deadline + BUSY, ([len(client.made) for client in clients], self.made, self.epoch(), least_epoch)
             self.next()
             time.sleep(self.chance.uniform(0.3, 3))
             errors = [client.errors for client in clients if client.errors]
             assert not errors, errors
         time.sleep(5)
         end(clients)
+
+    def is_too_little(self, clients):
+        return 0 in self.made.values() or min(len(client.made) for client in clients) < LEAST
+
+    def epoch(self):
+        return int(self.database.sql("select max(epoch) from shard"))
 
     def said(self):
         return ", ".join(f"{count} {fault}" for fault, count in self.made.items())
@@ -224,15 +230,15 @@ def run(seconds, seed=1):
         clients = [(Client, NamedClient)[number % 2](addresses, JOBS[number % 2], number, floor) for number in range(10)]
         faults = FaultsOfTwo(chance, database, servers, lines, clocks)
         with kept(*servers) as ended:
-            faults.go_on(clients, seconds)
+            faults.go_on(clients, seconds, seconds // 30 + 1)
             found = [check(clients, service, job, SHAPE, archive) for job in JOBS]
         for server in servers:
             server.stop()
         made, logged, oracle = (sum(one[part] or 0 for one in found) for part in range(3))
-        reads, epochs = sum(client.reads for client in clients), database.sql("select max(epoch) from shard")
+        reads, epochs = sum(client.reads for client in clients), faults.epoch()
         wrong = [status for status in ended if status not in (75, -9)]
         assert not wrong, (wrong, [server.log()[-600:] for server in servers])
-        assert made > 10 * seconds and int(epochs) > seconds // 30, (made, epochs, faults.made)
+        assert made > 10 * seconds and epochs > seconds // 30, (made, epochs, faults.made)
         calls = f"{made} calls answered, {logged} in the log, {oracle} as the proved programs answer them"
         return f"{seconds} s with faults ({faults.said()}), {epochs} leaders: {calls}; {reads} reads, none old"
 

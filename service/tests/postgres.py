@@ -7,21 +7,28 @@ import subprocess
 from contextlib import contextmanager
 
 from harness import folder, free_port, until
+from preloaded import built
 from run import Skipped
+
+# in which pg_ctl starts and stops it, by default a minute
+os.environ.setdefault("PGCTLTIMEOUT", "600")
 
 
 class Postgres:
-    """In a folder that exists. The options are those of initdb, and the environment is that of the server."""
+    """In a folder that exists. The options are those of initdb, and the environment is that of the server. It waits for the disk only if it
+    `syncs`, as for a measurement: here no power is lost."""
 
-    def __init__(self, at, *options, environment=None):
+    def __init__(self, at, *options, environment=None, syncs=False):
         found = sorted(glob.glob("/usr/lib/postgresql/*/bin/pg_ctl"))
         if not found:
             raise Skipped("PostgreSQL is not here")
         self.bin, self.port = os.path.dirname(found[-1]), free_port()
         self.data = f"{at}/data"
-        self.environment = {**os.environ, **(environment or {})}
-        self.url = f"postgres://postgres@127.0.0.1:{self.port}/postgres"
         os.chmod(at, 0o755)
+        self.environment = {**os.environ, **(environment or {})}
+        if not syncs:
+            self.environment["LD_PRELOAD"] = " ".join([built(at, "unsynced"), *self.environment.get("LD_PRELOAD", "").split()])
+        self.url = f"postgres://postgres@127.0.0.1:{self.port}/postgres"
         os.mkdir(self.data)
         self.user = []
         if os.geteuid() == 0:
@@ -64,6 +71,10 @@ class Postgres:
     def sql(self, text):
         return self.run("psql", "-XAtq", self.url, "-c", text).strip()
 
+    def quiet(self):
+        """Waits until no service is connected. What one that was killed had sent is done then."""
+        until(lambda: self.sql("select count(*) from pg_stat_activity where application_name = 'relkvanu'") == "0")
+
 
 class Replica(Postgres):
     """A copy of a database in a folder beside it, which follows it. Each commit waits until the copy has it on its disk."""
@@ -88,10 +99,10 @@ class Replica(Postgres):
 
 
 @contextmanager
-def postgres(at=None, *options, environment=None):
+def postgres(at=None, *options, **given):
     """In a folder that exists, or one of its own."""
     with folder() as own:
-        it = Postgres(at or own, *options, environment=environment)
+        it = Postgres(at or own, *options, **given)
         try:
             yield it
         finally:

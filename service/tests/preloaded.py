@@ -56,7 +56,7 @@ class Suspended:
 
     def over(self):
         slept = int(time.monotonic() - self.since) + 1
-        time.sleep(self.since + slept - time.monotonic())
+        time.sleep(max(0.0, self.since + slept - time.monotonic()))
         self.clocks.set(start=-slept)
         self.server.process.send_signal(self.signal.SIGCONT)
         return slept

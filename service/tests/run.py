@@ -1,15 +1,23 @@
 """Runs the service's tests: run.py [WORD..] runs those whose name has one of the words. Two modules run at a time, each in a process of its
 own. The last line has the counts."""
+import atexit
+import faulthandler
 import importlib
 import os
+import re
 import resource
 import subprocess
 import sys
+import tempfile
+import threading
 import time
 import traceback
 from concurrent.futures import ThreadPoolExecutor
 
 HERE = os.path.dirname(os.path.realpath(__file__))
+COUNTS = "counts of the module: "
+# seconds of a test: one that takes longer hangs, and its process ends and says where
+LONGEST = int(os.environ.get("RELKVANU_LONGEST", "3600"))
 # the longest first
 MODULES = [
     "test_spread",
@@ -38,13 +46,32 @@ def processor_seconds():
     return sum(sum(resource.getrusage(who)[:2]) for who in (resource.RUSAGE_SELF, resource.RUSAGE_CHILDREN))
 
 
+def with_threads(test):
+    """Runs a test, which fails if one of its threads does: nobody else would see that. What threads of an earlier test do is that test's."""
+    earlier, failed = set(threading.enumerate()), []
+
+    def note(args):
+        if args.exc_type is SystemExit:
+            return
+        text = "".join(traceback.format_exception(args.exc_type, args.exc_value, args.exc_traceback))
+        print(f"a thread failed: {text}", flush=True)
+        if args.thread not in earlier:
+            failed.append(text)
+
+    threading.excepthook = note
+    told = test()
+    assert not failed, f"threads failed: {failed[0]}"
+    return told
+
+
 def run_module(name, words):
-    """Runs the tests of a module. The last line has what passed, failed and was skipped."""
+    """Runs the tests of a module. One line has what passed, failed and was skipped."""
     passed, failed, skipped = 0, 0, 0
     for title, test in tests(name, words):
         started, before = time.monotonic(), processor_seconds()
+        faulthandler.dump_traceback_later(LONGEST, exit=True)
         try:
-            told = test()
+            told = with_threads(test)
             passed += 1
             print(f"ok   {title} ({time.monotonic() - started:.1f} s, {processor_seconds() - before:.1f} of a processor): {told}")
         except Skipped as why:
@@ -53,30 +80,40 @@ def run_module(name, words):
         except Exception:
             failed += 1
             print(f"FAIL {title}\n{traceback.format_exc()}")
-    print(f"{passed} {failed} {skipped}")
+    print(f"{COUNTS}{passed} {failed} {skipped}", flush=True)
+
+
+def end_now():
+    """Ends this process and what it has started. It waits for no thread: one of a test that failed may go on for ever."""
+    faulthandler.cancel_dump_traceback_later()
+    atexit._run_exitfuncs()
+    sys.stdout.flush()
+    os._exit(0)
 
 
 def in_process(name, words):
     """The lines of a module's process, and its three numbers. One that ends badly has failed."""
-    told = subprocess.run([sys.executable, __file__, "--module", name, *words], stdout=subprocess.PIPE, stderr=subprocess.STDOUT, text=True, check=False)
-    lines = told.stdout.splitlines()
-    try:
-        numbers = [int(word) for word in lines[-1].split()]
-        passed, failed, skipped = numbers if told.returncode == 0 else (0, 1, 0)
-    except (IndexError, ValueError):
-        return lines, (0, 1, 0)
-    for line in (line for line in lines[:-1] if not line.startswith("skipped: ")):
+    # a file: a process that a test has left would keep a pipe open
+    with tempfile.TemporaryFile("w+", encoding="utf-8", errors="replace") as said:
+        words = [sys.executable, "-u", __file__, "--module", name, *words]
+        status = subprocess.run(words, stdout=said, stderr=subprocess.STDOUT, check=False).returncode
+        said.seek(0)
+        text = said.read()
+    # a thread may say something behind the counts
+    counts = re.findall(rf"^{COUNTS}(\d+) (\d+) (\d+)$", text, re.MULTILINE)
+    lines = [line for line in text.splitlines() if not line.startswith(COUNTS)]
+    for line in (line for line in lines if not line.startswith("skipped: ")):
         print(line, flush=True)
-    return lines[:-1], (passed, failed, skipped)
+    if len(counts) == 1 and status == 0:
+        return lines, tuple(map(int, counts[0]))
+    print(f"FAIL a module ended badly: {name} with status {status}", flush=True)
+    return lines, (0, 1, 0)
 
 
 def main(words):
     with ThreadPoolExecutor(2) as pool:
         done = list(pool.map(lambda name: in_process(name, words), MODULES))
     passed, failed = sum(one[1][0] for one in done), sum(one[1][1] for one in done)
-    for lines, numbers in done:
-        if numbers == (0, 1, 0) and not any(line.startswith("FAIL") for line in lines):
-            print("\n".join(["FAIL a module ended badly", *lines[-20:]]))
     for line in (line for lines, _ in done for line in lines if line.startswith("skipped: ")):
         print(line)
     if passed + failed == 0:
@@ -89,5 +126,6 @@ if __name__ == "__main__":
     sys.modules["run"] = sys.modules["__main__"]
     if sys.argv[1:2] == ["--module"]:
         run_module(sys.argv[2], sys.argv[3:])
+        end_now()
     else:
         sys.exit(main(sys.argv[1:]))

@@ -12,6 +12,7 @@ class Slow(threading.Thread):
         super().__init__(daemon=True)
         self.to, self.delay, self.port = to, delay, free_port()
         self.asked, self.listens = 0, False
+        self.look, self.looked = None, 0  # how often these bytes are sent
         self.start()
         until(lambda: self.listens)
 
@@ -37,6 +38,7 @@ class Slow(threading.Thread):
                     await asyncio.sleep(self.delay)
                 else:
                     self.asked += 1
+                    self.looked += self.look is not None and self.look in data
                 writer.write(data)
                 await writer.drain()
         except OSError:

@@ -4,7 +4,7 @@ import json
 import os
 import threading
 
-from harness import Server, folder, served, until
+from harness import COMMAND, Server, folder, served, until
 from test_connections import memory
 
 FILES, SUBTASKS, ROUNDS = 4096, 32, 4
@@ -100,7 +100,7 @@ def test_bodies_without_a_length_share_the_room():
     body, statuses = b'{"calls":[{"call":"tick"}]}', []
 
     def send(server):
-        it = http.client.HTTPConnection("127.0.0.1", server.port, timeout=30)
+        it = http.client.HTTPConnection("127.0.0.1", server.port, timeout=COMMAND)
         for _ in range(10):
             it.request("POST", PATH, iter([body[:9], body[9:]]), {"Content-Type": "application/json"}, encode_chunked=True)
             told = it.getresponse()
@@ -116,7 +116,7 @@ def test_bodies_without_a_length_share_the_room():
         for it in senders:
             it.join()
         assert statuses == [200] * 320, {status: statuses.count(status) for status in set(statuses)}
-        long = http.client.HTTPConnection("127.0.0.1", server.port, timeout=30)
+        long = http.client.HTTPConnection("127.0.0.1", server.port, timeout=COMMAND)
         long.request("POST", PATH, iter([b"x" * (1 << 20)] * 9), {"Content-Type": "application/json"}, encode_chunked=True)
         assert long.getresponse().status == 413
         return f"{len(statuses)} of 32 connections"

@@ -5,7 +5,7 @@ import subprocess
 import threading
 import time
 
-from harness import PROGRAM, SERVICE, check_log, served, until
+from harness import COMMAND, PROGRAM, SERVICE, check_log, served, until
 from relkvanu_service import Failed, Refused, Service, ack, decline, deleted, dispose, restore, savepoint, take
 from run import Skipped
 
@@ -128,7 +128,7 @@ def test_the_client_in_python():
         taking.start()
         time.sleep(0.3)
         server.start()
-        taking.join(30)
+        taking.join(COMMAND)
         assert found == [2**64 - 1], found
         assert job.call(deleted(found[0])) and job.calls([take(5)]) == [{"files": []}]
         assert job.call(restore())["restore"] == "fresh" and job.call(decline(1, "0.0"))["decline"] == "late"
@@ -150,7 +150,7 @@ def test_the_client_in_rust():
         server.kill()
         time.sleep(0.3)
         server.start()
-        told = run.communicate(timeout=60)[0]
+        told = run.communicate(timeout=COMMAND)[0]
         assert run.returncode == 0 and " checkpoints completed, " in told, told
         log = []
         while page := server.get(f"/v1/jobs/rust/log?terms=1&limit=1000&after={len(log)}")[2]["calls"]:

@@ -6,10 +6,11 @@ import resource
 import socket
 import time
 
-from harness import Server, folder, until
+from harness import COMMAND, Server, folder, until
 from test_api import JOB, served_with
 
 POLLS = 1500
+SOON = 20  # seconds: much less than a poll waits
 
 
 def memory(server, name="VmRSS"):
@@ -19,12 +20,12 @@ def memory(server, name="VmRSS"):
 
 
 def opened(server, text):
-    it = socket.create_connection(("127.0.0.1", server.port), timeout=30)
+    it = socket.create_connection(("127.0.0.1", server.port), timeout=COMMAND)
     it.sendall(text.encode())
     return it
 
 
-def poll(after, wait=50, token=""):
+def poll(after, wait=60, token=""):
     header = f"Authorization: Bearer {token}\r\n" if token else ""
     return f"GET /v1/jobs/orders/events?after={after}&wait={wait} HTTP/1.1\r\nHost: localhost\r\n{header}\r\n"
 
@@ -64,11 +65,11 @@ def test_polls_keep_nobody_out_and_cost_little(polls=int(os.environ.get("RELKVAN
         assert each < 24, f"a poll takes {each:.0f} KiB"
         assert memory(server, "Threads") <= threads + 4, memory(server, "Threads")
         for path in "/healthz", "/readyz":
-            assert within(2, lambda path=path: server.get(path)[0]) == 200, path
-        assert within(2, lambda: server.request("POST", "/v1/jobs/orders/calls", calls)[0]) == 200
+            assert within(SOON, lambda path=path: server.get(path)[0]) == 200, path
+        assert within(SOON, lambda: server.request("POST", "/v1/jobs/orders/calls", calls)[0]) == 200
         key = [("Idempotency-Key", "a")]
-        assert within(2, lambda: server.request("POST", "/v1/jobs/orders/calls", {"calls": [{"call": "savepoint"}]}, headers=key)[0]) == 200
-        status, told = within(5, lambda: answer(watched))
+        assert within(SOON, lambda: server.request("POST", "/v1/jobs/orders/calls", {"calls": [{"call": "savepoint"}]}, headers=key)[0]) == 200
+        status, told = within(SOON, lambda: answer(watched))
         assert status == 200 and told["events"][0]["event"] == "triggered", told
         # a connection that polled keeps its place for the next poll
         watched.sendall(poll(0).encode())
@@ -125,9 +126,9 @@ def test_connections_without_a_token_keep_nobody_out():
         slow = [opened(server, "GET /healthz HT") for _ in range(100)]
         waiting = [opened(server, poll(0, token=token)) for _ in range(5)]
         for _ in range(3):
-            assert within(2, lambda: server.get("/healthz")[0]) == 200
-            assert within(2, lambda: server.get("/v1/jobs", token)[0]) == 200
-            assert within(2, lambda: server.request("POST", "/v1/jobs/orders/calls", {"calls": [{"call": "tick"}]}, token)[0]) == 200
+            assert within(SOON, lambda: server.get("/healthz")[0]) == 200
+            assert within(SOON, lambda: server.get("/v1/jobs", token)[0]) == 200
+            assert within(SOON, lambda: server.request("POST", "/v1/jobs/orders/calls", {"calls": [{"call": "tick"}]}, token)[0]) == 200
         # none of them took the place of one with a token
         key = [("Idempotency-Key", "a")]
         assert server.request("POST", "/v1/jobs/orders/calls", {"calls": [{"call": "savepoint"}]}, token, key)[0] == 200
@@ -139,7 +140,8 @@ def test_connections_without_a_token_keep_nobody_out():
 
 
 def test_a_slow_reader_gets_its_whole_answer():
-    with served_with("[limits]\nidle_seconds = 1\n", ["--config"]) as server:
+    idle, slowly = 2, 5
+    with served_with(f"[limits]\nidle_seconds = {idle}\n", ["--config"]) as server:
         server.request("POST", "/v1/jobs", {**JOB, "shape": [64]})
         fresh = [str((1 << 63) + place) for place in range(3000)]
         calls = [{"call": "ack", "id": 1, "subtask": "0.0", "fresh": fresh}] + [
@@ -156,8 +158,10 @@ def test_a_slow_reader_gets_its_whole_answer():
         while part := it.recv(1 << 16):
             got += part
             # slowly at first: the answer takes longer than a connection may be idle
-            time.sleep(0.05 if time.monotonic() - started < 3 else 0)
+            time.sleep(0.05 if time.monotonic() - started < slowly else 0)
+        took = time.monotonic() - started
         head, body = got.split(b"\r\n\r\n", 1)
         length = int(head.lower().split(b"content-length: ")[1].split(b"\r\n")[0])
         assert len(body) == length > 1_000_000 and json.loads(body)["calls"][0]["seq"] == 67, (len(body), length)
-        return f"{length} bytes in {time.monotonic() - started:.1f} s, with idle_seconds = 1"
+        assert took > idle, took
+        return f"{length} bytes in {took:.1f} s, with idle_seconds = {idle}"

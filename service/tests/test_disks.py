@@ -28,7 +28,7 @@ def test_sqlite():
                 told = server.request("POST", "/v1/jobs/orders/calls", {"calls": [ack]})
                 if told[0] == 200:
                     kept = max([kept] + [answer["seq"] for answer in told[2]["answers"] if "seq" in answer])
-            assert server.process.wait(30) == 75, server.log()[-500:]
+            assert server.ended() == 75, server.log()[-500:]
             assert "is tried again" in server.log(), server.log()[-500:]
             subprocess.run(["mount", "-o", "remount,size=64m", small], check=True)
             server.start()

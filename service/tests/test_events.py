@@ -9,7 +9,7 @@ import sys
 import threading
 import time
 
-from harness import PROGRAM, TOP, Server, configured, folder, served, until
+from harness import COMMAND, PROGRAM, TOP, Server, configured, folder, served, until
 from postgres import postgres
 from relkvanu_service import Gone, OtherLog, Service, ack, cancel, deleted, dispose, reserve, restore, savepoint
 from run import Skipped
@@ -50,7 +50,7 @@ def test_after_a_cut():
             raise AssertionError(job.events(missed, 20))
         except Gone as gone:
             assert (gone.status, gone.reason, gone.first) == (410, "cut", state["first"]) and gone.log == state["log"], vars(gone)
-        assert time.monotonic() - begun < 5
+        assert time.monotonic() - begun < 15  # and not once the wait is over
         # whoever missed nothing waits as before
         assert job.events(knew, 1) == (state["seq"], [])
         assert server.get("/v1/jobs/a/events")[2] == {"first": state["first"], "log": state["log"], "upto": state["seq"], "events": []}
@@ -168,7 +168,7 @@ def test_after_a_restored_backup():
 
 def test_after_a_restored_dump_of_postgres():
     with postgres() as database, folder() as at:
-        server = Server(at, database.url, configured(at, "lease_seconds = 1\n")).start()
+        server = Server(at, database.url, configured(at, "lease_seconds = 2\n")).start()
         try:
             return f"{restored(server, database)}; {of_version_1(server, database)}"
         finally:
@@ -179,17 +179,17 @@ def test_an_engine_in_rust_over_a_restored_backup():
     if not os.path.exists(ENGINE):
         raise Skipped(f"{ENGINE} is not built")
     with served(names=True) as server:
-        run = subprocess.Popen([ENGINE, server.url, "rust", "60"], stdout=subprocess.PIPE, stderr=subprocess.STDOUT, text=True)
+        run = subprocess.Popen([ENGINE, server.url, "rust", "100000"], stdout=subprocess.PIPE, stderr=subprocess.STDOUT, text=True)
         job, copy = Service(server.url).job("rust"), Copy(server, None)
         until(lambda: (server.get("/v1/jobs/rust")[2] or {}).get("seq", 0) > 40)
         copy.make()
         far = job.state()["seq"] + 200
         until(lambda: job.state()["seq"] > far)
         copy.restore()
-        told = run.communicate(timeout=60)[0]
+        told = run.communicate(timeout=COMMAND)[0]
         assert run.returncode == 1 and "End the engine and its tasks, and restore the job to a record" in told, told
         assert job.state()["seq"] < far and len(restores_of(job)) == 1, job.state()
-        told = subprocess.run([ENGINE, server.url, "rust", "5"], stdout=subprocess.PIPE, stderr=subprocess.STDOUT, text=True, timeout=60, check=False)
+        told = subprocess.run([ENGINE, server.url, "rust", "5"], stdout=subprocess.PIPE, stderr=subprocess.STDOUT, text=True, timeout=COMMAND, check=False)
         assert told.returncode == 0 and "5 checkpoints completed, " in told.stdout, told
         return "it ends, and goes on after somebody has looked"
 
@@ -212,7 +212,7 @@ def test_an_engine_in_rust_hears_of_others():
         until(lambda: job.state()["seq"] > far)
         assert len(restores_of(job)) == 3
         job.call(cancel())
-        told = run.communicate(timeout=60)[0]
+        told = run.communicate(timeout=COMMAND)[0]
         assert run.returncode == 1 and "cancelled" in told, told
         return "it begins again after a restore, and ends after a cancel"
 
@@ -222,8 +222,10 @@ def test_the_dask_engine_over_a_cut():
     if subprocess.run(["/usr/bin/python3", "-c", "import distributed"], stderr=subprocess.DEVNULL, check=False).returncode:
         raise Skipped("python3-distributed is not here")
     with served(args=CUTTING) as server:
-        words = [f"{TOP}/embed/dask/run", "60", "--service", server.url, "--storage", f"{server.folder}/storage"]
-        engine = subprocess.Popen(words, stdout=subprocess.DEVNULL, stderr=subprocess.DEVNULL, start_new_session=True)
+        # for longer than this may take on a busy machine
+        words = [f"{TOP}/embed/dask/run", "3000", "--service", server.url, "--storage", f"{server.folder}/storage"]
+        with open(f"{server.folder}/said", "wb") as said:
+            engine = subprocess.Popen(words, stdout=said, stderr=said, start_new_session=True)
         try:
             job = Service(server.url).job("dask")
             until(lambda: (server.get("/v1/jobs/dask")[2] or {}).get("seq", 0) > 40, 90)
@@ -235,8 +237,12 @@ def test_the_dask_engine_over_a_cut():
             os.kill(engine.pid, signal.SIGCONT)
             after = until(lambda: (it := job.state()["choice"].get("id", 0)) > before and it, 60)
             assert engine.poll() is None
+        except AssertionError:
+            with open(f"{server.folder}/said", encoding="utf-8", errors="replace") as said:
+                print(f"the engine said: {said.read()[-3000:]}")
+            raise
         finally:
-            os.killpg(engine.pid, signal.SIGKILL)
+            os.killpg(engine.pid, signal.SIGKILL)  # its workers are there, even if it has ended
             engine.wait()
         assert polls(server).get("410", 0) >= 1, polls(server)
         return f"it missed the failure at {state['last_event']}, cut to {state['first']}; then it completed checkpoint {after}"
@@ -292,7 +298,7 @@ def test_the_dask_engine_over_a_restored_backup():
             copy.make()
             until(lambda: len(driver.barriers) > count + 20)
             copy.restore()
-            running.join(20)
+            running.join(COMMAND)
         finally:
             driver.is_over.set()
         # its process ends by this: no barrier is sent, and nothing restores the job

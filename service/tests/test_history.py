@@ -8,7 +8,7 @@ import time
 
 from harness import Server, folder, served, until
 from relkvanu_service import Service, ack, dispose, savepoint, take
-from writers import SETTINGS, SHAPE, Writer
+from writers import SETTINGS, SHAPE, Writer, end
 
 
 class Model:
@@ -168,10 +168,8 @@ def test_records_and_files_against_a_model():
         server.kill()  # in the middle of the history's work too
         server.start()
         time.sleep(2)
+        end(writers)
         for writer in writers:
-            writer.over.set()
-        for writer in writers:
-            writer.join(30)
             assert not writer.errors, writer.errors
         # nothing moves any more: pending records expire, and the job fails over
         until(lambda: job.state()["mode"] == "failed", 30)

@@ -5,7 +5,7 @@ import sqlite3
 import subprocess
 import threading
 
-from harness import PROGRAM, Server, caught_up, configured, folder, served, until
+from harness import LOCKED, PROGRAM, Server, caught_up, configured, folder, served, until
 from postgres import postgres
 from relkvanu_service import Failed, Service, ack, cancel, deleted, dispose, savepoint
 from test_images import SETTINGS, worked
@@ -33,7 +33,7 @@ def emptied(job):
 
 
 def rows(path, tables, number):
-    with sqlite3.connect(path, timeout=20) as base:
+    with sqlite3.connect(path, timeout=LOCKED) as base:
         told = {table: base.execute(f"select count(*) from {table} where job = ?", (number,)).fetchone()[0] for table in tables}
     base.close()
     return {table: count for table, count in told.items() if count}
@@ -67,7 +67,7 @@ def test_a_job_is_deleted_with_what_was_kept_of_it():
         waits = threading.Thread(target=lambda: told.append(server.get(f"/v1/jobs/orders/events?after={after}&wait=60")[0]))
         waits.start()
         assert service.delete("orders") and not service.delete("orders")
-        waits.join(5)
+        waits.join(50)  # the poll waits for a minute
         assert told == [404], told
         assert server.get("/v1/jobs/orders")[0] == 404 and [it["name"] for it in service.jobs()] == ["users"]
         until(lambda: not rows(server.database, TABLES, 2), told=lambda: rows(server.database, TABLES, 2))
@@ -108,7 +108,7 @@ def test_a_kill_leaves_nothing_behind():
 
 def test_a_standby_forgets_a_job_that_it_has():
     with postgres() as database, folder() as at:
-        args = configured(at, "lease_seconds = 1\nimage_calls = 20\nkeep_calls = 0\n")
+        args = configured(at, "lease_seconds = 3\nimage_calls = 20\nkeep_calls = 0\n")
         leader, standby = Server(at, database.url, args).start(), Server(at, database.url, args)
         service = Service(leader.url)
         users, jobs = service.open("users", SETTINGS, [2]), [service.open(f"orders{number}", SETTINGS, [2]) for number in range(3)]

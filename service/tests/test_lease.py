@@ -2,14 +2,16 @@
 import threading
 import time
 
-from harness import Server, configured, folder, kept, until
+from harness import BUSY, Server, configured, folder, kept, until
 from postgres import postgres
 from relkvanu_service import Service, savepoint
 from slow import Slow
 
 SETTINGS = {"interval": 1 << 40}
-DELAY = 0.02
-LEASE = "lease_seconds = 2\n"
+# the delays are in proportion to the lease, which is as long as processes of a busy machine need to keep it
+SECONDS = 4
+DELAY = 0.01 * SECONDS
+LEASE = f"lease_seconds = {SECONDS}\n"
 
 
 def opened(at, url, jobs):
@@ -30,7 +32,7 @@ def opened(at, url, jobs):
 
 
 def far(at, database, delay, url=None):
-    """A service that reaches the database through a slow line, with a lease of 2 s, and the line."""
+    """A service that reaches the database through a slow line, and the line."""
     line = Slow(database.port, delay)
     return Server(at, (url or database.url).replace(str(database.port), str(line.port)), configured(at, LEASE)), line
 
@@ -69,13 +71,13 @@ def test_a_take_over_through_a_slow_line():
         slow.start(ready=False)
         until(lambda: epoch(database) == 2)
         fast = near(at, database.url).start(ready=False)
-        both, stale = looked(slow, fast, 5)
+        both, stale = looked(slow, fast, 2.5 * SECONDS)
         assert (both, stale) == (0, 0), f"both ready in {both} looks, {stale} stale answers"
         slow.wait_ready()
         assert epoch(database) == 2 and slow.process.poll() is None, slow.log()[-300:]
         slow.stop()
         fast.kill()
-        return f"40 jobs over a line of {DELAY * 1000:.0f} ms with a lease of 2 s"
+        return f"40 jobs over a line of {DELAY * 1000:.0f} ms with a lease of {SECONDS} s"
 
 
 def test_a_take_over_keeps_its_lease():
@@ -86,17 +88,17 @@ def test_a_take_over_keeps_its_lease():
         slow, line = far(at, database, 0)
         slow.stand_by()
         before = epoch(database)
-        line.delay = 0.35
+        line.delay = 0.175 * SECONDS
         first.stop()
         until(lambda: epoch(database) > before)
         fast = near(at, database.url).stand_by()
         slow.wait_ready()
         took = int(slow.log().rsplit("take_over_ms=", 1)[1].split()[0]) / 1000
-        assert epoch(database) == before + 1 and took > 2, (before, epoch(database), took)
+        assert epoch(database) == before + 1 and took > SECONDS, (before, epoch(database), took)
         assert not is_ready(fast)
         slow.kill()
         fast.kill()
-        return f"it took {took:.1f} s with a lease of 2 s"
+        return f"it took {took:.1f} s with a lease of {SECONDS} s"
 
 
 def test_two_processes_on_slow_lines():
@@ -107,30 +109,32 @@ def test_two_processes_on_slow_lines():
         for server in servers:
             server.start(ready=False)
         with kept(*servers) as ended:
-            until(lambda: any(is_ready(server) for server in servers), 20)
-            before, made = epoch(database), 0
-            leader = next(server for server in servers if is_ready(server))
-            end = time.monotonic() + 4
-            while time.monotonic() < end:
+            leader = until(lambda: next((server for server in servers if is_ready(server)), None), 20)
+            before, made, began = epoch(database), 0, time.monotonic()
+            while (took := time.monotonic() - began) < SECONDS or made <= 20:
                 made += leader.request("POST", "/v1/jobs/j0/calls", {"calls": [{"call": "tick"}]})[0] == 200
-        assert made > 20 and epoch(database) == before, (made, before, epoch(database), ended)
+                assert took < BUSY * SECONDS, (made, ended)
+        assert epoch(database) == before, (made, before, epoch(database), ended)
         for server in servers:
             server.kill()
-        return f"{made} calls in 4 s in one epoch"
+        return f"{made} calls in {took:.0f} s in one epoch"
 
 
 def standby_asks(at, database, url, jobs):
-    """How many statements a second a standby beside these jobs asks for, of which one is called. It leads then, and knows its calls."""
+    """How many statements a standby beside these jobs asks for each time that it looks for a leader, while one of them is called. It leads
+    then, and knows its calls."""
     opened(at, url, jobs)
     leader = near(at, url).start()
     standby, line = far(at, database, 0, url)
+    line.look = b"from member order by name"
     standby.stand_by()
     job = Service(leader.url).job("j1")
-    before, began = line.asked, time.monotonic()
+    asked, looked = line.asked, line.looked
     for _ in range(20):
         job.call(savepoint())
         time.sleep(0.05)
-    asks = (line.asked - before) / (time.monotonic() - began)
+    until(lambda: line.looked > looked + 5)
+    asks = (line.asked - asked) / (line.looked - looked)
     state = job.state()
     leader.kill()
     standby.wait_ready()
@@ -148,5 +152,5 @@ def test_a_standby_beside_many_jobs():
             database.sql(f"create database jobs{jobs}")
             asked.append(standby_asks(at, database, f"{database.url.rsplit('/', 1)[0]}/jobs{jobs}", jobs))
         few, many = asked
-        assert many < few * 1.5 + 5, asked
-        return f"{few:.0f} statements a second beside 2 jobs, and {many:.0f} beside 200"
+        assert many < few * 1.5 + 1, asked
+        return f"{few:.1f} statements each time beside 2 jobs, and {many:.1f} beside 200"

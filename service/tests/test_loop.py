@@ -5,7 +5,7 @@ import subprocess
 import threading
 from contextlib import contextmanager
 
-from harness import PROGRAM, TOP, Server, folder, served, until
+from harness import COMMAND, PROGRAM, TOP, Server, folder, served, until
 from relkvanu_service import Failed, OldTerm, OtherLog, Service, cancel, dispose, file_numbers, restore, savepoint
 from test_events import Copy
 
@@ -92,9 +92,11 @@ def sweeping(server, at):
 
     thread = threading.Thread(target=run)
     thread.start()
-    yield told
-    over.set()
-    thread.join(60)
+    try:
+        yield told
+    finally:
+        over.set()
+        thread.join(COMMAND)
 
 
 @contextmanager
@@ -102,7 +104,7 @@ def engine_of(server, at, settings):
     engine = Engine(server, at, settings)
     engine.start()
     yield engine
-    engine.join(30)
+    engine.join(COMMAND)
     assert not engine.is_alive()
 
 
@@ -117,7 +119,8 @@ def known(job):
 
 def test_the_loop_of_the_page():
     with folder() as at, served(names=True) as server:
-        settings = {"interval": 40, "timeout": 2500, "tolerable": 0, "keep_on_cancel": True}
+        # no record expires whose tasks acknowledge, also on a busy machine
+        settings = {"interval": 40, "timeout": 8000, "tolerable": 0, "keep_on_cancel": True}
         files = f"{at}/files"
         os.mkdir(files)
         job = Service(server.url).open("orders", settings, SHAPE)

@@ -11,7 +11,7 @@ import threading
 import time
 
 import kills
-from harness import HERE, PROGRAM, WHOLE, Archive, Server, caught_up, check_log, configured, folder, leader_and_standby, served, until
+from harness import COMMAND, HERE, PROGRAM, WHOLE, Archive, Server, caught_up, check_log, configured, folder, leader_and_standby, served, until
 from postgres import postgres
 from relkvanu_service import Failed, Fenced, OldTerm, Refused, Service, ack, cancel, decline, deleted, dispose, reserve, restore, savepoint
 
@@ -161,7 +161,7 @@ def test_no_event_no_list_and_no_stream_has_the_term():
 
 def streamed(server, path, count):
     """The first messages of a stream."""
-    connection = http.client.HTTPConnection("127.0.0.1", server.port, timeout=20)
+    connection = http.client.HTTPConnection("127.0.0.1", server.port, timeout=COMMAND)
     connection.request("GET", path)
     lines, found = connection.getresponse(), []
     while len(found) < count:
@@ -228,7 +228,7 @@ def test_a_reserve_is_durable_before_it_is_told():
             server.start()
         over.set()
         for one in tasks:
-            one.join(60)
+            one.join(COMMAND)
         names = [name for _, first, count in told for name in range(first, first + count)]
         assert len(names) == len(set(names)), "a name was given out twice"
         log = {entry["seq"]: entry for entry in job.log(terms=True)}
@@ -331,7 +331,7 @@ def test_garbage_is_never_in_use():
             server.start()
         over.set()
         for thread in threads:
-            thread.join(60)
+            thread.join(COMMAND)
         assert not errors, errors[:3]
         with keeps.base() as base:
             rows = base.execute(f"select seq, line, answer, ended from {WHOLE} order by seq").fetchall()
@@ -455,7 +455,7 @@ def test_a_leader_that_is_over_answers_no_garbage():
     """Requests reach a leader that is suspended, and another takes over. The old one answers none of them when it goes on."""
     rounds = 3
     with postgres() as database, folder() as at:
-        first, second = leader_and_standby(at, database.url, "lease_seconds = 1\n")
+        first, second = leader_and_standby(at, database.url, "lease_seconds = 3\n")
         Service(first.url).open("orders", SETTINGS, [1], names=True)
         old, new, later = first, second, []
         for _ in range(rounds):
@@ -474,9 +474,9 @@ def test_a_leader_that_is_over_answers_no_garbage():
             Service(new.url).job("orders").session(start.term, 100).name()
             old.process.send_signal(signal.SIGCONT)
             for one in asked:
-                one.join(30)
+                one.join(COMMAND)
             later += answers
-            assert old.process.wait(20) == 75
+            assert old.ended() == 75
             assert new.request("POST", "/v1/jobs/orders/garbage", {"files": ["0"]})[2]["garbage"] == ["0"]
             old.stand_by()
             assert old.request("POST", "/v1/jobs/orders/garbage", {"files": ["0"]})[0] == 503

@@ -5,11 +5,11 @@ import signal
 import time
 
 import kills
-from harness import PgArchive, Server, check_log, configured, folder, kept, until
+from harness import BUSY, PgArchive, Server, check_log, configured, folder, kept, leader_and_standby, until
 from postgres import postgres
 from relkvanu_service import Service
 
-LEASE = 2
+LEASE = 4
 
 
 def test_kills():
@@ -26,13 +26,16 @@ def test_a_database_that_stops():
         with kept(server) as ended, kills.writers_at([server.url], told):
             for mode in ("immediate", "fast", "immediate"):
                 time.sleep(0.7)
+                before = len(ended)
                 database.stop(mode)
+                until(lambda: len(ended) > before)
                 time.sleep(0.5)
                 database.start()
                 server.wait_ready(kept=True)
             # the connection of the writer alone
+            before = len(ended)
             cut_writer(database)
-            time.sleep(0.5)
+            until(lambda: len(ended) > before)
             server.wait_ready(kept=True)
         server.stop()
         assert len(ended) >= 4 and set(ended) == {75}, ended
@@ -74,6 +77,10 @@ def leads(server):
     return server.process.poll() is None and server.get("/readyz")[0] == 200
 
 
+def leader_of(servers):
+    return until(lambda: next((server for server in servers if leads(server)), None), told=lambda: [server.log()[-400:] for server in servers])
+
+
 def test_take_over():
     config = f"lease_seconds = {LEASE}\n" + kills.KEEPING
     with postgres() as database, folder() as at:
@@ -81,13 +88,15 @@ def test_take_over():
         servers[0].start()
         servers[1].stand_by()
         assert servers[1].get("/healthz")[0] == 200
-        told = servers[1].request("GET", "/v1/jobs")
+        # (it looks for the leader for a second at most)
+        told = until(lambda: (it := servers[1].request("GET", "/v1/jobs"))[1].get("relkvanu-leader") and it)
         assert told[0] == 503 and told[1]["retry-after"] == "1" and told[1]["relkvanu-leader"] == servers[0].url, told
         assert "relkvanu_leader 0" in servers[1].get("/metrics")[2] and "relkvanu_leader 1" in servers[0].get("/metrics")[2]
         found, times, epochs = [], [], []
+        due = LEASE + 3 * BUSY
         with kills.writers_at([server.url for server in servers], found, PgArchive(database)):
             for way in ("stop", "kill", "stop", "cut"):
-                leader = next(server for server in servers if leads(server))
+                leader = leader_of(servers)
                 standby = next(server for server in servers if server is not leader)
                 time.sleep(0.6)
                 epochs.append(int(database.sql("select max(epoch) from shard")))
@@ -101,24 +110,31 @@ def test_take_over():
                 time.sleep(random.uniform(0, 0.5))
                 leader.process.send_signal(signal.SIGCONT) if leader.process.poll() is None else None
                 # one that was stopped finds out with its first group, or its first read, and answers nothing of it
-                status = leader.process.wait(20)
+                status = leader.ended()
                 assert status == (-9 if way == "kill" else 75), (way, status, leader.log()[-400:])
                 leader.start(ready=False)
         assert epochs == sorted(set(epochs)), epochs
-        # one that is stopped in good order lets the other lead at once
-        leader = next(server for server in servers if leads(server))
-        standby = next(server for server in servers if server is not leader)
-        until(lambda: "another process leads" in standby.log().rsplit("epoch", 1)[-1])
+        for server in servers:
+            server.stop()
+        assert max(times[:3]) < due, times
+        return f"leads again after {', '.join(f'{it:.2f}' for it in times)} s with a lease of {LEASE} s; {found[0]}"
+
+
+def test_a_stop_in_good_order():
+    """It lets the other lead at once, and not when the lease is over."""
+    lease = 600
+    with postgres() as database, folder() as at:
+        leader, standby = leader_and_standby(at, database.url, f"lease_seconds = {lease}\n" + kills.KEEPING)
+        for job in kills.JOBS:
+            Service(leader.url).open(job, kills.SETTINGS, kills.SHAPE)
         started = time.monotonic()
         assert leader.stop() == 0
-        until(lambda: leads(standby), 20, 0.01)
+        standby.wait_ready()
         handed = time.monotonic() - started
-        assert handed < 1.5, handed
-        jobs = Service(standby.url).jobs()
-        assert {job["name"] for job in jobs} == {"orders", "users"}
+        assert handed < lease / 2, handed
+        assert {job["name"] for job in Service(standby.url).jobs()} == set(kills.JOBS)
         standby.stop()
-        assert max(times[:3]) < LEASE + 3, times
-        return f"leads again after {', '.join(f'{it:.2f}' for it in times)} s with a lease of {LEASE} s, {handed:.2f} s after a stop in good order; {found[0]}"
+        return f"{handed:.2f} s after it, with a lease of {lease} s"
 
 
 def test_a_database_that_does_not_sync_is_refused():
@@ -127,6 +143,6 @@ def test_a_database_that_does_not_sync_is_refused():
         database.start("-o", "-c fsync=off")
         server = Server(at, database.url)
         server.start(ready=False)
-        status = server.process.wait(20)
+        status = server.ended()
         assert status == 75 and "fsync is off" in server.log(), (status, server.log())
         return "fsync=off"

@@ -10,7 +10,7 @@ import sys
 import time
 from contextlib import contextmanager
 
-from harness import HERE, LOG_ORACLE, PROGRAM, TOP, Archive, Server, check_log, folder, until
+from harness import COMMAND, HERE, LOG_ORACLE, PROGRAM, TOP, Archive, Server, check_log, folder, until
 from power_engine import SHAPE, SUBTASKS, Engine
 from preloaded import SHIM, built, shim
 from relkvanu_service import Service, cancel, dispose
@@ -69,7 +69,7 @@ class Recorded:
         with beside(self.server, self.prefix, self.told) as processes:
             for life in range(kills + 1):
                 least = (self.place() or 0) + calls
-                until(lambda: (self.place() or 0) >= least, 60)
+                until(lambda: (self.place() or 0) >= least, 60, told=self.told_beside)
                 self.server.kill()
                 if life < kills:
                     self.server.start()
@@ -147,7 +147,7 @@ class Checks:
         engine.job.call(cancel())
         for words in (["discard", "--job", "orders", "--once", "--allow-absent"], ["sweep", "orders", "--delete"]):
             words = [PROGRAM, *words, "--folder", files, "--url", server.url, "--prefix", "s-"]
-            told = subprocess.run(words, capture_output=True, text=True, timeout=60, check=False)
+            told = subprocess.run(words, capture_output=True, text=True, timeout=COMMAND, check=False)
             assert told.returncode == 0, told.stderr
         left = [name for name in os.listdir(files) if name.startswith("s-")]
         assert not left, f"{left} are left"

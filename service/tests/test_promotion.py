@@ -4,9 +4,10 @@ import signal
 import time
 
 import kills
-from harness import PgArchive, Server, configured, folder, kept
+from harness import PgArchive, Server, configured, folder, kept, until
 from partition import family, told
 from postgres import Replica, postgres
+from writers import made_by
 
 
 def test_a_replica_that_is_promoted():
@@ -15,21 +16,19 @@ def test_a_replica_that_is_promoted():
         try:
             hosts = f"127.0.0.1:{database.port},127.0.0.1:{replica.port}"
             url = f"postgres://postgres@{hosts}/postgres?target_session_attrs=read-write"
-            servers = [Server(at, url, configured(at, "lease_seconds = 1\n" + kills.KEEPING)) for _ in range(2)]
+            servers = [Server(at, url, configured(at, "lease_seconds = 2\n" + kills.KEEPING)) for _ in range(2)]
             servers[0].start()
             servers[1].stand_by()
             archive, found = PgArchive(database), []
             with kept(*servers) as ended, kills.writers_at([server.url for server in servers], found, archive) as writers:
                 time.sleep(1.5)
+                until(lambda: made_by(writers) > 50, told=lambda: [server.log()[-600:] for server in servers])
                 told(family(database), signal.SIGKILL)
                 os.remove(f"{database.data}/postmaster.pid")
-                before = sum(len(writer.made) for writer in writers)
+                before = made_by(writers)
                 replica.promote()
                 archive.database = replica
-                began = time.monotonic()
-                while sum(len(writer.made) for writer in writers) < before + 200:
-                    assert time.monotonic() < began + 60, [server.log()[-600:] for server in servers]
-                    time.sleep(0.05)
+                until(lambda: made_by(writers) >= before + 200, 60, told=lambda: [server.log()[-600:] for server in servers])
             wrong = [status for status in ended if status != 75]
             assert not wrong and before > 50, (wrong, before, [server.log()[-600:] for server in servers])
             for server in servers:

@@ -8,7 +8,7 @@ import shlex
 import shutil
 import subprocess
 
-from harness import PROGRAM, SERVICE, TOP, Server, caught_up, folder, lose_history, served, until
+from harness import COMMAND, PROGRAM, SERVICE, TOP, Server, caught_up, folder, lose_history, served, until
 from postgres import postgres
 from relkvanu_service import Service, ack, dispose, restore, savepoint
 from run import Skipped
@@ -24,20 +24,20 @@ def write(folder, *files):
 
 def discard(server, folder, *more):
     words = [PROGRAM, "discard", "--once", "--job", "orders", "--url", server.url, "--folder", folder, "--prefix", "s-", "--suffix", ".bin", *more]
-    told = subprocess.run(words, stderr=subprocess.PIPE, text=True, timeout=60, check=False)
+    told = subprocess.run(words, stderr=subprocess.PIPE, text=True, timeout=COMMAND, check=False)
     assert told.returncode == 0, told.stderr
 
 
 def ran(words):
     """A command of the Python package: its status, its lines, and its errors."""
     environment = {**os.environ, "PYTHONPATH": f"{TOP}/embed/python:{SERVICE}/client/python"}
-    told = subprocess.run(["/usr/bin/python3", *words], env=environment, stdout=subprocess.PIPE, stderr=subprocess.PIPE, text=True, timeout=60, check=False)
+    told = subprocess.run(["/usr/bin/python3", *words], env=environment, stdout=subprocess.PIPE, stderr=subprocess.PIPE, text=True, timeout=COMMAND, check=False)
     return told.returncode, told.stdout.splitlines(), told.stderr
 
 
 def savepoints_by_python(url, place, *more):
     words = ["-m", "relkvanu.savepoints", "--service", url, "--job", "orders", "--folder", place, "--prefix", "s-", "--suffix", ".bin"]
-    return ran([*words, "--patience", "5s", *more])
+    return ran([*words, "--patience", "120s", *more])
 
 
 def test_records_that_have_all_their_files():
@@ -210,7 +210,7 @@ def test_the_page_restores_files_of_a_bucket():
         for count in (2, 1, 1):
             saved(count)
         job.call(dispose(3))
-        subprocess.run([PROGRAM, "backup", "--database", server.database, "--to", f"{at}/copy.db"], check=True, timeout=60)
+        subprocess.run([PROGRAM, "backup", "--database", server.database, "--to", f"{at}/copy.db"], check=True, timeout=COMMAND)
         job.call(dispose(2))
         saved(2)
         find, discarder, sweeper = python_commands(server, files)
@@ -227,7 +227,7 @@ def test_the_page_restores_files_of_a_bucket():
         assert ran(discarder)[0] == 0 and job.state()["files"]["waiting"] == 0
         status, lines, told = ran(sweeper)
         assert (status, sorted(lines[:-1])) == (3, ["unissued s-5 5", "unissued s-6 5"]), (status, lines, told)
-        subprocess.run([PROGRAM, "fence", "orders", "1000", "--url", server.url], check=True, stdout=subprocess.DEVNULL, timeout=60)
+        subprocess.run([PROGRAM, "fence", "orders", "1000", "--url", server.url], check=True, stdout=subprocess.DEVNULL, timeout=COMMAND)
         assert job.begin().session().name() == 1000
         assert ran([*sweeper, "--delete"])[0] == 0 and names_in(files) == ["s-1", "s-2"], names_in(files)
         server.stop()

@@ -86,7 +86,7 @@ def test_sizes_outlive_cuts():
 
 def test_sizes_outlive_a_take_over():
     with postgres() as database, folder() as at:
-        servers = [Server(at, database.url, configured(at, "lease_seconds = 1\n")) for _ in range(2)]
+        servers = [Server(at, database.url, configured(at, "lease_seconds = 3\n")) for _ in range(2)]
         leader, standby = servers[0].start(), servers[1].stand_by()
         wanted = worked(Service(leader.url).open("orders", SETTINGS, [2]))
         # a leader of an earlier version has deleted this file, and left its size

@@ -5,7 +5,7 @@ import subprocess
 import threading
 import time
 
-from harness import PROGRAM, Server, check_log, folder, over_copy, served, until
+from harness import COMMAND, PROGRAM, Server, check_log, folder, over_copy, served, until
 from relkvanu_service import Service
 from run import Skipped
 
@@ -13,7 +13,7 @@ JOB = {"name": "orders", "settings": {"interval": 50}, "shape": [1]}
 
 
 def refused(args, status, text):
-    told = subprocess.run([PROGRAM, "serve", *args], stderr=subprocess.PIPE, stdout=subprocess.PIPE, text=True, timeout=20, check=False)
+    told = subprocess.run([PROGRAM, "serve", *args], stderr=subprocess.PIPE, stdout=subprocess.PIPE, text=True, timeout=COMMAND, check=False)
     assert told.returncode == status, (args, told)
     assert text in told.stderr, (args, told.stderr)
 
@@ -176,7 +176,7 @@ def test_an_end_runs_no_finalizers():
         assert told.returncode == -6, told
         for status, words in (75, ["--database", f"{at}/no/x.db"]), (78, ["--database", f"{at}/x.db", "--token-file", f"{at}/none"]):
             words = [*loaded, PROGRAM, "serve", "--listen", "127.0.0.1:0", *words]
-            told = subprocess.run(words, stderr=subprocess.DEVNULL, timeout=20, check=False)
+            told = subprocess.run(words, stderr=subprocess.DEVNULL, timeout=COMMAND, check=False)
             assert told.returncode == status, told
         server = Server(at, prefix=loaded).start()
         assert server.stop() == 0

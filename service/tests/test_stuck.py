@@ -6,7 +6,7 @@ import subprocess
 import threading
 import time
 
-from harness import PROGRAM, Server, folder, free_port, served, until
+from harness import COMMAND, LOCKED, PROGRAM, Server, folder, free_port, served, until
 from postgres import postgres
 from test_api import JOB
 from test_connections import within
@@ -14,8 +14,9 @@ from test_connections import within
 CALLS = {"calls": [{"call": "tick"}]}
 
 
-def metric(server, name):
-    lines = [line for line in server.get("/metrics")[2].splitlines() if line.startswith(f"{name} ")]
+def value(text, name):
+    """A metric, in the text of all."""
+    lines = [line for line in text.splitlines() if line.startswith(f"{name} ")]
     return float(lines[0].split()[1])
 
 
@@ -23,39 +24,39 @@ def test_health_and_metrics_answer_while_a_commit_is_stuck():
     with served() as server:
         server.request("POST", "/v1/jobs", JOB)
         assert "relkvanu_commit_under_way_seconds 0\n" in server.get("/metrics")[2]
-        base = sqlite3.connect(server.database, isolation_level=None, timeout=20)
+        base = sqlite3.connect(server.database, isolation_level=None, timeout=LOCKED)
         base.execute("begin immediate")
         told = []
         calling = threading.Thread(target=lambda: told.append(server.request("POST", "/v1/jobs/orders/calls", CALLS)[0]))
         calling.start()
         started = time.monotonic()
-        refused = until(lambda: (it := within(2, lambda: server.get("/readyz")))[0] == 503 and it, 8)
+        # before the commit is given up, which takes 10 s: then the process ends
+        refused = until(lambda: (it := within(9, lambda: server.get("/readyz")))[0] == 503 and it, 8)
         after = time.monotonic() - started
-        assert "no commit is possible" in refused[2]["error"] and refused[1]["retry-after"] == "1", refused
-        assert 2 < after < 8, after
-        assert within(2, lambda: server.get("/healthz")[0]) == 200
-        text = within(3, lambda: server.get("/metrics"))
-        assert text[0] == 200 and 'relkvanu_files{job_name="orders"' in text[2], text
-        assert metric(server, "relkvanu_commit_under_way_seconds") > 2
+        health, text = server.get("/healthz")[0], server.get("/metrics")
         base.execute("rollback")
         calling.join()
+        assert "no commit is possible" in refused[2]["error"] and refused[1]["retry-after"] == "1", refused
+        assert 2 < after < 10 and health == 200, (after, health)
+        assert text[0] == 200 and 'relkvanu_files{job_name="orders"' in text[2], text
+        assert value(text[2], "relkvanu_commit_under_way_seconds") > 2, text[2]
         assert told == [200], told
         until(lambda: server.get("/readyz")[0] == 200, 5)
-        assert metric(server, "relkvanu_commit_under_way_seconds") == 0
+        assert value(server.get("/metrics")[2], "relkvanu_commit_under_way_seconds") == 0
         return f"/readyz was 503 after {after:.1f} s, and 200 again after the commit"
 
 
 def test_errors_of_the_database_are_not_for_clients():
     with served() as server:
         server.request("POST", "/v1/jobs", JOB)
-        with sqlite3.connect(server.database, timeout=20) as base:
+        with sqlite3.connect(server.database, timeout=LOCKED) as base:
             base.execute("alter table call rename to elsewhere")
         for path in "/v1/jobs/orders/log", "/v1/jobs/orders/events?after=0":
             status, headers, told = server.get(path)
             assert status == 503 and headers["retry-after"] == "1", (path, status, told)
             assert told == {"error": "the database can't be read now"}, told
         assert "no such table" in server.log()
-        with sqlite3.connect(server.database, timeout=20) as base:
+        with sqlite3.connect(server.database, timeout=LOCKED) as base:
             base.execute("alter table elsewhere rename to call")
         until(lambda: server.get("/v1/jobs/orders/log")[0] == 200)
         return "2 reads"
@@ -87,7 +88,7 @@ class Forgetful(threading.Thread):
         super().__init__(daemon=True)
         self.to, self.port, self.links, self.listens = to, free_port(), [], threading.Event()
         self.start()
-        assert self.listens.wait(10), "the proxy does not listen"
+        assert self.listens.wait(COMMAND), "the proxy does not listen"
 
     def run(self):
         asyncio.run(self.main())
@@ -132,11 +133,12 @@ def test_a_connection_to_postgresql_that_was_forgotten():
         times = []
         for path in "/v1/jobs/orders/events?after=0", "/v1/jobs/orders/log", "/v1/jobs/orders":
             started = time.monotonic()
-            status, _, told = within(12, lambda path=path: server.get(path))
+            status, _, told = within(30, lambda path=path: server.get(path))
             assert status == 200, (path, status, told)
             times.append(time.monotonic() - started)
-        assert server.process.poll() is None and max(times) < 6, times
-        assert kept_alive(proxy.port) >= 2
+        # it tries a connection for 3 s; a statement may take a minute
+        assert server.process.poll() is None and max(times) < 30, times
+        until(lambda: kept_alive(proxy.port) >= 2)
         server.stop()
         return f"{count} connections: the reads took {', '.join(f'{it:.1f} s' for it in times)}"
 
@@ -200,11 +202,11 @@ def test_what_is_no_database_is_refused():
     with folder() as at:
         for text in "host=db dbname=x password=secret", "dbname = x", "mysql://u:secret@db/x", "":
             words = [PROGRAM, "serve", "--listen", "127.0.0.1:0", "--database", text]
-            told = subprocess.run(words, stderr=subprocess.PIPE, text=True, timeout=20, check=False, cwd=at)
+            told = subprocess.run(words, stderr=subprocess.PIPE, text=True, timeout=COMMAND, check=False, cwd=at)
             assert told.returncode == 78 and "database: " in told.stderr and "secret" not in told.stderr, (text, told)
         assert os.listdir(at) == [], os.listdir(at)
         words = [PROGRAM, "serve", "--listen", "127.0.0.1:0", "--database", f"Postgres://u@127.0.0.1:{free_port()}/x"]
-        told = subprocess.run(words, stderr=subprocess.PIPE, text=True, timeout=20, check=False, cwd=at)
+        told = subprocess.run(words, stderr=subprocess.PIPE, text=True, timeout=COMMAND, check=False, cwd=at)
         assert told.returncode == 75 and "onnection" in told.stderr and os.listdir(at) == [], told
         return "5 words"
 
@@ -223,7 +225,7 @@ def test_files_are_private_and_a_link_is_no_other_database():
         assert len(modes) >= 6 and set(modes.values()) == {0o600}, {name: oct(mode) for name, mode in modes.items()}
         os.symlink(server.database, f"{at}/link.db")
         words = [PROGRAM, "serve", "--listen", "127.0.0.1:0", "--database", f"{at}/link.db", "--history", f"{at}/h"]
-        told = subprocess.run(words, stderr=subprocess.PIPE, text=True, timeout=20, check=False)
+        told = subprocess.run(words, stderr=subprocess.PIPE, text=True, timeout=COMMAND, check=False)
         assert told.returncode == 75 and "another process serves this database" in told.stderr, told
         server.stop()
         return f"{len(modes)} files of mode 600; a symbolic link ended with 75"

@@ -58,7 +58,7 @@ def test_a_lost_history_is_made_again_with_what_was_cut():
 
 def test_a_new_leader_knows_what_was_cut():
     with postgres() as database, folder() as at:
-        servers = [Server(at, database.url, configured(at, "lease_seconds = 1\nimage_calls = 20\nkeep_calls = 30\n")) for _ in range(3)]
+        servers = [Server(at, database.url, configured(at, "lease_seconds = 3\nimage_calls = 20\nkeep_calls = 30\n")) for _ in range(3)]
         leader, standby = servers[0].start(), servers[1].start(ready=False)
         job = Service(leader.url).open("orders", SETTINGS, [2])
         before = prepared(job)

@@ -5,16 +5,16 @@ import re
 import subprocess
 import urllib.request
 
-from harness import PROGRAM, SERVICE, TOP, free_port, until
+from harness import COMMAND, PROGRAM, SERVICE, TOP, free_port, until
 from relkvanu_service import Service
 from test_sweep import SETTINGS, a_job, names_in, swept, write
 
 
 def swept_by_python(server, place, *more, job="a"):
     """Its status, its lines but the last, its sums and its errors."""
-    words = ["/usr/bin/python3", "-m", "relkvanu.sweep", "--service", server.url, "--job", job, "--folder", place, "--prefix", "s-", "--patience", "5s", *more]
+    words = ["/usr/bin/python3", "-m", "relkvanu.sweep", "--service", server.url, "--job", job, "--folder", place, "--prefix", "s-", "--patience", "120s", *more]
     path = f"{TOP}/embed/python:{SERVICE}/client/python"
-    told = subprocess.run(words, env={**os.environ, "PYTHONPATH": path}, stdout=subprocess.PIPE, stderr=subprocess.PIPE, text=True, timeout=60, check=False)
+    told = subprocess.run(words, env={**os.environ, "PYTHONPATH": path}, stdout=subprocess.PIPE, stderr=subprocess.PIPE, text=True, timeout=COMMAND, check=False)
     lines = told.stdout.splitlines()
     sums = dict(word.split("=") for word in lines[-1].split(" ")) if lines else {}
     return told.returncode, sorted(lines[:-1]), sums, told.stderr
@@ -68,7 +68,7 @@ def test_the_names_that_a_discarder_wrote():
         discards = [PROGRAM, "discard", "--job", "b", "--folder", place, "--url", server.url, "--once", "--init", "--prefix"]
         for prefix, refused in (("t-", False), ("s-1", True)):
             # it does not know how the files of the first job are named, which has no discarder: so it says nothing of them
-            subprocess.run([*discards, prefix], check=True, stdout=subprocess.DEVNULL, stderr=subprocess.DEVNULL, timeout=60)
+            subprocess.run([*discards, prefix], check=True, stdout=subprocess.DEVNULL, stderr=subprocess.DEVNULL, timeout=COMMAND)
             with open(f"{place}/.relkvanu-b.names", encoding="utf-8") as it:
                 assert json.load(it) == {"prefix": prefix, "suffix": ""}
             status, lines, _, told = swept_by_python(server, place)
@@ -81,7 +81,7 @@ def test_the_names_that_a_discarder_wrote():
 
 def metrics(port):
     """The names with their labels, and the help."""
-    with urllib.request.urlopen(f"http://127.0.0.1:{port}/metrics", timeout=5) as told:
+    with urllib.request.urlopen(f"http://127.0.0.1:{port}/metrics", timeout=COMMAND) as told:
         text = told.read().decode()
     names = {line.rpartition(" ")[0] for line in text.splitlines() if not line.startswith("#")}
     return names, dict(re.findall(r"^# HELP (\S+) (.*)$", text, re.M))
@@ -105,8 +105,12 @@ def test_the_same_metrics():
             except OSError:
                 return None
 
+        def differ():
+            return [serves(port) for port in ports]
+
         try:
-            theirs, mine = (until(lambda port=port: serves(port)) for port in ports)
+            # some are there once each has swept
+            theirs, mine = until(lambda: (it := differ())[0] is not None and it[0] == it[1] and it, told=differ)
         finally:
             for run in runs:
                 run.kill()
@@ -117,10 +121,10 @@ def test_the_same_metrics():
 
 def discarded_by_python(server, place, *more, job="a"):
     """Its status, the files that it deleted, and its errors."""
-    given = ["--service", server.url, "--job", job, "--folder", place, "--prefix", "s-", "--patience", "5s", *more]
+    given = ["--service", server.url, "--job", job, "--folder", place, "--prefix", "s-", "--patience", "120s", *more]
     environment = {**os.environ, "PYTHONPATH": f"{TOP}/embed/python:{SERVICE}/client/python"}
     command = ["/usr/bin/python3", "-m", "relkvanu.discard", *given]
-    told = subprocess.run(command, env=environment, stdout=subprocess.PIPE, stderr=subprocess.PIPE, text=True, timeout=60, check=False)
+    told = subprocess.run(command, env=environment, stdout=subprocess.PIPE, stderr=subprocess.PIPE, text=True, timeout=COMMAND, check=False)
     return told.returncode, sum(int(number) for number in re.findall("^deleted=([0-9]+)", told.stdout, re.M)), told.stderr
 
 

@@ -3,11 +3,12 @@ import random
 import threading
 import time
 
-import harness  # noqa: F401 (it finds the client)
+import harness
 from relkvanu_service import Failed, OldTerm, Service, ack, decline, deleted, dispose, restore, savepoint, take, undeleted
 
 SETTINGS = {"interval": 40, "at_once": 2, "timeout": 1500, "tolerable": 2, "retained": 2}
 SHAPE = [2, 3]
+PATIENCE = harness.BUSY * 60  # seconds, in which a service or its database is there again
 
 
 class Writer(threading.Thread):
@@ -15,7 +16,7 @@ class Writer(threading.Thread):
 
     def __init__(self, urls, job, number):
         super().__init__(daemon=True)
-        self.service = Service(*urls, patience=60)
+        self.service = Service(*urls, patience=PATIENCE)
         self.job = self.service.job(job)
         self.name_of_job = job
         self.random = random.Random(number)
@@ -33,6 +34,9 @@ class Writer(threading.Thread):
                 if failed.status not in (404, 507):
                     self.errors.append(str(failed))
                     return
+            except Exception as failed:
+                self.errors.append(repr(failed))
+                raise
 
     def files(self, count):
         self.next_file += count
@@ -94,8 +98,13 @@ def end(writers):
     for writer in writers:
         writer.over.set()
     for writer in writers:
-        writer.join(90)
+        writer.join(PATIENCE + 60)
         assert not writer.is_alive(), "a writer hangs"
+
+
+def made_by(writers):
+    """How many calls of these writers were acknowledged."""
+    return sum(len(writer.made) for writer in writers)
 
 
 class NamedWriter(Writer):

@@ -301,16 +301,25 @@ mod tests {
         Member { name, address, spreads: true, beat, lease }
     }
 
+    impl Watch {
+        /// Since when a member has committed nothing.
+        fn since(&self, name: &str) -> Option<Moment> {
+            self.seen.get(name).map(|(_, since)| *since)
+        }
+    }
+
     #[test]
     fn a_member_that_commits_stays() {
-        let (mut watch, zero) = (Watch::default(), Duration::ZERO);
+        let (mut watch, zero, hour) = (Watch::default(), Duration::ZERO, Duration::from_secs(3600));
         assert!(watch.note(&[member("a", 0), member("b", 7)]) && !watch.note(&[member("a", 0), member("b", 7)]));
         std::thread::sleep(Duration::from_millis(40));
         assert!(!watch.has_committed("a"));
+        let now = Moment::now();
         assert!(watch.note(&[member("a", 1), member("b", 7)]));
         assert!(watch.has_committed("a") && !watch.has_committed("b") && !watch.has_committed("c"));
-        assert!(!watch.is_over(&member("a", 1), zero) && watch.is_over(&member("b", 7), zero));
-        assert!(!watch.is_over(&member("b", 7), Duration::from_secs(60)) && !watch.is_over(&member("c", 0), zero));
+        assert!(watch.since("a") >= Some(now) && watch.since("b") < Some(now) && watch.since("c").is_none());
+        assert!(!watch.is_over(&member("a", 1), hour) && watch.is_over(&member("b", 7), zero));
+        assert!(!watch.is_over(&member("b", 7), hour) && !watch.is_over(&member("c", 0), zero));
         assert!(watch.note(&[member("a", 1)]) && !watch.note(&[member("a", 1)]));
     }
 
@@ -321,9 +330,10 @@ mod tests {
         std::thread::sleep(Duration::from_millis(40));
         watch.begin_anew_after(Duration::from_secs(60));
         assert!(watch.is_over(&a, zero));
+        let now = Moment::now();
         watch.begin_anew_after(Duration::from_millis(20));
         watch.note(std::slice::from_ref(&a));
-        assert!(!watch.is_over(&a, zero));
+        assert!(watch.since("a") >= Some(now));
     }
 
     #[test]

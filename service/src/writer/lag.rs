@@ -34,8 +34,10 @@ mod tests {
         std::thread::sleep(pause);
         lag.note(20, 9);
         assert!(lag.time() >= pause);
+        // from here on it is behind with another place
+        let now = Instant::now();
         lag.note(20, 10);
-        assert!(lag.time() < pause);
+        assert!(lag.0.lock().is_ok_and(|behind| behind.is_some_and(|(place, since)| place == 20 && since >= now)));
         lag.note(20, 20);
         assert_eq!(lag.time(), Duration::ZERO);
     }
