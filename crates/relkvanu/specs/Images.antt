@@ -29,7 +29,7 @@ BringsImage m old new answer = answer.code ≡ 0 → StandsInFront (image_bytes 
 
 -- the state and the names that an image with names has
 abbrev pub fenced_from : Named → fencing.Fenced
-fenced_from i = record { core = i.core; term = i.term; next_name = i.next_name; unspent = spans.names_in i.unspent }
+fenced_from i = record { core = i.core; term = i.term; next_name = i.next_name; unspent = spans.names_of i.unspent }
 
 -- An image of this state: its ranges are in ascending order, and none is empty. They have the names that the term holds, cut into
 -- ranges in any way.
