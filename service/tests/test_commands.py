@@ -10,7 +10,7 @@ import subprocess
 import threading
 import time
 
-from harness import PROGRAM, SERVICE, TOP, Server, caught_up, folder, free_port, served, until
+from harness import COMMAND, PROGRAM, SERVICE, TOP, Server, caught_up, folder, free_port, served, until
 from postgres import postgres
 from relkvanu_service import Service, ack, deleted, dispose, savepoint
 from run import Skipped
@@ -21,7 +21,7 @@ KEEPING = ["--image-calls", "20", "--keep-calls", "40"]
 
 def ran(*words, status=0):
     """What the program prints on standard output, and after it on standard error, where it says nothing if it has done its work."""
-    told = subprocess.run([PROGRAM, *map(str, words)], stdout=subprocess.PIPE, stderr=subprocess.PIPE, text=True, timeout=60, check=False)
+    told = subprocess.run([PROGRAM, *map(str, words)], stdout=subprocess.PIPE, stderr=subprocess.PIPE, text=True, timeout=COMMAND, check=False)
     assert told.returncode == status and (status or not told.stderr), (words, told)
     return told.stdout + told.stderr
 
@@ -102,7 +102,7 @@ def test_calls_of_a_user():
 
         engine = threading.Thread(target=complete)
         engine.start()
-        told = [json.loads(line) for line in ask("savepoint", "orders", "--wait", 30, "--json").splitlines()]
+        told = [json.loads(line) for line in ask("savepoint", "orders", "--wait", COMMAND // 2, "--json").splitlines()]
         engine.join()
         assert [told[0]["savepoint"], told[0]["id"], told[1]] == ["triggered", 2, {"completed": 2}], told
         began = time.monotonic()
@@ -117,7 +117,7 @@ def test_calls_of_a_user():
         # one that ends before it is complete
         ending = threading.Thread(target=lambda: until(lambda: (live := job.state()["live"]) and live[-1]["id"] == 4) and ask("cancel", "orders"))
         ending.start()
-        told = ask("savepoint", "orders", "--wait", 30, status=1)
+        told = ask("savepoint", "orders", "--wait", COMMAND // 2, status=1)
         ending.join()
         assert "savepoint 4 ended before it was complete" in told, told
         assert "NotRunning" in ask("cancel", "orders", status=1) and job.state()["mode"] == "cancelled"
@@ -184,9 +184,11 @@ def test_check():
         worked(job, 8)
         database, check = server.database, ["check", "--database", server.database]
         seq = job.state()["seq"]
+        images = 1 if seq < 40 else 2
+        until(lambda: one(database, "select count(*) from image where job = 1") == (images,))
         told = [json.loads(line) for line in ran(*check, "--json").splitlines()]
         assert told == [
-            {"job": "orders", "alike": True, "calls": seq, "images": 1 if seq < 40 else 2}, {"job": "users", "alike": True, "calls": 1, "images": 0},
+            {"job": "orders", "alike": True, "calls": seq, "images": images}, {"job": "users", "alike": True, "calls": 1, "images": 0},
         ], (told, seq)
         # while a service commits, and cuts
         worked(job, 60, 9)

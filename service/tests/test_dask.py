@@ -44,13 +44,19 @@ def test_an_engine_whose_coordinator_is_killed():
         os.mkdir(storage)
         server = Server(at).start()
         words = [ENGINE, "1", "--service", server.url, "--storage", storage, "--answered", answered]
-        engine = subprocess.Popen(words, stdout=subprocess.PIPE, stderr=subprocess.STDOUT, text=True, start_new_session=True)
-        try:
-            kills = killed_until_ended(server, engine, random.Random(1))
-        finally:
-            if engine.poll() is None:
-                os.killpg(engine.pid, signal.SIGKILL)  # its workers too
-        told = engine.communicate()[0]
+        # on a busy machine it may say more than a pipe takes
+        with open(f"{at}/said", "w+", encoding="utf-8", errors="replace") as said:
+            engine = subprocess.Popen(words, stdout=said, stderr=subprocess.STDOUT, start_new_session=True)
+            try:
+                kills = killed_until_ended(server, engine, random.Random(1))
+            finally:
+                if engine.poll() is None:
+                    os.killpg(engine.pid, signal.SIGKILL)  # its workers too
+                status = engine.wait()
+                said.seek(0)
+                told = said.read()[-3000:]
+                if status:
+                    print(f"the engine ended with {status}: {told}")
         assert engine.returncode == 0 and kills >= 5, (kills, told)
         job = Service(server.url).job("dask")
         log = list(job.log(terms=True))

@@ -11,12 +11,13 @@ import time
 import requests
 
 from between import Between
-from harness import PROGRAM, Server, folder, free_port, served, until
+from harness import BUSY, COMMAND, PROGRAM, Server, folder, free_port, served, until
 from postgres import postgres
 from relkvanu_service import Failed, Service, ack, cancel, dispose, restore, savepoint
 from run import Skipped
 
 SETTINGS = {"interval": 1 << 40}
+PATIENCE = 25  # seconds: so a try has 10 of them
 ENGINE = f"{os.path.dirname(PROGRAM)}/examples/engine"
 
 
@@ -55,10 +56,10 @@ def test_a_machine_that_is_gone():
             assert Service(url, server.url).jobs()
             took[f"Python, {name}"] = time.monotonic() - asked
         for name, run in runs.items():
-            told = run.communicate(timeout=60)[0]
+            told = run.communicate(timeout=COMMAND)[0]
             took[name] = time.monotonic() - begun
             assert run.returncode == 0, (name, told)
-        assert all(seconds < 30 for seconds in took.values()), took
+        assert all(seconds < 30 * BUSY for seconds in took.values()), took
         assert took["Python, drops"] < 9, took
         return ", ".join(f"{name} {seconds:.1f} s" for name, seconds in took.items())
 
@@ -89,7 +90,7 @@ def test_which_answers_are_asked_again():
         fates = []
         between = Between(server, lambda number, body: fates.pop(0) if fates else None)
 
-        def asked(*answers, call=lambda: Service(between.url, patience=5).jobs()):
+        def asked(*answers, call=lambda: Service(between.url, patience=PATIENCE).jobs()):
             fates[:] = [(answer, {}) if isinstance(answer, int) else answer for answer in answers]
             between.came.clear()
             begun = time.monotonic()
@@ -101,7 +102,7 @@ def test_which_answers_are_asked_again():
             fates.clear()
             return told, len(between.came), time.monotonic() - begun
 
-        job = Service(between.url, patience=5).job("a")
+        job = Service(between.url, patience=PATIENCE).job("a")
         for status in (429, 500, 502, 503, 504):
             assert asked(status)[:2] == (200, 2), status
         for status in (400, 401, 404, 409, 422, 301):
@@ -110,15 +111,15 @@ def test_which_answers_are_asked_again():
         assert asked(500, call=lambda: job.call(savepoint()))[:2] == (500, 1)
         assert asked(502, 504, call=lambda: job.call(savepoint()))[:2] == (200, 3)
         told = asked((503, {"Retry-After": "1"}))
-        assert told[:2] == (200, 2) and 1 <= told[2] < 5, told
-        told = asked((503, {"Retry-After": "30"}))  # longer than it may take
-        assert told[:2] == (503, 1) and told[2] < 5, told
+        assert told[:2] == (200, 2) and 1 <= told[2] < PATIENCE, told
+        told = asked((503, {"Retry-After": str(2 * PATIENCE)}))  # longer than it may take
+        assert told[:2] == (503, 1) and told[2] < PATIENCE, told
         for url in ("nowhere", "http://", "ftp://127.0.0.1/"):
             begun = time.monotonic()
             try:
-                raise AssertionError(Service(url, patience=5).jobs())
+                raise AssertionError(Service(url, patience=PATIENCE).jobs())
             except (requests.RequestException, ValueError):
-                assert time.monotonic() - begun < 5, url
+                assert time.monotonic() - begun < PATIENCE, url
         between.http.shutdown()
         return "5 statuses are asked again, 6 are not"
 
@@ -132,7 +133,7 @@ def test_a_deadline_of_the_caller():
                 raise AssertionError(ask())
             except requests.RequestException:
                 took.append(time.monotonic() - begun)
-        assert all(0.2 < seconds < 5 for seconds in took), took
+        assert all(0.2 < seconds < 9 for seconds in took), took  # without it a try has 10 s
         return f"{max(took):.1f} s at most"
 
 
@@ -147,12 +148,19 @@ def test_the_leader_that_a_standby_names():
             took = time.monotonic() - begun
         standby.kill()
         leader.stop()
-        assert took < 9, took
+        assert took < 9, took  # a try at the mute one takes 10 s
         return f"{took:.2f} s, past a mute address between them"
 
 
+def waiting(server):
+    """How many requests wait for the writer."""
+    found = re.search(r"^relkvanu_queue_requests (\d+)$", server.get("/metrics")[2], re.M)
+    return int(found[1])
+
+
 def test_keys_are_looked_up_for_a_group():
-    """Many requests at once, whose commits take a while: those that wait share a statement that looks up their keys."""
+    """Many requests at once, beside a commit that takes a while: those that wait share a statement that looks up their keys."""
+    clients, rounds = 64, 4
     with postgres() as database, folder() as at:
         with open(f"{database.data}/postgresql.conf", "a", encoding="utf-8") as it:
             it.write("log_statement = 'all'\nlog_min_messages = log\n")
@@ -161,25 +169,25 @@ def test_keys_are_looked_up_for_a_group():
         server = Server(at, database.url).start()
         job = Service(server.url).open("a", SETTINGS, [1])
         job.calls([savepoint(), ack(1, "0.0", [1])])
-        database.sql("""create function slow() returns trigger language plpgsql as 'begin perform pg_sleep(0.05); return null; end';
+        # a commit lasts as long as the table `held` has a row
+        database.sql("""create table held(); create function slow() returns trigger language plpgsql as
+            'begin while exists(select from held) loop perform pg_sleep(0.01); end loop; return null; end';
             create trigger slow after insert on request for each statement execute function slow()""")
-        begun = threading.Barrier(64)
-
-        def late(number):
-            begun.wait()
-            for _ in range(4):
-                job.calls([ack(1, "0.0", [1000 + number])])
-
-        threads = [threading.Thread(target=late, args=(number,)) for number in range(64)]
-        for thread in threads:
-            thread.start()
-        for thread in threads:
-            thread.join()
+        for _ in range(rounds):
+            database.sql("insert into held default values")
+            threads = [threading.Thread(target=lambda number: job.calls([ack(1, "0.0", [1000 + number])]), args=(number,)) for number in range(clients)]
+            for thread in threads:
+                thread.start()
+            # all but those of the commit that is under way; a request for the metrics waits too
+            until(lambda: waiting(server) > clients / 2)
+            database.sql("delete from held")
+            for thread in threads:
+                thread.join()
         keys = int(database.sql("select count(*) from request"))
         server.stop()
         with open(f"{database.data}/log", encoding="utf-8") as it:
             looked = len(re.findall(r"execute keyed: ", it.read()))
-        assert keys >= 257 and 0 < looked < keys / 4, (keys, looked)
+        assert keys > clients * rounds and 0 < looked < keys / 4, (keys, looked)
         return f"{keys} requests with a key, {looked} statements for all their keys"
 
 
@@ -201,17 +209,17 @@ def test_https():
         subprocess.run([*words, "-addext", "subjectAltName=DNS:localhost", "-keyout", f"{path}.key", "-out", path], check=True, stderr=subprocess.DEVNULL)
         url = with_tls(server, path)
         begun = time.monotonic()
-        told = subprocess.run([ENGINE, url, "a", "2"], env={**os.environ, "SSL_CERT_FILE": path}, capture_output=True, text=True, timeout=60, check=False)
+        told = subprocess.run([ENGINE, url, "a", "2"], env={**os.environ, "SSL_CERT_FILE": path}, capture_output=True, text=True, timeout=COMMAND, check=False)
         assert told.returncode == 0 and "checkpoints completed" in told.stdout, told
         assert [job["name"] for job in Service(url, ca=path).jobs()] == ["a"]
         # a certificate that is not trusted stays so: no other try
         begun = time.monotonic()
-        told = subprocess.run([ENGINE, url, "a", "2"], capture_output=True, text=True, timeout=60, check=False)
+        told = subprocess.run([ENGINE, url, "a", "2"], capture_output=True, text=True, timeout=COMMAND, check=False)
         assert told.returncode == 1 and "certificate verify failed" in told.stderr, told
         try:
             raise AssertionError(Service(url).jobs())
         except requests.exceptions.SSLError:
             pass
         took = time.monotonic() - begun
-        assert took < 20, took
+        assert took < 55, took  # another try would come for a minute
         return "the engine in Rust and the client in Python; not without the certificate"

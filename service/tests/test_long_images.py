@@ -3,7 +3,7 @@ import os
 import sqlite3
 import threading
 
-from harness import Server, check_log, folder, until
+from harness import BUSY, Server, check_log, folder, until
 from postgres import postgres
 from preloaded import built
 from relkvanu_service import Service, ack, savepoint
@@ -34,14 +34,14 @@ def test_other_jobs_are_called_while_an_image_is_made():
     with folder() as at:
         held = f"{at}/held"
         server = Server(at, prefix=["env", f"LD_PRELOAD={built(at, 'held')}", f"HELD={held}"], args=["--image-calls", "80"]).start()
-        service = Service(server.url, patience=10)
+        service = Service(server.url)
         large, others = opened(service), [service.open(f"j{number}", SETTINGS, [1]) for number in range(50)]
         with open(held, "w", encoding="utf-8"):
             ticked_to(large, 80)
         until(lambda: os.path.exists(f"{held}.waits"))
         # from here on the image is being made, until the file goes
         told = []
-        waiting = threading.Thread(target=lambda: told.append(large.within(60).call(TICK)["seq"]))
+        waiting = threading.Thread(target=lambda: told.append(large.within(BUSY * 60).call(TICK)["seq"]))
         waiting.start()
         for round_ in range(1, 4):
             assert [job.call(TICK)["seq"] for job in others] == [round_] * len(others)
@@ -50,7 +50,7 @@ def test_other_jobs_are_called_while_an_image_is_made():
         assert states["large"]["image"] is None and len(states) == 51 and states["j7"]["seq"] == 3
         assert server.get("/metrics")[0] == 200 and waiting.is_alive() and not told
         os.remove(held)
-        waiting.join(30)
+        waiting.join(BUSY * 60)
         assert told == [81], told
         image = until(lambda: large.state()["image"])
         assert image["seq"] == 80 and image["bytes"] > 4_000_000, image
@@ -102,15 +102,24 @@ def test_an_image_that_is_not_written_whole():
         job = opened(Service(server.url))
         database.sql("""create function refused() returns trigger language plpgsql as
             $$ begin raise exception 'no room' using errcode = '53100'; end $$;
-            create trigger refused before insert on image_part for each row when (new.part = 3) execute function refused()""")
+            create trigger refused before insert on image_part for each row when (new.part = 3) execute function refused();
+            create table gone(part bigint);
+            create function noted() returns trigger language plpgsql as 'begin insert into gone values(old.part); return old; end';
+            create trigger noted after delete on image_part for each row execute function noted()""")
         ticked_to(job, 80)
-        until(lambda: "an image of job large is put off" in server.log())
-        assert database.sql(NOT_WHOLE) == "3" and job.call(TICK)["seq"] == 81 and job.state()["image"] is None
-        # they are deleted before the next try
-        until(lambda: database.sql(NOT_WHOLE) == "0", 10, 0.01)
-        until(lambda: database.sql(NOT_WHOLE) == "3", 10, 0.01)
+
+        def tries():
+            return server.log().count("an image of job large is put off")
+
+        until(lambda: tries() > 0, each=0.01)
+        assert job.call(TICK)["seq"] == 81 and job.state()["image"] is None
+        # they are deleted before the next try, which comes after 2 s, and then after twice as long each time
+        until(lambda: tries() > 1, each=0.01)
         server.kill()
-        assert database.sql(NOT_WHOLE) == "3"
+        database.quiet()
+        gone, left = database.sql("select string_agg(part::text, ' ' order by part) from gone"), database.sql(NOT_WHOLE)
+        wanted = " ".join(str(part) for part in range(3) for _ in range(tries() - 1))
+        assert left == "3" and gone == wanted, (left, gone, tries())
         database.sql("drop trigger refused on image_part; create trigger refused before insert on image_part for each row execute function refused()")
         server.start()
         assert database.sql(NOT_WHOLE) == "0" and server.replayed()[-1] == 81, server.replayed()

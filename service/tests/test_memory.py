@@ -8,7 +8,7 @@ import time
 from harness import HERE, PROGRAM, Server, folder, until
 from relkvanu_service import Service
 from run import Skipped
-from writers import SETTINGS, SHAPE, NamedWriter, Writer, check
+from writers import SETTINGS, SHAPE, NamedWriter, Writer, check, end
 
 
 def test_no_memory_in_calls():
@@ -34,17 +34,19 @@ def hungry(has_names):
         for writer in writers:
             writer.start()
         opened = {}
-        for number in range(20):
+
+        def no_memory():
+            return sum(writer.no_memory for writer in writers)
+
+        # an even number of signals, so that there is memory at the end; a busy machine makes fewer calls between two of them
+        while len(opened) < 20 or len(opened) % 2 or no_memory() < 4 and len(opened) < 400:
             time.sleep(0.2)
             os.kill(server.process.pid, signal.SIGUSR2)
-            opened[f"new-{number}"] = server.request("POST", "/v1/jobs", {"name": f"new-{number}", "settings": {"interval": 1 << 40}, "shape": [1], "names": has_names})[0]
-        for writer in writers:
-            writer.over.set()
-        for writer in writers:
-            writer.join(60)
-        no_memory, not_made = sum(writer.no_memory for writer in writers), sum(writer.not_made for writer in writers)
-        # (a busy machine makes fewer calls between the twenty signals)
-        assert no_memory >= 4, f"memory ran out {no_memory} times"
+            body = {"name": f"new-{len(opened)}", "settings": {"interval": 1 << 40}, "shape": [1], "names": has_names}
+            opened[body["name"]] = server.request("POST", "/v1/jobs", body)[0]
+        end(writers)
+        not_made = sum(writer.not_made for writer in writers)
+        assert no_memory() >= 4, f"memory ran out {no_memory()} times"
         until(lambda: job.state()["mode"] == "failed", 30)
         told = check(writers, service, "orders", SHAPE)
         # a job whose names can't be given out for want of memory is not there
@@ -60,4 +62,4 @@ def hungry(has_names):
             assert before[name] == after[name], (name, before, after)
         server.stop()
         opened = f"{len(there)} of {len(opened)} jobs were opened"
-        return f"memory ran out in {no_memory} calls, {not_made} after them were not made; {told[0]} acknowledged, {told[2]} answered alike by the proved program; {opened}"
+        return f"memory ran out in {no_memory()} calls, {not_made} after them were not made; {told[0]} acknowledged, {told[2]} answered alike by the proved program; {opened}"

@@ -11,10 +11,11 @@ import threading
 import time
 from contextlib import contextmanager
 
-from harness import PROGRAM, TOP, Server, caught_up, check_log, configured, folder, free_port, lose_history, over_copy, small_disk, until
+from harness import COMMAND, LOCKED, PROGRAM, TOP, Server, caught_up, check_log, configured, folder, free_port, lose_history, over_copy, small_disk, until
 from postgres import postgres
 from relkvanu_service import Service, ack, cancel, decline, deleted, dispose, restore, savepoint
 from test_disks import fill
+from test_images import read_and_cut
 from test_loop import NAMES, engine_of, known, sweep, sweeping
 
 KILLS = int(os.environ.get("RELKVANU_MOVE_KILLS", "4"))
@@ -25,7 +26,7 @@ MOVED = 1_000_000  # is added to the version of the tables of a marked database
 
 
 def run(command, database, *more, status=0):
-    told = subprocess.run([PROGRAM, command, "--database", database, *more], stdout=subprocess.PIPE, stderr=subprocess.PIPE, text=True, timeout=120, check=False)
+    told = subprocess.run([PROGRAM, command, "--database", database, *more], stdout=subprocess.PIPE, stderr=subprocess.PIPE, text=True, timeout=COMMAND, check=False)
     assert told.returncode == status, (command, more, told)
     return told.stderr
 
@@ -52,7 +53,7 @@ def is_empty(database, url):
 
 def mark_of(path):
     """Whether the database says that it is marked, and whether the mark says that the destination has the whole log."""
-    base = sqlite3.connect(path, timeout=20)
+    base = sqlite3.connect(path, timeout=LOCKED)
     is_marked = base.execute("pragma user_version").fetchone()[0] >= MOVED
     rows = base.execute("select is_whole from moved").fetchall() if is_marked else []
     base.close()
@@ -62,7 +63,7 @@ def mark_of(path):
 
 def rows_of(path):
     """How many rows each table has."""
-    base = sqlite3.connect(path, timeout=20)
+    base = sqlite3.connect(path, timeout=LOCKED)
     counts = {name: base.execute(f"select count(*) from {name}").fetchone()[0] for name in TABLES}
     base.close()
     return counts
@@ -75,7 +76,7 @@ def rows_there(database, url):
 def refused(server):
     """The service does not start over this database. Returns what it says."""
     server.start(ready=False)
-    assert server.process.wait(60) == 78, (server.process.returncode, server.log()[-600:])
+    assert server.ended() == 78, (server.process.returncode, server.log()[-600:])
     return server.log()
 
 
@@ -138,6 +139,8 @@ class Filled:
             caught_up(job)
         until(lambda: all(count > 0 for name, count in rows_of(self.server.database).items() if name != "image_part"), told=lambda: rows_of(self.server.database))
         assert min(entry["seq"] for entry in self.orders.log(terms=True)) > 1, "the log was not cut"
+        for job in (self.orders, self.users):
+            read_and_cut(job, 0)
         return self
 
 
@@ -399,7 +402,7 @@ class Wire(threading.Thread):
         self.to, self.word, self.how, self.port = to, word, how, free_port()
         self.listens, self.held, self.ends, self.answered = (threading.Event() for _ in range(4))
         self.start()
-        assert self.listens.wait(30)
+        assert self.listens.wait(COMMAND)
 
     def run(self):
         asyncio.run(self.serve())
@@ -596,6 +599,9 @@ class Killer:
         move(path, url, *more)
         return state_of(self.database, url, path)
 
+    def has_enough(self):
+        return self.kills >= KILLS and {(False, False), (True, True)} <= self.found
+
     def round(self, path, url):
         """There, back, and there again."""
         assert self.until_done(path, url) == (True, True)
@@ -609,13 +615,16 @@ def test_kills():
     with postgres() as database, folder() as at:
         server = made(at, 1500, 1)
         killer = Killer(database, at, server.database)
-        for number in range(KILLS):
+        number = 0
+        # the times that moves take change with what else a busy machine does
+        while number < KILLS or not killer.has_enough() and number < 10 * KILLS:
             path, url = f"{at}/copy-{number}.db", new_database(database, f"r{number}")
             shutil.copy(server.database, path)
             killer.round(path, url)
             os.remove(path)
+            number += 1
         serves(Server(at, url))
-        assert killer.kills >= KILLS and {(False, False), (True, True)} <= killer.found, (killer.kills, killer.found)
+        assert killer.has_enough(), (killer.kills, killer.found)
         return f"{killer.kills} kills of moves that take {killer.times[()]:.1f} s"
 
 
@@ -635,7 +644,7 @@ def held(database, path, url, word, *more, how="hold"):
     """The command where it has sent a word that did not arrive, or arrives at the end of the block."""
     wire = Wire(database.port, word, how)
     process = subprocess.Popen([PROGRAM, "move", "--database", path, "--to", wire.of(url), *more], stderr=subprocess.DEVNULL)
-    assert wire.held.wait(60)
+    assert wire.held.wait(COMMAND)
     try:
         yield process
     finally:
@@ -733,12 +742,14 @@ def check_a_used_one(database, at, path, used):
 
 def check_the_lock(database, path, url):
     """While another process may still make tables there, or commit a move, neither a move nor its way back begins."""
-    words = [*database.user, f"{database.bin}/psql", "-XAtq", url, "-c", "begin; select pg_advisory_xact_lock(7203146); select pg_sleep(60)"]
+    words = [*database.user, f"{database.bin}/psql", "-XAtq", url, "-c", "begin; select pg_advisory_xact_lock(7203146); select pg_sleep(3600)"]
     with subprocess.Popen(words, stdout=subprocess.DEVNULL, stderr=subprocess.DEVNULL, cwd="/") as other:
-        until(lambda: asked(database, url, "select count(*) from pg_locks where locktype = 'advisory'") == "1")
-        for more in ((), ("--back",)):
-            assert "lock timeout" in move(path, url, *more, status=75)
-        other.kill()
+        try:
+            until(lambda: asked(database, url, "select count(*) from pg_locks where locktype = 'advisory'") == "1")
+            for more in ((), ("--back",)):
+                assert "lock timeout" in move(path, url, *more, status=75)
+        finally:
+            other.kill()
         asked(database, url.replace("relkvanu@", "postgres@"), "select pg_terminate_backend(pid) from pg_locks where locktype = 'advisory'")
     assert state_of(database, url, path) == (False, False)
 

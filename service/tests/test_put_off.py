@@ -41,7 +41,8 @@ def test_an_image_that_postgresql_has_no_room_for():
         refuse(database, ["image"], "no room", "53100")
         for _ in range(60):
             assert tick(server), server.log()[-400:]
-        assert metric(server, FAILING) == 1 and job.state()["image"] is None
+        until(lambda: metric(server, FAILING) == 1, told=lambda: server.log()[-400:])
+        assert job.state()["image"] is None
         assert "an image of job orders is put off" in server.log(), server.log()[-400:]
         assert server.process.poll() is None
         # one that is too long for the database is no reason to end either
@@ -49,7 +50,7 @@ def test_an_image_that_postgresql_has_no_room_for():
         until(lambda: tick(server) and "too long" in server.log(), 20, 0.2)
         allow(database, ["image"])
         until(lambda: tick(server) and job.state()["image"], 20, 0.2)
-        assert metric(server, FAILING) == 0
+        until(lambda: metric(server, FAILING) == 0)
         seq = job.state()["seq"]
         server.kill()
         server.start()
@@ -78,6 +79,7 @@ def test_a_summary_that_postgresql_has_no_room_for():
                 assert database.sql("select count(*) from past") == "0"
                 allow(database, ["past"])
         allow(database, ["summary"])
+        caught_up(job)
         before = [job.record(record)["history"] for record in (1, 2, 3)]
         until(lambda: tick(server) and job.state()["first"] > 1, 30, 0.02)
         first = job.state()["first"]
@@ -109,12 +111,13 @@ def test_an_image_that_sqlite_has_no_room_for():
             until(lambda: tick(server) and server.log().count("an image of job orders is put off") > put_off)
             answered = sum(tick(server) for _ in range(20))
             assert answered == 20, (number, answered, server.log()[-400:])
-            assert metric(server, FAILING) == 1 and server.process.poll() is None
+            until(lambda: metric(server, FAILING) == 1)
+            assert server.process.poll() is None
             server.kill()
         server.prefix = []
         server.start()
         until(lambda: tick(server) and job.state()["image"], 30, 0.2)
-        assert metric(server, FAILING) == 0
+        until(lambda: metric(server, FAILING) == 0)
         log, state = list(job.log()), job.state()
         server.stop()
         check_log(state, [76], log)

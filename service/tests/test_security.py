@@ -8,7 +8,7 @@ import subprocess
 import time
 import urllib.request
 
-from harness import PROGRAM, Server, caught_up, folder, served, until
+from harness import COMMAND, PROGRAM, Server, caught_up, folder, served, until
 from relkvanu_service import Failed, Service, ack, deleted, dispose, savepoint
 from test_images import SETTINGS
 from test_start import refused
@@ -56,13 +56,14 @@ def test_tokens_for_some_jobs():
         assert ("POST", "/v1/jobs/eu-1/calls", "200", "alice") in told and ("DELETE", "/v1/jobs/eu-1", "200", "alice") in told, told
         assert ("POST", "/v1/jobs", "201", "root") in told and not any(token in server.log() for token in (ALL, ORDERS, READER))
         # a flood of refused requests makes few lines
-        before = server.log().count("status=401")
+        before, began = server.log().count("status=401"), time.monotonic()
         for _ in range(100):
             assert server.get("/v1/jobs", "x" * 20)[0] == 401
         time.sleep(1.1)
         server.get("/v1/jobs", "x" * 20)
-        lines = server.log().count("status=401") - before
-        assert 1 <= lines <= 6 and re.search(r"status=401 by=nobody took_ms=\d+ more=\d+", server.log()), lines
+        lines, seconds = server.log().count("status=401") - before, time.monotonic() - began
+        # one a second
+        assert 1 <= lines <= seconds + 2 and re.search(r"status=401 by=nobody took_ms=\d+ more=\d+", server.log()), (lines, seconds)
         server.stop()
         return f"{len(told)} lines name who called"
 
@@ -106,7 +107,7 @@ class TlsServer(Server):
     def get(self, path, token=None):
         context = ssl.create_default_context(cafile=f"{self.folder}/certificate.pem")
         try:
-            with urllib.request.urlopen(f"https://127.0.0.1:{self.port}{path}", context=context, timeout=10) as answer:
+            with urllib.request.urlopen(f"https://127.0.0.1:{self.port}{path}", context=context, timeout=COMMAND) as answer:
                 return answer.status, {}, answer.read().decode()
         except OSError as error:
             return getattr(error, "code", 0), {}, None
@@ -131,7 +132,7 @@ def test_tls_of_its_own():
         words = ["openssl", "s_client", "-connect", f"127.0.0.1:{server.port}", "-tls1_1"]
         old = subprocess.run(words, stdin=subprocess.DEVNULL, stdout=subprocess.PIPE, stderr=subprocess.STDOUT, text=True, check=False)
         assert old.returncode != 0 and "Cipher is (NONE)" in old.stdout, old.stdout[-300:]
-        with socket.create_connection(("127.0.0.1", server.port), timeout=10) as silent:
+        with socket.create_connection(("127.0.0.1", server.port), timeout=COMMAND) as silent:
             assert silent.recv(10) == b""
         first = name_of(server)
         certificate(at, "second")

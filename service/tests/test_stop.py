@@ -5,7 +5,7 @@ import socket
 import threading
 import time
 
-from harness import Server, folder
+from harness import COMMAND, Server, folder, until
 from postgres import postgres
 from test_api import JOB
 from test_connections import answer, opened, poll
@@ -21,7 +21,7 @@ class Caller(threading.Thread):
         self.server, self.name, self.answered, self.refused = server, name, 0, None
 
     def run(self):
-        it = http.client.HTTPConnection("127.0.0.1", self.server.port, timeout=20)
+        it = http.client.HTTPConnection("127.0.0.1", self.server.port, timeout=COMMAND)
         try:
             while self.refused is None:
                 it.request("POST", f"/v1/jobs/{self.name}/calls", '{"calls":[{"call":"tick"}]}', {"Content-Type": "application/json"})
@@ -48,6 +48,8 @@ def test_each_committed_call_has_its_answer():
             for it in callers:
                 it.start()
             time.sleep(0.5)
+            # each of them is at work
+            until(lambda: all(it.answered > was[it.name] + 1 or not it.is_alive() for it in callers))
             assert server.stop() == 0
             for it in callers:
                 it.join()
@@ -62,6 +64,14 @@ def test_each_committed_call_has_its_answer():
     return f"3 stops among {CONNECTIONS} connections: each of {made} calls was answered"
 
 
+def is_read(server, connection):
+    """Whether the service has read all that was sent to it on a connection: nothing is left in the system's queue."""
+    ends = [f":{port:04X}" for port in (server.port, connection.getsockname()[1])]
+    with open("/proc/net/tcp", encoding="utf-8") as it:
+        rows = [line.split() for line in it][1:]
+    return any([row[1][-5:], row[2][-5:]] == ends and row[4].endswith(":00000000") for row in rows)
+
+
 def test_a_stop_ends_polls_and_slow_bodies():
     with folder() as at:
         server = Server(at).start()
@@ -69,21 +79,24 @@ def test_a_stop_ends_polls_and_slow_bodies():
         head = "POST /v1/jobs/orders/calls HTTP/1.1\r\nHost: localhost\r\nContent-Type: application/json\r\nContent-Length: 100\r\n\r\n{"
         waits, slow, idle, silent = (opened(server, text) for text in (poll(0), head, "GET /healthz HTTP/1.1\r\nHost: localhost\r\n\r\n", ""))
         assert answer(idle)[0] == 200
+        # a connection without a request ends at a stop, so these are to be read before it
+        until(lambda: is_read(server, waits) and is_read(server, slow))
         started = time.monotonic()
         server.process.terminate()
         status, told = answer(waits)
         polled = time.monotonic() - started
-        assert status == 200 and told["events"] == [] and polled < 2, (status, told, polled)
+        # at once: it waits for answers for 12 s
+        assert status == 200 and told["events"] == [] and polled < 10, (status, told, polled)
         assert idle.recv(10) == b"" and silent.recv(10) == b""
         try:
-            socket.create_connection(("127.0.0.1", server.port), timeout=5).close()
+            socket.create_connection(("127.0.0.1", server.port), timeout=COMMAND).close()
             raise AssertionError("it still accepts connections")
         except ConnectionRefusedError:
             pass
         assert answer(slow)[0] == 503
-        assert server.process.wait(20) == 0
+        assert server.ended() == 0
         took = time.monotonic() - started
-        assert took < 9, took
+        assert took < 18, took  # 12 s for answers, and 6 s for the last commit
         return f"a poll was answered after {polled:.2f} s, a body that did not come was refused, and the end came after {took:.1f} s"
 
 
@@ -96,5 +109,5 @@ def test_a_standby_stops_at_once():
             started = time.monotonic()
             assert server.stop() == 0
             times.append(time.monotonic() - started)
-        assert times[0] < 2 and times[1] < 4, times
+        assert max(times) < 5, times  # the end of a commit may take 6 s
         return f"a standby ended after {times[0]:.2f} s, the leader after {times[1]:.2f} s"

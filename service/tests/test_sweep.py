@@ -7,9 +7,9 @@ import subprocess
 import threading
 import time
 import urllib.request
-from contextlib import contextmanager
+from contextlib import contextmanager, suppress
 
-from harness import PROGRAM, SERVICE, folder, free_port, served, until
+from harness import BUSY, COMMAND, PROGRAM, SERVICE, folder, free_port, served, until
 from relkvanu_service import Fenced, OldTerm, Refused, Service, deleted, dispose, savepoint
 from run import Skipped
 
@@ -18,8 +18,9 @@ SETTINGS = {"interval": 1 << 40}
 
 def swept(server, place, *more, job="a", prefix="s-", url=None):
     """The status, the lines by their first word and the sums of a sweep."""
-    words = [PROGRAM, "sweep", job, "--folder", place, "--url", url or server.url, "--within", "5", *(["--prefix", prefix] if prefix else []), *more]
-    told = subprocess.run(words, stdout=subprocess.PIPE, stderr=subprocess.PIPE, text=True, timeout=60, check=False)
+    within = "5" if url else "120"  # another address is that of no service
+    words = [PROGRAM, "sweep", job, "--folder", place, "--url", url or server.url, "--within", within, *(["--prefix", prefix] if prefix else []), *more]
+    told = subprocess.run(words, stdout=subprocess.PIPE, stderr=subprocess.PIPE, text=True, timeout=COMMAND, check=False)
     lines, sums = {}, {}
     for line in told.stdout.splitlines():
         if "=" in line.split(" ")[0]:
@@ -124,7 +125,7 @@ def test_sweeps_beside_tasks():
     """Two sweepers that delete all the time, tasks that fail, are replaced and go on, and a discarder. No file in use is ever missing, and at the
     end the folder has exactly the files in use."""
     with a_job() as (server, job, place):
-        job = Service(server.url).open("fast", {"interval": 20, "timeout": 500, "tolerable": 1000}, [2])
+        job = Service(server.url).open("fast", {"interval": 20, "timeout": 3000, "tolerable": 1000}, [2])
         at = f"{server.folder}/fast"
         os.mkdir(at)
         job.claim(at)
@@ -156,7 +157,7 @@ def test_sweeps_beside_tasks():
         def discarder():
             while not over.is_set():
                 for file in job.take(20):
-                    if os.path.exists(f"{at}/s-{file}"):
+                    with suppress(FileNotFoundError):
                         os.remove(f"{at}/s-{file}")
                     job.call(deleted(file))
                 time.sleep(0.01)
@@ -181,16 +182,18 @@ def test_sweeps_beside_tasks():
         extra = threading.Thread(target=lambda: [swept(server, at, "--delete", job="fast") for _ in iter(over.is_set, True)])
         for thread in [*threads, extra]:
             thread.start()
-        for _ in range(6):
-            time.sleep(1)
+        rounds = 0
+        while rounds < 6 or used[0] <= 20 and rounds < 6 * BUSY:
+            time.sleep(1 + rounds // 6)  # on a slow disk no checkpoint completes in a second
             current[0] = job.begin()
+            rounds += 1
         over.set()
         for thread in [*threads, extra]:
-            thread.join(60)
+            thread.join(COMMAND)
         lines = []
         for sweeper in sweepers:
             sweeper.terminate()
-            lines += sweeper.communicate(timeout=20)[0].splitlines()
+            lines += sweeper.communicate(timeout=COMMAND)[0].splitlines()
         assert not errors, errors[:3]
         assert used[0] > 20 and [line for line in lines if line.startswith("listed=")], (used, lines[-3:])
         start = job.begin()
@@ -214,15 +217,14 @@ def test_every_and_metrics():
 
         def value(name):
             try:
-                with urllib.request.urlopen(f"http://127.0.0.1:{port}/metrics", timeout=5) as told:
+                with urllib.request.urlopen(f"http://127.0.0.1:{port}/metrics", timeout=COMMAND) as told:
                     found = re.search(rf"^{re.escape(name)} (.*)$", told.read().decode(), re.M)
             except OSError:
                 return None
             return found and float(found[1])
 
         ended = 'relkvanu_sweep_timestamp_seconds{job_name="a"}'
-        until(lambda: value(ended))
-        first = value(ended)
+        first = until(lambda: value(ended))
         task.forfeit([1])
         until(lambda: names_in(place) == [])
         until(lambda: value('relkvanu_sweep_deleted_bytes_total{job_name="a"}') == 7)
@@ -235,21 +237,22 @@ def test_every_and_metrics():
                 assert value(name + labels) is not None, f"an alert uses {name}, which there is not"
         # it goes on after the service was away
         server.kill()
-        until(lambda: value('relkvanu_sweep_lost_requests_total{job_name="a"}') > 0)
+        until(lambda: value('relkvanu_sweep_lost_requests_total{job_name="a"}'))
         server.start()
-        now = value(ended)
-        until(lambda: value(ended) > now)
+        now = until(lambda: value(ended))
+        until(lambda: (value(ended) or 0) > now)
         # and ends if the folder is not the job's any more
         os.remove(f"{place}/.relkvanu-a")
-        assert run.wait(20) == 78 and first < now
-        assert ".relkvanu-a" in run.stderr.read() and "s-99" in run.stdout.read() and names_in(place) == ["s-99"]
+        told, errors = run.communicate(timeout=COMMAND)
+        assert run.returncode == 78 and first < now and ".relkvanu-a" in errors, (run.returncode, errors)
+        assert "s-99" in told and names_in(place) == ["s-99"], (told, errors)
         return "it sweeps again and again, also after the service was away"
 
 
 def test_commands():
     with a_job() as (server, job, place):
         def asked(*words):
-            told = subprocess.run([PROGRAM, *words, "--url", server.url], stdout=subprocess.PIPE, stderr=subprocess.PIPE, text=True, timeout=30, check=False)
+            told = subprocess.run([PROGRAM, *words, "--url", server.url], stdout=subprocess.PIPE, stderr=subprocess.PIPE, text=True, timeout=COMMAND, check=False)
             return told.returncode, told.stdout, told.stderr
 
         assert "the term is 2" in asked("restore", "a")[1]
@@ -288,10 +291,11 @@ def test_the_unit():
             line = line.replace(name, value)
         run = subprocess.Popen([PROGRAM, *line.split()], stdout=subprocess.PIPE, text=True)
         until(lambda: names_in(place) == [])
+        told = "".join(run.stdout.readline() for _ in range(2))
         time.sleep(0.3)
         assert run.poll() is None, "it does not go on"
         run.terminate()
-        told = run.communicate(timeout=20)[0]
+        run.communicate(timeout=COMMAND)
         assert told.startswith("deleted s-1 5\nlisted=1 garbage=1 bytes=5 deleted=1 failed=0 unissued=0"), told
     if not shutil.which("systemd-analyze"):
         raise Skipped("systemd-analyze is not here")

@@ -3,7 +3,7 @@ import sqlite3
 import threading
 import time
 
-from harness import Server, folder, served, until
+from harness import BUSY, LOCKED, Server, folder, served, until
 from postgres import postgres
 from relkvanu_service import Service, savepoint
 from test_metrics import scraped
@@ -38,7 +38,7 @@ def test_old_keys_go_in_pieces():
             asked = time.monotonic()
             assert keyed_call(server, f"new{asked}")[0] == 200
             longest = max(longest, time.monotonic() - asked)
-            assert time.monotonic() - started < 20, f"{count('old%')} old keys are left"
+            assert time.monotonic() - started < BUSY * 20, f"{count('old%')} old keys are left"
         took = time.monotonic() - started
         assert count("young%") == 100 and keyed_call(server, "new")[2] == early[2]
         until(lambda: scraped(server)[1]["relkvanu_keys_behind_seconds"] == 0)
@@ -56,6 +56,16 @@ def test_old_keys_in_postgresql():
         until(lambda: database.sql("select count(*) from request") == "1", 20)
         server.stop()
         return f"20,000 in {time.monotonic() - started:.1f} s, without a call"
+
+
+def longest_lag(job, seconds):
+    """The longest time until the history has read a call, of those that are made for so many seconds."""
+    longest, end = 0, time.monotonic() + seconds
+    while time.monotonic() < end:
+        seq, asked = job.call(savepoint())["seq"], time.monotonic()
+        until(lambda: job.files()["upto"] >= seq)
+        longest = max(longest, time.monotonic() - asked)
+    return longest
 
 
 def test_samples_do_not_stop_the_history():
@@ -82,22 +92,26 @@ def test_samples_do_not_stop_the_history():
 
         changing = threading.Thread(target=change)
         changing.start()
-        job, longest, end = Service(server.url).job("job0"), 0, time.monotonic() + 6
+        job = Service(server.url).job("job0")
+        base = sqlite3.connect(history, timeout=LOCKED)
+
+        def old():
+            return base.execute("select count(*) from sample where at < ?", (now() - week,)).fetchone()[0]
+
         try:
-            while time.monotonic() < end:
-                seq, asked = job.call(savepoint())["seq"], time.monotonic()
-                until(lambda: job.files()["upto"] >= seq)
-                longest = max(longest, time.monotonic() - asked)
+            longest = longest_lag(job, 6)
+            until(lambda: old() == 0)
+            usual = longest_lag(job, 3)
         finally:
             over.set()
             changing.join()
-        with sqlite3.connect(history) as base:
-            until(lambda: base.execute("select count(*) from sample where at < ?", (now() - week,)).fetchone()[0] == 0, 20)
-            left = base.execute("select count(*) from sample").fetchone()[0]
+        left = base.execute("select count(*) from sample").fetchone()[0]
         base.close()
-        assert left >= jobs * (each - 20) and longest < 2, (left, longest)
-        values = scraped(server)[1]
-        assert values["relkvanu_samples_behind_seconds"] == 0 and values['relkvanu_history_lag_seconds{job_name="job0"}'] < 2
+        # on a busy machine the history is behind without old samples too
+        most = 2 + 4 * usual
+        assert left >= jobs * (each - 20) and longest < most, (left, longest, usual)
+        until(lambda: scraped(server)[1]["relkvanu_samples_behind_seconds"] == 0)
+        until(lambda: scraped(server)[1]['relkvanu_history_lag_seconds{job_name="job0"}'] < 2)
         return f"{left} samples: the history was {longest:.2f} s behind at most"
 
 
