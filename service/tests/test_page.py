@@ -5,7 +5,7 @@ import shutil
 import threading
 import time
 
-from harness import served, until
+from harness import BUSY, COMMAND, free_port, served, until
 from run import Skipped
 from relkvanu_service import Service, deleted, savepoint
 
@@ -18,7 +18,7 @@ class Engine(threading.Thread):
 
     def __init__(self, url):
         super().__init__(daemon=True)
-        self.job = Service(url).open("orders", {"interval": 250, "timeout": 1000, "tolerable": 100, "retained": 2}, [2, 3], names=True)
+        self.job = Service(url).open("orders", {"interval": 250, "timeout": 3000, "tolerable": 100, "retained": 2}, [2, 3], names=True)
         self.task = self.job.begin().session()
         self.over, self.number, self.completed = threading.Event(), 0, 0
 
@@ -69,6 +69,7 @@ class Discarder(threading.Thread):
 
 def browser(width, height):
     from selenium import webdriver
+    from selenium.common.exceptions import WebDriverException
     from selenium.webdriver.chrome.service import Service as Driver
 
     options = webdriver.ChromeOptions()
@@ -76,7 +77,17 @@ def browser(width, height):
     for word in ["--headless=new", "--no-sandbox", "--disable-gpu", "--disable-dev-shm-usage", "--hide-scrollbars", f"--window-size={width},{height}"]:
         options.add_argument(word)
     options.set_capability("goog:loggingPrefs", {"browser": "ALL"})
-    return webdriver.Chrome(service=Driver(shutil.which("chromedriver")), options=options)
+    for tries in range(3):
+        try:
+            page = webdriver.Chrome(service=Driver(shutil.which("chromedriver"), port=free_port()), options=options)
+            break
+        except WebDriverException as why:
+            if tries == 2:
+                raise
+            print(f"the browser did not start, which a busy machine may do once: {why}")
+    for wait in (page.set_page_load_timeout, page.set_script_timeout):
+        wait(BUSY * 30)
+    return page
 
 
 def texts(page, selector):
@@ -90,9 +101,17 @@ def width(page, wanted, dark):
 
 
 def show_term(page):
-    """Asks the page for the term, which it shows until the next event."""
-    page.execute_script("document.getElementById('do-term').click()")
-    return until(lambda: texts(page, "#term")[0], 10, 0.01)
+    """Asks the page for the term, which it shows until the next event. So it is read as soon as it is there."""
+    return page.execute_async_script("""
+        const done = arguments[0], it = document.getElementById("term");
+        const seen = new MutationObserver(() => {
+          if (it.textContent) {
+            seen.disconnect();
+            done(it.textContent);
+          }
+        });
+        seen.observe(it, {childList: true, characterData: true, subtree: true});
+        document.getElementById("do-term").click();""")
 
 
 def picture(page, name, last="main"):
@@ -172,10 +191,12 @@ def test_what_the_page_shows():
         users = Service(server.url).open("users", {"interval": 3_600_000}, [1])
         users.calls([savepoint()])
         try:
-            return looked_at(page, server, engine)
+            told = looked_at(page, server, engine)
         finally:
             engine.over.set()
             page.quit()
+        engine.join(COMMAND)
+        return told
 
 
 def looked_at(page, server, engine):
@@ -188,9 +209,11 @@ def looked_at(page, server, engine):
     until(lambda: len(texts(page, "#records tr")) >= 10, 20)
     first = texts(page, '[data-fact="Calls made"]')[0]
 
-    # live, without reloading: the number of calls rises, and the newest record is the service's
+    # live, without reloading: the number of calls rises, and the newest record of now comes
     until(lambda: int(texts(page, '[data-fact="Calls made"]')[0]) > int(first) + 10, 20)
-    until(lambda: texts(page, "#records tr td:first-child")[0] == str(job.records()[0]["id"]), 20, 0.01)
+    newest = job.records()[0]["id"]
+    shown = until(lambda: (it := int(texts(page, "#records tr td:first-child")[0])) >= newest and it, 20)
+    assert shown <= job.records()[0]["id"], shown
 
     # each row says what the API says
     rows = page.execute_script("return [...document.querySelectorAll('#records tr')].map(r => [...r.children].map(c => c.textContent))")
@@ -222,12 +245,16 @@ def looked_at(page, server, engine):
     until(lambda: any("missing: 1.2" in text for text in texts(page, "#pending li")), 30, 0.05)
 
     # files: one that was deleted says why, one in use by whom
+    until(lambda: (it := job.file(files[1])["history"]) and it["deleted"])
     text = look_up(page, files[0])
-    assert "0 uses" in text and "Written" in text and "Why: record" in text and "dropped" in text and "Deleted" in text, text
+    # by the end of its record, as the API says
+    why = job.file(files[0])["history"]["why"]
+    assert "0 uses" in text and "Written" in text and why and f"Why: {why}" in text and "Deleted" in text, (text, why)
     assert texts(page, "#taken button") == [str(files[2])], texts(page, "#taken")
     assert set(texts(page, "#deleted button")) == {str(file) for file in files[:2]}
     used = until(lambda: chosen(job), 20)
     file = used["live"]["acks"][0]["files"][0]
+    until(lambda: job.file(file)["history"])
     text = look_up(page, file)
     assert f"File {file}: " in text and "Written" in text, text
     assert "No call has named it" in look_up(page, 999999999)

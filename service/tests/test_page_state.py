@@ -2,7 +2,7 @@
 import time
 
 import test_page
-from harness import served, until
+from harness import BUSY, served, until
 from relkvanu_service import Service, ack, decline, savepoint
 
 SETTINGS = {"interval": 3_600_000, "timeout": 7_200_000, "tolerable": 0, "retained": 2}
@@ -46,7 +46,7 @@ def test_the_page_agrees_with_itself():
                 return {facts: [facts("Files in use"), facts("Files waiting"), facts("Files taken")], ends: lines.map(l => l.y), at: lines.map(l => l.x),
                         row: [...document.querySelector("#count-rows tr").children].slice(1).map(c => Number(c.textContent))}""")
             assert told["facts"] == told["ends"] == told["row"] == [4, 0, 0], told
-            assert abs(told["at"][0] - job.state()["now"]) < 10_000, told
+            assert abs(told["at"][0] - job.state()["now"]) < 60_000, told
             ticks_together(page)
             shows_the_focus(page)
             asks_once(page, job)
@@ -73,8 +73,8 @@ def ticks_together(page):
         until(lambda: times()[1] != was, 5, 0.02)
         return page.execute_script("return window.before === document.querySelector('#records tr')")
 
-    seen, end = set(), time.monotonic() + 4
-    while time.monotonic() < end:
+    seen, began = set(), time.monotonic()
+    while (passed := time.monotonic() - began) < 4 or len(seen) < 3 and passed < BUSY * 4:
         listed, tabled = times()
         assert listed == tabled, (listed, tabled)
         seen.add(tabled)
