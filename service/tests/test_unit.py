@@ -21,7 +21,7 @@ WorkingDirectory=/try
 ExecStart=/usr/bin/python3 /tests/under_systemd.py
 StandardOutput=file:/try/told
 StandardError=file:/try/errors
-TimeoutStartSec=840
+TimeoutStartSec=1740
 """
 
 
@@ -52,7 +52,7 @@ def booted(at):
     words = ["--quiet", "--console=pipe", "--directory=/", "--volatile=yes", "--private-network", "--register=no", "--keep-unit", f"--machine=relkvanu-test-{os.getpid()}"]
     # the program is installed where /usr of this machine can't be written
     words += [*binds, "--tmpfs=/usr/local/bin", "--tmpfs=/usr/local/lib", "--tmpfs=/usr/local/share", "--boot", "--", "--unit=try.service"]
-    return subprocess.run(["timeout", "-k", "5", "900", "systemd-nspawn", *words], stdout=subprocess.PIPE, stderr=subprocess.STDOUT, text=True, errors="replace", check=False)
+    return subprocess.run(["timeout", "-k", "5", "1800", "systemd-nspawn", *words], stdout=subprocess.PIPE, stderr=subprocess.STDOUT, text=True, errors="replace", check=False)
 
 
 def test_under_systemd():
