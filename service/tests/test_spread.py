@@ -430,8 +430,28 @@ def left(server, all_of, end, status):
     return took
 
 
+@contextmanager
+def scraped(server):
+    """The metrics of a service are read all the time."""
+    over = threading.Event()
+
+    def scrape():
+        while not over.is_set():
+            server.get("/metrics")
+
+    threads = [threading.Thread(target=scrape) for _ in range(2)]
+    for thread in threads:
+        thread.start()
+    try:
+        yield
+    finally:
+        over.set()
+        for thread in threads:
+            thread.join()
+
+
 def test_many_jobs_move():
-    """A process that gives up and gets many jobs keeps its lease meanwhile, and its metrics are of its own jobs."""
+    """A process that gives up and gets many jobs keeps its lease meanwhile, and its metrics are of its own jobs, also if they are read all the time."""
     with postgres() as database, folder() as at:
         first = member(at, database.url).start()
 
@@ -447,7 +467,8 @@ def test_many_jobs_move():
             thread.join()
         until(lambda: first.get("/metrics")[2].count("relkvanu_mode{") == 1600)
         second = member(at, database.url).start(ready=False)
-        even([first, second], 60)
+        with scraped(first):
+            even([first, second], 60)
 
         def counts():
             return [server.get("/metrics")[2].count("relkvanu_mode{") for server in (first, second)]

@@ -79,8 +79,7 @@ async fn metrics(app: &App, query: &str) -> Result<Reply, Box<Reply>> {
     }
     app.metrics.commit_takes(app.board.commit_takes());
     app.metrics.upkeep.history_up(app.place.works());
-    app.board.lags().iter().for_each(|(job, lag)| app.metrics.upkeep.history_lag(job, *lag));
-    let text = app.metrics.text(&jobs).map_err(|why| error(500, &why.to_string()))?;
+    let text = app.metrics.text(&jobs, || app.board.lags()).map_err(|why| error(500, &why.to_string()))?;
     Ok(with_type(200, "text/plain; version=0.0.4", text))
 }
 

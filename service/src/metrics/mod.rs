@@ -18,6 +18,7 @@ use prometheus::{
 use queue::Queue;
 use sizes::SizeMetrics;
 use std::collections::{HashMap, HashSet};
+use std::sync::{Mutex, MutexGuard, PoisonError};
 use std::time::Duration;
 use upkeep::Upkeep;
 
@@ -41,6 +42,8 @@ pub struct Metrics {
     records: IntCounterVec,
     durations: HistogramVec,
     gauges: Gauges,
+    /// Held while a read sets the values of jobs, and while they are forgotten.
+    values: Mutex<()>,
     pub upkeep: Upkeep,
     pub sizes: SizeMetrics,
     pub queue: Queue,
@@ -91,6 +94,7 @@ impl Metrics {
                 &["job_name", "kind"],
             )?,
             gauges: Gauges::new()?,
+            values: Mutex::new(()),
             upkeep: Upkeep::new()?,
             sizes: SizeMetrics::new()?,
             queue: Queue::new()?,
@@ -180,6 +184,7 @@ impl Metrics {
 
     /// Jobs were deleted, or are another process's. It visits the values of all jobs, so many are forgotten at once.
     pub fn forget_all(&self, jobs: &HashSet<&str>) {
+        let _held = self.values();
         for counter in [&self.calls, &self.records] {
             forget(counter, jobs);
         }
@@ -199,17 +204,36 @@ impl Metrics {
         self.leader.set(i64::from(leads));
     }
 
-    /// All metrics as text, with the gauges of these jobs.
-    pub fn text(&self, jobs: &[JobState]) -> Result<Vec<u8>, prometheus::Error> {
-        for job in jobs {
+    /// All metrics as text, with the gauges of these jobs. `lags` tells which jobs this process has now, each with how far its history is behind.
+    pub fn text(
+        &self,
+        jobs: &[JobState],
+        lags: impl FnOnce() -> Vec<(String, Duration)>,
+    ) -> Result<Vec<u8>, prometheus::Error> {
+        self.set(jobs, lags);
+        let mut text = Vec::new();
+        TextEncoder::new().encode(&self.registry.gather(), &mut text)?;
+        Ok(text)
+    }
+
+    /// A job that has gone since it was read has been forgotten, or will be: it gets no values, which would stay.
+    fn set(&self, jobs: &[JobState], lags: impl FnOnce() -> Vec<(String, Duration)>) {
+        let _held = self.values();
+        let lags = lags();
+        let there: HashSet<&str> = lags.iter().map(|(job, _)| job.as_str()).collect();
+        for job in jobs.iter().filter(|job| there.contains(job.opening.name.as_str())) {
             self.gauges.set(job);
             self.sizes.job(&job.opening.name, &job.bytes);
             // it is there, and 0 at first
             self.images_fail.with_label_values(&[job.opening.name.as_str()]);
         }
-        let mut text = Vec::new();
-        TextEncoder::new().encode(&self.registry.gather(), &mut text)?;
-        Ok(text)
+        for (job, lag) in &lags {
+            self.upkeep.history_lag(job, *lag);
+        }
+    }
+
+    fn values(&self) -> MutexGuard<'_, ()> {
+        self.values.lock().unwrap_or_else(PoisonError::into_inner)
     }
 }
 

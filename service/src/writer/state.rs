@@ -102,3 +102,24 @@ pub fn state(job: &mut Job, now: u64) -> JobState {
         term,
     }
 }
+
+#[cfg(test)]
+mod tests {
+    use super::*;
+    use crate::metrics::Metrics;
+    use crate::model::parse_config;
+    use std::time::Duration;
+
+    #[test]
+    fn a_job_that_has_gone_since_it_was_read_gets_no_metrics() -> Result<(), Box<dyn std::error::Error>> {
+        let settings = parse_config("config 1000 0 1 600000 0 1 delete").ok_or("settings")?;
+        let opening = Opening { number: 1, name: "orders".to_string(), settings, shape: vec![1], started: 5 };
+        let mut job = Job::open(opening).map_err(|_| "a job")?;
+        let (read, metrics) = ([state(&mut job, 5)], Metrics::new()?);
+        let has_it = |text: Vec<u8>| String::from_utf8_lossy(&text).contains("orders");
+        assert!(has_it(metrics.text(&read, || vec![("orders".to_string(), Duration::ZERO)])?));
+        metrics.forget("orders");
+        assert!(!has_it(metrics.text(&read, Vec::new)?));
+        Ok(())
+    }
+}
