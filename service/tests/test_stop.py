@@ -64,6 +64,14 @@ def test_each_committed_call_has_its_answer():
     return f"3 stops among {CONNECTIONS} connections: each of {made} calls was answered"
 
 
+def is_read(server, connection):
+    """Whether the service has read all that was sent to it on a connection: nothing is left in the system's queue."""
+    ends = [f":{port:04X}" for port in (server.port, connection.getsockname()[1])]
+    with open("/proc/net/tcp", encoding="utf-8") as it:
+        rows = [line.split() for line in it][1:]
+    return any([row[1][-5:], row[2][-5:]] == ends and row[4].endswith(":00000000") for row in rows)
+
+
 def test_a_stop_ends_polls_and_slow_bodies():
     with folder() as at:
         server = Server(at).start()
@@ -71,6 +79,8 @@ def test_a_stop_ends_polls_and_slow_bodies():
         head = "POST /v1/jobs/orders/calls HTTP/1.1\r\nHost: localhost\r\nContent-Type: application/json\r\nContent-Length: 100\r\n\r\n{"
         waits, slow, idle, silent = (opened(server, text) for text in (poll(0), head, "GET /healthz HTTP/1.1\r\nHost: localhost\r\n\r\n", ""))
         assert answer(idle)[0] == 200
+        # a connection without a request ends at a stop, so these are to be read before it
+        until(lambda: is_read(server, waits) and is_read(server, slow))
         started = time.monotonic()
         server.process.terminate()
         status, told = answer(waits)

@@ -125,7 +125,7 @@ def test_sweeps_beside_tasks():
     """Two sweepers that delete all the time, tasks that fail, are replaced and go on, and a discarder. No file in use is ever missing, and at the
     end the folder has exactly the files in use."""
     with a_job() as (server, job, place):
-        job = Service(server.url).open("fast", {"interval": 20, "timeout": 500, "tolerable": 1000}, [2])
+        job = Service(server.url).open("fast", {"interval": 20, "timeout": 3000, "tolerable": 1000}, [2])
         at = f"{server.folder}/fast"
         os.mkdir(at)
         job.claim(at)
@@ -184,7 +184,7 @@ def test_sweeps_beside_tasks():
             thread.start()
         rounds = 0
         while rounds < 6 or used[0] <= 20 and rounds < 6 * BUSY:
-            time.sleep(1)
+            time.sleep(1 + rounds // 6)  # on a slow disk no checkpoint completes in a second
             current[0] = job.begin()
             rounds += 1
         over.set()
@@ -224,8 +224,7 @@ def test_every_and_metrics():
             return found and float(found[1])
 
         ended = 'relkvanu_sweep_timestamp_seconds{job_name="a"}'
-        until(lambda: value(ended))
-        first = value(ended)
+        first = until(lambda: value(ended))
         task.forfeit([1])
         until(lambda: names_in(place) == [])
         until(lambda: value('relkvanu_sweep_deleted_bytes_total{job_name="a"}') == 7)
@@ -238,15 +237,15 @@ def test_every_and_metrics():
                 assert value(name + labels) is not None, f"an alert uses {name}, which there is not"
         # it goes on after the service was away
         server.kill()
-        until(lambda: value('relkvanu_sweep_lost_requests_total{job_name="a"}') > 0)
+        until(lambda: value('relkvanu_sweep_lost_requests_total{job_name="a"}'))
         server.start()
-        now = value(ended)
-        until(lambda: value(ended) > now)
+        now = until(lambda: value(ended))
+        until(lambda: (value(ended) or 0) > now)
         # and ends if the folder is not the job's any more
         os.remove(f"{place}/.relkvanu-a")
         told, errors = run.communicate(timeout=COMMAND)
-        assert run.returncode == 78 and first < now, (run.returncode, errors)
-        assert ".relkvanu-a" in errors and "s-99" in told and names_in(place) == ["s-99"], (told, errors)
+        assert run.returncode == 78 and first < now and ".relkvanu-a" in errors, (run.returncode, errors)
+        assert "s-99" in told and names_in(place) == ["s-99"], (told, errors)
         return "it sweeps again and again, also after the service was away"
 
 
