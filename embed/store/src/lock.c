@@ -164,12 +164,16 @@ int rks_lock(relkvanu_store *s, const char *path) {
     return status;
 }
 
+/* A program that another thread is starting has these files until its exec, so a close alone would leave them locked so long. */
 void rks_unlock(relkvanu_store *s) {
+    struct flock none = {.l_type = F_UNLCK, .l_whence = SEEK_SET};
     if (s->shm >= 0) {
+        fcntl(s->shm, F_OFD_SETLK, &none);
         close(s->shm);
     }
     if (s->lock >= 0) {
-        close(s->lock); /* the last one */
+        flock(s->lock, LOCK_UN); /* the last one */
+        close(s->lock);
     }
     free(s->path);
     free(s->wal);

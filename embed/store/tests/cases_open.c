@@ -4,6 +4,7 @@
 #include <fcntl.h>
 #include <signal.h>
 #include <sys/stat.h>
+#include <sys/syscall.h>
 #include <sys/wait.h>
 #include <unistd.h>
 
@@ -277,6 +278,23 @@ static void a_child_that_outlives(void) {
     relkvanu_store_close(store);
 }
 
+/* A thread is starting a program: until its exec a child has the files of this process, and no handler of forks runs in it. */
+static void a_program_that_is_starting(void) {
+    relkvanu_store_options options = job_options(RELKVANU_STORE_CREATE, RELKVANU_STORE_NO_IMAGES);
+    relkvanu_store *store = opens(&options, RELKVANU_STORE_OK);
+    checkpoint(store, 1);
+    pid_t child = (pid_t)syscall(SYS_fork);
+    while (child == 0) {
+        pause();
+    }
+    relkvanu_store_close(store);
+    options = job_options(RELKVANU_STORE_RECOVER, 0);
+    store = opens(&options, RELKVANU_STORE_OK);
+    kill(child, SIGKILL);
+    CHECK(waitpid(child, NULL, 0) == child, "the child");
+    relkvanu_store_close(store);
+}
+
 static void a_reader_of_another_program(void) {
     sqlite3 *db;
     relkvanu_store_options options = job_options(RELKVANU_STORE_CREATE, 0);
@@ -313,5 +331,5 @@ static void a_read_only_file(void) {
 const struct test open_cases[] = {{"makes_and_recovers", makes_and_recovers}, {"needs_a_flag", needs_a_flag},
     {"checks_the_settings", checks_the_settings}, {"checks_each_setting", checks_each_setting}, {"checks_the_shape", checks_the_shape},
     {"makes_private_files", makes_private_files}, {"one_at_a_time", one_at_a_time}, {"a_forked_child", a_forked_child},
-    {"a_child_that_outlives", a_child_that_outlives}, {"a_reader_of_another_program", a_reader_of_another_program},
-    {"a_read_only_file", a_read_only_file}, {NULL, NULL}};
+    {"a_child_that_outlives", a_child_that_outlives}, {"a_program_that_is_starting", a_program_that_is_starting},
+    {"a_reader_of_another_program", a_reader_of_another_program}, {"a_read_only_file", a_read_only_file}, {NULL, NULL}};
