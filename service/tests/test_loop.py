@@ -6,7 +6,7 @@ import threading
 from contextlib import contextmanager
 
 from harness import COMMAND, PROGRAM, TOP, Server, folder, served, until
-from relkvanu_service import Failed, OldTerm, OtherLog, Service, cancel, dispose, file_numbers, restore, savepoint
+from relkvanu_service import Failed, OldTerm, Service, cancel, dispose, file_numbers, restore, savepoint
 from test_events import Copy
 
 SHAPE = [1, 2]
@@ -198,7 +198,7 @@ def test_the_loop_ends_if_a_backup_was_restored():
                 os.remove(f"{files}/state-{file}.bin")
             job.calls([{"call": "deleted", "file": str(file)} for file in taken])
             copy.restore()
-        assert isinstance(engine.ended, OtherLog) and "relkvanu savepoints" in str(engine.ended), engine.ended
+        assert isinstance(engine.ended, SystemExit) and engine.ended.code == 78 and "relkvanu savepoints" in engine.said[-1], (engine.ended, engine.said)
         restores = [entry for entry in job.log() if entry["line"].startswith("restore ")]
         assert len(restores) == 1 and len(engine.starts) == 1, restores
         # one that is started too early ends, because files of the latest record are not there
