@@ -25,23 +25,23 @@ unfoldable pub to_make : Result Asked ℕ → ℕ → Result Asked Answer
 to_make (Ok asked) places = asked_if_fits asked (asked_text asked) places
 to_make (Err what) places = Err (bad_argument what)
 
--- what the fields and the two lists make, with a buffer for the line
+-- what the fields and the two lists ask for, or the answer if that is bad or its line does not fit the buffer
 abbrev pub making : CallFields → List ℕ → List ℕ → List ℕ → Result Asked Answer
 making call first second line = to_make (given call first second) (length line)
 
 -- the files that the call returns are at the start of the buffer, if it was made
-abbrev pub BringsMadeFiles : State → Result Asked Answer → List ℕ → List ℕ → Answer → Type 0
-BringsMadeFiles m asked old new answer = answer.code ≡ 0 → StandsInFront (said_files m asked) old new
+abbrev pub BringsMade : State → Result Asked Answer → List ℕ → List ℕ → Answer → Type 0
+BringsMade m asked old new answer = answer.code ≡ 0 → StandsInFront (said_files m asked) old new
 
 -- the length of the line, how many files waited for deletion before the call, and the numbers of files after it
 abbrev pub made_of : ℕ → State → State → Made
 made_of written old new =
     record { written = written; waited = length old.waiting; in_use = (counts_of new).in_use; waiting = length new.waiting; taken = length new.taken }
 
--- the numbers that a call leaves, if it was made
-abbrev pub TellsCounts : ℕ → State → State → Made → Answer → Type 0
-TellsCounts written old new made answer = answer.code ≡ 0 → made ≡ made_of written old new
+-- the numbers told of a call, if it was made
+abbrev pub Reports : ℕ → State → State → Made → Answer → Type 0
+Reports written old new made answer = answer.code ≡ 0 → made ≡ made_of written old new
 
 -- the same through a handle
-abbrev pub HandleTellsCounts : ℕ → Handle → Handle → Made → Answer → Type 0
-HandleTellsCounts written old new made answer = (m n : State) → old.value ≡ Some m → new.value ≡ Some n → TellsCounts written m n made answer
+abbrev pub HandleReports : ℕ → Handle → Handle → Made → Answer → Type 0
+HandleReports written old new made answer = (m n : State) → old.value ≡ Some m → new.value ≡ Some n → Reports written m n made answer

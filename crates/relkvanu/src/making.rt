@@ -8,7 +8,7 @@ ghost use Rattle.relkvanu.specs.Buffers.{StandsInFront};
 ghost use Rattle.relkvanu.specs.Calls.{HasNoNumbers, StaysClosed};
 ghost use Rattle.relkvanu.specs.Fenced.{IsHandled, IsTaken};
 ghost use Rattle.relkvanu.specs.Lines.{is_free_line, said_step};
-ghost use Rattle.relkvanu.specs.Making.{BringsMadeFiles, HandleTellsCounts, TellsCounts, asked_if_fits, made_of, making};
+ghost use Rattle.relkvanu.specs.Making.{BringsMade, HandleReports, Reports, asked_if_fits, made_of, making};
 ghost use Rattle.relkvanu.specs.Told.{no_memory};
 ghost use Rattle.relkvanu.specs.Writing.{ReadsBack, SaysBack, call_line_text, given};
 
@@ -22,7 +22,7 @@ use ckpt_lines::LONGEST_LINE;
 use ckpt_terms::Machine;
 use std::alloc::Global;
 
-/// What a call that was made leaves.
+/// The numbers told of a call that was made.
 #[repr(C)]
 #[derive(Clone, Copy, Debug, PartialEq, Eq)]
 pub struct Made {
@@ -32,22 +32,22 @@ pub struct Made {
     pub waited: u64,
     /// How many files live records use, each counted once.
     pub in_use: u64,
-    /// How many files wait for deletion. The call put those from the place `waited` on there: files that it
-    /// released, that came too late, or that were not deleted.
+    /// How many files wait for deletion. If these are more than `waited`, the call put those from that place on
+    /// there: files that it released, that came too late, or that were not deleted.
     pub waiting: u64,
     /// How many files were fetched for deletion and are not yet reported.
     pub taken: u64,
 }
 
-/// Makes a call as `relkvanu_line` makes that of its line, and writes this line as
+/// Makes a call as `relkvanu_line` makes that of its line and, if it is made, writes this line as
 /// `relkvanu_call_line` writes it.
 ///
-/// A take writes its files to the start of `files`. If `line` is too short, the second number of the
-/// answer says how many bytes it needs, whatever room `files` has. Otherwise, if `files` is too short,
-/// the first number says how many places it needs. A show of a live record is not made here: it has no
-/// buffer for its JSON, and the answer says how many bytes that has. An answer with another code than
-/// `DONE` changes nothing. Takes memory for the lists and the line, even if the call is then refused, and for the
-/// call.
+/// A take writes its files to the start of `files`. A line of more than [`LONGEST_LINE`] bytes is a
+/// fault of a line. If `line` is too short, the second number of the answer says how many bytes it
+/// needs, whatever room `files` has. Otherwise, if `files` is too short, the first number says how many
+/// places it needs. A show of a live record is not made here: it has no buffer for its JSON, and the
+/// answer says how many bytes that has. An answer with another code than `DONE` changes nothing. Takes
+/// memory for the lists and the line, even if the call is then refused, and for the call.
 #[unsafe(no_mangle)]
 pub extern "C" fn relkvanu_make(
     alloc: Global,
@@ -61,11 +61,11 @@ pub extern "C" fn relkvanu_make(
 ) -> Answer
     ensures closed { StaysClosed handle.old.value handle.new.value result }
     ensures handled { IsHandled (λ k. said_step k (length files.old) (making call.entry.now first.now second.now line.old)) handle.old handle.new result }
-    ensures files { (m : State) → handle.old.value ≡ Some m → BringsMadeFiles m (making call.entry.now first.now second.now line.old) files.old files.new result }
+    ensures files { (m : State) → handle.old.value ≡ Some m → BringsMade m (making call.entry.now first.now second.now line.old) files.old files.new result }
     ensures line { result.code ≡ 0 → StandsInFront (call_line_text (given call.entry.now first.now second.now)) line.old line.new }
     ensures read { ReadsBack (given call.entry.now first.now second.now) (take made.new.written line.new) result }
     ensures said { SaysBack (given call.entry.now first.now second.now) (take made.new.written line.new) result }
-    ensures made { HandleTellsCounts (length (call_line_text (given call.entry.now first.now second.now))) handle.old handle.new made.new result }
+    ensures made { HandleReports (length (call_line_text (given call.entry.now first.now second.now))) handle.old handle.new made.new result }
     ensures kept { result.code ≢ 0 → (files.new ≡ files.old) × (line.new ≡ line.old) × (made.new ≡ made.old) }
     ensures memory { result.code ≡ no_memory → IsOk (given call.entry.now first.now second.now) }
     ensures numbers { HasNoNumbers result }
@@ -93,10 +93,10 @@ fn make_given(
     made: &mut Made,
 ) -> Answer
     ensures handled { IsTaken (λ k. said_step k (length files.old) (making fields.entry.now first.now second.now line.old)) machine.old machine.new result }
-    ensures files { BringsMadeFiles (core_in machine.old) (making fields.entry.now first.now second.now line.old) files.old files.new result }
+    ensures files { BringsMade (core_in machine.old) (making fields.entry.now first.now second.now line.old) files.old files.new result }
     ensures line { result.code ≡ 0 → StandsInFront (call_line_text (given fields.entry.now first.now second.now)) line.old line.new }
     ensures read { ReadsBack (given fields.entry.now first.now second.now) (take made.new.written line.new) result }
-    ensures made { TellsCounts (length (call_line_text (given fields.entry.now first.now second.now))) (core_in machine.old) (core_in machine.new) made.new result }
+    ensures made { Reports (length (call_line_text (given fields.entry.now first.now second.now))) (core_in machine.old) (core_in machine.new) made.new result }
     ensures kept { result.code ≢ 0 → (files.new ≡ files.old) × (line.new ≡ line.old) × (made.new ≡ made.old) }
     ensures memory { result.code ≡ no_memory → IsOk (given fields.entry.now first.now second.now) }
     ensures numbers { HasNoNumbers result }
@@ -124,10 +124,10 @@ fn make_fitting(
     made: &mut Made,
 ) -> Answer
     ensures handled { IsTaken (λ k. said_step k (length files.old) (asked_if_fits asked.now text.now (length line.old))) machine.old machine.new result }
-    ensures files { BringsMadeFiles (core_in machine.old) (asked_if_fits asked.now text.now (length line.old)) files.old files.new result }
+    ensures files { BringsMade (core_in machine.old) (asked_if_fits asked.now text.now (length line.old)) files.old files.new result }
     ensures line { result.code ≡ 0 → StandsInFront text.now line.old line.new }
     ensures short { result.code ≡ 0 → length text.now ≤ LONGEST_LINE }
-    ensures made { TellsCounts (length text.now) (core_in machine.old) (core_in machine.new) made.new result }
+    ensures made { Reports (length text.now) (core_in machine.old) (core_in machine.new) made.new result }
     ensures kept { result.code ≢ 0 → (files.new ≡ files.old) × (line.new ≡ line.old) × (made.new ≡ made.old) }
     ensures numbers { HasNoNumbers result }
     ensures names { is_free_line (asked_if_fits asked.now text.now (length line.old)) ≡ true → names_in machine.new ≡ names_in machine.old }
