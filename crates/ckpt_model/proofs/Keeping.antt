@@ -2,3 +2,4 @@
 pub mod Completed
 pub mod Kept
 pub mod Latest
+pub mod Restored

@@ -33,8 +33,8 @@ pub use Rattle.ckpt_ids.specs.declared.subtask.SubtaskId.{SubtaskId}
 pub use Rattle.ckpt_model.specs.Histories.{answers, replay}
 pub use Rattle.ckpt_model.specs.Images.{AreAlike, CanHold, GoesOnAs, settled}
 pub use Rattle.ckpt_model.specs.Interleavings.{AnyOrder, AreApart, AreMissing, NewFile, SameBySeat, SameOutcome, ack_with, calls_of, first_completed, is_completing, of_seat}
-pub use Rattle.ckpt_model.specs.Keeping.{IsNewest, Keeps, KeepsThrough, LeavesDone, TakesNewest, has_done_checkpoint, is_accepted, may_drop, newer_than}
-pub use Rattle.ckpt_model.specs.Laws.{Accounted, Acknowledgements, AreCalls, Balance, CanOpen, ChoiceIsLive, Exchange, Handed, IsNeverDisposed, NoneAgain, Numbers, Outbox, Part, Pinned, Savepoints}
+pub use Rattle.ckpt_model.specs.Keeping.{IsNewest, Keeps, KeepsThrough, LeavesDone, Restores, TakesNewest, has_done_checkpoint, is_accepted, may_drop, newer_than}
+pub use Rattle.ckpt_model.specs.Laws.{NoneLeaks, Outgoing, Accounted, Acknowledgements, AreCalls, Balance, CanOpen, ChoiceIsLive, Exchange, Handed, IsNeverDisposed, NoneAgain, Numbers, Outbox, Part, Pinned, Savepoints}
 pub use Rattle.ckpt_model.specs.Laws.{ShareNone, UsedNoMore, accepted_by, ack_of, along, deleted_as, deleted_by, given_as, given_by, handed_by, is_ack_pending, is_ack_taken}
 pub use Rattle.ckpt_model.specs.Laws.{id_of_choice, is_disposed_by, new_by, registered_as, registered_by}
 pub use Rattle.ckpt_model.specs.Opening.{open_fault}

@@ -5,4 +5,5 @@ pub mod ExchangeLemmas
 pub mod Interleavings
 pub mod MissingFiles
 pub mod NewFiles
+pub mod Progress
 pub mod Rearranged

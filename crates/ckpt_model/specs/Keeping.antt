@@ -1,10 +1,11 @@
 -- What becomes of a checkpoint that is done: it is kept, and a restart takes the newest.
-use Rattle.std.specs.Prelude.{◌≡◌, ℕ, ◌≤◌, Bool, true, false, not, ◌&&◌, nat_lt, nat_le, List, [], ◌∷◌, count_by, Some, None, ⊤}
+use Rattle.std.specs.Prelude.{◌≡◌, ℕ, ◌≤◌, Bool, true, false, not, ◌&&◌, nat_lt, nat_le, List, [], ◌∷◌, count_by, Option, Some, None, ⊤}
 use Rattle.std.specs.List.{list_any}
 use Rattle.ckpt_ids.specs.declared.call.Target.TheVariants as target
 use Rattle.ckpt_ids.specs.declared.call.Call.{Call}
 use Rattle.ckpt_ids.specs.declared.call.Call.TheVariants.{Ack, Restore, Cancel}
 use Rattle.ckpt_ids.specs.declared.reply.Choice.TheVariants as choice
+use Rattle.ckpt_ids.specs.declared.reply.Reply.TheVariants as reply
 use Rattle.ckpt_ids.specs.declared.reply.Answer.{Answer}
 use Rattle.ckpt_ids.specs.declared.reply.Answer.TheVariants.{Done, Refused}
 use Rattle.ckpt_ids.specs.Ordered.{IsIn}
@@ -34,6 +35,20 @@ pub record TakesNewest (m : State) : Type 0 where
   -- if there is none either, nothing
   pub fresh : has_done_checkpoint m ≡ false → m.base ≡ None → choice_of m ≡ choice.Fresh
 
+-- the answer of a call that is not refused
+abbrev pub is_accepted : Answer → Bool
+is_accepted (Done reply) = true
+is_accepted (Refused why) = false
+
+-- what an accepted restore answers, and leaves as what the next one takes
+pub record Restores (m : State) (now : ℕ) (shape : Option (List ℕ)) : Type 0 where
+  -- to the latest checkpoint: what a restart took before
+  pub latest : let x : Stepped = step m (Restore now target.Latest shape) in
+      is_accepted x.1 ≡ true → (choice_of x.0 ≡ choice_of m) × ((released : ℕ) × (x.1 ≡ Done (reply.Restored (choice_of m) released)))
+  -- to a savepoint: that one
+  pub savepoint : (id : ℕ) → let x : Stepped = step m (Restore now (target.Savepoint id) shape) in
+      is_accepted x.1 ≡ true → (choice_of x.0 ≡ choice.Savepoint id) × ((released : ℕ) × (x.1 ≡ Done (reply.Restored (choice.Savepoint id) released)))
+
 -- An acknowledgement that is answered AckCompleted leaves the record of its number live and done. If that is a
 -- checkpoint, a restart takes it.
 abbrev pub LeavesDone : State → ℕ → ℕ → Part → Type 0
@@ -41,11 +56,6 @@ LeavesDone m now id p =
     let x : Stepped = step m (ack_of now id p) in
     is_completing x.1 ≡ true
     → (r : Record) × (record_of x.0 id ≡ Some r) × (r.done ≡ true) × (is_checkpoint r ≡ true → choice_of x.0 ≡ choice.Checkpoint id)
-
--- the answer of a call that is not refused
-abbrev pub is_accepted : Answer → Bool
-is_accepted (Done reply) = true
-is_accepted (Refused why) = false
 
 -- how many live done checkpoints have a greater number
 abbrev pub newer_than : ℕ → State → ℕ

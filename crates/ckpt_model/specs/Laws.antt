@@ -141,6 +141,18 @@ Accounted o calls =
     let m : State = replay (opened o) calls in
     (f : ℕ) → IsIn f (along registered_by (opened o) calls) → count (uses m.records) f ≡ 0 → in_outbox m f ≡ false → IsIn f (along deleted_by (opened o) calls)
 
+-- Each file was handed out as often as it was reported as deleted, and once more if it waits for deletion or was fetched for it.
+abbrev pub Outgoing : Opening → List Call → Type 0
+Outgoing o calls =
+    let m : State = replay (opened o) calls in
+    (f : ℕ) → times f (along handed_by (opened o) calls) ≡ times f (along deleted_by (opened o) calls) + times f (m.waiting ++ m.taken)
+
+-- And so with those that were registered: each time, it was reported as deleted, or waits, or was fetched, or is present still.
+abbrev pub NoneLeaks : Opening → List Call → Type 0
+NoneLeaks o calls =
+    let m : State = replay (opened o) calls in
+    (f : ℕ) → times f (along registered_by (opened o) calls) ≡ times f (along deleted_by (opened o) calls) + times f (m.waiting ++ m.taken) + one_if (is_present (uses m.records) f)
+
 -- no live record uses a file that was handed out, neither then nor later, if no deleted file is reported as new again
 abbrev pub UsedNoMore : Opening → List Call → List Call → Type 0
 UsedNoMore o before calls =

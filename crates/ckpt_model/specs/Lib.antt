@@ -8,6 +8,7 @@ pub mod Keeping
 pub mod Laws
 pub mod Memory
 pub mod Opening
+pub mod Progress
 pub mod Reads
 pub mod Refusals
 pub mod Soundness

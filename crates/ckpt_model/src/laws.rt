@@ -1,15 +1,17 @@
 //! The laws of the coordinator, each on a function that does nothing.
 
-ghost use Rattle.std.specs.Prelude.{ℕ, List, ◌++◌};
+ghost use Rattle.std.specs.Prelude.{◌≡◌, ℕ, true, List, ◌++◌, Option};
 ghost use Rattle.ckpt_ids.specs.declared.call.Call.{Call};
-ghost use Rattle.ckpt_ids.specs.Records.{Record};
+ghost use Rattle.ckpt_ids.specs.Ordered.{IsIn};
+ghost use Rattle.ckpt_ids.specs.Records.{Record, is_present, uses};
 ghost use Rattle.ckpt_model.specs.State.{State, Opening, opened};
 ghost use Rattle.ckpt_model.specs.Histories.{replay};
 ghost use Rattle.ckpt_model.specs.Soundness.{IsSound};
-ghost use Rattle.ckpt_model.specs.Laws.{Exchange, Part, CanOpen, AreCalls, Balance, Handed, Accounted, UsedNoMore, Outbox, Acknowledgements, Numbers, Savepoints, ChoiceIsLive, PinsStay};
+ghost use Rattle.ckpt_model.specs.Laws.{Exchange, Part, CanOpen, AreCalls, Balance, Handed, Accounted, Outgoing, NoneLeaks, UsedNoMore, Outbox, Acknowledgements, Numbers, Savepoints, ChoiceIsLive, PinsStay};
 ghost use Rattle.ckpt_model.specs.Images.{AreAlike, CanHold, GoesOnAs, IsCut, settled};
 ghost use Rattle.ckpt_model.specs.Interleavings.{NewFile, SeatedCalls, AnyOrder};
-ghost use Rattle.ckpt_model.specs.Keeping.{TakesNewest, LeavesDone, Keeps, KeepsThrough};
+ghost use Rattle.ckpt_model.specs.Progress.{Completes, TimedPart};
+ghost use Rattle.ckpt_model.specs.Keeping.{TakesNewest, Restores, LeavesDone, Keeps, KeepsThrough};
 
 /// Two acknowledgements of different subtasks of one record, one right after the other, go in
 /// either order, with the same answers in turn and the same state after.
@@ -22,6 +24,16 @@ pub fn swap()
 /// refused calls. If one completes the record, its answer is the same too.
 pub fn any_order()
     ensures { (m : State) (now id : ℕ) (r : Record) (news : List NewFile) (given made : SeatedCalls) → IsSound m → AnyOrder m now id r news given made }
+{}
+
+/// If each subtask that a pending record lacks acknowledges once, in any order, with new files and
+/// files in use, and no other call is made between, then each is accepted, and the last one
+/// completes the record.
+///
+/// Each file that a record pinned is in use: those of the choice at its trigger.
+pub fn completes()
+    ensures all { (m : State) (id : ℕ) (r : Record) (ts : List TimedPart) → IsSound m → Completes m id r ts }
+    ensures pinned { (m : State) (r : Record) (f : ℕ) → IsIn r m.records → IsIn f r.pins → is_present (uses m.records) f ≡ true }
 {}
 
 /// Each time that a file is registered it is handed out once, or is present still.
@@ -39,6 +51,14 @@ pub fn handed()
 /// reported as deleted.
 pub fn accounted()
     ensures { (o : Opening) (calls : List Call) → CanOpen o → AreCalls calls → Accounted o calls }
+{}
+
+/// Each time that a file was handed out it was reported as deleted, or waits for deletion, or was
+/// fetched for it. So each time that it was registered, one of these holds, or it is present still:
+/// none leaks, a number that comes back neither.
+pub fn outgoing()
+    ensures handed { (o : Opening) (calls : List Call) → CanOpen o → AreCalls calls → Outgoing o calls }
+    ensures registered { (o : Opening) (calls : List Call) → CanOpen o → AreCalls calls → NoneLeaks o calls }
 {}
 
 /// A live record's acknowledgements are exactly the accepted ones of its number; a done record has
@@ -66,6 +86,12 @@ pub fn choice()
 /// savepoint that the job was rolled back to, and otherwise nothing.
 pub fn latest()
     ensures { (m : State) → IsSound m → TakesNewest m }
+{}
+
+/// An accepted restore answers what a restart takes then: to the latest checkpoint what it took
+/// before, and to a savepoint that one.
+pub fn restores()
+    ensures { (m : State) (now : ℕ) (shape : Option (List ℕ)) → Restores m now shape }
 {}
 
 /// The record of an acknowledgement that is answered AckCompleted is live and done after it. If that

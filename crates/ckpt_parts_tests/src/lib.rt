@@ -7,6 +7,8 @@
 #![tactic(auto)]
 
 #[cfg(test)]
+mod align;
+#[cfg(test)]
 mod parts;
 #[cfg(test)]
 mod secrets;

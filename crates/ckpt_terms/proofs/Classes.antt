@@ -8,15 +8,15 @@ use Rattle.ckpt_ids.specs.Records.{uses, count, is_present}
 use Rattle.ckpt_ids.proofs.CountLemmas.{one_if-true, one_if-false, times-append}
 use Rattle.ckpt_ids.proofs.AscendingLemmas.{numbers_in_order}
 use Rattle.ckpt_ids.proofs.OrderedLemmas.{IsIn-append_right, IsIn-from_test, not_in-from_test, AreDistinct-from_order}
-use Rattle.ckpt_model.specs.State.{Opening, is_known, in_outbox}
+use Rattle.ckpt_model.specs.State.{is_known, in_outbox}
 use Rattle.ckpt_model.proofs.Records.Lists.{outbox_of}
 use Rattle.ckpt_model.proofs.Histories.Balances.{times_none, times_once}
 use Rattle.ckpt_terms.specs.declared.call.FencedCall.{FencedCall}
-use Rattle.ckpt_terms.specs.Fencing.{Fenced, fenced, fenced_replay, is_unspent, is_garbage, may_be_deleted}
-use Rattle.ckpt_terms.specs.FencedLaws.{CanFence, AreFencedCalls, IsFenced, Classified, GarbageForGood, DeletionsAreSafe}
+use Rattle.ckpt_terms.specs.Fencing.{Fenced, fenced_replay, is_unspent, is_garbage, may_be_deleted}
+use Rattle.ckpt_terms.specs.FencedLaws.{AreFencedCalls, IsFenced, GarbageForGood, DeletionsAreSafe}
 use Rattle.ckpt_terms.proofs.Known.{known-from_outbox}
 use Rattle.ckpt_terms.proofs.Stepping.{IsOpen, IsLater}
-use Rattle.ckpt_terms.proofs.Fences.{always, replay_later}
+use Rattle.ckpt_terms.proofs.Fences.{replay_later}
 
 -- garbage, by its three parts
 pub garbage_from : (m : Fenced) (f : ℕ) → (IsOpen m f → ⊥) → is_known m.core f ≡ false → is_garbage m f ≡ true
@@ -47,10 +47,8 @@ garbage_later m n f l h =
     (⊎_elim (λ (e : is_known n.core f ≡ true). ⊎_elim (λ (k : is_known m.core f ≡ true). absurd (both_ways (is_known m.core f) g.1 k)) (λ (o : IsOpen m f). absurd (g.0 o)) (l.known f e))
     (λ (e : is_known n.core f ≡ false). e) (cases_Bool (is_known n.core f)))
 
-pub garbage_for_good : (o : Opening) (first : ℕ) (before calls : List FencedCall) → CanFence o first → AreFencedCalls before → AreFencedCalls calls → GarbageForGood o first before calls
-garbage_for_good o first before calls c a b f h =
-    let m : Fenced = fenced_replay (fenced o first) before in
-    garbage_later m (fenced_replay m calls) f (replay_later m calls b (always o first before c a)) h
+pub garbage_for_good : (m : Fenced) (calls : List FencedCall) → IsFenced m → AreFencedCalls calls → GarbageForGood m calls
+garbage_for_good m calls i b f h = garbage_later m (fenced_replay m calls) f (replay_later m calls b i) h
 
 -- a file that may be deleted is in no use, and its name is not open
 deletable_parts : (m : Fenced) (f : ℕ) → IsFenced m → may_be_deleted m f ≡ true → (IsOpen m f → ⊥) × (is_present (uses m.core.records) f ≡ false)
@@ -61,11 +59,9 @@ deletable_parts m f i h =
     (known_closed m f i (known-from_outbox m.core f out), (outbox_of i.core).unused f out))
     (or_cases (is_garbage m f) (list_any (λ g. eqb f g) m.core.taken) h)
 
-pub deletions_are_safe : (o : Opening) (first : ℕ) (before calls : List FencedCall) → CanFence o first → AreFencedCalls before → AreFencedCalls calls → DeletionsAreSafe o first before calls
-deletions_are_safe o first before calls c a b f h =
-    let m : Fenced = fenced_replay (fenced o first) before in
+pub deletions_are_safe : (m : Fenced) (calls : List FencedCall) → IsFenced m → AreFencedCalls calls → DeletionsAreSafe m calls
+deletions_are_safe m calls i b f h =
     let n : Fenced = fenced_replay m calls in
-    let i : IsFenced m = always o first before c a in
     let d = deletable_parts m f i h in
     let l : IsLater m n = replay_later m calls b i in
     let absent : is_present (uses n.core.records) f ≡ false =
@@ -159,6 +155,3 @@ classes m f i =
     (cases_Bool (is_unspent m f)))
     (cases_Bool (is_known m.core f)))
     (cases_Bool (leb m.next_name f))
-
-pub classified : (o : Opening) (first : ℕ) (calls : List FencedCall) → CanFence o first → AreFencedCalls calls → Classified o first calls
-classified o first calls c a f = classes (fenced_replay (fenced o first) calls) f (always o first calls c a)

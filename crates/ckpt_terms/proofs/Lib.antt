@@ -9,7 +9,9 @@ pub mod KnownFiles
 pub mod MachineLemmas
 pub mod Known
 pub mod Modes
+pub mod NamedProgress
 pub mod OnceIssued
+pub mod OneTerm
 pub mod RangeLemmas
 pub mod SpanLemmas
 pub mod Stepping

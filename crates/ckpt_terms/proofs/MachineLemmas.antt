@@ -1,10 +1,10 @@
 -- What a call without a term does, with names and without.
 use Rattle.std.proofs.Common.{◌≡◌, ℕ, ◌+◌, ◌≤◌, ◌^◌, Bool, true, false, ◌||◌, ltb, eqb, ◌&&◌, List, [], refl, sym, ap, subst, ◌∙◌, arith}
 use Rattle.std.specs.Prelude.{Some, None, cond}
-use Rattle.std.proofs.lemmas.Bool.{cond-false, or_parts, ltb-false, eqb-false}
+use Rattle.std.proofs.lemmas.Bool.{cond-false, or_parts, ltb-false, eqb-false, ne_eqb, le-ltb}
 use Rattle.ckpt_ids.specs.declared.call.Call.{Call}
 use Rattle.ckpt_ids.specs.declared.call.Call.TheVariants.{Ack, Decline, Restore, Cancel}
-use Rattle.ckpt_model.specs.State.{State}
+use Rattle.ckpt_model.specs.State.{State, Opening, opened}
 use Rattle.ckpt_model.specs.Soundness.{IsSound}
 use Rattle.ckpt_model.specs.Steps.{Stepped, step}
 use Rattle.ckpt_terms.specs.declared.call.FencedCall.TheVariants.{Make}
@@ -14,7 +14,7 @@ use Rattle.ckpt_terms.specs.declared.machine.FenceFault.TheVariants.{BadName, Na
 use Rattle.ckpt_terms.specs.declared.machine.Machine.{Machine}
 use Rattle.ckpt_terms.specs.declared.machine.Machine.TheVariants as machine
 use Rattle.ckpt_terms.specs.Fencing.{Fenced, FencedStepped, ends_the_term, fence, fenced_step, fresh_of, is_accepted, unspent_after}
-use Rattle.ckpt_terms.specs.FencedLaws.{IsFenced}
+use Rattle.ckpt_terms.specs.FencedLaws.{CanFence, IsFenced}
 use Rattle.ckpt_terms.specs.Machines.{MakesStep, fence_fault, has_known_from, is_free, machine_step, names_in, passes}
 use Rattle.ckpt_terms.proofs.KnownFiles.{known_below}
 use Rattle.ckpt_terms.proofs.Stepping.{fenced_on}
@@ -109,3 +109,10 @@ named_fenced m first sound e =
       ascending = tt;
       ended = λ _. refl;
     }
+
+-- a coordinator that was just opened can have them
+pub first_fence : (o : Opening) (first : ℕ) → CanFence o first → fence_fault (machine.Plain (opened o)) first ≡ None
+first_fence o first c =
+    let from : 1 ≤ first = c.first_from in
+    let to : first ≤ 2 ^ 62 = c.first_to in
+    rw (ne_eqb first 0 (λ e. absurd (omega arith)), le-ltb (2 ^ 62) first to) refl

@@ -12,7 +12,7 @@ use Rattle.ckpt_model.proofs.Histories.Balance.{handed}
 use Rattle.ckpt_terms.specs.declared.call.FencedCall.{FencedCall}
 use Rattle.ckpt_terms.specs.declared.call.FencedCall.TheVariants.{Reserve, Forfeit, Make}
 use Rattle.ckpt_terms.specs.Fencing.{Fenced, fenced, made, passed, FencedStepped, fenced_replay, core_calls}
-use Rattle.ckpt_terms.specs.FencedLaws.{CanFence, AreFencedCalls, IsFenced, IssuedOnce}
+use Rattle.ckpt_terms.specs.FencedLaws.{CanFence, AreFencedCalls, IsFenced, IssuesOnce, IssuedOnce}
 use Rattle.ckpt_terms.proofs.Known.{new_fresh, deleted_known}
 use Rattle.ckpt_terms.proofs.Stepping.{fenced_step_by, fresh_unspent, IsOpen, IsLater, made_later, made_keeps}
 use Rattle.ckpt_terms.proofs.Fences.{opening_fenced}
@@ -70,12 +70,16 @@ none_again m (Make term its ∷ calls) gone a i c =
           (closed_later m n (gone ++ deleted_by m.core its) (made_later m call i e) (closed_with_deleted m its gone i c)),
     ))
 
--- the law
+-- the laws
+pub issues_once : (m : Fenced) (calls : List FencedCall) → IsFenced m → AreFencedCalls calls → IssuesOnce m calls
+issues_once m calls i a =
+    let h = history m calls a in
+    record { made = h.0; core = h.1; none_again = none_again m calls [] a i (λ f k. absurd k) }
+
 pub issued_once : (o : Opening) (first : ℕ) (calls : List FencedCall) → CanFence o first → AreFencedCalls calls → IssuedOnce o first calls
 issued_once o first calls c a =
     let m : Fenced = fenced o first in
     let its : List Call = core_calls m calls in
-    let h = history m calls a in
-    let none : NoneAgain [] (opened o) its = none_again m calls [] a (opening_fenced o first c) (λ f k. absurd k) in
+    let h : IssuesOnce m calls = issues_once m calls (opening_fenced o first c) a in
     let At : State → Type 0 = λ n. (f : ℕ) → IsIn f (along handed_by (opened o) its) ↔ (IsIn f (along registered_by (opened o) its) × (count (uses n.records) f ≡ 0)) in
-    record { made = h.0; core = h.1; none_again = none; handed = subst At (sym h.1) (handed o its c.core h.0 none) }
+    record { made = h.made; core = h.core; none_again = h.none_again; handed = subst At (sym h.core) (handed o its c.core h.made h.none_again) }

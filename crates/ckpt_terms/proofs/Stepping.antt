@@ -44,7 +44,7 @@ unfolding fenced_step
 fenced_on m call e = ap (unless_fenced m call) e
 
 -- the rows of a table
-none_else : (b : Bool) (x : FencedRefusal) (rest : Option FencedRefusal) → cond b (Some x) rest ≡ None → (b ≡ false) × (rest ≡ None)
+pub none_else : (b : Bool) (x : FencedRefusal) (rest : Option FencedRefusal) → cond b (Some x) rest ≡ None → (b ≡ false) × (rest ≡ None)
 none_else true x rest e = absurd (cc)
 none_else false x rest e = (refl, e)
 

@@ -3,18 +3,18 @@ use Rattle.std.proofs.Common.{◌≡◌, ℕ, ◌+◌, ◌<◌, ◌≤◌, true,
 use Rattle.std.specs.Prelude.{Some}
 use Rattle.std.proofs.lemmas.Bool.{cases_Bool, both_ways, and_parts, and_from, ne_eqb, not_from_false, cond-true}
 use Rattle.ckpt_ids.specs.Ordered.{IsIn}
-use Rattle.ckpt_model.specs.State.{Opening, is_known}
+use Rattle.ckpt_model.specs.State.{is_known}
 use Rattle.ckpt_model.specs.Steps.{Stepped, step}
 use Rattle.ckpt_terms.specs.declared.call.FencedCall.{FencedCall}
 use Rattle.ckpt_terms.specs.declared.call.FencedCall.TheVariants.{Reserve, Forfeit, Make}
 use Rattle.ckpt_terms.specs.declared.call.FencedRefusal.{FencedRefusal}
 use Rattle.ckpt_terms.specs.declared.call.FencedRefusal.TheVariants.{OldTerm}
 use Rattle.ckpt_terms.specs.declared.call.FencedAnswer.TheVariants as answer
-use Rattle.ckpt_terms.specs.Fencing.{is_garbage, Fenced, fenced, is_of_task, ends_the_term, is_accepted, has_ended, fence, unspent_after, without_all, fresh_of, made, FencedStepped, fenced_step}
+use Rattle.ckpt_terms.specs.Fencing.{is_garbage, Fenced, is_of_task, ends_the_term, is_accepted, has_ended, fence, unspent_after, without_all, fresh_of, made, FencedStepped, fenced_step}
 use Rattle.ckpt_terms.specs.Fencing.{fenced_replay}
-use Rattle.ckpt_terms.specs.FencedLaws.{CanFence, AreFencedCalls, IsFenced, is_from_task, term_of, ZombiesAreFenced, SweepIsExact, CancelledIsSwept}
+use Rattle.ckpt_terms.specs.FencedLaws.{AreFencedCalls, IsFenced, is_from_task, term_of, ZombiesAreFenced, SweepIsExact, CancelledIsSwept}
 use Rattle.ckpt_terms.proofs.Stepping.{fenced_step_by, fenced_off, IsOpen}
-use Rattle.ckpt_terms.proofs.Fences.{always, step_fenced, replay_later}
+use Rattle.ckpt_terms.proofs.Fences.{step_fenced, replay_later}
 use Rattle.ckpt_terms.proofs.Classes.{garbage_from}
 
 -- what a call leaves that ends the term
@@ -45,12 +45,10 @@ old_fenced n (Reserve term count) t h = cond-true (not (eqb term n.term)) _ _ (o
 old_fenced n (Forfeit term names) t h = cond-true (not (eqb term n.term)) _ _ (other_term term n.term h)
 old_fenced n (Make term call) t h = cond-true (is_of_task call && not (eqb term n.term)) _ _ (and_from (is_of_task call) (not (eqb term n.term)) t (other_term term n.term h))
 
-pub zombies_are_fenced : (o : Opening) (first : ℕ) (before calls : List FencedCall) → CanFence o first → AreFencedCalls before → AreFencedCalls calls → ZombiesAreFenced o first before calls
-zombies_are_fenced o first before calls c a b end its_call e late t h =
-    let m : Fenced = fenced_replay (fenced o first) before in
+pub zombies_are_fenced : (m : Fenced) (calls : List FencedCall) → IsFenced m → AreFencedCalls calls → ZombiesAreFenced m calls
+zombies_are_fenced m calls i b end its_call e late t h =
     let k : Fenced = (fenced_step m end).0 in
     let n : Fenced = fenced_replay k calls in
-    let i : IsFenced m = always o first before c a in
     let now : k.term ≡ m.term + 1 = (ended m end e).0 in
     let later : k.term ≤ n.term = (replay_later k calls b (step_fenced m end its_call i)).term in
     fenced_off n late OldTerm (old_fenced n late t (omega arith))
@@ -62,10 +60,8 @@ swept n none f below =
     let closed : IsOpen n f → ⊥ = λ (o : IsOpen n f). ⊎_elim (λ (k : IsIn f n.unspent). subst In none k) (λ (k : n.next_name ≤ f). absurd (omega arith)) o in
     ⊎_elim (λ (k : is_known n.core f ≡ true). inl k) (λ (k : is_known n.core f ≡ false). inr (garbage_from n f closed k)) (cases_Bool (is_known n.core f))
 
-pub sweep_is_exact : (o : Opening) (first : ℕ) (before : List FencedCall) → CanFence o first → AreFencedCalls before → SweepIsExact o first before
-sweep_is_exact o first before c a end e f below =
-    let m : Fenced = fenced_replay (fenced o first) before in
-    swept (fenced_step m end).0 (ended m end e).1 f below
+pub sweep_is_exact : (m : Fenced) → SweepIsExact m
+sweep_is_exact m end e f below = swept (fenced_step m end).0 (ended m end e).1 f below
 
-pub cancelled_is_swept : (o : Opening) (first : ℕ) (calls : List FencedCall) → CanFence o first → AreFencedCalls calls → CancelledIsSwept o first calls
-cancelled_is_swept o first calls c a e f below = swept (fenced_replay (fenced o first) calls) ((always o first calls c a).ended e) f below
+pub cancelled_is_swept : (m : Fenced) → IsFenced m → CancelledIsSwept m
+cancelled_is_swept m i e f below = swept m (i.ended e) f below

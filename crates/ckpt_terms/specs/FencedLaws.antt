@@ -1,4 +1,4 @@
--- Laws of a fenced coordinator, over every list of calls from an opening.
+-- Laws of a fenced coordinator, over every list of calls from a sound state.
 use Rattle.std.specs.Prelude.{◌≡◌, ℕ, ◌+◌, ◌<◌, ◌≤◌, Bool, true, false, nat_le, List, [], ◌∷◌, ◌↔◌, ◌⊎◌, ⊤}
 use Rattle.ckpt_ids.specs.Ascending.{IsAscendingSet}
 use Rattle.ckpt_ids.specs.Counting.{one_if, times}
@@ -8,11 +8,12 @@ use Rattle.ckpt_model.specs.State.{Opening, opened, is_known}
 use Rattle.ckpt_model.specs.Refusals.{is_cancelled}
 use Rattle.ckpt_model.specs.Histories.{replay}
 use Rattle.ckpt_model.specs.Soundness.{IsSound, IsCall}
-use Rattle.ckpt_model.specs.Laws.{AreCalls, CanOpen, NoneAgain, along, handed_by, registered_by}
+use Rattle.ckpt_model.specs.Laws.{AreCalls, CanOpen, NoneAgain, Part, ack_of, along, given_as, handed_by, is_ack_taken, registered_by}
 use Rattle.ckpt_terms.specs.declared.call.TheConstants.{LAST_TERM, NAMES_END}
 use Rattle.ckpt_terms.specs.declared.call.FencedCall.{FencedCall}
 use Rattle.ckpt_terms.specs.declared.call.FencedCall.TheVariants.{Reserve, Forfeit, Make}
 use Rattle.ckpt_terms.specs.declared.call.FencedRefusal.TheVariants.{OldTerm}
+use Rattle.ckpt_terms.specs.declared.call.FencedAnswer.{FencedAnswer}
 use Rattle.ckpt_terms.specs.declared.call.FencedAnswer.TheVariants as answer
 use Rattle.ckpt_terms.specs.Fencing.{Fenced, fenced, fenced_step, fenced_replay, core_calls, is_of_task, has_ended, is_garbage, may_be_deleted}
 
@@ -28,12 +29,6 @@ IsFencedCall call = ⊤
 abbrev pub AreFencedCalls : List FencedCall → Type 0
 AreFencedCalls [] = ⊤
 AreFencedCalls (call ∷ calls) = IsFencedCall call × AreFencedCalls calls
-
--- a coordinator that can be opened so, the calls that were made, and those that follow them
-pub record CanGoOn (o : Opening) (first : ℕ) (before calls : List FencedCall) : Type 0 where
-  pub opens : CanFence o first
-  pub made : AreFencedCalls before
-  pub follow : AreFencedCalls calls
 
 -- what always holds
 pub record IsFenced (m : Fenced) : Type 0 where
@@ -51,31 +46,31 @@ pub record IsFenced (m : Fenced) : Type 0 where
   -- a job that was cancelled holds no name
   pub ended : is_cancelled m.core.mode ≡ true → m.unspent ≡ []
 
--- and after these calls
-abbrev pub IsFencedAfter : Opening → ℕ → List FencedCall → Type 0
-IsFencedAfter o first calls = IsFenced (fenced_replay (fenced o first) calls)
+-- Laws of each state that is sound (`IsFenced`): of an opening with names, after a fence, of an image, and after calls from one of these.
 
 -- Each number is one of: to be given out yet, held by a task of the running term, in use, waiting for deletion, fetched for it,
 -- garbage; and it is there once. A number below the first name is never given out; it is garbage unless a record names it.
-abbrev pub Classified : Opening → ℕ → List FencedCall → Type 0
-Classified o first calls =
-    let m : Fenced = fenced_replay (fenced o first) calls in
+abbrev pub Classified : Fenced → Type 0
+Classified m =
     (f : ℕ) → one_if (nat_le m.next_name f) + times f m.unspent + one_if (is_present (uses m.core.records) f) + times f m.core.waiting + times f m.core.taken + one_if (is_garbage m f) ≡ 1
 
 -- garbage is garbage for good
-abbrev pub GarbageForGood : Opening → ℕ → List FencedCall → List FencedCall → Type 0
-GarbageForGood o first before calls =
-    let m : Fenced = fenced_replay (fenced o first) before in
-    (f : ℕ) → is_garbage m f ≡ true → is_garbage (fenced_replay m calls) f ≡ true
+abbrev pub GarbageForGood : Fenced → List FencedCall → Type 0
+GarbageForGood m calls = (f : ℕ) → is_garbage m f ≡ true → is_garbage (fenced_replay m calls) f ≡ true
 
 -- no live record uses a file that may be deleted, neither then nor later
-abbrev pub DeletionsAreSafe : Opening → ℕ → List FencedCall → List FencedCall → Type 0
-DeletionsAreSafe o first before calls =
-    let m : Fenced = fenced_replay (fenced o first) before in
-    (f : ℕ) → may_be_deleted m f ≡ true → count (uses (fenced_replay m calls).core.records) f ≡ 0
+abbrev pub DeletionsAreSafe : Fenced → List FencedCall → Type 0
+DeletionsAreSafe m calls = (f : ℕ) → may_be_deleted m f ≡ true → count (uses (fenced_replay m calls).core.records) f ≡ 0
 
--- The calls that reach the coordinator are a history of it, so each law of plain calls holds of them. They never report a
--- deleted file as new again. So, with no premise, a file was handed out exactly if it was registered and no live record uses it.
+-- The calls that reach the coordinator are a history of it, so each law of plain calls holds of them. None of them reports a
+-- file as new again that was deleted after m.
+pub record IssuesOnce (m : Fenced) (calls : List FencedCall) : Type 0 where
+  pub made : AreCalls (core_calls m calls)
+  pub core : (fenced_replay m calls).core ≡ replay m.core (core_calls m calls)
+  pub none_again : NoneAgain [] m.core (core_calls m calls)
+
+-- From an opening on, they never report a deleted file as new again. So, with no premise, a file was handed out exactly if it was
+-- registered and no live record uses it.
 pub record IssuedOnce (o : Opening) (first : ℕ) (calls : List FencedCall) : Type 0 where
   pub made : AreCalls (core_calls (fenced o first) calls)
   pub core : (fenced_replay (fenced o first) calls).core ≡ replay (opened o) (core_calls (fenced o first) calls)
@@ -96,9 +91,8 @@ term_of (Make term call) = term
 
 -- Once a restore or a cancel is accepted, no reservation, forfeit, acknowledgement or decline of the tasks that ran before
 -- changes anything, whatever else is called, and each is told so.
-abbrev pub ZombiesAreFenced : Opening → ℕ → List FencedCall → List FencedCall → Type 0
-ZombiesAreFenced o first before calls =
-    let m : Fenced = fenced_replay (fenced o first) before in
+abbrev pub ZombiesAreFenced : Fenced → List FencedCall → Type 0
+ZombiesAreFenced m calls =
     (end : FencedCall)
     → IsFencedCall end
     → has_ended end (fenced_step m end).1 ≡ true
@@ -108,16 +102,33 @@ ZombiesAreFenced o first before calls =
 -- Right after an accepted restore or cancel no name is held: each one below the next is in use, waits for deletion, was
 -- fetched for it, or is garbage. So a sweep then misses no file that has such a name and is garbage; a task that should be
 -- dead may still write one later.
-abbrev pub SweepIsExact : Opening → ℕ → List FencedCall → Type 0
-SweepIsExact o first before =
-    let m : Fenced = fenced_replay (fenced o first) before in
+abbrev pub SweepIsExact : Fenced → Type 0
+SweepIsExact m =
     (end : FencedCall)
     → has_ended end (fenced_step m end).1 ≡ true
     → let n : Fenced = (fenced_step m end).0 in
     (f : ℕ) → f < n.next_name → (is_known n.core f ≡ true) ⊎ (is_garbage n f ≡ true)
 
 -- and so is a sweep of a job that was cancelled, whenever it is made
-abbrev pub CancelledIsSwept : Opening → ℕ → List FencedCall → Type 0
-CancelledIsSwept o first calls =
-    let m : Fenced = fenced_replay (fenced o first) calls in
-    is_cancelled m.core.mode ≡ true → (f : ℕ) → f < m.next_name → (is_known m.core f ≡ true) ⊎ (is_garbage m f ≡ true)
+abbrev pub CancelledIsSwept : Fenced → Type 0
+CancelledIsSwept m = is_cancelled m.core.mode ≡ true → (f : ℕ) → f < m.next_name → (is_known m.core f ≡ true) ⊎ (is_garbage m f ≡ true)
+
+-- the numbers that a call gives, by its answer
+abbrev pub given_in : FencedAnswer → List ℕ
+given_in (answer.Made after its) = given_as its
+given_in answer = []
+
+-- an acknowledgement that is accepted for a pending record, by its answer
+abbrev pub is_taken_in : FencedAnswer → Bool
+is_taken_in (answer.Made after its) = is_ack_taken its
+is_taken_in answer = false
+
+-- Each acknowledgement that is accepted for a pending record was made in the term in which that record was triggered. `call`
+-- triggers it; `calls` come after it.
+abbrev pub OneTerm : Fenced → FencedCall → List FencedCall → Type 0
+OneTerm m call calls =
+    let n : Fenced = fenced_replay (fenced_step m call).0 calls in
+    (id term now : ℕ) (p : Part)
+    → given_in (fenced_step m call).1 ≡ id ∷ []
+    → is_taken_in (fenced_step n (Make term (ack_of now id p))).1 ≡ true
+    → term ≡ m.term

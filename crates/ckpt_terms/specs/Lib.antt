@@ -3,6 +3,7 @@ pub mod FencedExamples
 pub mod Fencing
 pub mod FencedLaws
 pub mod Machines
+pub mod NamedProgress
 pub mod Spans
 pub mod Spent
 pub mod TermsImages

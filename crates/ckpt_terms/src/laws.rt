@@ -1,55 +1,86 @@
 //! The laws of a fenced coordinator, each on a function that does nothing.
 
-ghost use Rattle.std.specs.Prelude.{ℕ, List};
-ghost use Rattle.ckpt_model.specs.State.{Opening};
+ghost use Rattle.std.specs.Prelude.{◌≡◌, ℕ, List, Some, None};
+ghost use Rattle.ckpt_ids.specs.Records.{Record};
+ghost use Rattle.ckpt_model.specs.Progress.{TimedPart};
+ghost use Rattle.ckpt_model.specs.Soundness.{IsSound};
+ghost use Rattle.ckpt_model.specs.State.{State, Opening, opened};
 ghost use Rattle.ckpt_terms.specs.declared.call.FencedCall.{FencedCall};
-ghost use Rattle.ckpt_terms.specs.Fencing.{Fenced};
-ghost use Rattle.ckpt_terms.specs.FencedLaws.{CanFence, CanGoOn, AreFencedCalls, IsFencedAfter, Classified, GarbageForGood};
-ghost use Rattle.ckpt_terms.specs.FencedLaws.{DeletionsAreSafe, IssuedOnce, ZombiesAreFenced, SweepIsExact, CancelledIsSwept};
+ghost use Rattle.ckpt_terms.specs.declared.machine.Machine.TheVariants as machine;
+ghost use Rattle.ckpt_terms.specs.Fencing.{Fenced, fenced, fenced_replay};
+ghost use Rattle.ckpt_terms.specs.FencedLaws.{CanFence, AreFencedCalls, IsFenced, IsFencedCall, Classified, GarbageForGood, OneTerm};
+ghost use Rattle.ckpt_terms.specs.FencedLaws.{DeletionsAreSafe, IssuesOnce, IssuedOnce, ZombiesAreFenced, SweepIsExact, CancelledIsSwept};
+ghost use Rattle.ckpt_terms.specs.Machines.{fence_fault, fenced_of, first_names, machine_of};
+ghost use Rattle.ckpt_terms.specs.NamedProgress.{CompletesInTerm};
 ghost use Rattle.ckpt_terms.specs.TermsImages.{AreFencedAlike, CanHoldFenced, FencedGoesOnAs, IsFencedCut, fenced_settled};
 
-/// What always holds for a fenced coordinator holds after every list of calls.
+/// What always holds for a fenced coordinator holds of an opening with names, where a plain one gets
+/// names, and after every list of calls from a state of which it holds. Of an image's state it is part
+/// of `CanHoldFenced`. Each law below is of every such state.
 pub fn fenced_always()
-    ensures { (o : Opening) (first : ℕ) (calls : List FencedCall) → CanFence o first → AreFencedCalls calls → IsFencedAfter o first calls }
+    ensures opening { (o : Opening) (first : ℕ) → CanFence o first → IsFenced (fenced o first) }
+    ensures named { (m : State) (first : ℕ) → IsSound m → fence_fault (machine.Plain m) first ≡ None → IsFenced (fenced_of m (first_names first)) }
+    ensures after { (m : Fenced) (calls : List FencedCall) → IsFenced m → AreFencedCalls calls → IsFenced (fenced_replay m calls) }
+    ensures opened { (o : Opening) (first : ℕ) (calls : List FencedCall) → CanFence o first → AreFencedCalls calls → IsFenced (fenced_replay (fenced o first) calls) }
+{}
+
+/// A fence as first call leaves what an opening with names gives, and is not refused.
+pub fn fence_first()
+    ensures opening { (o : Opening) (first : ℕ) → machine_of (opened o) (Some (first_names first)) ≡ machine.Fenced (fenced o first) }
+    ensures accepted { (o : Opening) (first : ℕ) → CanFence o first → fence_fault (machine.Plain (opened o)) first ≡ None }
 {}
 
 /// Each number is in exactly one class: not given out, held by a task of the running term, in use,
 /// waiting for deletion, fetched for it, garbage.
 pub fn classified()
-    ensures { (o : Opening) (first : ℕ) (calls : List FencedCall) → CanFence o first → AreFencedCalls calls → Classified o first calls }
+    ensures { (m : Fenced) → IsFenced m → Classified m }
 {}
 
 /// Garbage is garbage for good.
 pub fn garbage_for_good()
-    ensures { (o : Opening) (first : ℕ) (before calls : List FencedCall) → CanGoOn o first before calls → GarbageForGood o first before calls }
+    ensures { (m : Fenced) (calls : List FencedCall) → IsFenced m → AreFencedCalls calls → GarbageForGood m calls }
 {}
 
 /// No live record uses a file that may be deleted, neither then nor later.
 pub fn deletions_are_safe()
-    ensures { (o : Opening) (first : ℕ) (before calls : List FencedCall) → CanGoOn o first before calls → DeletionsAreSafe o first before calls }
+    ensures { (m : Fenced) (calls : List FencedCall) → IsFenced m → AreFencedCalls calls → DeletionsAreSafe m calls }
 {}
 
 /// The calls that reach the coordinator are a history of it. No deleted file is reported to it as
 /// new again, so a file was handed out exactly when it was registered and no live record uses it.
 pub fn issued_once()
-    ensures { (o : Opening) (first : ℕ) (calls : List FencedCall) → CanFence o first → AreFencedCalls calls → IssuedOnce o first calls }
+    ensures sound { (m : Fenced) (calls : List FencedCall) → IsFenced m → AreFencedCalls calls → IssuesOnce m calls }
+    ensures opened { (o : Opening) (first : ℕ) (calls : List FencedCall) → CanFence o first → AreFencedCalls calls → IssuedOnce o first calls }
 {}
 
 /// Once a restore or a cancel is accepted, the tasks that ran before change nothing.
 pub fn zombies_are_fenced()
-    ensures { (o : Opening) (first : ℕ) (before calls : List FencedCall) → CanGoOn o first before calls → ZombiesAreFenced o first before calls }
+    ensures { (m : Fenced) (calls : List FencedCall) → IsFenced m → AreFencedCalls calls → ZombiesAreFenced m calls }
+{}
+
+/// Each acknowledgement that is accepted for a pending record was made in the term in which that
+/// record was triggered.
+pub fn one_term()
+    ensures { (m : Fenced) (call : FencedCall) (calls : List FencedCall) → IsFenced m → IsFencedCall call → AreFencedCalls calls → OneTerm m call calls }
+{}
+
+/// If each subtask that a pending record lacks acknowledges once in the term that runs, in any
+/// order, with names that the term holds and files in use, and no other call is made between, then
+/// each is accepted, and the last one completes the record.
+pub fn completes()
+    ensures { (m : Fenced) (id : ℕ) (r : Record) (ts : List TimedPart) → IsFenced m → CompletesInTerm m id r ts }
 {}
 
 /// Right after an accepted restore or cancel each name that was given out is in use, waits for
 /// deletion, was fetched for it, or is garbage.
 pub fn sweep_is_exact()
-    ensures { (o : Opening) (first : ℕ) (before : List FencedCall) → CanFence o first → AreFencedCalls before → SweepIsExact o first before }
+    ensures { (m : Fenced) → SweepIsExact m }
 {}
 
 /// In a job that was cancelled each name that was given out is in use, waits for deletion, was
 /// fetched for it, or is garbage.
 pub fn cancelled_is_swept()
-    ensures { (o : Opening) (first : ℕ) (calls : List FencedCall) → CanFence o first → AreFencedCalls calls → CancelledIsSwept o first calls }
+    ensures { (m : Fenced) → IsFenced m → CancelledIsSwept m }
 {}
 
 /// A state that an image may have, with the fetched files in ascending order, is one too, and

@@ -7,7 +7,8 @@ ghost use Rattle.ckpt_model.specs.Steps.{step};
 ghost use Rattle.ckpt_terms.specs.Fencing.{Fenced};
 ghost use Rattle.ckpt_terms.specs.declared.machine.FenceFault.TheVariants as fault;
 ghost use Rattle.ckpt_terms.specs.declared.machine.Machine.TheVariants as machine;
-ghost use Rattle.ckpt_terms.specs.Machines.{MakesStep, core_in, fence_fault, first_names, is_free, machine_of, machine_step, names_in, passes};
+ghost use Rattle.ckpt_terms.specs.FencedLaws.{IsFenced};
+ghost use Rattle.ckpt_terms.specs.Machines.{MakesStep, core_in, fence_fault, fenced_of, first_names, is_free, machine_of, machine_step, names_in, passes};
 
 use crate::call::{FencedAnswer, NAMES_END};
 use crate::names::Names;
@@ -109,6 +110,7 @@ impl Machine {
         ensures fault { result_err result ≢ Some fault.Memory → result_err result ≡ fence_fault self.old first_name }
         ensures memory { result ≡ Err fault.Memory → names_in self.old ≡ None }
         ensures done { OnOk result (self.new ≡ machine_of (core_in self.old) (Some (first_names first_name))) }
+        ensures sound { OnOk result (IsFenced (fenced_of (core_in self.old) (first_names first_name))) }
         ensures unchanged { OnErr result (self.new ≡ self.old) }
     {
         self.can_fence(first_name)?;
@@ -166,7 +168,8 @@ fn test_name(core: &Core, first_name: u64) -> Result<(), FenceFault>
 /// Condition: it can have them.
 fn with_names(plain: Machine, given: (Global, u64)) -> (Machine, ())
     requires { fence_fault plain given.1 ≡ None }
-    ensures { result.0 ≡ machine_of (core_in plain) (Some (first_names given.1)) }
+    ensures done { result.0 ≡ machine_of (core_in plain) (Some (first_names given.1)) }
+    ensures sound { IsFenced (fenced_of (core_in plain) (first_names given.1)) }
 {
     let (alloc, first_name) = given;
     match plain {
@@ -180,7 +183,8 @@ fn with_names(plain: Machine, given: (Global, u64)) -> (Machine, ())
 /// Condition: it can have them.
 fn terms_over(alloc: Global, core: Core, first_name: u64) -> Terms
     requires { fence_fault (machine.Plain core) first_name ≡ None }
-    ensures { machine.Fenced result ≡ machine_of core (Some (first_names first_name)) }
+    ensures done { machine.Fenced result ≡ machine_of core (Some (first_names first_name)) }
+    ensures sound { IsFenced (fenced_of core (first_names first_name)) }
 {
     // The contract of this read says that the coordinator is sound.
     let _ = core.mode();

@@ -5,6 +5,7 @@ pub mod Dealing
 mod Names
 pub mod RoundLemmas
 pub mod SeatLemmas
+pub mod SequenceLemmas
 pub mod ShareLemmas
 pub mod ShiftLemmas
 pub mod TallyLemmas

@@ -58,7 +58,7 @@ pub record IsTold (old : Hand) (told : List Exchange) (new : Hand) : Type 0 wher
   pub own : calls_by old.seat new.later ≡ new.own
   pub answers : answers_by old.seat (book_of old) new.later ≡ answers_by old.seat (book_of old) old.later ++ answers_in told
 
-IsTold-all : (old : Hand) (told : List Exchange) (new : Hand) → calls_by old.seat old.later ≡ old.own → MadeAll old told new → IsTold old told new
+pub IsTold-all : (old : Hand) (told : List Exchange) (new : Hand) → calls_by old.seat old.later ≡ old.own → MadeAll old told new → IsTold old told new
 IsTold-all old [] new at all = record {
   own = ap (λ (h : Hand). calls_by old.seat h.later) all ∙ at ∙ ap (λ (h : Hand). h.own) (sym all);
   answers = ap (λ (h : Hand). answers_by old.seat (book_of old) h.later) all ∙ sym (append-nil (answers_by old.seat (book_of old) old.later));

@@ -2,6 +2,7 @@
 pub mod Deals
 pub mod Orders
 pub mod Rounds
+pub mod Sequences
 pub mod Shifts
 pub mod Spreads
 pub mod Tasks

@@ -5,6 +5,7 @@ mod ask;
 pub mod discard;
 pub mod each_pass;
 pub mod gate;
+pub mod laws;
 pub mod moments;
 pub mod order;
 pub mod shares;

@@ -1,7 +1,7 @@
 -- The balance of files over every list of calls, and what became of each.
 use Rattle.ckpt_model.proofs.Names.{common_steps, ◌≡◌, ℕ, ◌+◌, ◌≤◌, false, List, [], ◌∷◌, ◌++◌, refl, subst, ◌⊎◌, arith, cases_Bool, both_ways, ltb-false, le-ltb, append-nil, append_assoc, Call, IsIn}
 use Rattle.ckpt_model.proofs.Names.{uses, count, is_present, IsIn-append_left, IsIn-append_right, IsIn-append_cases, not_in-from_test, State, Opening, opened, step, replay, IsSound, CanOpen, AreCalls}
-use Rattle.ckpt_model.proofs.Names.{along, registered_by, handed_by, deleted_by, new_by, ShareNone, NoneAgain, Balance, Handed, Accounted, UsedNoMore, Outbox, one_if, times, times-from_IsIn}
+use Rattle.ckpt_model.proofs.Names.{along, registered_by, handed_by, deleted_by, new_by, ShareNone, NoneAgain, Balance, Handed, Accounted, Outgoing, NoneLeaks, UsedNoMore, Outbox, one_if, times, times-from_IsIn}
 use Rattle.ckpt_model.proofs.Names.{IsIn-from_times, times-append, times_at_most_once}
 use Rattle.ckpt_model.proofs.Records.{outbox_of}
 use Rattle.ckpt_model.proofs.Histories.Balances.{times_none}
@@ -22,6 +22,26 @@ balance_from m (call ∷ calls) f s a =
 pub balance : (o : Opening) (calls : List Call) → CanOpen o → AreCalls calls → Balance o calls
 balance o calls c a f =
     omega (arith, balance_from (opened o) calls f (opening_is_sound o c) a)
+
+-- what is handed out or in the outbox is deleted or in the outbox after, as often
+flow_from : (m : State) (calls : List Call) (f : ℕ) → IsSound m → AreCalls calls
+    → times f (along handed_by m calls) + times f (m.waiting ++ m.taken) ≡ times f (along deleted_by m calls) + times f ((replay m calls).waiting ++ (replay m calls).taken)
+flow_from m [] f s a = refl
+flow_from m (call ∷ calls) f s a =
+    let n : State = (step m call).0 in
+    let k : State = replay n calls in
+    let here : times f (handed_by m call) + times f (m.waiting ++ m.taken) ≡ times f (deleted_by m call) + times f (n.waiting ++ n.taken) = (step_settled m call s).flows f in
+    let rest : times f (along handed_by n calls) + times f (n.waiting ++ n.taken) ≡ times f (along deleted_by n calls) + times f (k.waiting ++ k.taken) = flow_from n calls f (step_keeps m call a.0 s) a.1 in
+    omega (arith, here, rest, times-append f (handed_by m call) (along handed_by n calls), times-append f (deleted_by m call) (along deleted_by n calls))
+
+-- the two laws
+pub outgoing : (o : Opening) (calls : List Call) → CanOpen o → AreCalls calls → Outgoing o calls
+outgoing o calls c a f =
+    omega (arith, flow_from (opened o) calls f (opening_is_sound o c) a)
+
+pub none_leaks : (o : Opening) (calls : List Call) → CanOpen o → AreCalls calls → NoneLeaks o calls
+none_leaks o calls c a f =
+    omega (arith, balance o calls c a f, outgoing o calls c a f)
 
 -- each file handed out so far is in the outbox, or was deleted
 abbrev IsTraced : State → List ℕ → List ℕ → Type 0

@@ -6,7 +6,7 @@ use Rattle.ckpt_model.proofs.Records.Lists.{in_order-changed}
 use Rattle.ckpt_model.proofs.Histories.Choice.{found, chosen_is_done}
 
 -- the last done checkpoint stays if no done checkpoint is dropped
-last_stays : (q : Record → Bool) (rs : List Record) → ((r : Record) → IsIn r rs → r.done ≡ true → q r ≡ true) → last_checkpoint (map (λ r. r) (filter q rs)) ≡ last_checkpoint rs
+pub last_stays : (q : Record → Bool) (rs : List Record) → ((r : Record) → IsIn r rs → r.done ≡ true → q r ≡ true) → last_checkpoint (map (λ r. r) (filter q rs)) ≡ last_checkpoint rs
 last_stays q [] keeps = refl
 last_stays q (r ∷ rs) keeps = grind (arith, common_steps, keeps, both_ways, and_parts, cases_Bool, last_stays q rs)
 

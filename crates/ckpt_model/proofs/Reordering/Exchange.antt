@@ -82,7 +82,7 @@ accepted_before m now id p q r s k a apart k1 b =
     }
 
 -- the first, accepted before the second, is accepted after it
-accepted_after : (m : State) (now id : ℕ) (p q : Part) (r : Record) → IsSound m → pending_of m.records id ≡ Some r → (p.subtask ≡ q.subtask → ⊥) → IsAcceptedAck m now id p.subtask p.fresh p.reused
+pub accepted_after : (m : State) (now id : ℕ) (p q : Part) (r : Record) → IsSound m → pending_of m.records id ≡ Some r → (p.subtask ≡ q.subtask → ⊥) → IsAcceptedAck m now id p.subtask p.fresh p.reused
     → ShareNone p.fresh q.reused → ShareNone p.fresh q.fresh → pending_of (replaced m.records (with_ack r q.subtask q.fresh q.reused)) id ≡ Some (with_ack r q.subtask q.fresh q.reused)
     → IsAcceptedAck (with_records (record m { latest = max now m.latest }) (replaced m.records (with_ack r q.subtask q.fresh q.reused))) now id p.subtask p.fresh p.reused
 accepted_after m now id p q r s k ne a apart new k2 =

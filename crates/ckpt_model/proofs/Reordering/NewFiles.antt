@@ -35,7 +35,7 @@ same_record {m} {id} {a} {b} wa wb = grind (arith, common_steps)
 -- which of them are refused
 
 -- the number of a record was given
-was_given : (m : State) (id : ℕ) (r : Record) → IsSound m → pending_of m.records id ≡ Some r → was_not_given m id ≡ false
+pub was_given : (m : State) (id : ℕ) (r : Record) → IsSound m → pending_of m.records id ≡ Some r → was_not_given m id ≡ false
 was_given m id r s found = grind (arith, common_steps, IsIn-from_find (λ x. is_pending x && eqb x.id id) r m.records found, s.records.from_first r, s.records.below_next r)
 
 -- all of them if the moment is too large

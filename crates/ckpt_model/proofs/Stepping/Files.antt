@@ -2,10 +2,11 @@
 use Rattle.ckpt_model.proofs.Names.{◌≡◌, ℕ, ◌+◌, ◌≤◌, true, false, not, eqb, List, [], ◌∷◌, ◌++◌, length, take, refl, sym, ap, subst, ◌∙◌, ◌⊎◌, inl, inr, ⊎_elim, arith, filter, cases_Bool, eqb-true}
 use Rattle.ckpt_model.proofs.Names.{not_from_false, length-drop, take-append-drop, Call, Ack, Deleted, Undeleted, Refusal, Answer, Refused, one_if, times, IsIn, uses, is_present, IsIn-append_left}
 use Rattle.ckpt_model.proofs.Names.{IsIn-append_right, IsIn-append_cases, IsIn-filter, IsIn-from_filter, IsIn-from_list_any, list_any, State, is_known, without, IsSound, registered_as, deleted_as}
+use Rattle.ckpt_model.proofs.Names.{AreDistinct, AreDistinct-right, count_by-cons, eq-eqb, ne_eqb, times-append, times-filter}
 use Rattle.ckpt_model.proofs.Names.{common_steps}
 use Rattle.std.proofs.Common.{drop}
 use Rattle.ckpt_model.proofs.Records.{outbox_of}
-use Rattle.ckpt_model.proofs.Histories.Balances.{drop_front, drop_all}
+use Rattle.ckpt_model.proofs.Histories.Balances.{drop_front, drop_all, times_once}
 use Rattle.ckpt_model.proofs.Histories.Spreads.{IsSpread}
 
 -- what a call with this answer registers
@@ -35,6 +36,8 @@ pub record IsSettled (m n : State) (registered handed deleted : List ℕ) : Type
   -- one that is handed out is there after, and one that is deleted is not present
   pub out : (f : ℕ) → IsIn f handed → IsIn f (n.waiting ++ n.taken)
   pub gone : (f : ℕ) → IsIn f deleted → is_present (uses n.records) f ≡ false
+  -- what is handed out or in the outbox is deleted or in the outbox after, as often
+  pub flows : (f : ℕ) → times f handed + times f (m.waiting ++ m.taken) ≡ times f deleted + times f (n.waiting ++ n.taken)
 
 -- of a call that puts files at the end of waiting alone
 pub spread_settled : {m n : State} {in_ : List ℕ} → IsSpread m.records m.waiting m.taken n in_ → IsSettled m n in_ (drop (length m.waiting) n.waiting) []
@@ -51,13 +54,14 @@ spread_settled {m} {n} {in_} i =
       were = λ f h. absurd h;
       out = λ f h. there f (inl (IsIn-append_right f m.waiting i.out (rw (← handed) h)));
       gone = λ f h. absurd h;
+      flows = λ f. rw (handed, i.waits, i.fetched) (omega (arith, times-append f m.waiting m.taken, times-append f (m.waiting ++ i.out) m.taken, times-append f m.waiting i.out));
     }
 
 -- of one that changes the outbox alone, and puts no file at the end of waiting
 inward_settled : (m : State) (waiting taken deleted : List ℕ) → length waiting ≤ length m.waiting → ((f : ℕ) → IsIn f (m.waiting ++ m.taken) → IsIn f (waiting ++ taken) ⊎ IsIn f deleted)
     → ((f : ℕ) → IsIn f (waiting ++ taken) ⊎ IsIn f deleted → IsIn f (m.waiting ++ m.taken)) → ((f : ℕ) → IsIn f deleted → is_present (uses m.records) f ≡ false)
-    → IsSettled m (record m { waiting = waiting; taken = taken }) [] (drop (length m.waiting) waiting) deleted
-inward_settled m waiting taken deleted shorter stays before gone =
+    → ((f : ℕ) → times f (m.waiting ++ m.taken) ≡ times f deleted + times f (waiting ++ taken)) → IsSettled m (record m { waiting = waiting; taken = taken }) [] (drop (length m.waiting) waiting) deleted
+inward_settled m waiting taken deleted shorter stays before gone flows =
     let none : drop (length m.waiting) waiting ≡ [] = drop_all (length m.waiting) waiting shorter in
     let In : ℕ → List ℕ → Type 0 = λ f xs. IsIn f xs in
     record {
@@ -67,6 +71,7 @@ inward_settled m waiting taken deleted shorter stays before gone =
       were = λ f h. before f (inr h);
       out = λ f h. absurd (subst (In f) none h);
       gone = gone;
+      flows = λ f. rw none (omega (arith, flows f));
     }
 
 -- of a Take
@@ -79,6 +84,13 @@ take_settled m most =
     (λ f h. inl (grind (arith, common_steps, IsIn-append_left f, IsIn-append_right f, IsIn-append_cases f front rest, IsIn-append_cases f m.waiting m.taken h, whole)))
     (λ f h. grind (arith, common_steps, IsIn-append_left f, IsIn-append_right f, IsIn-append_cases f rest (m.taken ++ front), IsIn-append_cases f m.taken front, h, whole))
     (λ f h. absurd h)
+    (λ f. omega (arith, times-append f m.waiting m.taken, times-append f rest (m.taken ++ front), times-append f m.taken front, times-append f front rest, ap (times f) whole))
+
+-- a taken file is there once: the one reported, or one that stays
+times_without : (f file : ℕ) (taken : List ℕ) → AreDistinct taken → list_any (λ g. eqb g file) taken ≡ true → times f taken ≡ times f (file ∷ []) + times f (without file taken)
+times_without f file taken distinct there =
+    let q = IsIn-from_list_any (λ g. eqb g file) taken there in
+    grind (arith, common_steps, times-filter (λ g. not (eqb g file)) f taken, count_by-cons (λ g. eqb g f) file [], times_once file taken distinct, eqb-true q.0 file q.2, q.1, eqb-true, cases_Bool (eqb f file), eq-eqb, ne_eqb) steps 1000000
 
 -- a taken file is the one reported, or stays
 reported_or_taken : (f file : ℕ) (taken : List ℕ) → IsIn f taken → (f ≡ file) ⊎ IsIn f (without file taken)
@@ -95,10 +107,11 @@ deleted_settled m file s there =
     grind (arith, common_steps, IsIn-append_left f m.waiting (without file m.taken), right, reported_or_taken f file m.taken, IsIn-append_cases f m.waiting m.taken h))
     (λ f h. grind (arith, common_steps, IsIn-append_left f m.waiting m.taken, IsIn-append_right f m.waiting m.taken, IsIn-from_filter, IsIn-append_cases f m.waiting, was_taken f))
     (λ f h. (outbox_of s).unused f (IsIn-append_right f m.waiting m.taken (was_taken f h)))
+    (λ f. omega (arith, times-append f m.waiting m.taken, times-append f m.waiting (without file m.taken), times_without f file m.taken (AreDistinct-right m.waiting m.taken (outbox_of s).apart) there))
 
 -- of an Undeleted
-pub undeleted_settled : (m : State) (file : ℕ) → list_any (λ f. eqb f file) m.taken ≡ true → IsSettled m (record m { taken = without file m.taken; waiting = m.waiting ++ file ∷ [] }) [] [] []
-undeleted_settled m file there =
+pub undeleted_settled : (m : State) (file : ℕ) → IsSound m → list_any (λ f. eqb f file) m.taken ≡ true → IsSettled m (record m { taken = without file m.taken; waiting = m.waiting ++ file ∷ [] }) [] [] []
+undeleted_settled m file s there =
     let q = IsIn-from_list_any (λ g. eqb g file) m.taken there in
     let front : List ℕ = m.waiting ++ file ∷ [] in
     let left : List ℕ = without file m.taken in
@@ -107,6 +120,9 @@ undeleted_settled m file there =
       were = λ f h. absurd h;
       out = λ f h. absurd h;
       gone = λ f h. absurd h;
+      flows = λ f.
+          let once = times_without f file m.taken (AreDistinct-right m.waiting m.taken (outbox_of s).apart) there in
+          omega (arith, times-append f m.waiting m.taken, times-append f front left, times-append f m.waiting (file ∷ []), once);
       stays = λ f h. inl (let right = IsIn-append_right f m.waiting (file ∷ []) in
           let ahead = IsIn-append_left f m.waiting (file ∷ []) in
           let cases = IsIn-append_cases f m.waiting m.taken h in

@@ -169,7 +169,7 @@ effect_is m (Deleted file) e =
     (λ s. deleted_settled m file s (accepted_deleted m file e))
 effect_is m (Undeleted file) e =
     outbox_step m (Undeleted file) (m.waiting ++ file ∷ []) (without file m.taken) (Done (reply.Undeleted file)) refl (unmoved m None)
-    (λ s. undeleted_is_sound m file s (accepted_undeleted m file e)) (λ _. undeleted_settled m file (accepted_undeleted m file e))
+    (λ s. undeleted_is_sound m file s (accepted_undeleted m file e)) (λ s. undeleted_settled m file s (accepted_undeleted m file e))
 effect_is m (Show id) e = show_is m id (record_of m id)
 effect_is m (Count file) e = plain_step _ (unchanged m (Count file)) (λ i. i) refl refl refl
 

@@ -3,4 +3,4 @@ use Rattle.ckpt_terms.proofs.Zombies.{zombies_are_fenced}
 use Rattle.ckpt_terms.proofs.laws.zombies_are_fenced.Goals as goal
 
 pub returns : goal.returns
-returns c = λ o first before calls can. zombies_are_fenced o first before calls can.opens can.made can.follow
+returns c = zombies_are_fenced

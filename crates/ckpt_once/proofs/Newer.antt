@@ -1,0 +1,97 @@
+-- A done checkpoint is dropped for newer ones only, unless a call goes back.
+use Rattle.std.proofs.Common.{◌≡◌, ℕ, ◌≤◌, ◌<◌, Bool, true, false, ◌&&◌, nat_lt, nat_le, List, [], ◌∷◌, ◌∙◌, refl, ap, arith, if◌then◌else◌, find, inl, inr, Some}
+use Rattle.std.proofs.lemmas.Grind.{common_steps}
+use Rattle.std.specs.Prelude.{◌==◌}
+use Rattle.ckpt_ids.specs.declared.call.Target.TheVariants as target
+use Rattle.ckpt_ids.specs.declared.call.Call.{Call}
+use Rattle.ckpt_ids.specs.declared.call.Call.TheVariants.{Ack, Restore, Cancel}
+use Rattle.ckpt_ids.specs.declared.reply.Choice.TheVariants as choice
+use Rattle.ckpt_ids.specs.Ordered.{IsIn}
+use Rattle.ckpt_ids.specs.Records.{Record}
+use Rattle.ckpt_ids.proofs.CountLemmas.{IsIn-from_counted}
+use Rattle.ckpt_ids.proofs.OrderedLemmas.{list_any-from_IsIn}
+use Rattle.ckpt_model.specs.State.{State, choice_of, is_checkpoint, is_done_checkpoint}
+use Rattle.ckpt_model.specs.Steps.{Stepped, step}
+use Rattle.ckpt_model.specs.Histories.{replay}
+use Rattle.ckpt_model.specs.Laws.{AreCalls, Part, ack_of}
+use Rattle.ckpt_model.specs.Soundness.{IsSound}
+use Rattle.ckpt_model.specs.Keeping.{may_drop, newer_than}
+use Rattle.ckpt_model.specs.Interleavings.{is_completing}
+use Rattle.ckpt_model.proofs.Keeping.Kept.{keeps}
+use Rattle.ckpt_model.proofs.Keeping.Completed.{leaves_done}
+use Rattle.ckpt_model.proofs.Keeping.Latest.{takes_newest}
+use Rattle.ckpt_model.proofs.Soundness.Calls.{step_keeps}
+use Rattle.ckpt_once.specs.Newest.{ChoiceIsNoOlder, NoneGoesBack, goes_back}
+
+-- a done checkpoint that is no older is live
+abbrev HasNoOlder : ℕ → State → Type 0
+HasNoOlder id m = (r : Record) × IsIn r m.records × (is_done_checkpoint r ≡ true) × (id ≤ r.id)
+
+both_true : (a b : Bool) → (a && b) ≡ true → (a ≡ true) × (b ≡ true)
+both_true true b e = (refl, e)
+both_true false b e = grind (arith, common_steps)
+
+at_most : (m n : ℕ) → nat_le m n ≡ true → m ≤ n
+at_most m n e = grind (arith, common_steps)
+
+below : (m n : ℕ) → nat_lt m n ≡ true → m < n
+below m n e = grind (arith, common_steps)
+
+-- a call that may drop a checkpoint, and does not go back, leaves as many newer ones as are retained
+leaves_newer : (id : ℕ) (m : State) (call : Call) → goes_back m call ≡ false → may_drop id m call ≡ true → m.opening.config.retained ≤ newer_than id (step m call).0
+leaves_newer id m (Restore now (target.Savepoint s) shape) e f = absurd (grind (arith, common_steps))
+leaves_newer id m (Cancel now) e f = absurd (grind (arith, common_steps))
+leaves_newer id m (Ack now s subtask fresh reused) e f =
+    let x : Stepped = step m (Ack now s subtask fresh reused) in
+    at_most m.opening.config.retained (newer_than id x.0) (both_true (is_completing x.1) (nat_le m.opening.config.retained (newer_than id x.0)) f).1
+leaves_newer id m call e f = absurd (grind (arith, common_steps))
+
+one_call_by : (id : ℕ) (m : State) (call : Call) (h : HasNoOlder id m) (b : Bool) → may_drop h.0.id m call ≡ b → IsSound m → goes_back m call ≡ false → HasNoOlder id (step m call).0
+one_call_by id m call h false e s back = (h.0, keeps m call s h.0 h.1 h.2 e, h.2, h.3)
+one_call_by id m call h true e s back =
+    let newer : Record → Bool = λ r. is_done_checkpoint r && nat_lt h.0.id r.id in
+    let many : m.opening.config.retained ≤ newer_than h.0.id (step m call).0 = leaves_newer h.0.id m call back e in
+    let some : 1 ≤ m.opening.config.retained = s.config.retained_from in
+    let one = IsIn-from_counted newer (step m call).0.records (omega (arith, many, some)) in
+    let parts = both_true (is_done_checkpoint one.0) (nat_lt h.0.id one.0.id) one.2 in
+    let after : h.0.id < one.0.id = below h.0.id one.0.id parts.1 in
+    let from : id ≤ h.0.id = h.3 in
+    (one.0, one.1, parts.0, omega (arith, after, from))
+
+all_calls : (id : ℕ) (m : State) (calls : List Call) → IsSound m → AreCalls calls → NoneGoesBack m calls → HasNoOlder id m → HasNoOlder id (replay m calls)
+all_calls id m [] s are back h = h
+all_calls id m (call ∷ calls) s are back h =
+    all_calls id (step m call).0 calls (step_keeps m call are.0 s) are.1 back.1 (one_call_by id m call h (may_drop h.0.id m call) refl s back.0)
+
+-- what is found is in the list, and passes the test
+found_by : {X : Type 0} (p : X → Bool) (x y : X) (xs : List X) (b : Bool) → p x ≡ b → (if b then Some x else find p xs) ≡ Some y → (find p xs ≡ Some y → IsIn y xs × (p y ≡ true)) → IsIn y (x ∷ xs) × (p y ≡ true)
+found_by p x y xs true e f later = let same : y ≡ x = grind (arith, common_steps, f) in (inl same, ap p same ∙ e)
+found_by p x y xs false e f later = let k = later f in (inr k.0, k.1)
+
+pub found_in : {X : Type 0} (p : X → Bool) (xs : List X) (y : X) → find p xs ≡ Some y → IsIn y xs × (p y ≡ true)
+found_in p [] y e = absurd (grind (arith, common_steps))
+found_in p (x ∷ xs) y e = found_by p x y xs (p x) refl e (found_in p xs y)
+
+same_number : (m n : ℕ) → (m == n) ≡ true → n ≤ m
+same_number m n e = grind (arith, common_steps)
+
+chosen_no_older : (id : ℕ) (m : State) → IsSound m → HasNoOlder id m → (newest : ℕ) × (choice_of m ≡ choice.Checkpoint newest) × (id ≤ newest)
+chosen_no_older id m s h =
+    let newest = (takes_newest m s).checkpoint (list_any-from_IsIn is_done_checkpoint h.0 m.records h.1 h.2) in
+    let up : h.0.id ≤ newest.0.id = newest.1.greatest h.0 h.1 h.2 in
+    let from : id ≤ h.0.id = h.3 in
+    (newest.0.id, newest.2, omega (arith, up, from))
+
+pub choice_is_no_older : (m : State) (now id : ℕ) (p : Part) (calls : List Call) → ChoiceIsNoOlder m now id p calls
+choice_is_no_older m now id p calls s are completing checkpoint back =
+    let x : Stepped = step m (ack_of now id p) in
+    let sound : IsSound x.0 = step_keeps m (ack_of now id p) are.0 s in
+    let left = leaves_done m now id p s completing in
+    let at = found_in (λ r. r.id == id) x.0.records left.0 left.1 in
+    let done : is_done_checkpoint left.0 ≡ true = ap (λ b. b && is_checkpoint left.0) left.2 ∙ checkpoint left.0 left.1 in
+    let h : HasNoOlder id (replay x.0 calls) = all_calls id x.0 calls sound are.1 back (left.0, at.0, done, same_number left.0.id id at.1) in
+    chosen_no_older id (replay x.0 calls) (sound_after x.0 calls sound are.1) h
+  where
+    sound_after : (n : State) (rest : List Call) → IsSound n → AreCalls rest → IsSound (replay n rest)
+    sound_after n [] k a = k
+    sound_after n (call ∷ rest) k a = sound_after (step n call).0 rest (step_keeps n call a.0 k) a.1

@@ -1,0 +1,187 @@
+-- A run is a history without barriers.
+use Rattle.std.proofs.Common.{◌≡◌, ℕ, ◌<◌, Bool, true, false, List, [], ◌∷◌, ◌++◌, ◌∙◌, refl, sym, ap, subst, if◌then◌else◌, Option, Some, None, replicate, slice_get}
+use Rattle.std.specs.Prelude.{◌==◌, ◌&&◌}
+use Rattle.ckpt_ids.specs.declared.subtask.SubtaskId.{SubtaskId}
+use Rattle.ckpt_ids.specs.Shapes.{same_subtask}
+use Rattle.ckpt_align.specs.declared.input.Input.{Input}
+use Rattle.ckpt_align.specs.declared.input.Input.TheVariants.{Open, Held, Ended}
+use Rattle.ckpt_align.specs.Alignment.{Alignment, opened}
+use Rattle.ckpt_align.specs.Steps.{step, element}
+use Rattle.ckpt_align.specs.Histories.{Item, Element, Action, Reads, after, answer_to, is_taken, cut_as, barriers, replay, taken, sent, elements}
+use Rattle.ckpt_align.specs.Laws.{Channel}
+use Rattle.ckpt_align.proofs.ItemLemmas.{elements-append}
+use Rattle.ckpt_align.proofs.InputLemmas.{get-replicate, get-within, length-replicate}
+use Rattle.ckpt_align.proofs.Cutting.{reads_cut-element}
+use Rattle.ckpt_once.specs.Programs.{Move, Takes, Draws, Emitted, Program, state, Turn, told, move_in, with_one, aligned, moves_in, emitted_by, sendings, actions}
+use Rattle.ckpt_once.specs.Jobs.{GivesInOrder, IsHistory, IsJob, IsMoveOf, IsPrefix, IsRun, IsTurnOf, Job, Run, States, as_step, network, of, put_on, run_of, taken_off}
+use Rattle.ckpt_once.specs.PlainHistories.{RunIsHistory, history_of, turn_of}
+use Rattle.ckpt_once.proofs.ActionLemmas.{sent-append, taken-append}
+use Rattle.ckpt_once.proofs.Running.{acts_of, put_on_is, taken_off_is}
+
+abbrev turns_of : List Move → List Turn
+turns_of [] = []
+turns_of (move ∷ moves) = turn_of move ∷ turns_of moves
+
+of_if : (b : Bool) (move : Move) (moves : List Move) (turns : List Turn) → turns ≡ turns_of moves → (if b then turn_of move ∷ turns else turns) ≡ turns_of (if b then move ∷ moves else moves)
+of_if true move moves turns e = ap (λ l. turn_of move ∷ l) e
+of_if false move moves turns e = e
+
+of_history : (t : SubtaskId) (run : Run) → of t (history_of run) ≡ turns_of (of t run)
+of_history t [] = refl
+of_history t (step ∷ run) = of_if (same_subtask step.task t) step.what (of t run) (of t (history_of run)) (of_history t run)
+
+-- elements change nothing in an aligner
+
+element_keeps : (a : Alignment) (o : Option Input) → (element a o).0 ≡ a
+element_keeps a None = refl
+element_keeps a (Some Open) = refl
+element_keeps a (Some Held) = refl
+element_keeps a (Some Ended) = refl
+
+reads_keeps : (a : Alignment) (i x : ℕ) → after a (Reads i (Element x)) ≡ a
+unfolding step
+reads_keeps a i x = element_keeps a (slice_get a.inputs i)
+
+turn_keeps : (a : Alignment) (move : Move) → replay a (told (turn_of move)) ≡ a
+turn_keeps a (Takes i x) = reads_keeps a i x
+turn_keeps a Draws = refl
+
+aligned_same : (a : Alignment) (moves : List Move) → aligned a (turns_of moves) ≡ a
+aligned_same a [] = refl
+aligned_same a (move ∷ moves) = turn_keeps (aligned a (turns_of moves)) move ∙ aligned_same a moves
+
+-- each element is taken
+
+element_taken : (a : Alignment) (o : Option Input) → o ≡ Some Open → is_taken (element a o).1 ≡ true
+element_taken a o e = ap (λ k. is_taken (element a k).1) e
+
+answer_taken : (a : Alignment) (i x : ℕ) → slice_get a.inputs i ≡ Some Open → is_taken (answer_to a i (Element x)) ≡ true
+unfolding step
+answer_taken a i x e = element_taken a (slice_get a.inputs i) e
+
+open_at : (inputs i : ℕ) → i < inputs → slice_get (replicate inputs Open) i ≡ Some Open
+open_at inputs i h =
+    let its = get-within (replicate inputs Open) i (rw (length-replicate inputs Open) h) in
+    its.1 ∙ ap Some (get-replicate inputs i Open its.0 its.1)
+
+abbrev IsWithin : ℕ → Move → Type 0
+IsWithin inputs (Takes i x) = i < inputs
+IsWithin inputs Draws = Unit {0}
+
+moves_on : (inputs : ℕ) (move : Move) → IsWithin inputs move → move_in (opened inputs) (turn_of move) ≡ Some move
+moves_on inputs (Takes i x) h = ap (λ b. if b then Some (Takes i x) else None) (answer_taken (opened inputs) i x (open_at inputs i h))
+moves_on inputs Draws h = refl
+
+is_within : (job : Job) (t : SubtaskId) (move : Move) → IsJob job → IsMoveOf job t move → IsWithin (job.inputs t) move
+is_within job t (Takes i x) is k =
+    let c : Channel = k.1.0 in
+    let At : SubtaskId → Type 0 = λ s. c.input < job.inputs s in
+    let To : ℕ → Type 0 = λ j. j < job.inputs t in
+    subst To k.1.3 (subst At k.1.2 (is c k.1.1).2)
+is_within job t Draws is k = tt
+
+same_run : (job : Job) (from : States) (run : Run) → IsJob job → IsRun job from run → run_of job (history_of run) ≡ run
+same_run job from [] is r = refl
+same_run job from (step ∷ run) is r =
+    let t : SubtaskId = step.task in
+    let a : Alignment = opened (job.inputs t) in
+    ap (λ turns. with_one (as_step t (move_in (aligned a turns) (turn_of step.what))) (run_of job (history_of run))) (of_history t run)
+    ∙ ap (λ b. with_one (as_step t (move_in b (turn_of step.what))) (run_of job (history_of run))) (aligned_same a (of t run))
+    ∙ ap (λ o. with_one (as_step t o) (run_of job (history_of run))) (moves_on (job.inputs t) step.what (is_within job t step.what is r.1))
+    ∙ ap (λ l. step ∷ l) (same_run job from run is r.0)
+
+-- channels carry elements only
+
+abbrev items : List ℕ → List Item
+items [] = []
+items (x ∷ xs) = Element x ∷ items xs
+
+items-append : (xs ys : List ℕ) → items (xs ++ ys) ≡ items xs ++ items ys
+items-append [] ys = refl
+items-append (x ∷ xs) ys = ap (λ l. Element x ∷ l) (items-append xs ys)
+
+abbrev AreElements : List Item → Type 0
+AreElements l = items (elements l) ≡ l
+
+are_elements-append : (l m : List Item) → AreElements l → AreElements m → AreElements (l ++ m)
+are_elements-append l m e f = ap items (elements-append l m) ∙ items-append (elements l) (elements m) ∙ ap (λ k. k ++ items (elements m)) e ∙ ap (λ k. l ++ k) f
+
+one_or_none : (b : Bool) (x : ℕ) → AreElements (if b then Element x ∷ [] else [])
+one_or_none true x = refl
+one_or_none false x = refl
+
+sendings_sent : (c : ℕ) (a : Alignment) (es : List Emitted) → AreElements (sent c a (sendings es))
+sendings_sent c a [] = refl
+sendings_sent c a (e ∷ es) = are_elements-append (if e.output == c then Element e.element ∷ [] else []) (sent c a (sendings es)) (one_or_none (e.output == c) e.element) (sendings_sent c a es)
+
+sendings_taken : (j : ℕ) (a : Alignment) (es : List Emitted) → AreElements (taken j a (sendings es))
+sendings_taken j a [] = refl
+sendings_taken j a (e ∷ es) = sendings_taken j a es
+
+no_barrier : (o : Option ℕ) → ((n : ℕ) → o ≡ Some n → ⊥) → barriers o ≡ []
+no_barrier None h = refl
+no_barrier (Some n) h = absurd (h n refl)
+
+turn_sent : (c : ℕ) (a : Alignment) (move : Move) (es : List Emitted) → AreElements (sent c a (told (turn_of move) ++ sendings es))
+turn_sent c a (Takes i x) es =
+    let none : barriers (cut_as (answer_to a i (Element x))) ≡ [] = no_barrier (cut_as (answer_to a i (Element x))) (λ n e. reads_cut-element a i x n e) in
+    let Are : List Item → Type 0 = λ l. AreElements (l ++ sent c (after a (Reads i (Element x))) (sendings es)) in
+    subst Are (sym none) (sendings_sent c (after a (Reads i (Element x))) es)
+turn_sent c a Draws es = sendings_sent c a es
+
+turn_taken : (j : ℕ) (a : Alignment) (move : Move) (es : List Emitted) → AreElements (taken j a (told (turn_of move) ++ sendings es))
+turn_taken j a (Takes i x) es =
+    let b : Bool = (i == j) && is_taken (answer_to a i (Element x)) in
+    let c : Alignment = after a (Reads i (Element x)) in
+    are_elements-append (if b then Element x ∷ [] else []) (taken j c (sendings es)) (one_or_none b x) (sendings_taken j c es)
+turn_taken j a Draws es = sendings_taken j a es
+
+all_sent : (c : ℕ) (p : Program) (s : ℕ) (a : Alignment) (moves : List Move) → AreElements (sent c a (actions p s a (turns_of moves)))
+all_sent c p s a [] = refl
+all_sent c p s a (move ∷ moves) =
+    let turns : List Turn = turns_of moves in
+    let xs : List Action = actions p s a turns in
+    let es : List Emitted = emitted_by p (state p s (moves_in a turns)) (move_in (aligned a turns) (turn_of move)) in
+    let zs : List Action = told (turn_of move) ++ sendings es in
+    let Are : List Item → Type 0 = λ l. AreElements l in
+    subst Are (sym (sent-append c a xs zs)) (are_elements-append (sent c a xs) (sent c (replay a xs) zs) (all_sent c p s a moves) (turn_sent c (replay a xs) move es))
+
+all_taken : (j : ℕ) (p : Program) (s : ℕ) (a : Alignment) (moves : List Move) → AreElements (taken j a (actions p s a (turns_of moves)))
+all_taken j p s a [] = refl
+all_taken j p s a (move ∷ moves) =
+    let turns : List Turn = turns_of moves in
+    let xs : List Action = actions p s a turns in
+    let es : List Emitted = emitted_by p (state p s (moves_in a turns)) (move_in (aligned a turns) (turn_of move)) in
+    let zs : List Action = told (turn_of move) ++ sendings es in
+    let Are : List Item → Type 0 = λ l. AreElements l in
+    subst Are (sym (taken-append j a xs zs)) (are_elements-append (taken j a xs) (taken j (replay a xs) zs) (all_taken j p s a moves) (turn_taken j (replay a xs) move es))
+
+in_order : (job : Job) (from : States) (now run : Run) (c : Channel) → run_of job (history_of now) ≡ now → run_of job (history_of run) ≡ run → IsPrefix (taken_off now c) (put_on job from run c)
+    → GivesInOrder (network job from (history_of run)) (network job from (history_of now)) c
+in_order job from now run c same_now same h =
+    let s : SubtaskId = c.sender in
+    let t : SubtaskId = c.receiver in
+    let gave : List Item = sent c.output (opened (job.inputs s)) (acts_of job from (history_of run) s) in
+    let took : List Item = taken c.input (opened (job.inputs t)) (acts_of job from (history_of now) t) in
+    let Gave : List Turn → Type 0 = λ turns. AreElements (sent c.output (opened (job.inputs s)) (actions (job.program s) (from s) (opened (job.inputs s)) turns)) in
+    let Took : List Turn → Type 0 = λ turns. AreElements (taken c.input (opened (job.inputs t)) (actions (job.program t) (from t) (opened (job.inputs t)) turns)) in
+    let gave_elements : AreElements gave = subst Gave (sym (of_history s run)) (all_sent c.output (job.program s) (from s) (opened (job.inputs s)) (of s run)) in
+    let took_elements : AreElements took = subst Took (sym (of_history t now)) (all_taken c.input (job.program t) (from t) (opened (job.inputs t)) (of t now)) in
+    let put : elements gave ≡ put_on job from run c = sym (put_on_is job from (history_of run) c) ∙ ap (λ r. put_on job from r c) same in
+    let off : taken_off now c ≡ elements took = ap (λ r. taken_off r c) (sym same_now) ∙ taken_off_is job from (history_of now) c in
+    (items h.0, sym gave_elements ∙ ap items (put ∙ h.1 ∙ ap (λ l. l ++ h.0) off) ∙ items-append (elements took) h.0 ∙ ap (λ l. l ++ items h.0) took_elements)
+
+is_turn : (job : Job) (t : SubtaskId) (move : Move) → IsMoveOf job t move → IsTurnOf job t (turn_of move)
+is_turn job t (Takes i x) k = k
+is_turn job t Draws k = k
+
+is_history : (job : Job) (from : States) (run : Run) → IsJob job → IsRun job from run → IsHistory job from (history_of run)
+is_history job from [] is r = tt
+is_history job from (step ∷ run) is r = (
+  is_history job from run is r.0,
+  is_turn job step.task step.what r.1,
+  λ c has. in_order job from (step ∷ run) run c (same_run job from (step ∷ run) is r) (same_run job from run is r.0) (r.2 c has),
+)
+
+pub run_is_history : (job : Job) (from : States) (run : Run) → RunIsHistory job from run
+run_is_history job from run is r = (is_history job from run is r, same_run job from run is r)

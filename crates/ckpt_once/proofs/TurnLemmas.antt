@@ -1,0 +1,181 @@
+-- A task's turns, as moves and as actions.
+use Rattle.std.proofs.Common.{◌≡◌, ℕ, Bool, true, false, ◌||◌, List, [], ◌∷◌, ◌++◌, ◌∙◌, refl, sym, ap, subst, arith, if◌then◌else◌, Option, Some}
+use Rattle.std.specs.Prelude.{None, ◌==◌, ◌&&◌}
+use Rattle.std.proofs.lemmas.Bool.{cases_Bool}
+use Rattle.std.proofs.lemmas.Grind.{common_steps}
+use Rattle.std.proofs.lemmas.List.{append-nil}
+use Rattle.ckpt_align.specs.Alignment.{Alignment}
+use Rattle.ckpt_align.specs.Histories.{Item, Element, Barrier, End, Action, Reads, GivesUp, after, answer_to, is_taken, cut_as, barriers, replay, taken, sent, elements, before_cut, has_cut, has_ended, cut_by, is_number}
+use Rattle.ckpt_align.proofs.ItemLemmas.{elements-append}
+use Rattle.ckpt_once.specs.Programs.{Move, Takes, Draws, Emitted, Program, state, emitted, on_output, from_input, Turn, Offered, GivenUp, Drawn, Ended, told, move_in, with_one, aligned, moves_in, emitted_by, sendings, acts, actions}
+use Rattle.ckpt_once.proofs.ActionLemmas.{replay-append, taken-append, sent-append, stopped, stopped-append, before-append, before_all, before_stays}
+
+-- sending changes nothing in an aligner
+
+replay_sendings : (a : Alignment) (es : List Emitted) → replay a (sendings es) ≡ a
+replay_sendings a [] = refl
+replay_sendings a (e ∷ es) = replay_sendings a es
+
+taken_sendings : (j : ℕ) (a : Alignment) (es : List Emitted) → taken j a (sendings es) ≡ []
+taken_sendings j a [] = refl
+taken_sendings j a (e ∷ es) = taken_sendings j a es
+
+has_cut_sendings : (n : ℕ) (a : Alignment) (es : List Emitted) → has_cut n a (sendings es) ≡ false
+has_cut_sendings n a [] = refl
+has_cut_sendings n a (e ∷ es) = has_cut_sendings n a es
+
+has_ended_sendings : (es : List Emitted) → has_ended (sendings es) ≡ false
+has_ended_sendings [] = refl
+has_ended_sendings (e ∷ es) = has_ended_sendings es
+
+sent_sendings : (c : ℕ) (a : Alignment) (es : List Emitted) → elements (sent c a (sendings es)) ≡ on_output c es
+sent_sendings c a [] = refl
+sent_sendings c a (e ∷ es) = grind (arith, common_steps, sent_sendings c a es, cases_Bool (e.output == c))
+
+-- the aligner
+
+pub aligned_is : (p : Program) (s : ℕ) (a : Alignment) (turns : List Turn) → replay a (actions p s a turns) ≡ aligned a turns
+aligned_is p s a [] = refl
+aligned_is p s a (turn ∷ turns) =
+    let b : Alignment = aligned a turns in
+    let es : List Emitted = emitted_by p (state p s (moves_in a turns)) (move_in b turn) in
+    replay-append a (actions p s a turns) (told turn ++ sendings es)
+    ∙ ap (λ k. replay k (told turn ++ sendings es)) (aligned_is p s a turns)
+    ∙ replay-append b (told turn) (sendings es)
+    ∙ replay_sendings (replay b (told turn)) es
+
+-- what is taken
+
+taken_element : (j i x : ℕ) (is : Bool) (rest : List Item) → rest ≡ [] → elements ((if (i == j) && is then Element x ∷ [] else []) ++ rest) ≡ from_input j (with_one (if is then Some (Takes i x) else None) [])
+taken_element j i x is rest e = grind (arith, common_steps, cases_Bool (i == j), cases_Bool is)
+
+taken_barrier : (b : Bool) (n : ℕ) (rest : List Item) → rest ≡ [] → elements ((if b then Barrier n ∷ [] else []) ++ rest) ≡ []
+taken_barrier true n rest e = ap elements e
+taken_barrier false n rest e = ap elements e
+
+taken_end : (b : Bool) (rest : List Item) → rest ≡ [] → elements ((if b then End ∷ [] else []) ++ rest) ≡ []
+taken_end true rest e = ap elements e
+taken_end false rest e = ap elements e
+
+taken_turn : (j : ℕ) (b : Alignment) (turn : Turn) (es : List Emitted) → elements (taken j b (told turn ++ sendings es)) ≡ from_input j (with_one (move_in b turn) [])
+taken_turn j b (Offered i (Element x)) es = taken_element j i x (is_taken (answer_to b i (Element x))) (taken j (after b (Reads i (Element x))) (sendings es)) (taken_sendings j (after b (Reads i (Element x))) es)
+taken_turn j b (Offered i (Barrier n)) es = taken_barrier ((i == j) && is_taken (answer_to b i (Barrier n))) n (taken j (after b (Reads i (Barrier n))) (sendings es)) (taken_sendings j (after b (Reads i (Barrier n))) es)
+taken_turn j b (Offered i End) es = taken_end ((i == j) && is_taken (answer_to b i End)) (taken j (after b (Reads i End)) (sendings es)) (taken_sendings j (after b (Reads i End)) es)
+taken_turn j b (GivenUp id) es = ap elements (taken_sendings j (after b (GivesUp id)) es)
+taken_turn j b Drawn es = ap elements (taken_sendings j b es)
+taken_turn j b Ended es = ap elements (taken_sendings j b es)
+
+from_input-one : (j : ℕ) (o : Option Move) (moves : List Move) → from_input j (with_one o moves) ≡ from_input j moves ++ from_input j (with_one o [])
+from_input-one j None moves = sym (append-nil (from_input j moves))
+from_input-one j (Some (Takes i x)) moves = refl
+from_input-one j (Some Draws) moves = sym (append-nil (from_input j moves))
+
+pub taken_is : (j : ℕ) (p : Program) (s : ℕ) (a : Alignment) (turns : List Turn) → elements (taken j a (actions p s a turns)) ≡ from_input j (moves_in a turns)
+taken_is j p s a [] = refl
+taken_is j p s a (turn ∷ turns) =
+    let b : Alignment = aligned a turns in
+    let es : List Emitted = emitted_by p (state p s (moves_in a turns)) (move_in b turn) in
+    let xs : List Action = actions p s a turns in
+    ap elements (taken-append j a xs (told turn ++ sendings es))
+    ∙ elements-append (taken j a xs) (taken j (replay a xs) (told turn ++ sendings es))
+    ∙ ap (λ k. elements (taken j a xs) ++ elements (taken j k (told turn ++ sendings es))) (aligned_is p s a turns)
+    ∙ ap (λ l. elements (taken j a xs) ++ l) (taken_turn j b turn es)
+    ∙ ap (λ l. l ++ from_input j (with_one (move_in b turn) [])) (taken_is j p s a turns)
+    ∙ sym (from_input-one j (move_in b turn) (moves_in a turns))
+
+-- what is sent
+
+elements_barriers : (o : Option ℕ) (items : List Item) → elements (barriers o ++ items) ≡ elements items
+elements_barriers None items = refl
+elements_barriers (Some m) items = refl
+
+sent_turn : (c : ℕ) (b : Alignment) (turn : Turn) (es : List Emitted) → elements (sent c b (told turn ++ sendings es)) ≡ on_output c es
+sent_turn c b (Offered i item) es = elements_barriers (cut_as (answer_to b i item)) (sent c (after b (Reads i item)) (sendings es)) ∙ sent_sendings c (after b (Reads i item)) es
+sent_turn c b (GivenUp id) es = elements_barriers (cut_by b (GivesUp id)) (sent c (after b (GivesUp id)) (sendings es)) ∙ sent_sendings c (after b (GivesUp id)) es
+sent_turn c b Drawn es = sent_sendings c b es
+sent_turn c b Ended es = sent_sendings c b es
+
+pub on_output-append : (c : ℕ) (es fs : List Emitted) → on_output c (es ++ fs) ≡ on_output c es ++ on_output c fs
+on_output-append c [] fs = refl
+on_output-append c (e ∷ es) fs = grind (arith, common_steps, on_output-append c es fs, cases_Bool (e.output == c))
+
+emitted-one : (p : Program) (s : ℕ) (o : Option Move) (moves : List Move) → emitted p s (with_one o moves) ≡ emitted p s moves ++ emitted_by p (state p s moves) o
+emitted-one p s None moves = sym (append-nil (emitted p s moves))
+emitted-one p s (Some move) moves = refl
+
+pub sent_is : (c : ℕ) (p : Program) (s : ℕ) (a : Alignment) (turns : List Turn) → elements (sent c a (actions p s a turns)) ≡ on_output c (emitted p s (moves_in a turns))
+sent_is c p s a [] = refl
+sent_is c p s a (turn ∷ turns) =
+    let b : Alignment = aligned a turns in
+    let ms : List Move = moves_in a turns in
+    let es : List Emitted = emitted_by p (state p s ms) (move_in b turn) in
+    let xs : List Action = actions p s a turns in
+    ap elements (sent-append c a xs (told turn ++ sendings es))
+    ∙ elements-append (sent c a xs) (sent c (replay a xs) (told turn ++ sendings es))
+    ∙ ap (λ k. elements (sent c a xs) ++ elements (sent c k (told turn ++ sendings es))) (aligned_is p s a turns)
+    ∙ ap (λ l. elements (sent c a xs) ++ l) (sent_turn c b turn es)
+    ∙ ap (λ l. l ++ on_output c es) (sent_is c p s a turns)
+    ∙ sym (on_output-append c (emitted p s ms) es)
+    ∙ ap (on_output c) (sym (emitted-one p s (move_in b turn) ms))
+
+-- the turns before a cut
+
+abbrev pub turns_before : ℕ → Program → ℕ → Alignment → List Turn → List Turn
+turns_before n p s a [] = []
+turns_before n p s a (turn ∷ turns) = if stopped n a (actions p s a (turn ∷ turns)) then turns_before n p s a turns else turn ∷ turns_before n p s a turns
+
+stopped_reads : (n : ℕ) (cut : Bool) (b : Alignment) (x : Action) (es : List Emitted) → ((if cut then true else has_cut n b (sendings es)) || has_ended (sendings es)) ≡ true → (if cut then [] else x ∷ before_cut n b (sendings es)) ≡ []
+stopped_reads n true b x es e = refl
+stopped_reads n false b x es e = grind (arith, common_steps, has_cut_sendings n b es, has_ended_sendings es)
+
+-- a turn that stops a task leaves nothing before the cut
+stopped_turn : (n : ℕ) (b : Alignment) (turn : Turn) (es : List Emitted) → stopped n b (told turn ++ sendings es) ≡ true → before_cut n b (told turn ++ sendings es) ≡ []
+stopped_turn n b (Offered i item) es e = stopped_reads n (is_number n (cut_by b (Reads i item))) (after b (Reads i item)) (Reads i item) es e
+stopped_turn n b (GivenUp id) es e = stopped_reads n (is_number n (cut_by b (GivesUp id))) (after b (GivesUp id)) (GivesUp id) es e
+stopped_turn n b Drawn es e = grind (arith, common_steps, has_cut_sendings n b es, has_ended_sendings es)
+stopped_turn n b Ended es e = refl
+
+or_false : (b c : Bool) → (b || c) ≡ false → (b ≡ false) × (c ≡ false)
+or_false true c e = grind (arith, common_steps)
+or_false false c e = (refl, e)
+
+-- a task that has not stopped has only turns before its cut
+turns_all : (n : ℕ) (p : Program) (s : ℕ) (a : Alignment) (turns : List Turn) → stopped n a (actions p s a turns) ≡ false → turns_before n p s a turns ≡ turns
+turns_all n p s a [] e = refl
+turns_all n p s a (turn ∷ turns) e =
+    let xs : List Action = actions p s a turns in
+    let zs : List Action = acts p (state p s (moves_in a turns)) (aligned a turns) turn in
+    let parts = or_false (stopped n a xs) (stopped n (replay a xs) zs) (sym (stopped-append n a xs zs) ∙ e) in
+    let At : Bool → Type 0 = λ b. (if b then turns_before n p s a turns else turn ∷ turns_before n p s a turns) ≡ turn ∷ turns in
+    subst At (sym e) (ap (λ l. turn ∷ l) (turns_all n p s a turns parts.0))
+
+before_is_by : (n : ℕ) (p : Program) (s : ℕ) (a : Alignment) (turns : List Turn) (turn : Turn) (es : List Emitted) (b c : Bool) → stopped n a (actions p s a turns) ≡ b → stopped n (replay a (actions p s a turns)) (told turn ++ sendings es) ≡ c
+    → acts p (state p s (moves_in a turns)) (aligned a turns) turn ≡ told turn ++ sendings es
+    → before_cut n a (actions p s a turns) ≡ actions p s a (turns_before n p s a turns)
+    → before_cut n a (actions p s a turns ++ (told turn ++ sendings es))
+    ≡ actions p s a (if stopped n a (actions p s a turns ++ (told turn ++ sendings es)) then turns_before n p s a turns else turn ∷ turns_before n p s a turns)
+before_is_by n p s a turns turn es true c e f z h =
+    let xs : List Action = actions p s a turns in
+    let zs : List Action = told turn ++ sendings es in
+    let At : Bool → Type 0 = λ k. before_cut n a (xs ++ zs) ≡ actions p s a (if k then turns_before n p s a turns else turn ∷ turns_before n p s a turns) in
+    subst At (sym (stopped-append n a xs zs ∙ ap (λ k. k || stopped n (replay a xs) zs) e)) (before_stays n a xs zs e ∙ h)
+before_is_by n p s a turns turn es false true e f z h =
+    let xs : List Action = actions p s a turns in
+    let zs : List Action = told turn ++ sendings es in
+    let At : Bool → Type 0 = λ k. before_cut n a (xs ++ zs) ≡ actions p s a (if k then turns_before n p s a turns else turn ∷ turns_before n p s a turns) in
+    let Is : Bool → Type 0 = λ k. before_cut n a (xs ++ zs) ≡ (if k then before_cut n a xs else xs ++ before_cut n (replay a xs) zs) in
+    subst At (sym (stopped-append n a xs zs ∙ ap (λ k. k || stopped n (replay a xs) zs) e ∙ f))
+    (subst Is e (before-append n a xs zs) ∙ ap (λ l. xs ++ l) (stopped_turn n (replay a xs) turn es f) ∙ append-nil xs ∙ sym (before_all n a xs e) ∙ h)
+before_is_by n p s a turns turn es false false e f z h =
+    let xs : List Action = actions p s a turns in
+    let zs : List Action = told turn ++ sendings es in
+    let At : Bool → Type 0 = λ k. before_cut n a (xs ++ zs) ≡ actions p s a (if k then turns_before n p s a turns else turn ∷ turns_before n p s a turns) in
+    let Is : Bool → Type 0 = λ k. before_cut n a (xs ++ zs) ≡ (if k then before_cut n a xs else xs ++ before_cut n (replay a xs) zs) in
+    subst At (sym (stopped-append n a xs zs ∙ ap (λ k. k || stopped n (replay a xs) zs) e ∙ f))
+    (subst Is e (before-append n a xs zs) ∙ ap (λ l. xs ++ l) (before_all n (replay a xs) zs f) ∙ ap (λ l. xs ++ l) (sym z) ∙ ap (λ l. actions p s a (turn ∷ l)) (sym (turns_all n p s a turns e)))
+
+pub before_is : (n : ℕ) (p : Program) (s : ℕ) (a : Alignment) (turns : List Turn) → before_cut n a (actions p s a turns) ≡ actions p s a (turns_before n p s a turns)
+before_is n p s a [] = refl
+before_is n p s a (turn ∷ turns) =
+    let es : List Emitted = emitted_by p (state p s (moves_in a turns)) (move_in (aligned a turns) turn) in
+    before_is_by n p s a turns turn es (stopped n a (actions p s a turns)) (stopped n (replay a (actions p s a turns)) (told turn ++ sendings es)) refl refl refl (before_is n p s a turns)

@@ -1,0 +1,145 @@
+-- Each accepted acknowledgement of a pending record was made in the term of its trigger.
+use Rattle.std.proofs.Common.{◌≡◌, ℕ, ◌+◌, ◌<◌, true, false, not, ◌&&◌, eqb, List, [], ◌∷◌, refl, sym, ◌∙◌, ◌⊎◌, inl, inr, ⊎_elim, arith}
+use Rattle.std.specs.Prelude.{Option, None, max}
+use Rattle.std.proofs.lemmas.Bool.{cases_Bool, both_ways, and_parts, and_from, not-true, not-false, not_from_false, eqb-true, cond_both}
+use Rattle.std.proofs.lemmas.Grind.{common_steps}
+use Rattle.ckpt_ids.specs.declared.call.Call.{Call}
+use Rattle.ckpt_ids.specs.declared.call.Call.TheVariants.{Ack, Restore, Cancel}
+use Rattle.ckpt_ids.specs.declared.call.Target.{Target}
+use Rattle.ckpt_ids.specs.declared.call.Target.TheVariants as target
+use Rattle.ckpt_ids.specs.Ordered.{IsIn}
+use Rattle.ckpt_ids.specs.Records.{Record}
+use Rattle.ckpt_model.specs.State.{State, drop}
+use Rattle.ckpt_model.specs.Steps.{Stepped, cancel, cancelled, effect, restarted, restore, rolled_back, step}
+use Rattle.ckpt_model.specs.Laws.{Part, ack_of, given_as, is_ack_taken}
+use Rattle.ckpt_model.specs.Soundness.{IsSound}
+use Rattle.ckpt_model.proofs.Answering.StepCases.{step_by}
+use Rattle.ckpt_model.proofs.Records.Counts.{IsIn-from_changed}
+use Rattle.ckpt_model.proofs.Histories.Moves.{IsMoved, IsTriggered, moved_from}
+use Rattle.ckpt_model.proofs.Histories.Numbers.{step_gives, next_rises}
+use Rattle.ckpt_model.proofs.Histories.Takings.{taken_from, taken_id}
+use Rattle.ckpt_model.proofs.Stepping.Changes.{IsPassedOver, IsTakenBy, passed_moves}
+use Rattle.ckpt_model.proofs.Stepping.Walk.{step_is}
+use Rattle.ckpt_terms.specs.declared.call.FencedCall.{FencedCall}
+use Rattle.ckpt_terms.specs.declared.call.FencedCall.TheVariants.{Reserve, Forfeit, Make}
+use Rattle.ckpt_terms.specs.declared.call.FencedRefusal.TheVariants.{OldTerm}
+use Rattle.ckpt_terms.specs.Fencing.{Fenced, FencedStepped, ends_the_term, fence, fenced_replay, fenced_step, is_accepted, is_of_task, made}
+use Rattle.ckpt_terms.specs.FencedLaws.{AreFencedCalls, IsFenced, IsFencedCall, OneTerm, given_in, is_taken_in}
+use Rattle.ckpt_terms.proofs.Fences.{replay_fenced, step_fenced}
+use Rattle.ckpt_terms.proofs.Stepping.{fenced_step_by, none_else}
+
+-- an accepted restore leaves nothing pending
+restored_is_idle : (m : State) (t : Target) (shape : Option (List ℕ)) (y : Record) → IsIn y (restore m t shape).0.records → y.done ≡ true
+unfolding restore restarted drop
+restored_is_idle m target.Latest shape y h =
+    let p = IsIn-from_changed (λ (r : Record). r) (λ r. not (rolled_back target.Latest r)) y m.records h in
+    grind (arith, common_steps, p.2, p.3, not-true, not-false)
+restored_is_idle m (target.Savepoint id) shape y h =
+    let p = IsIn-from_changed (λ (r : Record). r) (λ r. not (rolled_back (target.Savepoint id) r)) y m.records h in
+    grind (arith, common_steps, p.2, p.3, not-true, not-false)
+
+-- nor does an accepted cancel
+cancelled_is_idle : (m : State) (y : Record) → IsIn y (cancel m).0.records → y.done ≡ true
+unfolding cancel drop
+cancelled_is_idle m y h =
+    let p = IsIn-from_changed (λ (r : Record). r) (λ r. not (cancelled m r)) y m.records h in
+    grind (arith, common_steps, p.2, p.3, not-true, not-false)
+
+-- so a call that ends the term leaves nothing pending
+ended_is_idle : (m : State) (call : Call) (y : Record) → (is_accepted (step m call).1 && ends_the_term call) ≡ true → IsIn y (step m call).0.records → y.done ≡ true
+unfolding effect
+ended_is_idle m (Restore now t shape) y e h =
+    step_by m (Restore now t shape) (λ (x : Stepped). (is_accepted x.1 && true) ≡ true → IsIn y x.0.records → y.done ≡ true) (λ why _ k there. absurd (both_ways false refl k))
+    (λ _ k h. restored_is_idle (record m { latest = max now m.latest }) t shape y h) e h
+ended_is_idle m (Cancel now) y e h =
+    step_by m (Cancel now) (λ (x : Stepped). (is_accepted x.1 && true) ≡ true → IsIn y x.0.records → y.done ≡ true) (λ why _ k h. absurd (both_ways false refl k))
+    (λ _ k h. cancelled_is_idle (record m { latest = max now m.latest }) y h) e h
+ended_is_idle m call y e h = absurd (both_ways (ends_the_term call) refl (and_parts (is_accepted (step m call).1) (ends_the_term call) e).1)
+
+-- a record that is pending after a call was pending before, or was triggered by it
+abbrev Came : State → List Record → Type 0
+Came m after = (y : Record) → IsIn y after → y.done ≡ false → ((x : Record) × IsIn x m.records × (x.done ≡ false) × (y.id ≡ x.id)) ⊎ IsTriggered m y
+
+moved_came : {m : State} {d : Option ℕ} {after : List Record} → IsMoved m d after → Came m after
+moved_came {m} i y h e = ⊎_elim (λ (k : IsIn y m.records). inl (y, k, e, refl)) (λ (k : IsTriggered m y). inr k) (moved_from i y h)
+
+step_came : (m : State) (call : Call) → IsSound m → Came m (step m call).0.records
+step_came m (Ack now id subtask fresh reused) s y h e =
+    let taken : IsTakenBy m id subtask fresh reused (step m (Ack now id subtask fresh reused)) → _ = λ i. grind (arith, common_steps, taken_id i.taken, taken_from i.taken y h) steps 1000000 in
+    ⊎_elim (λ i. moved_came (passed_moves i) y h e) taken ((step_is m (Ack now id subtask fresh reused)).records s)
+step_came m call s y h e = moved_came ((step_is m call).records s) y h e
+
+-- a record of this number is pending only in this term
+record IsOfTerm (m : Fenced) (number term : ℕ) : Type 0 where
+  given : number < m.core.next
+  pending : (y : Record) → IsIn y m.core.records → y.id ≡ number → y.done ≡ false → m.term ≡ term
+
+-- and so after each call
+made_of_term : (m : Fenced) (call : FencedCall) (number term : ℕ) → IsFenced m → IsOfTerm m number term → IsOfTerm (made m call).0 number term
+made_of_term m (Reserve its count) number term i p = record { given = p.given; pending = p.pending }
+made_of_term m (Forfeit its names) number term i p = record { given = p.given; pending = p.pending }
+made_of_term m (Make its call) number term i p =
+    let s : Stepped = step m.core call in
+    record {
+      given = omega (arith, p.given, next_rises m.core call);
+      pending = λ y h e waits.
+          cond_both (is_accepted s.1 && ends_the_term call) (m.term + 1) m.term (λ (t : ℕ). t ≡ term)
+          (λ ends. absurd (both_ways y.done waits (ended_is_idle m.core call y ends h)))
+          (λ _. ⊎_elim (λ k. p.pending k.0 k.1 (sym k.3 ∙ e) k.2) (λ (k : IsTriggered m.core y). absurd (omega (arith, p.given, k.id))) (step_came m.core call i.core y h waits));
+    }
+
+step_of_term : (m : Fenced) (call : FencedCall) (number term : ℕ) → IsFenced m → IsOfTerm m number term → IsOfTerm (fenced_step m call).0 number term
+step_of_term m call number term i p = fenced_step_by m call (λ (x : FencedStepped). IsOfTerm x.0 number term) (λ _. p) (λ _. made_of_term m call number term i p)
+
+replay_of_term : (m : Fenced) (calls : List FencedCall) (number term : ℕ) → IsFenced m → AreFencedCalls calls → IsOfTerm m number term → IsOfTerm (fenced_replay m calls) number term
+replay_of_term m [] number term i a p = p
+replay_of_term m (call ∷ calls) number term i a p = replay_of_term (fenced_step m call).0 calls number term (step_fenced m call a.0 i) a.1 (step_of_term m call number term i p)
+
+-- a call that gives a number ends no term
+gives_goes_on : (m : State) (call : Call) (number : ℕ) → given_as (step m call).1 ≡ number ∷ [] → (number ≡ m.next) × (number < ((step m call).0).next)
+gives_goes_on m call number e = grind (arith, common_steps, step_gives)
+
+-- the trigger
+trigger_of_term : (m : Fenced) (call : FencedCall) (number : ℕ) → IsFenced m → given_in (fenced_step m call).1 ≡ number ∷ [] → IsOfTerm (fenced_step m call).0 number m.term
+trigger_of_term m call number i =
+    fenced_step_by m call (λ (x : FencedStepped). given_in x.1 ≡ number ∷ [] → IsOfTerm x.0 number m.term) (λ why e. absurd (cc)) (λ _. by_call call)
+  where
+    by_call : (c : FencedCall) → given_in (made m c).1 ≡ number ∷ [] → IsOfTerm (made m c).0 number m.term
+    by_call (Reserve its count) e = absurd (cc)
+    by_call (Forfeit its names) e = absurd (cc)
+    by_call (Make its c) e =
+        let s : Stepped = step m.core c in
+        let g = gives_goes_on m.core c number e in
+        record {
+          given = g.1;
+          pending = λ y h k waits.
+              cond_both (is_accepted s.1 && ends_the_term c) (m.term + 1) m.term (λ (t : ℕ). t ≡ m.term)
+              (λ ends. absurd (both_ways y.done waits (ended_is_idle m.core c y ends h)))
+              (λ _. refl);
+        }
+
+-- an acknowledgement that the layer lets through has the term that runs
+let_through : (m : Fenced) (term : ℕ) (call : Call) → is_of_task call ≡ true → fence m (Make term call) ≡ None → term ≡ m.term
+let_through m term call task e =
+    let a = none_else (is_of_task call && not (eqb term m.term)) OldTerm _ e in
+    ⊎_elim (λ (k : eqb term m.term ≡ true). eqb-true term m.term k)
+    (λ (k : eqb term m.term ≡ false). absurd (both_ways (is_of_task call && not (eqb term m.term)) a.0 (and_from (is_of_task call) (not (eqb term m.term)) task (not_from_false (eqb term m.term) k))))
+    (cases_Bool (eqb term m.term))
+
+-- one that is accepted for a pending record has its term
+taken_in_term : (n : Fenced) (number term its now : ℕ) (p : Part) → IsFenced n → IsOfTerm n number term → is_taken_in (fenced_step n (Make its (ack_of now number p))).1 ≡ true → its ≡ term
+taken_in_term n number term its now p i o =
+    let call : Call = ack_of now number p in
+    fenced_step_by n (Make its call) (λ (x : FencedStepped). is_taken_in x.1 ≡ true → its ≡ term) (λ why e. absurd (both_ways false refl e))
+    (λ through e.
+    ⊎_elim
+    (λ (k : IsPassedOver n.core (step n.core call)). absurd (both_ways (is_ack_taken (step n.core call).1) k.not_taken e))
+    (λ (k : IsTakenBy n.core number p.subtask p.fresh p.reused (step n.core call)). let_through n its call refl through ∙ o.pending k.q (k.acking).there k.its_id (k.acking).pending)
+    ((step_is n.core call).records i.core))
+
+-- the law
+pub one_term : (m : Fenced) (call : FencedCall) (calls : List FencedCall) → IsFenced m → IsFencedCall call → AreFencedCalls calls → OneTerm m call calls
+one_term m call calls i c a id term now p given taken =
+    let k : Fenced = (fenced_step m call).0 in
+    let j : IsFenced k = step_fenced m call c i in
+    taken_in_term (fenced_replay k calls) id m.term term now p (replay_fenced k calls a j) (replay_of_term k calls id m.term j a (trigger_of_term m call id i given)) taken
