@@ -237,18 +237,31 @@ start() {
     done
 }
 
-# end_marked MARK: ends the processes whose surroundings have the mark, but for the gate's own shell and the one that calls this.
+# find_marked MARK: sets `found` to the processes whose surroundings have the mark, but for the gate's own shell and the one that calls this.
+find_marked() {
+    local file
+    found=()
+    # (grep itself has none)
+    while read -r file; do
+        file=${file#/proc/}
+        file=${file%/environ}
+        [ "$file" -eq $$ ] || [ "$file" -eq "$BASHPID" ] || found+=("$file")
+    done < <(exec env -i grep -lszxF -e "$1" /proc/[0-9]*/environ)
+}
+
+# note_processes NAME: notes the processes of a part, the youngest ones last, and for how many seconds each has run.
+note_processes() {
+    local found
+    find_marked "GATE_PART=$GATE_RUN $1"
+    [ "${#found[@]}" -eq 0 ] || ps -o etimes=,args= --sort=-etimes -p "${found[*]}" | tail -n 15 | cut -c 1-200 | sed 's/^/gate: it ran: /' >> "$work/notes"
+}
+
+# end_marked MARK: ends these processes.
 end_marked() {
-    local signal tries file found
+    local signal tries found
     for signal in TERM KILL; do
         for ((tries = 0; tries < 6; tries++)); do
-            found=()
-            # (grep itself has none)
-            while read -r file; do
-                file=${file#/proc/}
-                file=${file%/environ}
-                [ "$file" -eq $$ ] || [ "$file" -eq "$BASHPID" ] || found+=("$file")
-            done < <(exec env -i grep -lszxF -e "$1" /proc/[0-9]*/environ)
+            find_marked "$1"
             [ "${#found[@]}" -gt 0 ] || return 0
             kill -s "$signal" "${found[@]}" 2> /dev/null
             sleep 0.5
@@ -337,6 +350,7 @@ end_late_parts() {
         if [ -e "$file" ] && [ $(($1 - ${seen[$name]:=$1})) -ge $((1000 * most)) ]; then
             seen[$name]=$1
             echo "gate: $name: its limit of $most s is over, and its processes are ended" | tee -a "$work/notes" >&3
+            note_processes "$name"
             end_marked "GATE_PART=$GATE_RUN $name"
         fi
     done
@@ -387,6 +401,7 @@ end_early() {
             echo "gate: $name runs, and has said:"
             tail -n 1000 "$work/log of $name"
             note "$name was ended"
+            note_processes "$name"
             note_failure "$work/log of $name"
             echo "$name|0|1|0" >> "$work/counts"
         fi
