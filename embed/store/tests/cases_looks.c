@@ -1,0 +1,255 @@
+/* Syncs that fail, and markers that go, in the middle of what must not be reported, answered or kept then. */
+#include "cases.h"
+
+#include <dlfcn.h>
+#include <errno.h>
+#include <pthread.h>
+#include <stdatomic.h>
+#include <sys/stat.h>
+#include <sys/syscall.h>
+#include <time.h>
+#include <unistd.h>
+
+enum { RELEASED = 2 * SUBTASKS, ASKS = 6 };
+
+struct discarding {
+    pthread_t thread;
+    relkvanu_store *store;
+    void (*meanwhile)(struct discarding *d);
+    bool is_gone;
+    atomic_uint asked;
+    struct timespec at[ASKS];
+    int status;
+};
+
+static void note_and_tell(void *with, const uint64_t *files, size_t len, uint8_t *is_gone) {
+    struct discarding *d = with;
+    (void)files;
+    if (d->asked < ASKS) {
+        clock_gettime(CLOCK_MONOTONIC, &d->at[d->asked]);
+    }
+    if (d->meanwhile != NULL) {
+        d->meanwhile(d);
+    }
+    memset(is_gone, d->is_gone, len);
+    d->asked++;
+}
+
+static void *discards(void *with) {
+    struct discarding *d = with;
+    d->status = relkvanu_store_discard(d->store, 4 * RELEASED, note_and_tell, d);
+    return NULL;
+}
+
+static relkvanu_counts counts_of(relkvanu_store *store) {
+    relkvanu *handle;
+    CHECK(relkvanu_store_read(store, &handle) == RELKVANU_STORE_OK, "no read");
+    relkvanu_counts counts = relkvanu_file_counts(handle);
+    relkvanu_store_read_end(store);
+    return counts;
+}
+
+/* How many files are not reported as deleted. */
+static uint64_t left_in(relkvanu_store *store) {
+    relkvanu_counts counts = counts_of(store);
+    return counts.waiting + counts.taken;
+}
+
+/* A discarder of a store with files that the second checkpoint has released. */
+static void start(struct discarding *d) {
+    relkvanu_store_options options = storage_options(RELKVANU_STORE_CREATE, 0);
+    d->store = opens(&options, RELKVANU_STORE_OK);
+    checkpoint(d->store, 1);
+    checkpoint(d->store, 101);
+    CHECK(counts_of(d->store).waiting == RELEASED, "%" PRIu64 " wait", counts_of(d->store).waiting);
+}
+
+static void run(struct discarding *d) {
+    CHECK(pthread_create(&d->thread, NULL, discards, d) == 0, "a thread");
+}
+
+static void stop(struct discarding *d) {
+    relkvanu_store_stop(d->store);
+    CHECK(pthread_join(d->thread, NULL) == 0 && d->status == RELKVANU_STORE_STOPPED, "status %d", d->status);
+    relkvanu_store_close(d->store);
+}
+
+/* It waits longer after each failure: 0.1, 0.2, 0.4 and 0.8 seconds. A busy machine only makes that longer. */
+static void waits_grow(void) {
+    struct discarding d = {.is_gone = false};
+    start(&d);
+    run(&d);
+    while (d.asked < ASKS) {
+        usleep(1000);
+    }
+    stop(&d);
+    for (int i = 1; i < ASKS; i++) {
+        long waited = (d.at[i].tv_sec - d.at[i - 1].tv_sec) * 1000 + (d.at[i].tv_nsec - d.at[i - 1].tv_nsec) / 1000000;
+        CHECK(waited >= (90 << (i - 1)), "after %d failures it waited %ld ms", i, waited);
+    }
+}
+
+/* After a sync of the folder that failed no deletion is reported, and all are after one that did not. */
+static void unsynced_deletions(void) {
+    struct discarding d = {.is_gone = true};
+    start(&d);
+    fail_syncs("/storage", EIO);
+    run(&d);
+    while (d.asked < 2 && left_in(d.store) == RELEASED) {
+        usleep(1000);
+    }
+    CHECK(left_in(d.store) == RELEASED, "%" PRIu64 " are left after a sync that failed", left_in(d.store));
+    fail_syncs("", 0);
+    while (left_in(d.store) != 0) {
+        usleep(1000);
+    }
+    stop(&d);
+}
+
+static void take_marker(struct discarding *d) {
+    int folder = relkvanu_store_folder(d->store);
+    CHECK(renameat(folder, ".relkvanu-job", folder, "away") == 0, "a marker");
+}
+
+/* The marker goes while the files are deleted: it may be another folder, so none is reported, and they wait again. */
+static void marker_goes_during_deletions(void) {
+    struct discarding d = {.is_gone = true, .meanwhile = take_marker};
+    start(&d);
+    run(&d);
+    while (d.asked == 0 || (counts_of(d.store).taken != 0 && left_in(d.store) == RELEASED)) {
+        usleep(1000);
+    }
+    CHECK(d.asked == 1 && left_in(d.store) == RELEASED, "%" PRIu64 " are left without a marker", left_in(d.store));
+    stop(&d);
+}
+
+static bool takes_marker;
+
+/* In place of that of the C library: the deletion of file 1 takes the marker of the folder away, if it is asked to. */
+int unlinkat(int folder, const char *name, int flags) {
+    int got = (int)syscall(SYS_unlinkat, folder, name, flags);
+    if (takes_marker && strcmp(name, "1") == 0) {
+        takes_marker = false;
+        CHECK(renameat(folder, ".relkvanu-storage", folder, "away") == 0, "a marker");
+    }
+    return got;
+}
+
+/* The same of a storage of a folder. */
+static void marker_of_a_storage_goes(void) {
+    const char *path = in("state");
+    uint64_t files[] = {1, 2, 3};
+    uint8_t out[3];
+    relkvanu_storage_options options = {.flags = RELKVANU_STORAGE_NEW, .path = path, .job = "orders"};
+    relkvanu_storage storage;
+    CHECK(mkdir(path, 0700) == 0 && relkvanu_storage_open_folder(&storage, &options) == RELKVANU_STORAGE_OK, "a storage");
+    for (size_t i = 0; i < 2; i++) {
+        CHECK(storage.put(storage.with, files[i], "a", 1) == RELKVANU_STORAGE_OK, "a put");
+    }
+    takes_marker = true;
+    int got = storage.delete_files(storage.with, files, 3, out);
+    CHECK(got == RELKVANU_STORAGE_NOT_THERE && !takes_marker, "status %d", got);
+    for (size_t i = 0; i < 3; i++) {
+        CHECK(out[i] == RELKVANU_STORAGE_UNDELETED, "file %" PRIu64 ": %d", files[i], out[i]);
+    }
+    relkvanu_storage_close_folder(&storage);
+}
+
+static bool is_damaged;
+
+/* In place of SQLite's: a copy is said to be damaged. */
+int sqlite3_exec(sqlite3 *db, const char *sql, int (*row)(void *, int, char **, char **), void *with, char **message) {
+    static int (*its)(sqlite3 *, const char *, int (*)(void *, int, char **, char **), void *, char **);
+    if (is_damaged && strstr(sql, "quick_check") != NULL) {
+        char *value = (char *)"row 5 missing from index", *name = (char *)"quick_check";
+        row(with, 1, &value, &name);
+        return SQLITE_OK;
+    }
+    if (its == NULL) {
+        *(void **)&its = dlsym(RTLD_NEXT, "sqlite3_exec");
+    }
+    return its(db, sql, row, with, message);
+}
+
+static bool is_there(const char *name) {
+    return access(in(name), F_OK) == 0;
+}
+
+/* A copy that is damaged is no backup, and neither is one that is not synced. */
+static void bad_copies(void) {
+    char words[RELKVANU_STORE_MESSAGE];
+    relkvanu_store_options options = job_options(RELKVANU_STORE_CREATE, 0);
+    relkvanu_store *store = opens(&options, RELKVANU_STORE_OK);
+    is_damaged = true;
+    int got = relkvanu_store_backup(store, in("b.db"), words, sizeof words);
+    CHECK(got == RELKVANU_STORE_NOT_PUT && !is_there("b.db") && !is_there("b.db.part"), "status %d: %s", got, words);
+    is_damaged = false;
+    fail_syncs("/b.db.part", EIO);
+    got = relkvanu_store_backup(store, in("b.db"), words, sizeof words);
+    CHECK(got != RELKVANU_STORE_OK && !is_there("b.db"), "status %d: %s", got, words);
+    fail_syncs("", 0);
+    CHECK(relkvanu_store_backup(store, in("b.db"), words, sizeof words) == RELKVANU_STORE_OK, "%s", words);
+    relkvanu_store_close(store);
+}
+
+static int leave_wal(void *with) {
+    relkvanu_store *store = opens(with, RELKVANU_STORE_OK);
+    for (uint64_t i = 0; i < 4; i++) {
+        done(store, RELKVANU_CALL_SAVEPOINT, i, 0);
+    }
+    return 7;
+}
+
+/* An opening writes what a killed process left in the -wal again, and opens nothing if that is not synced. */
+static void unsynced_opening(void) {
+    relkvanu_store_options options = job_options(RELKVANU_STORE_CREATE, 0);
+    relkvanu_store *store;
+    CHECK(in_child(leave_wal, &options) == 7, "a child");
+    options.flags = RELKVANU_STORE_RECOVER;
+    fail_syncs("x.db-wal", EIO);
+    int got = relkvanu_store_open(&store, in("x.db"), &options, &report);
+    CHECK(got != RELKVANU_STORE_OK && store == NULL, "status %d", got);
+    /* it is a sync before SQLite opens the file */
+    CHECK(!says("SQLite"), "%s", report.message);
+}
+
+static bool fails_once;
+static unsigned failed_syncs;
+
+/* In place of that of the C library, by which SQLite syncs: the next one of a -wal fails, if it is asked to. */
+int fdatasync(int fd) {
+    char link[64], path[PATHS] = "";
+    snprintf(link, sizeof link, "/proc/self/fd/%d", fd);
+    ssize_t len = fails_once ? readlink(link, path, sizeof path - 1) : 0;
+    if (len > 4 && strcmp(path + len - 4, "-wal") == 0) {
+        fails_once = false;
+        failed_syncs++;
+        errno = EIO;
+        return -1;
+    }
+    return (int)syscall(SYS_fdatasync, fd);
+}
+
+/* A commit whose sync failed is not tried again, however patient the store is: the system may have dropped the pages. */
+static void unsynced_commit(void) {
+    relkvanu_store_options options = job_options(RELKVANU_STORE_CREATE, 0);
+    options.patience = 2000;
+    relkvanu_store *store = opens(&options, RELKVANU_STORE_OK);
+    done(store, RELKVANU_CALL_SAVEPOINT, 1, 0);
+    fails_once = true;
+    relkvanu_store_call call = {.call = {.kind = RELKVANU_CALL_SAVEPOINT, .now = 2}};
+    int got = relkvanu_store_calls(store, &call, 1);
+    CHECK(failed_syncs == 1 && got == RELKVANU_STORE_FAILED, "status %d after %u syncs that failed", got, failed_syncs);
+    relkvanu_store_close(store);
+}
+
+const struct test look_cases[] = {
+    {"waits_grow", waits_grow},
+    {"unsynced_deletions", unsynced_deletions},
+    {"marker_goes_during_deletions", marker_goes_during_deletions},
+    {"marker_of_a_storage_goes", marker_of_a_storage_goes},
+    {"bad_copies", bad_copies},
+    {"unsynced_opening", unsynced_opening},
+    {"unsynced_commit", unsynced_commit},
+    {NULL, NULL},
+};

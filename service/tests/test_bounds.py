@@ -1,0 +1,146 @@
+"""What the service refuses when too much comes at once, and what it does not: bodies, answers, requests that wait, connections, one key twice."""
+import http.client
+import sqlite3
+import threading
+
+from harness import COMMAND, LOCKED, Server, configured, folder, served, until
+from relkvanu_service import Service
+from test_bytes import filled
+from test_failover import waiting
+
+SETTINGS = {"interval": 1 << 40}
+PATH = "/v1/jobs/a/calls"
+JSON = {"Content-Type": "application/json"}
+CALL = {"calls": [{"call": "savepoint"}]}
+MEGABYTE = 1 << 20
+
+
+def limited(at, **limits):
+    """A service with these limits, and a job."""
+    text = "".join(f"{name} = {value}\n" for name, value in limits.items())
+    server = Server(at, args=configured(at, f"[limits]\n{text}")).start()
+    Service(server.url).open("a", SETTINGS, [1])
+    return server
+
+
+def connected(server):
+    return http.client.HTTPConnection("127.0.0.1", server.port, timeout=COMMAND)
+
+
+def busy(server, method, path, body=None):
+    """Asks once, with a body in chunks. Returns what a refusal for the load says, or nothing."""
+    connection = connected(server)
+    if body is None:
+        connection.request(method, path)
+    else:
+        connection.request(method, path, iter([body]), JSON, encode_chunked=True)
+    told = connection.getresponse()
+    text = told.read()
+    connection.close()
+    assert told.status != 503 or told.getheader("retry-after") == "1", told.getheaders()
+    return text.decode() if told.status == 503 else None
+
+
+def test_bodies_in_chunks_take_room():
+    """Bodies that do not tell their length take room as they come, and give it back."""
+    with folder() as at:
+        server = limited(at, body_bytes=MEGABYTE, all_bodies_bytes=MEGABYTE)
+        part = b" " * 700_000
+        first = connected(server)
+        first.putrequest("POST", PATH)
+        for name, value in {**JSON, "Transfer-Encoding": "chunked"}.items():
+            first.putheader(name, value)
+        first.endheaders()
+        first.send(b"%x\r\n%s\r\n" % (len(part), part))
+        said = until(lambda: busy(server, "POST", PATH, part))
+        first.close()
+        until(lambda: busy(server, "POST", PATH, part) is None)
+        server.stop()
+        assert "the bodies of other requests take all room" in said, said
+        return "two of 700 kB in a room of 1 MiB"
+
+
+def test_an_answer_larger_than_all_room():
+    """It gets all of it, others are refused until its reader has it, and then they are not."""
+    with folder() as at:
+        server = limited(at, all_answers_bytes=MEGABYTE)
+        filled(server, 1)
+        large = "/v1/jobs/large/records/2"
+        status, head, _ = server.get(large)
+        assert status == 200 and int(head["content-length"]) > MEGABYTE, (status, head)
+        slow = connected(server)
+        slow.request("GET", large)
+        answer = slow.getresponse()
+        said = until(lambda: busy(server, "GET", large))
+        answer.read()
+        slow.close()
+        until(lambda: busy(server, "GET", large) is None)
+        server.stop()
+        assert answer.status == 200 and "other large answers take all room" in said, (answer.status, said)
+        return f"{int(head['content-length']) >> 10} KiB in a room of 1 MiB"
+
+
+def test_more_requests_than_may_wait():
+    """While the database takes no commit one request is with the writer, one waits, and the next is refused. Those that waited are answered."""
+    with folder() as at:
+        server, statuses = limited(at, queue=1), []
+        other = sqlite3.connect(server.database, isolation_level=None, timeout=LOCKED)
+        other.execute("begin immediate")
+
+        def ask():
+            statuses.append(server.request("POST", PATH, CALL)[0])
+
+        threads = [threading.Thread(target=ask) for _ in range(8)]
+        for it in threads:
+            it.start()
+        until(lambda: statuses.count(503) >= 6)
+        said = server.request("POST", PATH, CALL)[2]
+        other.execute("rollback")
+        other.close()
+        for it in threads:
+            it.join()
+        server.stop()
+        assert sorted(statuses) == [200] * 2 + [503] * 6 and said == {"error": "too many requests wait"}, (statuses, said)
+        return "6 of 8 requests were refused beside a queue of 1"
+
+
+def test_connections_leave_room_for_files():
+    """Of 600 open files 472 are for connections: half of them of clients, a quarter new ones."""
+    with folder() as at:
+        limits = configured(at, "[limits]\nconnections = 2000\nnew_connections = 2000\n")
+        server = Server(at, prefix=["prlimit", "--nofile=600:600"], args=limits).start()
+        server.stop()
+        assert "allows 236 connections, 118 that wait for events and 118 new ones" in server.log(), server.log()[-400:]
+        return "of 2000 that the settings allow"
+
+
+def test_one_key_twice_at_once():
+    """The calls of two requests with one key that come in one round are made once, and both get the answer."""
+    with served() as server:
+        job, told = Service(server.url).open("a", SETTINGS, [1]), []
+        other = sqlite3.connect(server.database, isolation_level=None, timeout=LOCKED)
+
+        def ask(key):
+            told.append((key, server.request("POST", PATH, CALL, headers=[("Idempotency-Key", key)])))
+
+        threads = [threading.Thread(target=ask, args=(key,)) for key in ("first", "same", "same")]
+        other.execute("begin immediate")
+        threads[0].start()
+        # the writer has it
+        until(lambda: commit_under_way(server) > 0)
+        for it in threads[1:]:
+            it.start()
+        until(lambda: waiting(server) == 2)
+        other.execute("rollback")
+        other.close()
+        for it in threads:
+            it.join()
+        same = [it for key, it in told if key == "same"]
+        assert [it[0] for it in same] == [200, 200] and same[0][2] == same[1][2], told
+        assert server.process.poll() is None and job.state()["seq"] == 2, job.state()
+        return "two requests of one key behind another one"
+
+
+def commit_under_way(server):
+    lines = [line for line in server.get("/metrics")[2].splitlines() if line.startswith("relkvanu_commit_under_way_seconds ")]
+    return float(lines[0].rsplit(" ", 1)[1]) if lines else 0.0

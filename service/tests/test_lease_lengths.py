@@ -1,0 +1,77 @@
+"""What a lease counts from, whose lease a standby waits for, and that a commit of an epoch that is over writes nothing."""
+import signal
+import time
+
+from harness import Server, configured, folder, until
+from postgres import postgres
+from relkvanu_service import Service
+from test_lease import SECONDS, epoch, far, looked, near, opened
+
+SETTINGS = {"interval": 1 << 40}
+
+
+def test_a_lease_counts_from_before_it_was_asked_for():
+    """Answers of the database take three quarters of the lease: a leader that counted from their arrival would serve beside the next one."""
+    with postgres() as database, folder() as at:
+        opened(at, database.url, 1)
+        slow, line = far(at, database, 0)
+        slow.start()
+        fast = near(at, database.url).stand_by()
+        line.delay = 0.75 * SECONDS
+        both, stale = looked(slow, fast, 4 * SECONDS)
+        slow.kill()
+        fast.kill()
+        assert (both, stale) == (0, 0), f"both ready in {both} looks, {stale} stale answers"
+        return f"answers after {0.75 * SECONDS:.1f} s of a lease of {SECONDS} s"
+
+
+def test_a_standby_waits_for_the_lease_of_the_leader():
+    """It has a shorter one itself, and the leader stops for longer than that."""
+    with postgres() as database, folder() as at:
+        first = Server(at, database.url, configured(at, "lease_seconds = 60\n")).start()
+        second = Server(at, database.url, configured(at, "lease_seconds = 2\n")).stand_by()
+        before = epoch(database)
+        first.process.send_signal(signal.SIGSTOP)
+        end = time.monotonic() + 8
+        while time.monotonic() < end and epoch(database) == before:
+            time.sleep(0.1)
+        first.process.send_signal(signal.SIGCONT)
+        first.wait_ready()
+        told = epoch(database), first.process.poll()
+        first.kill()
+        second.kill()
+        assert told == (before, None), (before, told)
+        return "8 s of a lease of 60 s, with one of 2 s beside it"
+
+
+def test_a_commit_of_an_earlier_epoch_writes_nothing():
+    """A shard is given anew, even to the same process, while a commit of its earlier epoch is on its way."""
+    with postgres() as database, folder() as at:
+        server = Server(at, database.url).start()
+        Service(server.url).open("a", SETTINGS, [1])
+        database.sql("update shard set epoch = epoch + 1")
+        told = server.request("POST", "/v1/jobs/a/calls", {"calls": [{"call": "savepoint"}]}, headers=[("Idempotency-Key", "k")])
+        calls = database.sql("select count(*) from call").strip()
+        assert told[0] == 0 and calls == "0" and server.ended() == 75, (told, calls)
+        return "no answer, no row, status 75"
+
+
+def metric(server, name):
+    found = [line.rsplit(" ", 1)[1] for line in server.get("/metrics")[2].splitlines() if line.startswith(f"{name} ")]
+    return float(found[0]) if found else None
+
+
+def test_a_standby_says_when_it_had_read_all():
+    """The moment goes on, and so do its shards when it takes over. Alerts use both."""
+    with postgres() as database, folder() as at:
+        words = configured(at, f"lease_seconds = {SECONDS}\n")
+        first, second = Server(at, database.url, words).start(), Server(at, database.url, words).stand_by()
+        seen = until(lambda: metric(second, "relkvanu_followed_timestamp_seconds"))
+        assert abs(seen - time.time()) < 3600, (seen, time.time())
+        until(lambda: metric(second, "relkvanu_followed_timestamp_seconds") > seen)
+        assert (metric(second, "relkvanu_leader"), metric(second, "relkvanu_shards")) == (0, 0)
+        first.kill()
+        second.wait_ready()
+        assert (metric(second, "relkvanu_leader"), metric(second, "relkvanu_shards")) == (1, 64)
+        second.kill()
+        return "its time, its leader and its shards"

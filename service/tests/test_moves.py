@@ -1,0 +1,122 @@
+"""Each metric that an alert uses moves in a running service. The tests of the alerts themselves have made-up series."""
+import importlib
+import os
+import re
+import sqlite3
+import threading
+
+from harness import LOCKED, SERVICE, TOP, served, until
+from relkvanu_service import Service, ack, cancel, savepoint
+from test_metrics import scraped
+
+# Of these another test compares two values of a running service.
+ELSEWHERE = {
+    "relkvanu_clock_ahead_seconds": "test_clocks",
+    "relkvanu_discard_files_total": "test_discard_folder",
+    "relkvanu_followed_timestamp_seconds": "test_lease_lengths",
+    "relkvanu_history_lag_seconds": "test_summaries",
+    "relkvanu_history_up": "test_summaries",
+    "relkvanu_image_failing": "test_put_off",
+    "relkvanu_keys_behind_seconds": "test_upkeep",
+    "relkvanu_leader": "test_lease_lengths",
+    "relkvanu_samples_behind_seconds": "test_upkeep",
+    "relkvanu_shards": "test_lease_lengths",
+    "relkvanu_sweep_files_total": "test_sweep",
+    "relkvanu_sweep_interval_seconds": "test_sweep",
+    "relkvanu_sweep_timestamp_seconds": "test_sweep",
+    "relkvanu_sweep_unissued_files": "test_sweep",
+    "relkvanu_token_until_timestamp_seconds": "test_upkeep",
+}
+# What a job's settings say, of a job with an interval of 2^40 ms and a timeout of a minute, and of one with 200 ms and 5 s.
+OF_SETTINGS = {"relkvanu_interval_seconds": ((1 << 40) / 1000, 0.2), "relkvanu_timeout_seconds": (60, 5)}
+
+
+def named():
+    with open(f"{SERVICE}/deploy/alerts.yml", encoding="utf-8") as it:
+        return set(re.findall(r"relkvanu_[a-z_]+", it.read())) - {"relkvanu_discard", "relkvanu_sweep"}
+
+
+def without_buckets(name):
+    """A gauge or counter by its own name, a histogram by that of its count."""
+    return name.removesuffix("_bucket") + ("_count" if name.endswith("_bucket") else "")
+
+
+class Seen:
+    """The values of a service, as often as they were looked at."""
+
+    def __init__(self, server):
+        self.server, self.looks = server, []
+
+    def look(self):
+        self.looks.append(scraped(self.server)[1])
+        return self.looks[-1]
+
+    def moved(self, name):
+        """Whether a series of this name had two values, neither of which is that it was not there."""
+        series = {key for look in self.looks for key in look if key.partition("{")[0] == name}
+        return any(len({look[key] for look in self.looks if key in look}) > 1 for key in series)
+
+
+def work(server, service, seen):
+    """Jobs are opened, files with sizes used and released, and a record is completed and disposed of, a request fails, and a job ends."""
+    job = service.open("orders", {"interval": 1 << 40, "timeout": 60_000}, [1])
+    service.open("timed", {"interval": 200, "timeout": 5000}, [1])
+    until(lambda: 'relkvanu_files{job_name="orders",state="in_use"}' in seen.look())
+    server.get("/nowhere")
+    seen.look()
+    job.calls([savepoint(), ack(1, "0.0", [1, 2], sizes=[100, 20])])
+    until(lambda: seen.look()['relkvanu_savepoints{job_name="orders"}'] == 1)
+    server.get("/nowhere")
+    with open(f"{server.folder}/fills", "wb") as it:
+        it.write(b"x" * (64 << 20))
+    until(lambda: seen.look() and seen.moved("relkvanu_disk_free_bytes") and seen.moved("relkvanu_tick_late_seconds_count"))
+    os.remove(f"{server.folder}/fills")
+
+
+def stuck(server, seen):
+    """Requests wait for a commit that the database does not take."""
+    other = sqlite3.connect(server.database, isolation_level=None, timeout=LOCKED)
+    other.execute("begin immediate")
+    threads = [threading.Thread(target=server.request, args=("POST", "/v1/jobs/orders/calls", {"calls": [{"call": "tick"}]})) for _ in range(4)]
+    for it in threads:
+        it.start()
+
+    def both():
+        values = seen.look()
+        return values["relkvanu_queue_requests"] > 0 and values["relkvanu_commit_under_way_seconds"] > 0
+
+    until(both, each=0.01)
+    other.execute("rollback")
+    other.close()
+    for it in threads:
+        it.join()
+
+
+def test_metrics_of_alerts_move():
+    with served() as server:
+        service, seen = Service(server.url), Seen(server)
+        work(server, service, seen)
+        stuck(server, seen)
+        service.job("orders").calls([{"call": "tick"}] * 1000)
+        values = seen.look()
+        service.job("orders").call(cancel())
+        here = {without_buckets(name) for name in named() if name not in ELSEWHERE and name not in OF_SETTINGS}
+        until(lambda: seen.look() and not still(seen, here), told=lambda: still(seen, here))
+        for name, (orders, timed) in OF_SETTINGS.items():
+            told = [values[f'{name}{{job_name="{job}"}}'] for job in ("orders", "timed")]
+            assert told == [orders, timed], (name, told)
+        return f"{len(here) + len(OF_SETTINGS)} metrics here, {len(ELSEWHERE)} elsewhere"
+
+
+def still(seen, names):
+    return sorted(name for name in names if not seen.moved(name))
+
+
+def test_others_are_compared_elsewhere():
+    """Each metric of an alert that does not move here is named by the test that is said to compare it."""
+    assert set(ELSEWHERE) <= named(), set(ELSEWHERE) - named()
+    for name, module in ELSEWHERE.items():
+        path = importlib.import_module(module).__file__
+        with open(path, encoding="utf-8") as it:
+            assert name in it.read(), (name, os.path.relpath(path, TOP))
+    return f"{len(ELSEWHERE)} metrics"
