@@ -37,6 +37,20 @@ PORTS = range(20000, 32000)
 _held = []
 
 
+def slowed():
+    """How many times as long things may take as on an idle machine: twice as many as there are processes for each processor, in the last minute
+    or now. So a limit that tells two things apart by their time does so where the machine is idle."""
+    with open("/proc/loadavg", encoding="ascii") as it:
+        load, _, _, tasks, _ = it.read().split()
+    wanted = max(float(load), int(tasks.partition("/")[0]))
+    return max(1.0, 2 * wanted / len(os.sched_getaffinity(0)))
+
+
+def lease_of(seconds):
+    """The seconds of a lease that processes keep on an idle machine, or up to four times as many."""
+    return round(seconds * min(4.0, max(1.0, slowed() / 2)))
+
+
 def free_port():
     locks = f"{tempfile.gettempdir()}/relkvanu-ports"
     if not os.path.isdir(locks):

@@ -2,7 +2,7 @@
 import re
 import time
 
-from harness import Server, folder, leader_and_standby, until
+from harness import Server, folder, leader_and_standby, lease_of, until
 from postgres import postgres
 from preloaded import Clocks, Suspended
 from relkvanu_service import Refused, Service, ack, savepoint
@@ -110,7 +110,7 @@ def test_steps_of_the_clock():
 def test_a_suspended_machine_keeps_no_lease():
     with postgres() as database, folder() as at:
         clocks = Clocks(at)
-        first, second = leader_and_standby(at, database.url, "lease_seconds = 4\n", clocks.prefix)
+        first, second = leader_and_standby(at, database.url, f"lease_seconds = {lease_of(4)}\n", clocks.prefix)
         job = Service(first.url).open("orders", SETTINGS, [1])
         suspension = Suspended(first, clocks)
         second.wait_ready()
@@ -129,7 +129,7 @@ def test_the_clock_of_the_database_may_be_set():
     with folder() as at, folder() as own:
         clocks = Clocks(at)
         with postgres(own, environment=clocks.environment) as database:
-            first, second = leader_and_standby(at, database.url, "lease_seconds = 4\n")
+            first, second = leader_and_standby(at, database.url, f"lease_seconds = {lease_of(4)}\n")
             job = Service(first.url).open("orders", SETTINGS, [1])
             both = 0
             for ahead in (HOUR, 0, DAY):

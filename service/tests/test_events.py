@@ -9,7 +9,7 @@ import sys
 import threading
 import time
 
-from harness import COMMAND, PROGRAM, TOP, Server, configured, folder, served, until
+from harness import COMMAND, PROGRAM, TOP, Server, configured, folder, served, slowed, until
 from postgres import postgres
 from relkvanu_service import Gone, OtherLog, Service, ack, cancel, deleted, dispose, reserve, restore, savepoint
 from run import Skipped
@@ -50,7 +50,7 @@ def test_after_a_cut():
             raise AssertionError(job.events(missed, 20))
         except Gone as gone:
             assert (gone.status, gone.reason, gone.first) == (410, "cut", state["first"]) and gone.log == state["log"], vars(gone)
-        assert time.monotonic() - begun < 15  # and not once the wait is over
+        assert time.monotonic() - begun < 15 * slowed()  # and not once the wait is over
         # whoever missed nothing waits as before
         assert job.events(knew, 1) == (state["seq"], [])
         assert server.get("/v1/jobs/a/events")[2] == {"first": state["first"], "log": state["log"], "upto": state["seq"], "events": []}

@@ -2,14 +2,14 @@
 import threading
 import time
 
-from harness import BUSY, Server, configured, folder, kept, until
+from harness import BUSY, Server, configured, folder, kept, lease_of, until
 from postgres import postgres
 from relkvanu_service import Service, savepoint
 from slow import Slow
 
 SETTINGS = {"interval": 1 << 40}
 # the delays are in proportion to the lease, which is as long as processes of a busy machine need to keep it
-SECONDS = 4
+SECONDS = lease_of(4)
 DELAY = 0.01 * SECONDS
 LEASE = f"lease_seconds = {SECONDS}\n"
 

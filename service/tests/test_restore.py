@@ -57,7 +57,7 @@ def test_records_that_have_all_their_files():
         latest = job.state()["choice"]["id"]
         assert latest == pending
         write(files, 1, 2, 3)
-        told = subprocess.run([PROGRAM, *words, *ask.more], stdout=subprocess.PIPE, stderr=subprocess.PIPE, text=True, timeout=60, check=False)
+        told = subprocess.run([PROGRAM, *words, *ask.more], stdout=subprocess.PIPE, stderr=subprocess.PIPE, text=True, timeout=COMMAND, check=False)
         assert told.returncode == 0 and "has no marker of this job, .relkvanu-orders" in told.stderr, told
         # the command in Python needs the marker
         status, lines, told = savepoints_by_python(server.url, files)
@@ -101,7 +101,7 @@ def test_files_that_are_too_short():
         words = [PROGRAM, "savepoints", "orders", "--folder", files, "--prefix", "s-", "--suffix", ".bin", "--url", server.url]
 
         def warned():
-            told = subprocess.run(words, stdout=subprocess.PIPE, stderr=subprocess.PIPE, text=True, timeout=60, check=False)
+            told = subprocess.run(words, stdout=subprocess.PIPE, stderr=subprocess.PIPE, text=True, timeout=COMMAND, check=False)
             assert told.returncode == 0, told
             return re.findall(r"the files of record (\d+) have (\d+) bytes there, and its tasks said (\d+)", told.stderr)
 
@@ -354,7 +354,7 @@ def copied(text, server, at, record, before, by_notes=False):
     }
     for old, new in given.items():
         block = block.replace(old, new)
-    told = subprocess.run(["bash", "-euc", block], cwd=at, stdout=subprocess.PIPE, stderr=subprocess.STDOUT, text=True, timeout=60, check=False)
+    told = subprocess.run(["bash", "-euc", block], cwd=at, stdout=subprocess.PIPE, stderr=subprocess.STDOUT, text=True, timeout=COMMAND, check=False)
     assert told.returncode == 0 and "/12/" not in block and "record=12" not in block, (block, told.stdout)
     return told.stdout
 

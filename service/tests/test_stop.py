@@ -5,7 +5,7 @@ import socket
 import threading
 import time
 
-from harness import COMMAND, Server, folder, until
+from harness import COMMAND, Server, folder, slowed, until
 from postgres import postgres
 from test_api import JOB
 from test_connections import answer, opened, poll
@@ -86,7 +86,7 @@ def test_a_stop_ends_polls_and_slow_bodies():
         status, told = answer(waits)
         polled = time.monotonic() - started
         # at once: it waits for answers for 12 s
-        assert status == 200 and told["events"] == [] and polled < 10, (status, told, polled)
+        assert status == 200 and told["events"] == [] and polled < 10 * slowed(), (status, told, polled)
         assert idle.recv(10) == b"" and silent.recv(10) == b""
         try:
             socket.create_connection(("127.0.0.1", server.port), timeout=COMMAND).close()
@@ -96,7 +96,7 @@ def test_a_stop_ends_polls_and_slow_bodies():
         assert answer(slow)[0] == 503
         assert server.ended() == 0
         took = time.monotonic() - started
-        assert took < 18, took  # 12 s for answers, and 6 s for the last commit
+        assert took < 18 * slowed(), took  # 12 s for answers, and 6 s for the last commit
         return f"a poll was answered after {polled:.2f} s, a body that did not come was refused, and the end came after {took:.1f} s"
 
 
@@ -109,5 +109,5 @@ def test_a_standby_stops_at_once():
             started = time.monotonic()
             assert server.stop() == 0
             times.append(time.monotonic() - started)
-        assert max(times) < 5, times  # the end of a commit may take 6 s
+        assert max(times) < 5 * slowed(), times  # the end of a commit may take 6 s
         return f"a standby ended after {times[0]:.2f} s, the leader after {times[1]:.2f} s"

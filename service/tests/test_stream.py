@@ -4,7 +4,7 @@ import socket
 import threading
 import time
 
-from harness import COMMAND, Server, caught_up, configured, folder, served, until
+from harness import COMMAND, Server, caught_up, configured, folder, served, slowed, until
 from relkvanu_service import Service, ack, decline, dispose, savepoint
 
 SETTINGS = {"interval": 1 << 40}
@@ -77,7 +77,7 @@ def test_a_stream_tells_what_comes():
         assert server.get(f"{path}?after=99")[0] == 410 and server.get("/v1/jobs/none/stream")[0] == 404
         # a stop ends it at once
         started = time.monotonic()
-        assert server.stop() == 0 and time.monotonic() - started < 10  # it waits for answers for 12 s
+        assert server.stop() == 0 and time.monotonic() - started < 10 * slowed()  # it waits for answers for 12 s
         until(lambda: whole.over and later.over and again.over, 5)
         return f"{len(polled)} events and {whole.alive} signs of life"
 

@@ -3,7 +3,7 @@ import sqlite3
 import subprocess
 import time
 
-from harness import BUSY, Server, folder, until
+from harness import BUSY, Server, folder, slowed, until
 from postgres import postgres
 from relkvanu_service import Service
 
@@ -41,7 +41,7 @@ def test_a_standby_that_starts_beside_a_vacuum():
         standby.start(ready=False)
         gap = longest_gap(leader, 2, lambda: "another process leads" in standby.log())
         assert "another process leads" in standby.log(), standby.log()[-300:]
-        assert gap < 4, gap  # a start that locks a table waits for 5 s
+        assert gap < 4 * slowed(), gap  # a start that locks a table waits for 5 s
         # a service that is alone starts beside it too
         standby.kill()
         leader.stop()

@@ -439,17 +439,17 @@ def check_a_wrong_option_ends_it():
 def check_a_long_start():
     """A reader of the database keeps the start from being ready for longer than the unit allows. The process asks for more time; on a busy
     machine it needs some seconds until it does. It waits for a reader for 10 s at most."""
-    with_setting("start", "TimeoutStartSec=7")
+    with_setting("start", "TimeoutStartSec=5")
     run("systemctl", "stop", "relkvanu")
     reader = sqlite3.connect("/var/lib/relkvanu/relkvanu.db", isolation_level=None, check_same_thread=False)
     reader.execute("begin")
     reader.execute("select count(*) from call").fetchone()
-    threading.Timer(8.5, reader.close).start()
+    threading.Timer(7, reader.close).start()
     started = time.monotonic()
     run("systemctl", "start", "relkvanu")
     took = time.monotonic() - started
     until(is_ready)
-    assert took > 7.5 and property_of("NRestarts") == "0", took
+    assert took > 5.5 and property_of("NRestarts") == "0", took
     return took
 
 

@@ -8,12 +8,14 @@ import tempfile
 
 from engines import recovers
 
+LONGEST = 900  # seconds, of which the put hangs 600 at most
+
 # The 7th put, for record 3, hangs until many others were made, and the 8th fails.
 HANGING = """
 import itertools, runpy, sys, time
 from relkvanu.store import Store, StoreError
 
-put, calls, made, end = Store.put, itertools.count(1), [], time.monotonic() + 60
+put, calls, made, end = Store.put, itertools.count(1), [], time.monotonic() + 600
 
 def hangs(job, file, contents):
     nth = next(calls)
@@ -36,7 +38,7 @@ def main(stored):
     with tempfile.TemporaryDirectory() as name:
         folder = pathlib.Path(name)
         (folder / "state").mkdir()
-        ran = subprocess.run([sys.executable, "-c", HANGING, stored, name, "60"], stderr=subprocess.PIPE, text=True, timeout=120)
+        ran = subprocess.run([sys.executable, "-c", HANGING, stored, name, "60"], stderr=subprocess.PIPE, text=True, timeout=LONGEST)
         assert ran.returncode == 0, ran.stderr
         before, is_back, _ = ran.stderr.partition("came back")
         assert is_back and before.count(" is complete") > 30, ran.stderr

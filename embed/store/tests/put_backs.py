@@ -8,7 +8,7 @@
 - What was set aside is the job again when it is put back, also after the file in its place was opened.
 - While an engine runs, nothing is put back. One that was forgotten on another host puts and deletes nothing after the next opening, and ends.
 
-ROUNDS in the environment has so many times as many of the ends; 0 is each."""
+ROUNDS in the environment has so many times as many of the ends; 0 is each. SEED chooses others; it is printed."""
 import contextlib
 import os
 import pathlib
@@ -19,7 +19,7 @@ import sys
 import tempfile
 import time
 
-from engines import await_opening, known, recovers
+from engines import LONGEST, SEED, await_opening, known, recovers
 from relkvanu import Settings
 from relkvanu.store import Store
 
@@ -34,7 +34,7 @@ class PutBacks:
 
     def run(self, name, *words, **env):
         return subprocess.run([sys.executable, self.samples / name, *words], env={**os.environ, **env}, stdout=subprocess.PIPE, stderr=subprocess.STDOUT,
-                              text=True, timeout=120)
+                              text=True, timeout=LONGEST)
 
     def folder(self, of=None):
         self.made += 1
@@ -184,7 +184,7 @@ def a_forgotten_engine(it):
         later.rename(marker)
         time.sleep(0.2)  # a put or a deletion that was under way
         before = files(folder)
-        _, told = process.communicate(timeout=60)
+        _, told = process.communicate(timeout=LONGEST)
     assert process.returncode not in (0, None) and "Storage" in told, (process.returncode, told)
     assert files(folder) == before, sorted(files(folder).keys() ^ before.keys())
     marker.write_text(f"{job} {epoch}\n")
@@ -199,7 +199,7 @@ def at_each_end(it):
     told = it.run("put_back.py", folder, copy, LD_PRELOAD=it.shim, STORE_IN=str(folder), STORE_DIE=str(1 << 40), STORE_COUNT=str(count))
     assert told.returncode == 0, told.stdout
     places = [(place, after) for place in range(1, int(count.read_text()) + 1) for after in ("0", "1")]
-    for place, after in places if ROUNDS == 0 else sorted(random.sample(places, min(ENDS * ROUNDS, len(places)))):
+    for place, after in places if ROUNDS == 0 else sorted(random.Random(SEED).sample(places, min(ENDS * ROUNDS, len(places)))):
         folder = it.folder(base)
         told = it.run("put_back.py", folder, copy, LD_PRELOAD=it.shim, STORE_IN=str(folder), STORE_DIE=str(place), STORE_DIE_AFTER=after)
         assert told.returncode != 0, f"no end at call {place}"
@@ -228,6 +228,7 @@ def main(samples, shim):
             except AssertionError as wrong:
                 print(f"{test.__name__}: {wrong}")
                 failed += 1
+    print(f"store: the backups that are put back have SEED={SEED}")
     print(f"{len(TESTS) - failed} passed, {failed} failed")
     return failed != 0
 

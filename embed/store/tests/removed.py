@@ -15,6 +15,7 @@ sys.path.insert(0, str(pathlib.Path(__file__).resolve().parent.parent.parent))
 from power import Disk, Journal, Kind, read_tree, settle
 
 KILLS, LONGEST = 20, 900  # seconds, on a busy machine
+SEED = os.environ.get("SEED", str(time.time()))
 
 
 def environment(shim, folder, told):
@@ -45,7 +46,8 @@ def killed(program, shim, work, chance):
 
 
 def main(program, shim):
-    chance = random.Random()
+    print(f"SEED={SEED}")
+    chance = random.Random(SEED)
     for _ in range(KILLS):
         with tempfile.TemporaryDirectory() as name:
             killed(program, shim, pathlib.Path(name).resolve(), chance)
