@@ -200,15 +200,22 @@ static int leave_wal(void *with) {
     return 7;
 }
 
-/* An opening writes what a killed process left in the -wal again, and opens nothing if that is not synced. */
+/* The sync of what ends so fails, and an opening with it. */
+static void refuse_opening(const relkvanu_store_options *options, const char *unsynced) {
+    relkvanu_store *store;
+    fail_syncs(unsynced, EIO);
+    int got = relkvanu_store_open(&store, in("x.db"), options, &report);
+    fail_syncs("", 0);
+    CHECK(got != RELKVANU_STORE_OK && store == NULL, "status %d without a sync of %s", got, unsynced);
+}
+
+/* An opening writes what a killed process left in the -wal again, and opens nothing if that, or the name of a new file, is not synced. */
 static void unsynced_opening(void) {
     relkvanu_store_options options = job_options(RELKVANU_STORE_CREATE, 0);
-    relkvanu_store *store;
+    refuse_opening(&options, "/unsynced_opening");
     CHECK(in_child(leave_wal, &options) == 7, "a child");
     options.flags = RELKVANU_STORE_RECOVER;
-    fail_syncs("x.db-wal", EIO);
-    int got = relkvanu_store_open(&store, in("x.db"), &options, &report);
-    CHECK(got != RELKVANU_STORE_OK && store == NULL, "status %d", got);
+    refuse_opening(&options, "x.db-wal");
     /* it is a sync before SQLite opens the file */
     CHECK(!says("SQLite"), "%s", report.message);
 }
