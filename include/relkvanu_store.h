@@ -55,7 +55,7 @@ typedef struct relkvanu_store relkvanu_store;
 #define RELKVANU_STORE_PRESENT 5      /* open: there is a job, and RELKVANU_STORE_CREATE_ONLY forbids it; put: there is a file of this number, or a part of one; backup: there is a file of this name */
 #define RELKVANU_STORE_NOT_A_STORE 6  /* open: another kind of file, or one of a later version */
 #define RELKVANU_STORE_DIFFERS 7      /* open: a call of the log gets another answer, or is refused. The message says which */
-#define RELKVANU_STORE_DAMAGED 8      /* open: an image, a call or the file is damaged. The message says which */
+#define RELKVANU_STORE_DAMAGED 8      /* open: an image, a call, a page or the -wal is damaged, or the log lacks calls that were answered. The message says which */
 #define RELKVANU_STORE_STORAGE 9      /* open: the storage folder is not that of this job, or a new job's has files, or PATH is an older copy or a backup */
 #define RELKVANU_STORE_CLOSED 10      /* an earlier commit failed */
 #define RELKVANU_STORE_FORKED 11      /* this process is a child of the one that opened the store */
@@ -78,7 +78,7 @@ typedef struct relkvanu_store relkvanu_store;
 #define RELKVANU_STORE_CREATE 1u        /* makes a job if there is none */
 #define RELKVANU_STORE_CREATE_ONLY 2u   /* makes a job, and there may be none */
 #define RELKVANU_STORE_ADOPT 4u         /* makes a job also if the storage folder has files. THE NEXT SWEEP DELETES THEM ALL, if their names are numbers */
-#define RELKVANU_STORE_EARLIER_IMAGE 8u /* begins with the image before the last one, which is damaged. The log after it is whole */
+#define RELKVANU_STORE_EARLIER_IMAGE 8u /* begins with the image before the last one, which is damaged. The log after it is whole. The pages of the file are not checked */
 #define RELKVANU_STORE_PLAIN 16u        /* a job that is made has no names: the engine gives out the numbers of files, and sweeps only when no task runs */
 #define RELKVANU_STORE_BACKUP 32u       /* PATH is a backup: READ relkvanu_store_backup FIRST. Makes no job */
 
@@ -132,7 +132,8 @@ typedef struct {
     uint64_t reserved[2];
 } relkvanu_store_report;
 
-/* Makes or recovers the job at path. A recovery opens the last image, makes the calls after it again, and compares each answer.
+/* Makes or recovers the job at path. A recovery opens the last image, makes the calls after it again, and compares each answer. PATH.lock names
+ * the last call that was answered, for this one file: after a kill an opening has each answered call, or is RELKVANU_STORE_DAMAGED.
  * *store is NULL unless the status is RELKVANU_STORE_OK. The lock is kept until relkvanu_store_close or the end of the process.
  *
  * A new job gives out names from 1 on, or from above each number of a file that it adopts in options.storage. A recovered one keeps what it has:

@@ -156,6 +156,7 @@ static int committed(relkvanu_store *s, bool has_image) {
     if (has_image) {
         rks_note_image(s);
     }
+    rks_write_tail(s);
     return RELKVANU_STORE_OK;
 }
 

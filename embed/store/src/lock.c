@@ -131,7 +131,7 @@ static int check_named(relkvanu_store *s) {
  * need it, and this store does not. */
 static int lock_files(relkvanu_store *s, const char *path) {
     struct flock whole = {.l_type = F_WRLCK, .l_whence = SEEK_SET};
-    char pid[32];
+    char pid[32] = ""; /* the tail is behind it (tail.c) */
     int status = set_paths(s, path);
     if (status != RELKVANU_STORE_OK || (status = opened_beside(s, ".lock", &s->lock)) != RELKVANU_STORE_OK) {
         return status;
@@ -142,9 +142,9 @@ static int lock_files(relkvanu_store *s, const char *path) {
     if ((status = check_named(s)) != RELKVANU_STORE_OK) {
         return status;
     }
-    int len = snprintf(pid, sizeof pid, "%ld\n", (long)getpid());
-    if (ftruncate(s->lock, 0) != 0 || pwrite(s->lock, pid, (size_t)len, 0) != len) {
-        len = 0; /* it is for a message alone, so a full disk does not matter */
+    snprintf(pid, sizeof pid, "%ld\n", (long)getpid());
+    if (pwrite(s->lock, pid, sizeof pid, 0) != sizeof pid) {
+        pid[0] = 0; /* it is for a message alone, so a full disk does not matter */
     }
     if ((status = opened_beside(s, "-shm", &s->shm)) != RELKVANU_STORE_OK) {
         return status;

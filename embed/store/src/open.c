@@ -63,6 +63,9 @@ static int open_files(relkvanu_store *s, const char *path) {
         status = told(s, RELKVANU_STORE_FAILED, "it has several names, each of which would have a log of its own");
     }
     if (status == RELKVANU_STORE_OK) {
+        status = rks_check_wal(s);
+    }
+    if (status == RELKVANU_STORE_OK) {
         status = rks_write_again(s);
     }
     return status == RELKVANU_STORE_OK ? rks_open_database(s) : status;
@@ -84,6 +87,19 @@ static int check_format(relkvanu_store *s, struct job *job) {
     return RELKVANU_STORE_OK;
 }
 
+/* Reads all pages. SQLite takes a page whose header is damaged for one with fewer rows. An earlier image is wanted where something is damaged. */
+static int check_pages(relkvanu_store *s) {
+    char found[200] = "ok";
+    bool is_checked = (s->options.flags & RELKVANU_STORE_EARLIER_IMAGE) == 0;
+    int status = is_checked ? rks_ask(s, "PRAGMA quick_check(1)", NULL, found, sizeof found) : RELKVANU_STORE_OK;
+    if (status != RELKVANU_STORE_OK || strcmp(found, "ok") == 0) {
+        return status;
+    }
+    const char *code = strstr(found, "error code=");
+    bool is_read = code == NULL || (atoi(code + strlen("error code=")) & 255) == SQLITE_CORRUPT;
+    return told(s, is_read ? RELKVANU_STORE_DAMAGED : RELKVANU_STORE_FAILED, found);
+}
+
 static int read_job(relkvanu_store *s, struct job *job) {
     int64_t application = 0, tables = 0;
     int status = rks_ask(s, "PRAGMA application_id", &application, NULL, 0);
@@ -96,6 +112,7 @@ static int read_job(relkvanu_store *s, struct job *job) {
         return told(s, RELKVANU_STORE_NOT_A_STORE, "it is another kind of database");
     }
     status = check_format(s, job);
+    status = status == RELKVANU_STORE_OK ? check_pages(s) : status;
     status = status == RELKVANU_STORE_OK ? rks_ask(s, "SELECT epoch FROM job", &job->epoch, NULL, 0) : status;
     status = status == RELKVANU_STORE_OK ? rks_ask(s, "SELECT storage FROM job", &job->storage, NULL, 0) : status;
     status = status == RELKVANU_STORE_OK ? rks_ask(s, "SELECT identity FROM job", NULL, job->identity, sizeof job->identity) : status;
@@ -272,7 +289,11 @@ static int recover(relkvanu_store *s, struct job *job, const relkvanu_store_opti
     int status = check_storage(s, job, o->storage);
     status = status == RELKVANU_STORE_OK ? rks_prepare(s) : status;
     status = status == RELKVANU_STORE_OK ? rks_replay(s, report) : status;
+    status = status == RELKVANU_STORE_OK && !job->is_backup ? rks_check_tail(s) : status;
     status = status == RELKVANU_STORE_OK && job->is_backup ? pass_names(s) : status;
+    status = status == RELKVANU_STORE_OK && job->is_backup ? rks_drop_tail(s) : status; /* of another file in this place */
+    /* What a torn commit has left in the -wal goes first: with another one behind it, it would look like two that are lost. */
+    status = status == RELKVANU_STORE_OK ? rks_checkpoint(s, SQLITE_CHECKPOINT_TRUNCATE) : status;
     status = status == RELKVANU_STORE_OK ? begin_epoch(s, job) : status;
     if (status == RELKVANU_STORE_OK) {
         report->is_recovered = true;
@@ -329,6 +350,7 @@ static void fill(relkvanu_store *s, const struct job *job, relkvanu_store_report
     s->tells_mode = s->last_mode != RELKVANU_MODE_RUNNING;
     s->may_sweep = report->is_recovered && report->mode.what == RELKVANU_MODE_CANCELLED;
     s->next_image = s->image_place + s->options.image_calls;
+    rks_write_tail(s);
 }
 
 static int open_job(relkvanu_store *s, const char *path, const relkvanu_store_options *o, relkvanu_store_report *report) {

@@ -62,6 +62,13 @@ struct rks_row {
     uint32_t chain; /* the checksum of all calls so far */
 };
 
+/* The last call that was answered, for a file. */
+struct rks_tail {
+    char identity[RKS_IDENTITY + 1];
+    uint64_t inode, place;
+    uint32_t chain;
+};
+
 enum rks_statement { RKS_BEGIN, RKS_COMMIT, RKS_ROLLBACK, RKS_INSERT, RKS_IMAGE, RKS_CUT_LOG, RKS_DROP_IMAGES, RKS_STATEMENTS };
 
 struct relkvanu_store {
@@ -139,6 +146,14 @@ int rks_sync_folder_of(relkvanu_store *s, const char *path);
 int rks_write_again(relkvanu_store *s);
 int rks_make_file(relkvanu_store *s);
 bool rks_write_whole(int file, const void *bytes, size_t len, off_t at);
+
+/* wal.c: DAMAGED if answered calls are behind a frame that is damaged. */
+int rks_check_wal(relkvanu_store *s);
+
+/* tail.c */
+void rks_write_tail(relkvanu_store *s);
+int rks_check_tail(relkvanu_store *s);
+int rks_drop_tail(relkvanu_store *s);
 
 /* marker.c */
 int rks_open_folder(relkvanu_store *s, const char *folder);
