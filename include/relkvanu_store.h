@@ -82,7 +82,8 @@ typedef struct relkvanu_store relkvanu_store;
 #define RELKVANU_STORE_PLAIN 16u        /* a job that is made has no names: the engine gives out the numbers of files, and sweeps only when no task runs */
 #define RELKVANU_STORE_BACKUP 32u       /* PATH is a backup: READ relkvanu_store_backup FIRST. Makes no job */
 
-/* A moment of a call: that of the store's clock. The clock goes on from the greatest moment of the log, and never jumps. */
+/* A moment of a call: that of the store's clock. The clock goes on from the greatest moment of the log, and does not follow the wall clock. A call
+ * with a moment ahead of it sets it forward. */
 #define RELKVANU_STORE_NOW UINT64_MAX
 
 #define RELKVANU_STORE_NO_IMAGES UINT64_MAX
@@ -228,7 +229,8 @@ uint64_t relkvanu_store_now(const relkvanu_store *store);
  * after a tick without memory. */
 int relkvanu_store_next_tick(relkvanu_store *store, uint64_t *wait);
 
-/* A timer, as a loop in a thread of the engine: sleeps until a tick is due, at most longest ms, and makes it. Each commit wakes it.
+/* A timer, as a loop in a thread of the engine: sleeps until a tick is due, at most longest ms, and makes it. A commit wakes it only if another
+ * moment is due.
  * RELKVANU_STORE_TIMED_OUT: no tick was due. RELKVANU_STORE_STOPPED.
  * While the job is not running, no tick is due: then RELKVANU_STORE_TIMED_OUT comes with the answer RELKVANU_REFUSED, RELKVANU_NOT_RUNNING. It comes
  * at once when the job has failed or was cancelled, to one caller, and then after longest. Read the mode: a failed job is restored. A cancelled one is

@@ -40,25 +40,19 @@ static int pause_for(relkvanu_store *s, uint64_t ms) {
     return status;
 }
 
-/* Whether files wait, and what is committed so far. */
-static int has_waiting(relkvanu_store *s, bool *waits, uint64_t *seen) {
-    relkvanu *handle;
-    int status = relkvanu_store_read(s, &handle);
-    if (status == RELKVANU_STORE_OK) {
-        *waits = relkvanu_file_counts(handle).waiting != 0;
-        pthread_mutex_lock(&s->mutex);
-        *seen = s->version;
-        pthread_mutex_unlock(&s->mutex);
-        relkvanu_store_read_end(s);
-    }
-    return status;
+/* Whether files wait, and in which version of the view. */
+static bool has_files(relkvanu_store *s, uint64_t *seen) {
+    pthread_mutex_lock(&s->mutex);
+    bool has_files = s->view.has_files;
+    *seen = s->version;
+    pthread_mutex_unlock(&s->mutex);
+    return has_files;
 }
 
 static int await_files(relkvanu_store *s) {
-    bool waits = false;
     uint64_t seen;
     int status = RELKVANU_STORE_OK;
-    while (status == RELKVANU_STORE_OK && (status = has_waiting(s, &waits, &seen)) == RELKVANU_STORE_OK && !waits) {
+    while (status == RELKVANU_STORE_OK && !has_files(s, &seen)) {
         status = rks_await(s, seen, UINT64_MAX);
     }
     return status;

@@ -347,7 +347,8 @@ static void fill(relkvanu_store *s, const struct job *job, relkvanu_store_report
     set_steps(report);
     s->clock_offset = report->moment - rks_clock_ns() / 1000000;
     s->last_mode = report->mode.what;
-    s->tells_mode = s->last_mode != RELKVANU_MODE_RUNNING;
+    s->has_stopped = s->last_mode != RELKVANU_MODE_RUNNING;
+    rks_show(s);
     s->may_sweep = report->is_recovered && report->mode.what == RELKVANU_MODE_CANCELLED;
     s->next_image = s->image_place + s->options.image_calls;
     rks_write_tail(s);

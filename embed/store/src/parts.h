@@ -69,6 +69,13 @@ struct rks_tail {
     uint32_t chain;
 };
 
+/* What timers and discarders wait for, of what is committed. */
+struct rks_view {
+    uint64_t tick;              /* the moment of the next one; UINT64_MAX: only a call can bring one */
+    uint64_t clock;             /* clock_offset */
+    bool is_running, has_files; /* the job; files that wait for deletion */
+};
+
 enum rks_statement { RKS_BEGIN, RKS_COMMIT, RKS_ROLLBACK, RKS_INSERT, RKS_IMAGE, RKS_CUT_LOG, RKS_DROP_IMAGES, RKS_STATEMENTS };
 
 struct relkvanu_store {
@@ -97,21 +104,22 @@ struct relkvanu_store {
     char fault[RKS_MESSAGE]; /* its words */
     bool is_held;            /* the last tick was held because of the checkpoints that are pending */
     bool may_sweep;
-    bool tells_mode; /* the job has stopped running, and no timer was told yet */
+    bool has_stopped; /* the job, in the group under way */
     uint32_t last_mode;
     uint64_t tick_after;       /* the moment before which no tick is made again after one without memory */
     relkvanu_store_counts led; /* counts of the leaders */
 
-    uint64_t clock_offset; /* the moment minus the system's clock, modulo 2^64 */
+    _Atomic uint64_t clock_offset; /* the moment minus the system's clock, modulo 2^64 */
 
     /* the queue; all below is guarded by the mutex */
     pthread_mutex_t mutex;
     pthread_cond_t changed;
     struct rks_waiter *head, **tail;
     bool is_led;
-    int dead;         /* the status that closed the store */
-    uint64_t version; /* of what is committed */
-    unsigned awaiting;
+    int dead; /* the status that closed the store */
+    struct rks_view view;
+    bool tells_mode;  /* the job has stopped running, and no timer was told yet */
+    uint64_t version; /* of the view */
     bool is_stopped, is_discarding;
     uint64_t swept, unissued; /* files: that sweeps have deleted; that the last one left, since their names were not given out */
     relkvanu_store_counts counts;
@@ -202,7 +210,7 @@ int rks_make(relkvanu_store *s, struct rks_waiter *group);
 int rks_enter(relkvanu_store *s, struct rks_waiter *w);
 struct rks_waiter *rks_take_group(relkvanu_store *s);
 void rks_lead(relkvanu_store *s, struct rks_waiter *self);
-void rks_hand_on(relkvanu_store *s, int dead, bool is_changed);
+void rks_hand_on(relkvanu_store *s, int dead);
 void rks_drop_answers(relkvanu_store_call *calls, size_t calls_len);
 
 /* submit.c */
@@ -225,5 +233,8 @@ int rks_greatest_file(relkvanu_store *s, uint64_t *greatest);
 /* timer.c */
 uint64_t rks_clock_ns(void);
 int rks_await(relkvanu_store *s, uint64_t seen, uint64_t until);
+
+/* Shows what timers and discarders wait for, and wakes them if it has changed. Only for the thread that leads. */
+void rks_show(relkvanu_store *s);
 
 #endif

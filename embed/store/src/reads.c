@@ -21,7 +21,7 @@ int relkvanu_store_read(relkvanu_store *s, relkvanu **handle) {
 }
 
 void relkvanu_store_read_end(relkvanu_store *s) {
-    rks_hand_on(s, 0, false);
+    rks_hand_on(s, 0);
 }
 
 void relkvanu_store_count(relkvanu_store *s, relkvanu_store_counts *counts) {
