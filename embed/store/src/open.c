@@ -36,6 +36,15 @@ static int told(relkvanu_store *s, int status, const char *words) {
     return status;
 }
 
+/* The folder of the storage was not listed: it is gone, or errno says why. */
+static int told_of_listing(relkvanu_store *s, int status) {
+    int error = errno;
+    status = status == RELKVANU_STORE_NOT_DONE ? rks_status_of_errno(error) : status;
+    snprintf(s->fault, sizeof s->fault, "%.300s: the storage folder can't be read: %s", s->path, strerror(error));
+    errno = error;
+    return status;
+}
+
 static bool wants_backup(const relkvanu_store *s) {
     return (s->options.flags & RELKVANU_STORE_BACKUP) != 0;
 }
@@ -151,7 +160,7 @@ static int choose_first_name(relkvanu_store *s, uint64_t *name) {
     uint64_t greatest = 0;
     int status = is_plain(s) || s->folder < 0 ? RELKVANU_STORE_OK : rks_greatest_file(s, &greatest);
     if (status != RELKVANU_STORE_OK) {
-        return told(s, status, "the storage folder can't be read");
+        return told_of_listing(s, status);
     }
     if (greatest >= RKS_MOST_NAME) {
         return told(s, RELKVANU_STORE_STORAGE, "the storage folder has a file with a number from 2^62 on, so that no name is above it");
@@ -263,7 +272,7 @@ static int pass_names(relkvanu_store *s) {
     }
     int status = rks_greatest_file(s, &greatest);
     if (status != RELKVANU_STORE_OK) {
-        return told(s, status, "the storage folder can't be read");
+        return told_of_listing(s, status);
     }
     if (greatest >= term.b + MOST_PASSED) {
         return told(s, RELKVANU_STORE_STORAGE, "the storage folder has a file with a number 2^24 or more above the names of the backup");
@@ -281,12 +290,27 @@ static int begin_epoch(relkvanu_store *s, const struct job *job) {
     return rks_run(s, sql);
 }
 
+/* The settings that the job was made with, which are its own for good. */
+static int read_settings(relkvanu_store *s, const struct job *job) {
+    uint64_t numbers[7] = {0};
+    relkvanu_answer says = relkvanu_line_says((const uint8_t *)job->opening, strcspn(job->opening, "\n"), numbers, 7);
+    if (says.code == RELKVANU_NO_MEMORY) {
+        return RELKVANU_STORE_NO_MEMORY;
+    }
+    if (says.what != RELKVANU_LINE_CONFIG) {
+        return told(s, RELKVANU_STORE_DAMAGED, "the row of the job is damaged");
+    }
+    s->settings = (relkvanu_settings){numbers[0], numbers[1], numbers[2], numbers[3], numbers[4], numbers[5], numbers[6] != 0};
+    return RELKVANU_STORE_OK;
+}
+
 static int recover(relkvanu_store *s, struct job *job, const relkvanu_store_options *o, relkvanu_store_report *report) {
     char lines[LINES];
     if ((o->flags & RELKVANU_STORE_CREATE_ONLY) != 0) {
         return told(s, RELKVANU_STORE_PRESENT, "it has a job");
     }
     int status = check_storage(s, job, o->storage);
+    status = status == RELKVANU_STORE_OK ? read_settings(s, job) : status;
     status = status == RELKVANU_STORE_OK ? rks_prepare(s) : status;
     status = status == RELKVANU_STORE_OK ? rks_replay(s, report) : status;
     status = status == RELKVANU_STORE_OK && !job->is_backup ? rks_check_tail(s) : status;
@@ -370,17 +394,21 @@ static int open_job(relkvanu_store *s, const char *path, const relkvanu_store_op
     return status;
 }
 
-static bool prepare(relkvanu_store *s) {
+/* RELKVANU_STORE_OK, or why not. */
+static int prepare(relkvanu_store *s) {
     pthread_condattr_t by_clock;
     s->lock = s->shm = s->folder = s->event = -1;
     s->tail = &s->head;
     s->completed_tail = &s->completed;
     s->process = getpid();
     s->event = eventfd(0, EFD_CLOEXEC | EFD_NONBLOCK);
+    if (s->event < 0) {
+        return rks_file_fault(s, "an eventfd", errno);
+    }
     bool is_done = pthread_mutex_init(&s->mutex, NULL) == 0 && pthread_condattr_init(&by_clock) == 0 &&
                    pthread_condattr_setclock(&by_clock, CLOCK_MONOTONIC) == 0 && pthread_cond_init(&s->changed, &by_clock) == 0 &&
                    sem_init(&s->work, 0, 0) == 0;
-    return is_done && s->event >= 0;
+    return is_done ? RELKVANU_STORE_OK : RELKVANU_STORE_NO_MEMORY;
 }
 
 /* Frees all. A store that is not closed cleanly keeps its -wal. */
@@ -424,25 +452,30 @@ int relkvanu_store_open(relkvanu_store **store, const char *path, const relkvanu
         return RELKVANU_STORE_BAD_ARGUMENT;
     }
     relkvanu_store *s = calloc(1, sizeof *s);
-    if (s == NULL || !prepare(s)) {
+    int status = s == NULL ? RELKVANU_STORE_NO_MEMORY : prepare(s);
+    if (status != RELKVANU_STORE_OK) {
+        memcpy(report->message, s == NULL ? "" : s->fault, s == NULL ? 1 : sizeof report->message);
         free(s);
-        return RELKVANU_STORE_NO_MEMORY;
+        return status;
     }
     s->options = *options;
+    s->settings = options->settings;
     s->options.image_calls = options->image_calls == 0               ? IMAGE_CALLS
                              : options->image_calls > UINT64_MAX / 4 ? RELKVANU_STORE_NO_IMAGES
                                                                      : options->image_calls;
     s->options.most_ahead = options->most_ahead == 0 ? DAY : options->most_ahead;
     rks_list(s);
-    int status = open_job(s, path, options, report);
+    status = open_job(s, path, options, report);
     s->options.storage = NULL;
     s->options.shape = NULL;
     if (status != RELKVANU_STORE_OK) {
+        int error = errno;
         memcpy(report->message, s->fault, sizeof report->message);
         status = status == RELKVANU_STORE_OUT_OF_MEMORY ? RELKVANU_STORE_NO_MEMORY
                  : status == RELKVANU_STORE_BUSY        ? RELKVANU_STORE_IN_USE
                                                         : status;
         release(s);
+        errno = error;
         return status;
     }
     *store = s;

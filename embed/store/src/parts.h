@@ -18,7 +18,7 @@
 #define RKS_WAL_PAGES 1000
 #endif
 
-enum { RKS_CUT = 1000, RKS_MESSAGE = RELKVANU_STORE_MESSAGE, RKS_IDENTITY = 32 };
+enum { RKS_SEEN = 16, RKS_CUT = 1000, RKS_MESSAGE = RELKVANU_STORE_MESSAGE, RKS_IDENTITY = 32 };
 
 /* The format of a file, its user_version: of a job without names, and of one with names. Libraries that know no names refuse the second. A backup
  * has the format of its job and RKS_BACKUP: libraries that know no backups refuse it, and this one unless it is told to open a backup. */
@@ -87,6 +87,7 @@ struct relkvanu_store {
     char *path, *wal;
     int lock, shm, folder;
     struct stat path_is, wal_is;
+    relkvanu_settings settings;      /* those of the job, which may be others than those of the options */
     char identity[RKS_IDENTITY + 1]; /* of the job, in hexadecimal digits */
     uint64_t epoch;                  /* of this opening */
 
@@ -107,7 +108,9 @@ struct relkvanu_store {
     bool has_stopped; /* the job, in the group under way */
     uint32_t last_mode;
     uint64_t tick_after;       /* the moment before which no tick is made again after one without memory */
+    uint64_t committed_at;     /* when the last commit was, in ms of the wall clock; 0: none since the opening */
     relkvanu_store_counts led; /* counts of the leaders */
+    uint64_t seen[RKS_SEEN];   /* of the coordinator, when a read began */
 
     _Atomic uint64_t clock_offset; /* the moment minus the system's clock, modulo 2^64 */
 
@@ -121,9 +124,15 @@ struct relkvanu_store {
     bool tells_mode;  /* the job has stopped running, and no timer was told yet */
     uint64_t version; /* of the view */
     bool is_stopped, is_discarding;
-    uint64_t swept, unissued; /* files: that sweeps have deleted; that the last one left, since their names were not given out */
+    uint64_t swept, unissued;  /* files: that sweeps have deleted; that the last one left, since their names were not given out */
+    uint64_t failed_deletions; /* of discarders and sweeps */
+    relkvanu_store_measures measures;
     relkvanu_store_counts counts;
     char message[RKS_MESSAGE];
+
+    /* of the thread that discards */
+    uint64_t tries_at, try_wait; /* after a batch of which none was gone: when it tries again, by rks_clock_ns; ms until then */
+    bool is_settled;             /* no file was taken and not reported */
 
     /* submits */
     struct rks_waiter *completed, **completed_tail;
@@ -163,6 +172,10 @@ void rks_write_tail(relkvanu_store *s);
 int rks_check_tail(relkvanu_store *s);
 int rks_drop_tail(relkvanu_store *s);
 
+/* why.c: notes for this thread why a storage did not do what it was to do. Keeps errno. */
+void rks_why(const char *what, int storage_status);
+void rks_why_file(uint64_t file, int storage_status);
+
 /* marker.c */
 int rks_open_folder(relkvanu_store *s, const char *folder);
 int rks_check_new_folder(relkvanu_store *s, const char *folder);
@@ -177,8 +190,8 @@ bool rks_has_marker(const relkvanu_store *s);
 bool rks_has_own(const relkvanu_store *s);
 bool rks_is_own(const relkvanu_store *s, const char *name);
 
-/* Whose folder it is: RELKVANU_STORE_OK: this opening's, or there is none; RELKVANU_STORE_NOT_NOW: the marker can't be read; RELKVANU_STORE_STORAGE: it
- * names another job or a later opening. */
+/* Whose folder it is, as a storage says it. RELKVANU_STORAGE_OK: this opening's, or there is none; RELKVANU_STORAGE_NOT_THERE: it has no marker;
+ * RELKVANU_STORAGE_OTHER_JOB: its marker names another job or a later opening; RELKVANU_STORAGE_FAILED: errno says why it can't be read. */
 int rks_owner(const relkvanu_store *s);
 
 /* lite.c */
@@ -227,14 +240,22 @@ bool rks_has_names(relkvanu_store *s);
 /* Moves those of the files to the front that may be deleted. Of a job with names it also counts those whose names were not given out. */
 int rks_deletable(relkvanu_store *s, uint64_t *files, size_t *files_len, size_t *unissued);
 
-/* storage.c: the greatest number of a file in the folder, or of a part; 0 if there is none. */
+/* storage.c: the greatest number of a file in the folder, or of a part; 0 if there is none. RELKVANU_STORE_STORAGE: the folder is gone;
+ * RELKVANU_STORE_NOT_DONE: errno says why it can't be read. */
 int rks_greatest_file(relkvanu_store *s, uint64_t *greatest);
+
+/* The same, if the folder is the job's. */
+int rks_greatest_of_job(relkvanu_store *s, uint64_t *greatest);
 
 /* timer.c */
 uint64_t rks_clock_ns(void);
+uint64_t rks_wall_clock_ms(void);
 int rks_await(relkvanu_store *s, uint64_t seen, uint64_t until);
 
-/* Shows what timers and discarders wait for, and wakes them if it has changed. Only for the thread that leads. */
+/* The moment of rks_clock_ns in so many ms. */
+uint64_t rks_after(uint64_t ms);
+
+/* Shows what timers, discarders and operators look at, and wakes those who wait if it has changed. Only for the thread that leads. */
 void rks_show(relkvanu_store *s);
 
 #endif

@@ -15,6 +15,10 @@ uint64_t rks_clock_ns(void) {
     return ns_of(CLOCK_BOOTTIME);
 }
 
+uint64_t rks_wall_clock_ms(void) {
+    return ns_of(CLOCK_REALTIME) / 1000000;
+}
+
 uint64_t relkvanu_store_now(const relkvanu_store *s) {
     return rks_clock_ns() / 1000000 + s->clock_offset;
 }
@@ -90,6 +94,9 @@ void rks_show(relkvanu_store *s) {
     s->tells_mode = !view.is_running && (s->tells_mode || s->has_stopped);
     s->has_stopped = false;
     s->view = view;
+    s->measures.wal_bytes = (uint64_t)s->wal_is.st_size;
+    s->measures.log_rows = s->place - s->first;
+    s->measures.last_commit = s->committed_at;
     if (is_other) {
         s->version++;
         pthread_cond_broadcast(&s->changed);
@@ -119,15 +126,14 @@ int relkvanu_store_next_tick(relkvanu_store *s, uint64_t *wait) {
     return status == RELKVANU_STORE_STOPPED ? RELKVANU_STORE_OK : status;
 }
 
-/* The moment of rks_clock_ns in so many ms. */
-static uint64_t after(uint64_t ms) {
+uint64_t rks_after(uint64_t ms) {
     uint64_t now = rks_clock_ns();
     return ms > (UINT64_MAX - now) / 1000000 ? UINT64_MAX : now + ms * 1000000;
 }
 
 int relkvanu_store_await_tick(relkvanu_store *s, uint64_t longest, relkvanu_store_call *tick) {
     *tick = (relkvanu_store_call){.call = {.kind = RELKVANU_CALL_TICK, .now = RELKVANU_STORE_NOW}};
-    for (uint64_t end = after(longest);;) {
+    for (uint64_t end = rks_after(longest);;) {
         struct timer timer = {0};
         int status = look(s, &timer, true);
         if (status == RELKVANU_STORE_OK && timer.wait == 0) {
@@ -137,13 +143,14 @@ int relkvanu_store_await_tick(relkvanu_store *s, uint64_t longest, relkvanu_stor
             status = RELKVANU_STORE_TIMED_OUT;
         }
         if (status == RELKVANU_STORE_OK) {
-            uint64_t due = after(timer.wait);
+            uint64_t due = rks_after(timer.wait);
             status = rks_await(s, timer.seen, due < end ? due : end);
         }
         if (status != RELKVANU_STORE_OK) {
             rks_drop_answers(tick, 1);
             if (status == RELKVANU_STORE_TIMED_OUT && !timer.is_running) {
                 tick->answer = (relkvanu_answer){.code = RELKVANU_REFUSED, .what = RELKVANU_NOT_RUNNING};
+                return RELKVANU_STORE_NOT_RUNNING;
             }
             return status;
         }

@@ -122,7 +122,7 @@ static void the_next_tick(void) {
     CHECK(wait_of(store) == UINT64_MAX, "ticks are refused");
     const uint64_t longest[] = {600000, 30}; /* told at once, and then it does not spin */
     for (size_t i = 0; i < 2; i++) {
-        CHECK(relkvanu_store_await_tick(store, longest[i], &tick) == RELKVANU_STORE_TIMED_OUT && tick.answer.code == RELKVANU_REFUSED &&
+        CHECK(relkvanu_store_await_tick(store, longest[i], &tick) == RELKVANU_STORE_NOT_RUNNING && tick.answer.code == RELKVANU_REFUSED &&
                   tick.answer.what == RELKVANU_NOT_RUNNING,
             "await: what %" PRIu32, tick.answer.what);
     }
