@@ -272,7 +272,7 @@ int relkvanu_store_next_tick(relkvanu_store *store, uint64_t *wait);
  * moment is due.
  * RELKVANU_STORE_TIMED_OUT: no tick was due. RELKVANU_STORE_STOPPED.
  * RELKVANU_STORE_NOT_RUNNING, with the answer RELKVANU_REFUSED, RELKVANU_NOT_RUNNING: the job is not running, so no tick is due. It comes
- * at once when the job has failed or was cancelled, to one caller, and then after longest. Read the mode: a failed job is restored. A cancelled one is
+ * at once when the job has failed or was cancelled, to one caller (the a of the answer is 1), and then after longest. Read the mode: a failed job is restored. A cancelled one is
  * swept, and its discarder runs until no file waits or is taken (relkvanu_file_counts).
  * If a decline fails the job just before the tick, the status is RELKVANU_STORE_OK and the answer RELKVANU_REFUSED, RELKVANU_NOT_RUNNING: call again. */
 int relkvanu_store_await_tick(relkvanu_store *store, uint64_t longest, relkvanu_store_call *tick);

@@ -149,7 +149,7 @@ int relkvanu_store_await_tick(relkvanu_store *s, uint64_t longest, relkvanu_stor
         if (status != RELKVANU_STORE_OK) {
             rks_drop_answers(tick, 1);
             if (status == RELKVANU_STORE_TIMED_OUT && !timer.is_running) {
-                tick->answer = (relkvanu_answer){.code = RELKVANU_REFUSED, .what = RELKVANU_NOT_RUNNING};
+                tick->answer = (relkvanu_answer){.code = RELKVANU_REFUSED, .what = RELKVANU_NOT_RUNNING, .a = timer.is_news};
                 return RELKVANU_STORE_NOT_RUNNING;
             }
             return status;
