@@ -755,7 +755,7 @@ class Store:
                 thrown.append(why)
                 return False
 
-        deletes = store_header.relkvanu_store_delete_some(delete_some) if delete is not None else store_header.relkvanu_store_delete_some()
+        deletes = store_header.relkvanu_store_delete_some(delete_some) if delete is not None else store_header.relkvanu_store_delete_some(0)
 
         def work(store: ctypes.c_void_p) -> Tuple[int, Optional[Exception]]:
             status = _library.relkvanu_store_discard_for(store, batch, SLICE, deletes, None)
