@@ -25,8 +25,9 @@
  * - A read (relkvanu_store_read) sees committed calls only, whichever thread made them.
  * - Nobody acts on an answer unless the status is RELKVANU_STORE_OK and its code is RELKVANU_DONE: no file is deleted or kept, no barrier
  *   is sent. With any other status each answer is RELKVANU_STORE_NOT_MADE.
- * - From RELKVANU_STORE_FAILED on a status closes the store: each later call returns RELKVANU_STORE_CLOSED. Calls that returned it may or may not
- *   be in the log. Close the store and open it again, or end the process, and do what a recovery does.
+ * - A status from RELKVANU_STORE_FAILED to RELKVANU_STORE_OUT_OF_MEMORY closes the store: each later call returns RELKVANU_STORE_CLOSED. Calls that
+ *   returned it may or may not be in the log. Close the store and open it again, or end the process, and do what a recovery does.
+ * - A thread that calls has 256 KiB of stack or more: one that commits also makes the calls of those that wait.
  * - A list or buffer that is passed stays as it is until the function returns, or until the completion of a submit.
  * - A thread that reads (relkvanu_store_read) makes no call before relkvanu_store_read_end, except a submit.
  * - In a forked child each function returns RELKVANU_STORE_FORKED, and relkvanu_store_close does nothing.
@@ -55,15 +56,17 @@ typedef struct relkvanu_store relkvanu_store;
 #define RELKVANU_STORE_PRESENT 5      /* open: there is a job, and RELKVANU_STORE_CREATE_ONLY forbids it; put: there is a file of this number, or a part of one; backup: there is a file of this name */
 #define RELKVANU_STORE_NOT_A_STORE 6  /* open: another kind of file, or one of a later version */
 #define RELKVANU_STORE_DIFFERS 7      /* open: a call of the log gets another answer, or is refused. The message says which */
-#define RELKVANU_STORE_DAMAGED 8      /* open: an image, a call or the file is damaged. The message says which */
-#define RELKVANU_STORE_STORAGE 9      /* open: the storage folder is not that of this job, or a new job's has files, or PATH is an older copy or a backup */
+#define RELKVANU_STORE_DAMAGED 8      /* open: an image, a call, a page or the -wal is damaged, or the log lacks calls that were answered. The message says which */
+#define RELKVANU_STORE_STORAGE 9      /* the storage is gone, or another's; open: also a new job's has files, or PATH is an older copy or a backup */
 #define RELKVANU_STORE_CLOSED 10      /* an earlier commit failed */
 #define RELKVANU_STORE_FORKED 11      /* this process is a child of the one that opened the store */
-#define RELKVANU_STORE_TIMED_OUT 12   /* await: the time is up */
+#define RELKVANU_STORE_TIMED_OUT 12   /* await, discard: the time is up */
 #define RELKVANU_STORE_NOT_NOW 13     /* unknown: no sweep of a job without names is safe now; discard: another thread discards; backup: another one writes this file */
 #define RELKVANU_STORE_STOPPED 14     /* await, discard: relkvanu_store_stop was called */
 #define RELKVANU_STORE_NOT_PUT 15     /* put, backup: the file was not made, and errno says why */
-/* What failed at an opening, or in a commit, which closes the store. */
+#define RELKVANU_STORE_NOT_RUNNING 21 /* await: the job has failed or was cancelled, so no tick is due */
+#define RELKVANU_STORE_NOT_DONE 22    /* sweep: part of it was not done, and errno and relkvanu_store_why say why: the same again later */
+/* What failed at an opening, or in a commit, which closes the store: these five do, and no other. */
 #define RELKVANU_STORE_FAILED 16        /* a read, write or sync */
 #define RELKVANU_STORE_FULL 17          /* the disk is full */
 #define RELKVANU_STORE_READ_ONLY 18     /* the file, its folder or the file system is read-only */
@@ -78,11 +81,12 @@ typedef struct relkvanu_store relkvanu_store;
 #define RELKVANU_STORE_CREATE 1u        /* makes a job if there is none */
 #define RELKVANU_STORE_CREATE_ONLY 2u   /* makes a job, and there may be none */
 #define RELKVANU_STORE_ADOPT 4u         /* makes a job also if the storage folder has files. THE NEXT SWEEP DELETES THEM ALL, if their names are numbers */
-#define RELKVANU_STORE_EARLIER_IMAGE 8u /* begins with the image before the last one, which is damaged. The log after it is whole */
+#define RELKVANU_STORE_EARLIER_IMAGE 8u /* begins with the image before the last one, which is damaged. The log after it is whole. The pages of the file are not checked */
 #define RELKVANU_STORE_PLAIN 16u        /* a job that is made has no names: the engine gives out the numbers of files, and sweeps only when no task runs */
 #define RELKVANU_STORE_BACKUP 32u       /* PATH is a backup: READ relkvanu_store_backup FIRST. Makes no job */
 
-/* A moment of a call: that of the store's clock. The clock goes on from the greatest moment of the log, and never jumps. */
+/* A moment of a call: that of the store's clock. The clock goes on from the greatest moment of the log, and does not follow the wall clock. A call
+ * with a moment ahead of it sets it forward. */
 #define RELKVANU_STORE_NOW UINT64_MAX
 
 #define RELKVANU_STORE_NO_IMAGES UINT64_MAX
@@ -132,7 +136,8 @@ typedef struct {
     uint64_t reserved[2];
 } relkvanu_store_report;
 
-/* Makes or recovers the job at path. A recovery opens the last image, makes the calls after it again, and compares each answer.
+/* Makes or recovers the job at path. A recovery opens the last image, makes the calls after it again, and compares each answer. PATH.lock names
+ * the last call that was answered, for this one file: after a kill an opening has each answered call, or is RELKVANU_STORE_DAMAGED.
  * *store is NULL unless the status is RELKVANU_STORE_OK. The lock is kept until relkvanu_store_close or the end of the process.
  *
  * A new job gives out names from 1 on, or from above each number of a file that it adopts in options.storage. A recovered one keeps what it has:
@@ -153,6 +158,11 @@ typedef struct {
  * which has all but the refusal of an older copy: never put one back). A
  * job over a storage of the engine's own that has files is made with RELKVANU_STORE_PLAIN, and gets names above all of these by a fence. */
 int relkvanu_store_open(relkvanu_store **store, const char *path, const relkvanu_store_options *options, relkvanu_store_report *report);
+
+/* What the job is: the settings that it was made with, and its shape now. *shape_len is the places of shape, and then how many vertices there are,
+ * at most 256. RELKVANU_STORE_BAD_ARGUMENT: there are more than places. Makes an image of the job for it: it is for after an opening
+ * (report.settings_differ), and not for each call. */
+int relkvanu_store_job(relkvanu_store *store, relkvanu_settings *settings, uint64_t *shape, size_t *shape_len);
 
 /* Waits for the group under way and for each submit, makes an image, so that the next opening replays nothing, and closes. NULL is
  * allowed. The end of a process without it loses nothing. */
@@ -183,8 +193,8 @@ typedef struct {
  *
  * RELKVANU_CALL_FENCE gives names to a job without, from call.number on. Make it after a restore and before tasks start, and start them with the term
  * of its answer. Each number that a task was told of has to be below the first name. The store looks at the files in options.storage: a number from
- * the first name on is RELKVANU_FENCED with RELKVANU_NAME_IN_USE, as one that the coordinator knows. RELKVANU_STORE_STORAGE: the folder has no marker,
- * or can't be read. From then on the file is one of a job with names, for good. */
+ * the first name on is RELKVANU_FENCED with RELKVANU_NAME_IN_USE, as one that the coordinator knows. RELKVANU_STORE_STORAGE: the folder has no marker;
+ * RELKVANU_STORE_NOT_DONE: it can't be read. From then on the file is one of a job with names, for good. */
 int relkvanu_store_calls(relkvanu_store *store, relkvanu_store_call *calls, size_t calls_len);
 
 /* One acknowledgement, with flat arguments, in a job without names. */
@@ -217,7 +227,38 @@ int relkvanu_store_descriptor(const relkvanu_store *store);
 /* Between the two the handle has exactly what is committed, and all callers wait. Use the reads of relkvanu.h, relkvanu_show,
  * relkvanu_count, relkvanu_save, relkvanu_term and relkvanu_garbage only. */
 int relkvanu_store_read(relkvanu_store *store, relkvanu **handle);
+
+/* Ends a read. If a call was made through its handle, it closes the store: the log does not have that call, and no later opening could make
+ * the calls after it. It notices each one that changes a moment, the mode, the choice, a term, a name or a file. Take relkvanu_store_look, by which
+ * no call compiles. */
 void relkvanu_store_read_end(relkvanu_store *store);
+
+/* A coordinator of which there are reads alone. */
+typedef struct relkvanu_reads relkvanu_reads;
+
+/* As relkvanu_store_read, for the functions relkvanu_reads_.. below, and ended by relkvanu_store_read_end. */
+int relkvanu_store_look(relkvanu_store *store, relkvanu_reads **reads);
+
+/* The reads of relkvanu.h with these names. */
+static inline relkvanu_answer relkvanu_reads_mode(relkvanu_reads *r) { return relkvanu_mode((relkvanu *)r); }
+static inline relkvanu_answer relkvanu_reads_moment(relkvanu_reads *r) { return relkvanu_moment((relkvanu *)r); }
+static inline relkvanu_answer relkvanu_reads_due(relkvanu_reads *r) { return relkvanu_due((relkvanu *)r); }
+static inline relkvanu_answer relkvanu_reads_oldest_expiry(relkvanu_reads *r) { return relkvanu_oldest_expiry((relkvanu *)r); }
+static inline relkvanu_answer relkvanu_reads_choice(relkvanu_reads *r) { return relkvanu_choice((relkvanu *)r); }
+static inline relkvanu_answer relkvanu_reads_term(relkvanu_reads *r) { return relkvanu_term((relkvanu *)r); }
+static inline relkvanu_answer relkvanu_reads_live(relkvanu_reads *r, size_t place) { return relkvanu_live((relkvanu *)r, place); }
+static inline relkvanu_answer relkvanu_reads_live_from(relkvanu_reads *r, uint64_t id) { return relkvanu_live_from((relkvanu *)r, id); }
+static inline relkvanu_answer relkvanu_reads_standing(relkvanu_reads *r, uint64_t id) { return relkvanu_standing((relkvanu *)r, id); }
+static inline relkvanu_answer relkvanu_reads_missing(relkvanu_reads *r, uint64_t id) { return relkvanu_missing((relkvanu *)r, id); }
+static inline relkvanu_answer relkvanu_reads_count(relkvanu_reads *r, uint64_t file) { return relkvanu_count((relkvanu *)r, file); }
+static inline relkvanu_counts relkvanu_reads_file_counts(relkvanu_reads *r) { return relkvanu_file_counts((relkvanu *)r); }
+static inline relkvanu_answer relkvanu_reads_waiting_file(relkvanu_reads *r, size_t place) { return relkvanu_waiting_file((relkvanu *)r, place); }
+static inline relkvanu_answer relkvanu_reads_taken_files(relkvanu_reads *r, uint64_t *files, size_t files_len) { return relkvanu_taken_files((relkvanu *)r, files, files_len); }
+static inline relkvanu_answer relkvanu_reads_files_of(relkvanu_reads *r, uint64_t id, uint16_t vertex, uint16_t index, uint64_t *files, size_t files_len) { return relkvanu_files_of((relkvanu *)r, id, vertex, index, files, files_len); }
+static inline relkvanu_answer relkvanu_reads_pins_of(relkvanu_reads *r, uint64_t id, uint64_t *files, size_t files_len) { return relkvanu_pins_of((relkvanu *)r, id, files, files_len); }
+static inline relkvanu_answer relkvanu_reads_show(relkvanu_reads *r, uint64_t id, uint8_t *json, size_t json_len) { return relkvanu_show((relkvanu *)r, id, json, json_len); }
+static inline relkvanu_answer relkvanu_reads_save(relkvanu_reads *r, uint8_t *image, size_t image_len) { return relkvanu_save((relkvanu *)r, image, image_len); }
+static inline relkvanu_answer relkvanu_reads_garbage(relkvanu_reads *r, const uint64_t *files, size_t files_len, uint64_t *garbage, size_t garbage_len, uint64_t *unissued, size_t unissued_len) { return relkvanu_garbage((relkvanu *)r, files, files_len, garbage, garbage_len, unissued, unissued_len); }
 
 /* The moment of the store's clock. */
 uint64_t relkvanu_store_now(const relkvanu_store *store);
@@ -227,10 +268,11 @@ uint64_t relkvanu_store_now(const relkvanu_store *store);
  * after a tick without memory. */
 int relkvanu_store_next_tick(relkvanu_store *store, uint64_t *wait);
 
-/* A timer, as a loop in a thread of the engine: sleeps until a tick is due, at most longest ms, and makes it. Each commit wakes it.
+/* A timer, as a loop in a thread of the engine: sleeps until a tick is due, at most longest ms, and makes it. A commit wakes it only if another
+ * moment is due.
  * RELKVANU_STORE_TIMED_OUT: no tick was due. RELKVANU_STORE_STOPPED.
- * While the job is not running, no tick is due: then RELKVANU_STORE_TIMED_OUT comes with the answer RELKVANU_REFUSED, RELKVANU_NOT_RUNNING. It comes
- * at once when the job has failed or was cancelled, to one caller, and then after longest. Read the mode: a failed job is restored. A cancelled one is
+ * RELKVANU_STORE_NOT_RUNNING, with the answer RELKVANU_REFUSED, RELKVANU_NOT_RUNNING: the job is not running, so no tick is due. It comes
+ * at once when the job has failed or was cancelled, to one caller (the a of the answer is 1), and then after longest. Read the mode: a failed job is restored. A cancelled one is
  * swept, and its discarder runs until no file waits or is taken (relkvanu_file_counts).
  * If a decline fails the job just before the tick, the status is RELKVANU_STORE_OK and the answer RELKVANU_REFUSED, RELKVANU_NOT_RUNNING: call again. */
 int relkvanu_store_await_tick(relkvanu_store *store, uint64_t longest, relkvanu_store_call *tick);
@@ -268,6 +310,18 @@ typedef void (*relkvanu_store_delete)(void *with, const uint64_t *files, size_t 
  * the marker names a later opening or another job: RELKVANU_STORE_STORAGE. Then another process has the folder: end this one. */
 int relkvanu_store_discard(relkvanu_store *store, size_t batch, relkvanu_store_delete delete_files, void *with);
 
+/* As relkvanu_store_delete, and returns whether the discarder goes on. */
+typedef bool (*relkvanu_store_delete_some)(void *with, const uint64_t *files, size_t files_len, uint8_t *is_gone);
+
+/* The discarder for at most so many ms: for a thread that looks after something else now and then, and for a function of the engine that may end
+ * it. delete_files NULL: those of the folder options.storage are deleted. Each file that it took is reported before it returns, but after
+ * RELKVANU_STORE_STOPPED without memory: then the next discarder begins with it. It knows from the one before it how long it has to wait after a batch
+ * of which no file was gone.
+ *
+ * RELKVANU_STORE_OK: the function has ended it; RELKVANU_STORE_TIMED_OUT: call again; RELKVANU_STORE_NO_MEMORY: call again later; otherwise as
+ * relkvanu_store_discard. */
+int relkvanu_store_discard_for(relkvanu_store *store, size_t batch, uint64_t longest, relkvanu_store_delete_some delete_files, void *with);
+
 /* State files in the folder options.storage, by their numbers: file 7 has the name 7, and 7.part while it is not whole. A task in another process,
  * which has no store, makes them in the same way (docs/DURABLE.md, Tasks in other processes). An engine may name
  * its files otherwise, and then makes and deletes them itself. Several threads may put, delete and commit at once. Without a folder:
@@ -279,8 +333,23 @@ int relkvanu_store_discard(relkvanu_store *store, size_t batch, relkvanu_store_d
  *
  * RELKVANU_STORE_PRESENT: there is a file of this number, or a part of one; RELKVANU_STORE_STORAGE: the folder lacks its marker, or another opening has it:
  * the sweep after the next restore returns the same, and then the process ends;
- * RELKVANU_STORE_NOT_PUT. */
+ * RELKVANU_STORE_NOT_PUT: errno says why, such as ENOSPC, EMFILE, EIO or EACCES. relkvanu_store_why has the words of each. */
 int relkvanu_store_put(relkvanu_store *store, uint64_t file, const void *contents, size_t len);
+
+/* Gives the next bytes of a file, at most room: 1 or more; 0: it ends here; less than 0: it can't, and errno says why. */
+typedef int64_t (*relkvanu_store_source)(void *with, void *to, size_t room);
+
+/* As relkvanu_store_put, of what a source gives: for a file that does not fit into memory. The source is called in this thread, and makes no call. */
+int relkvanu_store_put_from(relkvanu_store *store, uint64_t file, relkvanu_store_source source, void *with);
+
+/* As relkvanu_store_put, of a file that exists: `name` in the folder whose descriptor is `from` (AT_FDCWD: a path). It is synced, and gets the number
+ * as a second name: both are one file, so nobody writes it afterwards. The caller removes the first name when it likes. RELKVANU_STORE_NOT_PUT
+ * with errno EXDEV: it is on another file system, so relkvanu_store_put_from copies it; EINVAL: it is no regular file; ELOOP: a symbolic link. */
+int relkvanu_store_put_link(relkvanu_store *store, uint64_t file, int from, const char *name);
+
+/* Why the last put, sweep or discarder of this thread returned another status than RELKVANU_STORE_OK: a text with a zero at its end, such as "file 7:
+ * Too many open files". Empty if nothing failed. Returns its length, also if text_len is too short. */
+size_t relkvanu_store_why(char *text, size_t text_len);
 
 /* Deletes files of the folder, also what is there in part. It is for relkvanu_store_discard: relkvanu_store_discard(store, 0,
  * relkvanu_store_delete_files, store). That syncs the folder, and looks for the marker. */
@@ -291,8 +360,9 @@ void relkvanu_store_delete_files(void *store, const uint64_t *files, size_t file
  * run: relkvanu_store_count then tells how many files it left because their names were not given out. One without is swept at each recovery, each restore and
  * after a cancel, when all tasks have ended.
  *
- * RELKVANU_STORE_NOT_NOW as relkvanu_store_unknown; RELKVANU_STORE_STORAGE: the folder lacks its marker, another opening has it, or it can't be
- * read or synced. End this process: the next opening says which. */
+ * RELKVANU_STORE_NOT_NOW as relkvanu_store_unknown; RELKVANU_STORE_STORAGE: the folder lacks its marker, or another opening has it. End this
+ * process: the next opening says which. RELKVANU_STORE_NOT_DONE: it can't be read or synced now, and errno says why: sweep again later.
+ * RELKVANU_STORE_NO_MEMORY: part of it may be swept. */
 int relkvanu_store_sweep(relkvanu_store *store, size_t *left);
 
 /* The folder options.storage as a storage (relkvanu_storage.h), which needs no closing, and whose functions may be called until the store is closed. Its
@@ -304,8 +374,8 @@ int relkvanu_store_storage(relkvanu_store *store, relkvanu_storage *storage);
  * job, RELKVANU_STORE_STORAGE; while it is not there, no file counts as gone, and it tries again. With options.storage both have to be the job's. */
 int relkvanu_store_discard_storage(relkvanu_store *store, size_t batch, const relkvanu_storage *storage);
 
-/* As relkvanu_store_sweep, of such a storage. RELKVANU_STORE_STORAGE: it is not there, it is another job's, or it was not listed or not swept to its end.
- * RELKVANU_STORE_NO_MEMORY: part of it may be swept. */
+/* As relkvanu_store_sweep, of such a storage. RELKVANU_STORE_STORAGE: it is not there, or it is another job's; RELKVANU_STORE_NOT_DONE: it was not listed
+ * or not swept to its end; RELKVANU_STORE_NO_MEMORY: part of it may be swept. */
 int relkvanu_store_sweep_storage(relkvanu_store *store, const relkvanu_storage *storage, size_t *left);
 
 /* Lets relkvanu_store_await_tick, relkvanu_store_discard and relkvanu_store_discard_storage return RELKVANU_STORE_STOPPED, now and later. What was taken is reported first. What waits is
@@ -346,6 +416,17 @@ typedef struct {
 
 /* Writes the counts since the opening. */
 void relkvanu_store_count(relkvanu_store *store, relkvanu_store_counts *counts);
+
+/* What an operator watches. Later versions have more behind these, and write as many bytes as they are asked for. */
+typedef struct {
+    uint64_t wal_bytes;        /* of PATH-wal, at the last commit */
+    uint64_t log_rows;         /* calls that the next opening may have to make again, and those of the two last images */
+    uint64_t last_commit;      /* when it was, in ms of the wall clock since 1970; 0: none since the opening */
+    uint64_t failed_deletions; /* files that discarders and sweeps could not delete, each time anew */
+} relkvanu_store_measures;
+
+/* Writes what is measured. measures_len is sizeof *measures. */
+void relkvanu_store_measure(relkvanu_store *store, relkvanu_store_measures *measures, size_t measures_len);
 
 /* What closed the store, as a text with a zero at its end; otherwise empty. Returns its length, also if text_len is too short. */
 size_t relkvanu_store_message(relkvanu_store *store, char *text, size_t text_len);

@@ -2,7 +2,7 @@
  * each function does, and lists the conditions for the caller.
  *
  * Threads share a Store. A call that was not committed is refused, and why is an error of store_category: nobody may act on it. From
- * store_error::failed on the store is closed for good.
+ * store_error::failed to out_of_memory the store is closed for good.
  */
 #ifndef RELKVANU_STORE_HPP
 #define RELKVANU_STORE_HPP
@@ -34,6 +34,8 @@ enum class store_error : int {
     read_only = RELKVANU_STORE_READ_ONLY,
     busy = RELKVANU_STORE_BUSY,
     out_of_memory = RELKVANU_STORE_OUT_OF_MEMORY,
+    not_running = RELKVANU_STORE_NOT_RUNNING,
+    not_done = RELKVANU_STORE_NOT_DONE,
     not_made = RELKVANU_STORE_NOT_MADE, /* a call before it in the same list ran out of memory */
 };
 
@@ -63,6 +65,8 @@ public:
         case store_error::read_only: return "ReadOnly";
         case store_error::busy: return "Busy";
         case store_error::out_of_memory: return "OutOfMemory";
+        case store_error::not_running: return "NotRunning";
+        case store_error::not_done: return "NotDone";
         case store_error::not_made: return "NotMade";
         default: return "unknown";
         }
@@ -277,15 +281,21 @@ public:
         return store_code(status);
     }
 
+    /* The same with the functions relkvanu_reads_.. of relkvanu_store.h alone, so that no call compiles. */
+    template <class Look> [[nodiscard]] std::error_code reads(Look look) {
+        return read([&look](relkvanu *handle) { look(reinterpret_cast<relkvanu_reads *>(handle)); });
+    }
+
     [[nodiscard]] std::uint64_t now() const noexcept { return relkvanu_store_now(store_); }
 
     /* After how many milliseconds the next tick has to come; RELKVANU_STORE_NOW: only a call can bring one. */
     [[nodiscard]] std::error_code next_tick(std::uint64_t &wait) noexcept { return store_code(relkvanu_store_next_tick(store_, &wait)); }
 
-    /* Sleeps until a tick is due, at most so many milliseconds, and makes it. Refused as store_error::timed_out or stopped otherwise. */
+    /* Sleeps until a tick is due, at most so many milliseconds, and makes it. Refused as store_error::timed_out (none was due, or the job is not
+     * running: read the mode) or stopped otherwise. */
     [[nodiscard]] tick_answer await_tick(std::uint64_t longest) noexcept {
         relkvanu_store_call tick = {};
-        int status = relkvanu_store_await_tick(store_, longest, &tick);
+        int status = awaited(longest, tick);
         return status == RELKVANU_STORE_OK ? tick_of(tick.answer) : tick_answer(refused{store_code(status)});
     }
 
@@ -300,7 +310,7 @@ public:
     }
     [[nodiscard]] tick_answer await_tick(std::uint64_t longest, choice &base) noexcept {
         relkvanu_store_call tick = {};
-        int status = relkvanu_store_await_tick(store_, longest, &tick);
+        int status = awaited(longest, tick);
         return chosen<tick_answer>(status, tick, tick_of, base);
     }
 
@@ -325,18 +335,31 @@ public:
     [[nodiscard]] int folder() const noexcept { return relkvanu_store_folder(store_); }
 
     /* A discarder in a thread of the engine, until stop, which it returns as store_error::stopped: gone(file) says whether the file is not there any
-     * more. A file for which it throws is tried again. */
-    template <class Gone> [[nodiscard]] std::error_code discard(Gone gone, std::size_t batch = 0) noexcept {
-        auto delete_files = [](void *with, const std::uint64_t *list, std::size_t len, std::uint8_t *is_gone) noexcept {
-            for (std::size_t place = 0; place < len; place++) {
-                try {
-                    is_gone[place] = (*static_cast<Gone *>(with))(list[place]) ? 1 : 0;
-                } catch (...) {
-                    is_gone[place] = 0;
+     * more. What it throws ends the discarder, which throws it too, once the files before it are reported. The file waits again. */
+    template <class Gone> [[nodiscard]] std::error_code discard(Gone gone, std::size_t batch = 0) {
+        struct discarding {
+            Gone &gone;
+            std::exception_ptr thrown;
+        } with{gone, nullptr};
+        auto delete_files = [](void *to, const std::uint64_t *list, std::size_t len, std::uint8_t *is_gone) noexcept {
+            auto &it = *static_cast<discarding *>(to);
+            try {
+                for (std::size_t place = 0; place < len; place++) {
+                    is_gone[place] = it.gone(list[place]) ? 1 : 0;
                 }
+            } catch (...) {
+                it.thrown = std::current_exception();
             }
+            return it.thrown == nullptr;
         };
-        return store_code(relkvanu_store_discard(store_, batch, delete_files, &gone));
+        int status = RELKVANU_STORE_TIMED_OUT;
+        while (status == RELKVANU_STORE_TIMED_OUT || status == RELKVANU_STORE_NO_MEMORY) {
+            status = relkvanu_store_discard_for(store_, batch, UINT64_MAX, delete_files, &with);
+        }
+        if (with.thrown != nullptr) {
+            std::rethrow_exception(with.thrown);
+        }
+        return store_code(status);
     }
 
     /* State files in the storage folder, by their numbers: relkvanu_store.h has the conditions. `left`: files that a sweep could not delete. */
@@ -393,6 +416,11 @@ private:
             *term = it.term;
         }
         return status == RELKVANU_STORE_OK ? of(it.answer) : Answer(refused{store_code(status)});
+    }
+
+    int awaited(std::uint64_t longest, relkvanu_store_call &tick) noexcept {
+        int status = relkvanu_store_await_tick(store_, longest, &tick);
+        return status == RELKVANU_STORE_NOT_RUNNING ? RELKVANU_STORE_TIMED_OUT : status;
     }
 
     template <class Answer, class Of> Answer based(relkvanu_store_call it, Of of, choice &base) noexcept {

@@ -10,7 +10,7 @@ import "errors"
 // StoreFault is why a store was not opened, or why calls were not committed.
 type StoreFault uint32
 
-// The faults. From StoreFailed on one closes the store: see StoreError.
+// The faults. StoreFailed to StoreNoMemory close the store: see StoreError.
 const (
 	StoreBadArgument StoreFault = C.RELKVANU_STORE_BAD_ARGUMENT  // the settings, the shape or another option; or a list of no call, or of too many
 	StoreInUse       StoreFault = C.RELKVANU_STORE_IN_USE        // another process, or this one, has the job open. The message names it
@@ -30,13 +30,14 @@ const (
 	StoreReadOnly    StoreFault = C.RELKVANU_STORE_READ_ONLY     // the file, its folder or the file system is read-only
 	StoreBusy        StoreFault = C.RELKVANU_STORE_BUSY          // another program keeps a lock of the file
 	StoreNoMemory    StoreFault = C.RELKVANU_STORE_OUT_OF_MEMORY // SQLite has no memory for a commit
+	StoreNotDone     StoreFault = C.RELKVANU_STORE_NOT_DONE      // Sweep: the folder could not be read or synced: sweep again later
 )
 
 var storeFaults = map[StoreFault]string{
 	StoreBadArgument: "BadArgument", StoreInUse: "InUse", StoreAbsent: "Absent", StorePresent: "Present", StoreNotAStore: "NotAStore",
 	StoreDiffers: "Differs", StoreDamaged: "Damaged", StoreStorage: "Storage", StoreClosed: "Closed", StoreForked: "Forked",
 	StoreNotNow: "NotNow", StoreStopped: "Stopped", StoreNotPut: "NotPut", StoreFailed: "Failed", StoreFull: "Full", StoreReadOnly: "ReadOnly", StoreBusy: "Busy",
-	StoreNoMemory: "OutOfMemory",
+	StoreNoMemory: "OutOfMemory", StoreNotDone: "NotDone",
 }
 
 // String is the name of the fault, such as "InUse".
@@ -70,4 +71,4 @@ func (e *StoreError) Is(target error) bool {
 }
 
 // Closes is whether the store is closed now.
-func (e *StoreError) Closes() bool { return e.Fault >= StoreFailed }
+func (e *StoreError) Closes() bool { return e.Fault >= StoreFailed && e.Fault <= StoreNoMemory }

@@ -90,7 +90,7 @@ func (s *Store) AwaitTick(longest time.Duration) (StoreTick, bool, error) {
 	defer s.leave()
 	var tick C.relkvanu_store_call
 	status := C.relkvanu_store_await_tick(s.store, C.uint64_t(milliseconds(longest, 1<<62)), &tick)
-	if status == C.RELKVANU_STORE_TIMED_OUT {
+	if status == C.RELKVANU_STORE_TIMED_OUT || status == C.RELKVANU_STORE_NOT_RUNNING {
 		return StoreTick{}, false, nil
 	}
 	if err := s.check(status); err != nil {

@@ -1,6 +1,7 @@
 /* bench FOLDER [SECONDS [ROUNDS]]: durable acknowledgements a second, of 1, 16 and 256 threads, in a job without names, in one with names, and in
- * one with names and a discarder, beside commits of one row by SQLite alone in the same run. A job of 4096 subtasks, 3 files in each
- * acknowledgement, and an image every 10,000 calls. */
+ * one with names and a discarder, beside commits by SQLite alone in the same run: of one row, and of as many rows as a group of 256 threads has.
+ * Then, by turns, a job whose files stay, without and with 8 timers and 8 threads that discard (one has the job's files, and the others are
+ * refused and ask again), which have nothing to do. A job of 4096 subtasks, 3 files in each acknowledgement, and an image every 10,000 calls. */
 #define _GNU_SOURCE
 #include "../../include/relkvanu_store.h"
 
@@ -14,7 +15,8 @@
 #include <time.h>
 #include <unistd.h>
 
-enum { SUBTASKS = 4096, FILES = 3, VERTICES = 4, AHEAD = 4, MOST_THREADS = 256, MOST_TIMES = 1 << 22 };
+enum { SUBTASKS = 4096, FILES = 3, VERTICES = 4, AHEAD = 4, MOST_THREADS = 256, MOST_TIMES = 1 << 22, WATCHERS = 8, TURNS = 5 };
+enum { STEP = 1000000 }; /* ms between two triggers: no timer of the bench ever has a tick to make */
 
 static relkvanu_store *store;
 static atomic_uint_fast64_t next_ack, times_len;
@@ -40,7 +42,7 @@ static void note(uint64_t began) {
 }
 
 static void trigger(uint64_t record) {
-    relkvanu_store_call call = {.call = {.kind = RELKVANU_CALL_TICK, .now = record * 1000}};
+    relkvanu_store_call call = {.call = {.kind = RELKVANU_CALL_TICK, .now = record * STEP}};
     check("tick", relkvanu_store_calls(store, &call, 1) == RELKVANU_STORE_OK && call.answer.what == RELKVANU_TICK_TRIGGERED, "no trigger");
     relkvanu_answer names = {.what = RELKVANU_RESERVED};
     check("reserve", term == 0 || relkvanu_store_reserve(store, term, SUBTASKS * FILES, &names) == RELKVANU_STORE_OK, "not committed");
@@ -57,7 +59,7 @@ static void *acknowledges(void *unused) {
         }
         uint64_t began = now_ns();
         int status = relkvanu_store_ack_in(
-            store, term, record * 1000, record, (uint16_t)(subtask / 1024), (uint16_t)(subtask % 1024), fresh, FILES, NULL, 0, &answer);
+            store, term, record * STEP, record, (uint16_t)(subtask / 1024), (uint16_t)(subtask % 1024), fresh, FILES, NULL, 0, &answer);
         check("ack", status == RELKVANU_STORE_OK && answer.code == RELKVANU_DONE, "not accepted");
         note(began);
     }
@@ -69,13 +71,15 @@ static int by_length(const void *one, const void *other) {
     return (a > b) - (a < b);
 }
 
-static void tell(const char *what, uint64_t began) {
+/* Returns how many a second. */
+static double tell(const char *what, uint64_t began) {
     double seconds = (double)(now_ns() - began) / 1e9;
     size_t len = times_len < MOST_TIMES ? times_len : MOST_TIMES;
     qsort(times, len, sizeof *times, by_length);
     printf("%-40s %8.0f a second, half of them within %.2f ms, 99 %% within %.2f ms\n", what, (double)times_len / seconds,
         times[len / 2] / 1e4, times[len * 99 / 100] / 1e4);
     fflush(stdout);
+    return (double)times_len / seconds;
 }
 
 static void remove_job(const char *path) {
@@ -87,7 +91,8 @@ static void remove_job(const char *path) {
     }
 }
 
-enum kind { PLAIN, NAMES, DISCARDER, KINDS };
+/* In the last two no file is released. */
+enum kind { PLAIN, NAMES, DISCARDER, KEPT, WATCHED };
 
 static void deletes(void *with, const uint64_t *files, size_t files_len, uint8_t *is_gone) {
     (void)with, (void)files;
@@ -99,14 +104,48 @@ static void *discards(void *unused) {
     return unused;
 }
 
-static void measure(const char *path, unsigned len, unsigned seconds, enum kind kind) {
-    static const char *const kinds[KINDS] = {"", ", names", ", names, a discarder"};
-    pthread_t threads[MOST_THREADS], discarder;
+static void *asks_to_discard(void *unused) {
+    while (relkvanu_store_discard(store, 4000, deletes, NULL) == RELKVANU_STORE_NOT_NOW) {
+        usleep(100000);
+    }
+    return unused;
+}
+
+static void *awaits_ticks(void *unused) {
+    relkvanu_store_call tick;
+    int status;
+    while ((status = relkvanu_store_await_tick(store, 60000, &tick)) == RELKVANU_STORE_TIMED_OUT) {}
+    check("timer", status == RELKVANU_STORE_STOPPED, "a tick was due");
+    return unused;
+}
+
+/* Starts what a kind has beside its callers. Returns how many threads these are. */
+static unsigned start_watchers(enum kind kind, pthread_t watchers[2 * WATCHERS]) {
+    unsigned len = kind == DISCARDER ? 1 : kind == WATCHED ? 2 * WATCHERS : 0;
+    for (unsigned i = 0; i < len; i++) {
+        void *(*runs)(void *) = kind == DISCARDER ? discards : i < WATCHERS ? awaits_ticks : asks_to_discard;
+        check("thread", pthread_create(&watchers[i], NULL, runs, NULL) == 0, "none");
+    }
+    return len;
+}
+
+static double group; /* calls a commit, in the last measurement */
+
+static void note_group(void) {
+    relkvanu_store_counts counts;
+    relkvanu_store_count(store, &counts);
+    group = (double)counts.calls / (double)counts.commits;
+}
+
+/* Returns acknowledgements a second. */
+static double measure(const char *path, unsigned len, unsigned seconds, enum kind kind) {
+    static const char *const kinds[] = {"", ", names", ", names, a discarder", ", files stay", ", files stay, 16 watch"};
+    pthread_t threads[MOST_THREADS], watchers[2 * WATCHERS];
     char what[60];
     relkvanu_store_report report;
     uint64_t shape[VERTICES] = {1024, 1024, 1024, 1024};
     relkvanu_store_options options = {.flags = RELKVANU_STORE_CREATE_ONLY | (kind == PLAIN ? RELKVANU_STORE_PLAIN : 0),
-        .settings = {.interval = 10, .at_once = 64, .timeout = 1u << 30, .retained = 1},
+        .settings = {.interval = STEP, .at_once = 64, .timeout = UINT64_C(1) << 40, .retained = kind >= KEPT ? 1000 : 1},
         .shape = shape,
         .shape_len = VERTICES};
     check("open", relkvanu_store_open(&store, path, &options, &report) == RELKVANU_STORE_OK, report.message);
@@ -116,7 +155,7 @@ static void measure(const char *path, unsigned len, unsigned seconds, enum kind 
     for (uint64_t record = 1; record <= AHEAD; record++) {
         trigger(record);
     }
-    check("thread", kind != DISCARDER || pthread_create(&discarder, NULL, discards, NULL) == 0, "none");
+    unsigned watching = start_watchers(kind, watchers);
     uint64_t began = now_ns();
     for (unsigned i = 0; i < len; i++) {
         check("thread", pthread_create(&threads[i], NULL, acknowledges, NULL) == 0, "none");
@@ -127,20 +166,50 @@ static void measure(const char *path, unsigned len, unsigned seconds, enum kind 
         pthread_join(threads[i], NULL);
     }
     snprintf(what, sizeof what, "store, %u threads%s:", len, kinds[kind]);
-    tell(what, began);
+    double found = tell(what, began);
+    note_group();
     relkvanu_store_stop(store);
-    if (kind == DISCARDER) {
-        pthread_join(discarder, NULL);
+    for (unsigned i = 0; i < watching; i++) {
+        pthread_join(watchers[i], NULL);
     }
     relkvanu_store_close(store);
     remove_job(path);
+    return found;
 }
 
-static void measure_sqlite(const char *path, unsigned seconds) {
+static int by_size(const void *one, const void *other) {
+    double a = *(const double *)one, b = *(const double *)other;
+    return (a > b) - (a < b);
+}
+
+/* By turns, so that both have the same machine. */
+static void measure_watchers(const char *path, unsigned threads, unsigned seconds) {
+    double shares[TURNS];
+    for (unsigned i = 0; i < TURNS; i++) {
+        double without = measure(path, threads, seconds, KEPT);
+        shares[i] = measure(path, threads, seconds, WATCHED) / without;
+    }
+    qsort(shares, TURNS, sizeof *shares, by_size);
+    printf("%u threads: with 8 timers and 8 discarders %.2f of those without (%.2f to %.2f)\n", threads, shares[TURNS / 2], shares[0],
+        shares[TURNS - 1]);
+}
+
+static void insert_rows(sqlite3 *db, sqlite3_stmt *insert, unsigned rows) {
+    bool is_done = rows == 1 || sqlite3_exec(db, "BEGIN", NULL, NULL, NULL) == SQLITE_OK;
+    for (unsigned i = 0; i < rows; i++) {
+        is_done = is_done && sqlite3_step(insert) == SQLITE_DONE && sqlite3_reset(insert) == SQLITE_OK;
+    }
+    is_done = is_done && (rows == 1 || sqlite3_exec(db, "COMMIT", NULL, NULL, NULL) == SQLITE_OK);
+    check("SQLite", is_done, sqlite3_errmsg(db));
+}
+
+/* Rows a second, so many in each commit. */
+static void measure_sqlite(const char *path, unsigned seconds, unsigned rows) {
     static const char setup[] = "PRAGMA locking_mode=EXCLUSIVE; PRAGMA journal_mode=WAL; PRAGMA synchronous=FULL; CREATE TABLE log(place "
                                 "INTEGER PRIMARY KEY, line TEXT)";
     sqlite3 *db = NULL;
     sqlite3_stmt *insert;
+    char what[60];
     check("SQLite",
         sqlite3_open(path, &db) == SQLITE_OK && sqlite3_exec(db, setup, NULL, NULL, NULL) == SQLITE_OK &&
             sqlite3_prepare_v2(db, "INSERT INTO log(line) VALUES('ack 1000000 1000000 0.1000 +100000001 +100000002 +100000003')", -1,
@@ -150,10 +219,13 @@ static void measure_sqlite(const char *path, unsigned seconds) {
     uint64_t began = now_ns();
     while (now_ns() - began < seconds * UINT64_C(1000000000)) {
         uint64_t start = now_ns();
-        check("SQLite", sqlite3_step(insert) == SQLITE_DONE && sqlite3_reset(insert) == SQLITE_OK, sqlite3_errmsg(db));
-        note(start);
+        insert_rows(db, insert, rows);
+        for (unsigned i = 0; i < rows; i++) {
+            note(start);
+        }
     }
-    tell("SQLite, a row a commit:", began);
+    snprintf(what, sizeof what, rows == 1 ? "SQLite, a row a commit:" : "SQLite, %u rows a commit:", rows);
+    tell(what, began);
     sqlite3_finalize(insert);
     sqlite3_close(db);
     remove_job(path);
@@ -165,12 +237,16 @@ int main(int argc, char **argv) {
     check("bench FOLDER [SECONDS [ROUNDS]]", argc > 1, "a folder is missing");
     snprintf(path, sizeof path, "%s/bench-%d.db", argv[1], (int)getpid());
     for (unsigned i = 0; i < rounds; i++) {
-        measure_sqlite(path, seconds);
+        measure_sqlite(path, seconds, 1);
         for (unsigned threads = 1; threads <= MOST_THREADS; threads *= 16) {
-            for (enum kind kind = PLAIN; kind < KINDS; kind++) {
+            for (enum kind kind = PLAIN; kind < KEPT; kind++) {
                 measure(path, threads, seconds, kind);
             }
         }
+        measure(path, MOST_THREADS, seconds, NAMES);
+        measure_sqlite(path, seconds, (unsigned)(group + 0.5));
     }
+    measure_watchers(path, 24, seconds);
+    measure_watchers(path, MOST_THREADS, seconds);
     return 0;
 }

@@ -1,7 +1,8 @@
 """A coordinator whose calls are durable: one SQLite file for each job, so that an engine writes no log, lock, sync or recovery.
 
 librelkvanu-store.so.0 comes from where the package finds librelkvanu.so.0. Otherwise the import raises ImportError. Threads wait in C, so
-each of them may call, and the calls of all that wait are committed together. docs/DURABLE.md has an engine.
+each of them may call, and the calls of all that wait are committed together. The handler of a signal runs while the main thread waits; if it raises,
+the call goes on to its end, and nobody is told its outcome. docs/DURABLE.md has an engine.
 """
 import contextlib
 import ctypes
@@ -9,8 +10,9 @@ import enum
 import os
 import pathlib
 import threading
+import time
 from dataclasses import dataclass
-from typing import Any, Callable, Dict, Iterator, List, NoReturn, Optional, Sequence, Tuple, Union
+from typing import Any, Callable, ContextManager, Dict, List, NoReturn, Optional, Sequence, Set, Tuple, Union
 
 from relkvanu import header, store_header
 from relkvanu.coordinator import (
@@ -18,22 +20,25 @@ from relkvanu.coordinator import (
 )
 from relkvanu.reads import CHOSEN, Chosen, Garbage, Mode, RunningTerm
 from relkvanu.replies import Reply, Reserved, Taken
+from relkvanu.waits import Once, Task, is_main
 
 LIBRARY = "librelkvanu-store.so.0"
 FOREVER = (1 << 64) - 1
+SLICE = 100  # ms: the main thread waits so long for a tick, and a discarder for files, before it looks for what has happened
 Path = Union[str, "os.PathLike[str]"]
 
 
 class StoreError(Error):
     """A store was not opened, or a call was not made. `name` says why, such as "InUse", and `message` says where. If `closes` is true, a
     commit failed: the store is closed, and its calls may or may not be in the log. Nobody may act on them. Open the store again, or end
-    the process."""
+    the process. `errno` is what the system has said, if it has: after "NotPut" and "NotDone", and of an opening."""
 
-    def __init__(self, name: str, message: str, closes: bool) -> None:
+    def __init__(self, name: str, message: str, closes: bool, errno: int = 0) -> None:
         super().__init__(name, message, closes)
         self.name = name
         self.message = message
         self.closes = closes
+        self.errno = errno
 
     def __str__(self) -> str:
         return f"{self.name}: {self.message}" if self.message else self.name
@@ -173,6 +178,27 @@ def _loaded() -> ctypes.CDLL:
 _library = _loaded()
 
 
+AT_FDCWD = -100  # a path that is not in a folder of its own
+
+
+def _bytes(path: Path) -> bytes:
+    """The bytes of a path. The library would take what is before a zero byte."""
+    name = os.fsencode(path)
+    if b"\0" in name:
+        raise BadArgument("a path has no zero byte")
+    return name
+
+
+def _closes(status: int) -> bool:
+    return store_header.FAILED <= status <= store_header.OUT_OF_MEMORY
+
+
+def _why() -> str:
+    text = ctypes.create_string_buffer(512)
+    _library.relkvanu_store_why(text, len(text))
+    return text.value.decode(errors="replace")
+
+
 def _chosen(answer: header.relkvanu_answer) -> Optional[Chosen]:
     return Chosen(answer.a, CHOSEN[answer.what]) if answer.what in CHOSEN else None
 
@@ -214,11 +240,18 @@ class _List:
         return Made(reply, call.place, _chosen(call.choice), call.term)
 
 
+class _Borrowed(Coordinator):
+    """A coordinator over the handle of a store, which closes it."""
+
+    def __del__(self) -> None:
+        pass
+
+
 class Reads:
     """The reads of a coordinator, between two commits: those of Coordinator that change nothing. For the time of Store.read()."""
 
     def __init__(self, handle: Any) -> None:
-        self._job = Coordinator.__new__(Coordinator)
+        self._job = Coordinator.__new__(_Borrowed)
         self._job._begin()
         self._job._handle = header.relkvanu.from_address(ctypes.addressof(handle.contents))
         for name in ("mode", "moment", "due", "oldest_expiry", "choice", "live", "live_from", "standing", "files_of", "pins_of",
@@ -230,6 +263,76 @@ class Reads:
 
     def _end(self) -> None:
         self._job._handle = header.relkvanu(None)  # each later read raises Closed
+
+
+class _Read:
+    """A read of a store. It ends once, whoever ends it, and also if it begins only after that."""
+
+    def __init__(self, job: "Store") -> None:
+        self._job = job
+        self._handle = ctypes.POINTER(header.relkvanu)()  # the library sets it when the read begins
+        self.thread = threading.get_ident()
+        self._reads: Optional[Reads] = None
+        self._ender: Optional[Once] = None
+        self._is_over = self._has_returned = False
+
+    def _wait(self) -> Optional[Exception]:
+        """Waits for the read to begin. It may be over by then, because the wait was interrupted."""
+        store = self._job._store
+        fault = self._job._fault(_library.relkvanu_store_read(store, ctypes.byref(self._handle)), store)
+        self._has_returned = True
+        if self._is_over or fault is not None:
+            self.end()
+        return fault
+
+    def begin(self) -> Reads:
+        task = Task(self._wait)
+        try:
+            self._job._used.add(self)
+            self._ender = Once(_library.relkvanu_store_read_end, self._job._opened())
+            if is_main():
+                task.start()
+                fault = task.wait()
+            else:
+                fault = self._wait()
+            if fault is not None:
+                raise fault
+            self._job._reading = self
+            self._reads = Reads(self._handle)
+            return self._reads
+        except BaseException:
+            if task.is_taken_back():
+                self._has_returned = True
+            self.end()  # or the task does, once it has returned
+            raise
+
+    def end(self) -> None:
+        self._is_over = True
+        if not self._has_returned:
+            return
+        if self._reads is not None:
+            self._reads._end()
+        if self._handle and self._ender is not None:
+            self._ender.end()
+        if self._job._reading is self:
+            self._job._reading = None
+        self._job._used.discard(self)
+
+
+class _Reading:
+    """A read for `with`. If a signal interrupts its end, it ends when nobody has this any more."""
+
+    def __init__(self, job: "Store") -> None:
+        self._read = _Read(job)
+
+    def __enter__(self) -> Reads:
+        return self._read.begin()
+
+    def __exit__(self, *_: object) -> None:
+        self._read.end()
+
+    def __del__(self) -> None:
+        self._read.end()
 
 
 class Store:
@@ -261,66 +364,123 @@ class Store:
         that is made so has no names, and its engine gives out the numbers of files. `backup` opens a backup, once: see backup()."""
         self._store = ctypes.c_void_p()
         self._process = os.getpid()
-        self._users = threading.Condition()
-        self._used = 0
+        self._used: Set[object] = set()  # who is in the library; add and discard are one step each, so an interrupt leaves nobody here
+        self._reading: Optional[_Read] = None
         self._closing = False
-        self._submits: Dict[int, Tuple[_List, int]] = {}
+        self._closer: Optional[Task] = None
+        self._ends = threading.RLock()
+        self._lock = threading.Lock()
+        self._submits: Dict[int, _List] = {}
         self._token = 0
         flags = create * store_header.CREATE | only_create * store_header.CREATE_ONLY | adopt * store_header.ADOPT
         words, found = _words(shape), store_header.relkvanu_store_report()
         options = store_header.relkvanu_store_options(
             flags | earlier_image * store_header.EARLIER_IMAGE | plain * store_header.PLAIN | backup * store_header.BACKUP, _within(patience, 32),
             store_header.NO_IMAGES if image_calls is None else _u64(image_calls), _u64(most_ahead),
-            None if storage is None else os.fsencode(storage), _settings(settings), ctypes.cast(words, ctypes.POINTER(U64)), len(shape))
-        status = _library.relkvanu_store_open(ctypes.byref(self._store), os.fsencode(path), ctypes.byref(options), ctypes.byref(found))
+            None if storage is None else _bytes(storage), _settings(settings), ctypes.cast(words, ctypes.POINTER(U64)), len(shape))
+        status = _library.relkvanu_store_open(ctypes.byref(self._store), _bytes(path), ctypes.byref(options), ctypes.byref(found))
+        if status == store_header.NO_MEMORY:
+            raise OutOfMemory
         if status != store_header.OK:
-            self._raise(status, found.message.decode(errors="replace"))
+            raise StoreError(
+                store_header.STATUSES[status], found.message.decode(errors="replace"), _closes(status), ctypes.get_errno())
         self.report = Report(
             found.is_recovered, found.settings_differ, tuple(Step(it) for it in found.steps[: found.steps_len]), found.epoch,
             f"{found.job[0]:016x}{found.job[1]:016x}", found.image_place, found.replayed, found.taken, found.moment, Mode(found.mode.what),
             _chosen(found.choice), found.term, found.next_name)
 
-    def _raise(self, status: int, message: Optional[str] = None) -> NoReturn:
-        if status == store_header.NO_MEMORY:
-            raise OutOfMemory
-        raise StoreError(store_header.STATUSES[status], self._message() if message is None else message, status >= store_header.FAILED)
-
-    def _message(self) -> str:
+    def _message(self, store: ctypes.c_void_p) -> str:
         text = ctypes.create_string_buffer(512)
-        _library.relkvanu_store_message(self._store, text, len(text))
+        _library.relkvanu_store_message(store, text, len(text))
         return text.value.decode(errors="replace")
 
-    @contextlib.contextmanager
-    def _use(self) -> Iterator[ctypes.c_void_p]:
-        """The store, which is not freed meanwhile."""
-        with self._users:
-            if self._closing or not self._store:
-                raise StoreError("Closed", "close() was called", False)
-            self._used += 1
-        try:
-            yield self._store
-        finally:
-            with self._users:
-                self._used -= 1
-                self._users.notify_all()
+    def _fault(self, status: int, store: ctypes.c_void_p, *fine: int) -> Optional[Exception]:
+        """What a status of the library says, unless it is fine. The thread is the one that has called it."""
+        number = ctypes.get_errno()
+        if status == store_header.OK or status in fine:
+            return None
+        if status == store_header.NO_MEMORY:
+            return OutOfMemory()
+        if status == store_header.NOT_PUT:
+            return StoreError("NotPut", os.strerror(number), False, number)
+        if status in (store_header.NOT_DONE, store_header.STORAGE, store_header.PRESENT):
+            return StoreError(store_header.STATUSES[status], _why(), False, number if status == store_header.NOT_DONE else 0)
+        return StoreError(store_header.STATUSES[status], self._message(store), _closes(status))
 
-    def _check(self, status: int) -> None:
-        if status != store_header.OK:
-            self._raise(status)
+    def _opened(self, in_read: bool = False) -> ctypes.c_void_p:
+        """The store, for who is among the uses."""
+        if self._closing or not self._store:
+            raise StoreError("Closed", "close() was called", False)
+        if not in_read and self._reading is not None and self._reading.thread == threading.get_ident():
+            raise StoreError("InRead", "this thread is in read(), so the call would wait for itself: make it after the read", False)
+        return self._store
+
+    def _at_once(self, work: Callable[[ctypes.c_void_p], Any]) -> Any:
+        """Does what never waits, with the store, which is not freed meanwhile."""
+        use = object()
+        try:
+            self._used.add(use)
+            return work(self._opened(in_read=True))
+        finally:
+            self._used.discard(use)
+
+    def _waits(self, work: Callable[[ctypes.c_void_p], Any]) -> Any:
+        """Does what may wait. In the main thread another one does it, so that the handlers of signals run meanwhile. If one raises, the work goes
+        on to its end, and the store is not freed before."""
+        use = object()
+
+        def done() -> Any:
+            try:
+                return work(store)
+            finally:
+                self._used.discard(use)
+
+        task = Task(done)
+        try:
+            self._used.add(use)
+            store = self._opened()
+            if not is_main() or os.getpid() != self._process:
+                return work(store)
+            task.start()
+            return task.wait()
+        finally:
+            if not is_main() or task.is_taken_back():
+                self._used.discard(use)
+
+    def _made(self, function: Callable[..., int], *words: Any, fine: int = store_header.OK) -> int:
+        """Makes a call of the library that may wait, and returns its status, which is OK or fine."""
+        def work(store: ctypes.c_void_p) -> Tuple[int, Optional[Exception]]:
+            status = function(store, *words)
+            return status, self._fault(status, store, fine)
+
+        status, fault = self._waits(work)
+        if fault is not None:
+            raise fault
+        return int(status)
 
     def __reduce__(self) -> NoReturn:
         raise TypeError("a Store can't be copied or pickled")
 
     def close(self) -> None:
-        """Lets timers and discarders return, waits for the calls of other threads and for submits, makes an image, and closes."""
+        """Lets timers and discarders return, waits for the calls of other threads and for submits, makes an image, and closes. If it is interrupted,
+        no later call is made, and the next close() goes on with it."""
         if not self._store or os.getpid() != self._process:
             return  # in a forked child the store is that of its parent
-        with self._users:
-            if self._closing:
-                return
+        for use in list(self._used):
+            if isinstance(use, _Read) and use.thread == threading.get_ident():
+                use.end()
+        with self._ends:
             self._closing = True
-            _library.relkvanu_store_stop(self._store)
-            self._users.wait_for(lambda: self._used == 0)
+            if self._closer is None:
+                _library.relkvanu_store_stop(self._store)
+                while self._used:
+                    time.sleep(0.002)
+            if self._closer is None:
+                self._closer = Task(self._free)
+            self._closer.start()
+            self._closer.wait()
+
+    def _free(self) -> None:
         _library.relkvanu_store_close(self._store)
         self._store = ctypes.c_void_p()
 
@@ -337,8 +497,7 @@ class Store:
     def calls(self, calls: Sequence[Call]) -> List[Outcome]:
         """Makes 1 to 4096 calls with no other in between, and returns once they are committed. A refused one is a Refused in the list."""
         made = _List(calls)
-        with self._use() as store:
-            self._check(_library.relkvanu_store_calls(store, made.calls, made.length))
+        self._made(_library.relkvanu_store_calls, made.calls, made.length)
         return made.outcomes()
 
     def call(self, call: Call) -> Made:
@@ -393,8 +552,7 @@ class Store:
         """Gives up names that the task will not acknowledge, as after a failed put: their files are garbage. At most 65536. Names that the
         term does not hold are passed over."""
         answer = header.relkvanu_answer()
-        with self._use() as store:
-            self._check(_library.relkvanu_store_forfeit(store, _u64(term), _words(names), len(names), ctypes.byref(answer)))
+        self._made(_library.relkvanu_store_forfeit, _u64(term), _words(names), len(names), ctypes.byref(answer))
         _told(answer, header.FORFEITED)
 
     def fence(self, first_name: int) -> Made:
@@ -405,16 +563,14 @@ class Store:
     def term(self) -> RunningTerm:
         """The term that runs, and the next name. Whoever starts tasks takes the term from its restore (Made.term). A task never asks."""
         answer = header.relkvanu_answer()
-        with self._use() as store:
-            self._check(_library.relkvanu_store_term(store, ctypes.byref(answer)))
+        self._made(_library.relkvanu_store_term, ctypes.byref(answer))
         return RunningTerm(_told(answer, header.TERM).a, answer.b)
 
     def garbage(self, files: Sequence[int]) -> Garbage:
         """Of these files those that may be deleted at any time, and those whose names were not given out, which nobody deletes."""
         answer, length = header.relkvanu_answer(), len(files)
         garbage, unissued = (U64 * length)(), (U64 * length)()
-        with self._use() as store:
-            self._check(_library.relkvanu_store_garbage(store, _words(files), length, garbage, unissued, ctypes.byref(answer)))
+        self._made(_library.relkvanu_store_garbage, _words(files), length, garbage, unissued, ctypes.byref(answer))
         _told(answer, header.GARBAGE)
         return Garbage(tuple(garbage[: answer.a]), tuple(unissued[: answer.b]))
 
@@ -424,102 +580,135 @@ class Store:
     def submit(self, calls: Sequence[Call]) -> int:
         """For event loops: as calls(), but returns a token at once. completed() returns it with the outcomes."""
         made = _List(calls)
-        with self._use() as store:
-            with self._users:
+
+        def work(store: ctypes.c_void_p) -> int:
+            with self._lock:
                 self._token += 1
                 token = self._token
-                self._submits[token] = made, 0
-            status = _library.relkvanu_store_submit(store, made.calls, made.length, token)
-            if status != store_header.OK:
-                with self._users:
-                    del self._submits[token]
-                self._raise(status)
+            self._submits[token] = made
+            fault = self._fault(_library.relkvanu_store_submit(store, made.calls, made.length, token), store)
+            if fault is not None:
+                del self._submits[token]
+                raise fault
+            return token
+
+        token: int = self._at_once(work)
         return token
 
     def completed(self) -> List[Tuple[int, Union[List[Outcome], StoreError]]]:
         """The submits that are committed, or failed, since the last time. Never waits."""
         found = (store_header.relkvanu_store_completion * 64)()
-        with self._use() as store:
-            length = _library.relkvanu_store_completed(store, found, len(found))
-            return [self._completion(it) for it in found[:length]]
 
-    def _completion(self, it: store_header.relkvanu_store_completion) -> Tuple[int, Union[List[Outcome], StoreError]]:
-        with self._users:
-            made, _ = self._submits.pop(it.token)
+        def work(store: ctypes.c_void_p) -> List[Tuple[int, Union[List[Outcome], StoreError]]]:
+            length = _library.relkvanu_store_completed(store, found, len(found))
+            return [(it.token, self._completion(it, store)) for it in found[:length]]
+
+        completions: List[Tuple[int, Union[List[Outcome], StoreError]]] = self._at_once(work)
+        return completions
+
+    def _completion(self, it: store_header.relkvanu_store_completion, store: ctypes.c_void_p) -> Union[List[Outcome], StoreError]:
+        made = self._submits.pop(it.token)
         if it.status == store_header.OK:
-            return it.token, made.outcomes()
-        return it.token, StoreError(store_header.STATUSES[it.status], self._message(), it.status >= store_header.FAILED)
+            return made.outcomes()
+        return StoreError(store_header.STATUSES[it.status], self._message(store), _closes(it.status))
 
     def fileno(self) -> int:
         """A descriptor that can be read (select, asyncio) while there are completions."""
-        with self._use() as store:
-            descriptor: int = _library.relkvanu_store_descriptor(store)
-            return descriptor
+        descriptor: int = self._at_once(_library.relkvanu_store_descriptor)
+        return descriptor
 
-    @contextlib.contextmanager
-    def read(self) -> Iterator[Reads]:
-        """Reads of what is committed. All callers wait meanwhile, so be quick, and make no call."""
-        handle = ctypes.POINTER(header.relkvanu)()
-        with self._use() as store:
-            self._check(_library.relkvanu_store_read(store, ctypes.byref(handle)))
-            reads = Reads(handle)
-            try:
-                yield reads
-            finally:
-                reads._end()
-                _library.relkvanu_store_read_end(store)
+    def read(self) -> ContextManager[Reads]:
+        """`with job.read() as reads:` reads what is committed. All callers wait meanwhile, so be quick, and make no call: one of this thread raises
+        StoreError("InRead"), but close(), which ends the read, and submit()."""
+        return _Reading(self)
 
     def now(self) -> int:
         """The moment of the store's clock."""
-        with self._use() as store:
-            moment: int = _library.relkvanu_store_now(store)
-            return moment
+        moment: int = self._at_once(_library.relkvanu_store_now)
+        return moment
 
     def next_tick(self) -> Optional[int]:
         """After how many milliseconds the next tick has to come, unless a call is made before; None: only a call can bring one."""
         wait = U64()
-        with self._use() as store:
-            self._check(_library.relkvanu_store_next_tick(store, ctypes.byref(wait)))
+        fault = self._at_once(lambda store: self._fault(_library.relkvanu_store_next_tick(store, ctypes.byref(wait)), store))
+        if fault is not None:
+            raise fault
         return None if wait.value == FOREVER else wait.value
 
     def await_tick(self, longest: int = 1000) -> Optional[Made]:
         """A timer in a loop of a thread: sleeps until a tick is due, at most so many milliseconds, and makes it. None: none was due."""
-        call = store_header.relkvanu_store_call()
-        with self._use() as store:
-            status = _library.relkvanu_store_await_tick(store, _u64(longest), ctypes.byref(call))
-        if status == store_header.TIMED_OUT:
+        call, left = store_header.relkvanu_store_call(), _u64(longest)
+        status = store_header.TIMED_OUT
+        while status == store_header.TIMED_OUT or (status == store_header.NOT_RUNNING and call.answer.a == 0):
+            part = min(left, SLICE) if is_main() else left
+            left -= part
+            status = self._awaited(part, call)
+            if left == 0:
+                break
+        if status != store_header.OK:
             return None
-        self._check(status)
         outcome = _List.outcome(call)
         if isinstance(outcome, Error):
             raise outcome
         return outcome
 
+    def _awaited(self, longest: int, call: store_header.relkvanu_store_call) -> int:
+        def work(store: ctypes.c_void_p) -> Tuple[int, Optional[Exception]]:
+            status = _library.relkvanu_store_await_tick(store, longest, ctypes.byref(call))
+            return status, self._fault(status, store, store_header.TIMED_OUT, store_header.NOT_RUNNING)
+
+        status, fault = self._waits(work)
+        if fault is not None:
+            raise fault
+        return int(status)
+
     def unknown(self, files: Sequence[int]) -> List[int]:
         """For a sweep: those of the files that may be deleted. In a job with names these are garbage, at any time. In one without they are those that
         the coordinator does not know: raises StoreError("NotNow") if a task may have written a file whose acknowledgement is on its way."""
         words, length = _words(files), ctypes.c_size_t(len(files))
-        with self._use() as store:
-            self._check(_library.relkvanu_store_unknown(store, words, ctypes.byref(length)))
+        self._made(_library.relkvanu_store_unknown, words, ctypes.byref(length))
         return list(words[: length.value])
 
     def put(self, file: int, contents: bytes) -> None:
         """Makes a file of the storage folder by its number. When it returns, a loss of power does not take the file, and a task may acknowledge it.
-        Raises StoreError "Present", "Storage" or "NotPut": then the task forfeits the name and declines, and leaves what is there to a sweep."""
-        with self._use() as store:
-            status = _library.relkvanu_store_put(store, _u64(file), contents, len(contents))
-        if status == store_header.NOT_PUT:
-            raise StoreError(store_header.STATUSES[status], os.strerror(ctypes.get_errno()), False)
-        self._check(status)
+        Raises StoreError "Present", "Storage" or "NotPut": then the task forfeits the name and declines, and leaves what is there to a sweep. `errno`
+        of a "NotPut" says what the system has said."""
+        self._made(_library.relkvanu_store_put, _u64(file), contents, len(contents))
+
+    def put_from(self, file: int, source: Any) -> None:
+        """As put(), of what an open binary file (or anything with read()) gives from its position on. What read() raises is raised, and then there is
+        no file."""
+        thrown: List[BaseException] = []
+
+        def read(_: Any, to: int, room: int) -> int:
+            try:
+                some = source.read(room)
+                ctypes.memmove(to, bytes(some), len(some))
+                return len(some)
+            except BaseException as why:
+                thrown.append(why)
+                return -1
+
+        try:
+            self._made(_library.relkvanu_store_put_from, _u64(file), store_header.relkvanu_store_source(read), None)
+        except StoreError:
+            if thrown:
+                raise thrown[0]
+            raise
+
+    def put_link(self, file: int, path: Path) -> None:
+        """As put(), of a file that exists, on the same file system, which gets the number as a second name: nobody writes it afterwards. Raises
+        StoreError("NotPut") with the `errno` EXDEV if it is on another file system: put_from() copies it."""
+        self._made(_library.relkvanu_store_put_link, _u64(file), AT_FDCWD, _bytes(path))
 
     def sweep(self) -> int:
         """A sweep: deletes the files of the storage folder that unknown() returns, and syncs it. Returns how many could not be deleted.
         In a job with names it runs at any time, also beside tasks, and counts()["unissued"] are the files that it left since their names were not
         given out. In one without it is for a recovery, each restore and a cancelled job, after all tasks have ended: raises
-        StoreError("NotNow") as unknown()."""
+        StoreError("NotNow") as unknown(). Raises StoreError "Storage" if the folder is gone or another's, and "NotDone" if it could not be read or
+        synced now: sweep again later."""
         left = ctypes.c_size_t()
-        with self._use() as store:
-            self._check(_library.relkvanu_store_sweep(store, ctypes.byref(left)))
+        self._made(_library.relkvanu_store_sweep, ctypes.byref(left))
         return left.value
 
     def backup(self, path: Path) -> None:
@@ -528,41 +717,79 @@ class Store:
 
         A BACKUP LACKS THE CALLS SINCE IT WAS MADE. Store(.., backup=True) opens it, once, after all processes and tasks of the job have ended, and then
         the engine restores a record whose files are all there: docs/DURABLE.md, A backup. Without that it raises StoreError("Storage")."""
-        message = ctypes.create_string_buffer(512)
-        with self._use() as store:
-            status = _library.relkvanu_store_backup(store, os.fsencode(path), message, len(message))
+        message, name = ctypes.create_string_buffer(512), _bytes(path)
+
+        def work(store: ctypes.c_void_p) -> Tuple[int, int]:
+            return _library.relkvanu_store_backup(store, name, message, len(message)), ctypes.get_errno()
+
+        status, number = self._waits(work)
+        if status == store_header.NO_MEMORY:
+            raise OutOfMemory
         if status != store_header.OK:
-            self._raise(status, message.value.decode(errors="replace"))
+            raise StoreError(store_header.STATUSES[status], message.value.decode(errors="replace"), _closes(status), number)
+
+    def job(self) -> Tuple[Settings, Tuple[int, ...]]:
+        """The settings that the job was made with, and its shape now: for after an opening whose report says `settings_differ`. Makes an image."""
+        settings, shape, length = header.relkvanu_settings(), (U64 * 256)(), ctypes.c_size_t(256)
+        self._made(_library.relkvanu_store_job, ctypes.byref(settings), shape, ctypes.byref(length))
+        return Settings(**{name: getattr(settings, name) for name, *_ in settings._fields_}), tuple(shape[: length.value])
 
     def folder(self) -> Optional[int]:
         """The descriptor of the storage folder, for os.unlink(.., dir_fd=..), which reaches no folder that is mounted over it."""
-        with self._use() as store:
-            folder: int = _library.relkvanu_store_folder(store)
-            return None if folder < 0 else folder
+        folder: int = self._at_once(_library.relkvanu_store_folder)
+        return None if folder < 0 else folder
 
     def discard(self, delete: Optional[Callable[[int], bool]] = None, batch: int = 0) -> None:
         """A discarder in a thread of the engine: runs until stop() or close(). delete(file) says whether the file is not there any more, also
-        if it was not there before; an OSError says that it is. Without it the files of the storage folder are deleted. Never gives up."""
-        def delete_files(_: Any, files: Any, length: int, is_gone: Any) -> None:
-            for place in range(length):
-                with contextlib.suppress(OSError):
-                    is_gone[place] = 1 if delete is not None and delete(files[place]) else 0
+        if it was not there before; an OSError says that it is. What else it raises ends the discarder, which raises it too, once the files before it
+        are reported. Without it the files of the storage folder are deleted. Never gives up."""
+        thrown: List[BaseException] = []
 
-        with self._use() as store:
-            by_number = ctypes.cast(_library.relkvanu_store_delete_files, store_header.relkvanu_store_delete)
-            deletes = by_number if delete is None else store_header.relkvanu_store_delete(delete_files)
-            status = _library.relkvanu_store_discard(store, batch, deletes, store)
-        if status != store_header.STOPPED:
-            self._check(status)
+        def delete_some(_: Any, files: Any, length: int, is_gone: Any) -> bool:
+            try:
+                for place in range(length):
+                    with contextlib.suppress(OSError):
+                        is_gone[place] = 1 if delete is not None and delete(files[place]) else 0
+                return True
+            except BaseException as why:
+                thrown.append(why)
+                return False
+
+        deletes = store_header.relkvanu_store_delete_some(delete_some) if delete is not None else store_header.relkvanu_store_delete_some(0)
+
+        def work(store: ctypes.c_void_p) -> Tuple[int, Optional[Exception]]:
+            status = _library.relkvanu_store_discard_for(store, batch, SLICE, deletes, None)
+            return status, self._fault(status, store, store_header.TIMED_OUT, store_header.STOPPED, store_header.NO_MEMORY)
+
+        status, fault = store_header.OK, None
+        while status != store_header.STOPPED and fault is None and not thrown:
+            status, fault = self._waits(work) if delete is None else self._in_this_thread(work)
+        if thrown:
+            raise thrown[0]
+        if fault is not None:
+            raise fault
+
+    def _in_this_thread(self, work: Callable[[ctypes.c_void_p], Any]) -> Any:
+        """As _waits, of what calls a function of the engine: it is called in the thread that it was given in. A handler runs in it, or afterwards."""
+        use = object()
+        try:
+            self._used.add(use)
+            return work(self._opened())
+        finally:
+            self._used.discard(use)
 
     def stop(self) -> None:
         """Lets await_tick and discard end, now and later: await_tick raises StoreError("Stopped")."""
-        with self._use() as store:
-            _library.relkvanu_store_stop(store)
+        self._at_once(_library.relkvanu_store_stop)
 
     def counts(self) -> Dict[str, int]:
         """Counts since the opening: commits, calls, largest, images, failed_images, checkpoints, failed_checkpoints, retries, swept, unissued."""
         found = store_header.relkvanu_store_counts()
-        with self._use() as store:
-            _library.relkvanu_store_count(store, ctypes.byref(found))
+        self._at_once(lambda store: _library.relkvanu_store_count(store, ctypes.byref(found)))
         return {name: getattr(found, name) for name, *_ in found._fields_[:-1]}
+
+    def measures(self) -> Dict[str, int]:
+        """What an operator watches: wal_bytes, log_rows, last_commit (ms since 1970 by the wall clock; 0: none since the opening) and failed_deletions."""
+        found = store_header.relkvanu_store_measures()
+        self._at_once(lambda store: _library.relkvanu_store_measure(store, ctypes.byref(found), ctypes.sizeof(found)))
+        return {name: getattr(found, name) for name, *_ in found._fields_}

@@ -1,15 +1,20 @@
 """What include/relkvanu_store.h says. embed/store/run compares it with the header."""
-from ctypes import CFUNCTYPE, POINTER, Structure, c_bool, c_char, c_char_p, c_int, c_size_t, c_uint8, c_uint32, c_uint64, c_void_p
+from ctypes import CFUNCTYPE, POINTER, Structure, c_bool, c_char, c_char_p, c_int, c_int64, c_size_t, c_uint8, c_uint32, c_uint64, c_void_p
 from typing import Any, Dict, List, Tuple
 
 from relkvanu.header import relkvanu, relkvanu_answer, relkvanu_call, relkvanu_settings
 
 OK = 0
 NO_MEMORY = 2
+PRESENT = 5
+STORAGE = 9
 TIMED_OUT = 12
 STOPPED = 14
 NOT_PUT = 15
 FAILED = 16
+OUT_OF_MEMORY = 20
+NOT_RUNNING = 21
+NOT_DONE = 22
 NOT_MADE = 100
 CREATE = 1
 CREATE_ONLY = 2
@@ -27,11 +32,11 @@ STATUSES: Dict[int, str] = {
     NO_MEMORY: "NoMemory",
     3: "InUse",
     4: "Absent",
-    5: "Present",
+    PRESENT: "Present",
     6: "NotAStore",
     7: "Differs",
     8: "Damaged",
-    9: "Storage",
+    STORAGE: "Storage",
     10: "Closed",
     11: "Forked",
     TIMED_OUT: "TimedOut",
@@ -42,7 +47,9 @@ STATUSES: Dict[int, str] = {
     17: "Full",
     18: "ReadOnly",
     19: "Busy",
-    20: "OutOfMemory",
+    OUT_OF_MEMORY: "OutOfMemory",
+    NOT_RUNNING: "NotRunning",
+    NOT_DONE: "NotDone",
 }
 
 
@@ -121,6 +128,17 @@ class relkvanu_store_counts(Structure):
     ]
 
 
+class relkvanu_store_measures(Structure):
+    _fields_ = [
+        ("wal_bytes", c_uint64),
+        ("log_rows", c_uint64),
+        ("last_commit", c_uint64),
+        ("failed_deletions", c_uint64),
+    ]
+
+
+relkvanu_store_delete_some = CFUNCTYPE(c_bool, c_void_p, POINTER(c_uint64), c_size_t, POINTER(c_uint8))
+relkvanu_store_source = CFUNCTYPE(c_int64, c_void_p, c_void_p, c_size_t)
 relkvanu_store_delete = CFUNCTYPE(None, c_void_p, POINTER(c_uint64), c_size_t, POINTER(c_uint8))
 
 # Of each function, its result and its parameters. A store is a pointer that nobody looks into.
@@ -143,9 +161,15 @@ FUNCTIONS: Dict[str, Tuple[Any, List[Any]]] = {
     "relkvanu_store_unknown": (c_int, [c_void_p, POINTER(c_uint64), POINTER(c_size_t)]),
     "relkvanu_store_backup": (c_int, [c_void_p, c_char_p, c_char_p, c_size_t]),
     "relkvanu_store_put": (c_int, [c_void_p, c_uint64, c_char_p, c_size_t]),
+    "relkvanu_store_put_from": (c_int, [c_void_p, c_uint64, relkvanu_store_source, c_void_p]),
+    "relkvanu_store_put_link": (c_int, [c_void_p, c_uint64, c_int, c_char_p]),
+    "relkvanu_store_why": (c_size_t, [c_char_p, c_size_t]),
+    "relkvanu_store_job": (c_int, [c_void_p, POINTER(relkvanu_settings), POINTER(c_uint64), POINTER(c_size_t)]),
     "relkvanu_store_sweep": (c_int, [c_void_p, POINTER(c_size_t)]),
     "relkvanu_store_folder": (c_int, [c_void_p]),
     "relkvanu_store_discard": (c_int, [c_void_p, c_size_t, relkvanu_store_delete, c_void_p]),
+    "relkvanu_store_discard_for": (c_int, [c_void_p, c_size_t, c_uint64, relkvanu_store_delete_some, c_void_p]),
+    "relkvanu_store_measure": (None, [c_void_p, POINTER(relkvanu_store_measures), c_size_t]),
     "relkvanu_store_stop": (None, [c_void_p]),
     "relkvanu_store_count": (None, [c_void_p, POINTER(relkvanu_store_counts)]),
     "relkvanu_store_message": (c_size_t, [c_void_p, c_char_p, c_size_t]),

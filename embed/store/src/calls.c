@@ -43,7 +43,7 @@ int rks_write_lines(relkvanu_store *s, struct rks_waiter *w) {
         status = is_well_formed(call) ? write_line(call, made, &w->lines) : RELKVANU_STORE_BAD_ARGUMENT;
         w->ends[i] = w->lines.len;
         if (status == RELKVANU_STORE_OK && made.kind == RELKVANU_CALL_FENCE && s->folder >= 0) {
-            status = rks_owner(s) == RELKVANU_STORE_OK ? rks_greatest_file(s, &w->greatest) : RELKVANU_STORE_STORAGE;
+            status = rks_greatest_of_job(s, &w->greatest);
         }
     }
     return status;

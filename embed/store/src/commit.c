@@ -156,6 +156,8 @@ static int committed(relkvanu_store *s, bool has_image) {
     if (has_image) {
         rks_note_image(s);
     }
+    rks_write_tail(s);
+    s->committed_at = rks_wall_clock_ms();
     return RELKVANU_STORE_OK;
 }
 

@@ -6,18 +6,20 @@
 #include <time.h>
 #include <unistd.h>
 
-enum { BATCH = 256, LEAST_WAIT = 100, MOST_WAIT = 60000 };
+enum { BATCH = 256, LEAST_WAIT = 100, MOST_WAIT = 60000, NO_MEMORY_WAIT = 1000 }; /* ms */
 
 struct discarder {
     relkvanu_store *s;
     relkvanu_store_delete delete_files;
+    relkvanu_store_delete_some delete_some; /* instead of it; NULL: it */
     void *with;
-    const relkvanu_storage *storage; /* instead of the function; NULL: the function */
+    const relkvanu_storage *storage; /* instead of both; NULL: the function */
+    uint64_t end;                    /* until when, by rks_clock_ns */
+    bool is_ended;                   /* the engine's function has ended it */
     size_t batch, files_len;
     uint64_t *files, *next; /* that are deleted now; that a take fetches */
     uint8_t *is_gone;
     relkvanu_store_call *calls; /* a report for each file, and a take */
-    uint64_t wait;              /* ms after a batch of which none is gone */
 };
 
 static bool is_stopped(relkvanu_store *s) {
@@ -27,9 +29,8 @@ static bool is_stopped(relkvanu_store *s) {
     return is_stopped;
 }
 
-/* Waits for a while, whatever is committed meanwhile. */
-static int pause_for(relkvanu_store *s, uint64_t ms) {
-    uint64_t until = rks_clock_ns() + ms * 1000000;
+/* Waits until a moment of rks_clock_ns, whatever is committed meanwhile. */
+static int pause_until(relkvanu_store *s, uint64_t until) {
     int status = RELKVANU_STORE_OK;
     while (status == RELKVANU_STORE_OK && rks_clock_ns() < until) {
         pthread_mutex_lock(&s->mutex);
@@ -40,42 +41,50 @@ static int pause_for(relkvanu_store *s, uint64_t ms) {
     return status;
 }
 
-/* Whether files wait, and what is committed so far. */
-static int has_waiting(relkvanu_store *s, bool *waits, uint64_t *seen) {
-    relkvanu *handle;
-    int status = relkvanu_store_read(s, &handle);
-    if (status == RELKVANU_STORE_OK) {
-        *waits = relkvanu_file_counts(handle).waiting != 0;
-        pthread_mutex_lock(&s->mutex);
-        *seen = s->version;
-        pthread_mutex_unlock(&s->mutex);
-        relkvanu_store_read_end(s);
-    }
-    return status;
+static int pause_for(relkvanu_store *s, uint64_t ms) {
+    return pause_until(s, rks_clock_ns() + ms * 1000000);
 }
 
-static int await_files(relkvanu_store *s) {
-    bool waits = false;
+/* Whether files wait, and in which version of the view. */
+static bool has_files(relkvanu_store *s, uint64_t *seen) {
+    pthread_mutex_lock(&s->mutex);
+    bool has_files = s->view.has_files;
+    *seen = s->version;
+    pthread_mutex_unlock(&s->mutex);
+    return has_files;
+}
+
+static bool is_over(const struct discarder *d) {
+    return rks_clock_ns() >= d->end;
+}
+
+/* Waits until a batch may be taken. RELKVANU_STORE_TIMED_OUT: the time is up. */
+static int await_files(struct discarder *d) {
+    relkvanu_store *s = d->s;
     uint64_t seen;
-    int status = RELKVANU_STORE_OK;
-    while (status == RELKVANU_STORE_OK && (status = has_waiting(s, &waits, &seen)) == RELKVANU_STORE_OK && !waits) {
-        status = rks_await(s, seen, UINT64_MAX);
+    int status = pause_until(s, s->tries_at < d->end ? s->tries_at : d->end);
+    while (status == RELKVANU_STORE_OK && !has_files(s, &seen) && !is_over(d)) {
+        status = rks_await(s, seen, d->end);
     }
-    return status;
+    return status == RELKVANU_STORE_OK && is_over(d) ? RELKVANU_STORE_TIMED_OUT : status;
 }
 
-/* Deletes the batch, by the engine's function or in its storage. RELKVANU_STORE_STORAGE: the storage is another job's. */
+/* Deletes the batch, by the engine's function or in its storage. Returns the status of a storage. */
 static int delete_taken(struct discarder *d) {
+    if (d->storage == NULL && d->delete_some != NULL) {
+        d->is_ended = !d->delete_some(d->with, d->files, d->files_len, d->is_gone);
+        return RELKVANU_STORAGE_OK;
+    }
     if (d->storage == NULL) {
         d->delete_files(d->with, d->files, d->files_len, d->is_gone);
-        return RELKVANU_STORE_OK;
+        return RELKVANU_STORAGE_OK;
     }
     int status = d->storage->delete_files(d->storage->with, d->files, d->files_len, d->is_gone);
     for (size_t i = 0; i < d->files_len; i++) {
         bool is_gone = d->is_gone[i] == RELKVANU_STORAGE_DELETED || d->is_gone[i] == RELKVANU_STORAGE_MISSING;
         d->is_gone[i] = status == RELKVANU_STORAGE_OK && is_gone;
     }
-    return status == RELKVANU_STORAGE_OTHER_JOB ? RELKVANU_STORE_STORAGE : RELKVANU_STORE_OK;
+    return status;
 }
 
 /* Has the files deleted. Without its marker the folder may be another one: nothing is deleted, and no missing file counts as gone; after a
@@ -83,14 +92,29 @@ static int delete_taken(struct discarder *d) {
 static int delete_batch(struct discarder *d) {
     memset(d->is_gone, 0, d->batch);
     int owner = rks_owner(d->s);
-    if (owner == RELKVANU_STORE_OK) {
+    if (owner == RELKVANU_STORAGE_OK) {
         int deleted = delete_taken(d);
-        owner = deleted == RELKVANU_STORE_OK ? rks_owner(d->s) : deleted;
+        owner = deleted == RELKVANU_STORAGE_OK ? rks_owner(d->s) : deleted;
     }
-    if (owner != RELKVANU_STORE_OK || (d->s->folder >= 0 && fsync(d->s->folder) != 0)) {
+    if (owner != RELKVANU_STORAGE_OK || (d->s->folder >= 0 && fsync(d->s->folder) != 0)) {
         memset(d->is_gone, 0, d->batch);
     }
-    return owner == RELKVANU_STORE_STORAGE ? owner : RELKVANU_STORE_OK;
+    if (owner != RELKVANU_STORAGE_OTHER_JOB) {
+        return RELKVANU_STORE_OK;
+    }
+    rks_why("the discarder", owner);
+    return RELKVANU_STORE_STORAGE;
+}
+
+/* Counts the files of the batch that are not gone. */
+static void count_failed(struct discarder *d) {
+    uint64_t failed = 0;
+    for (size_t i = 0; i < d->files_len; i++) {
+        failed += d->is_gone[i] == 0;
+    }
+    pthread_mutex_lock(&d->s->mutex);
+    d->s->failed_deletions += failed;
+    pthread_mutex_unlock(&d->s->mutex);
 }
 
 /* Reports the batch, and takes the next one in the same list, unless the discarder is to end or to wait. */
@@ -107,7 +131,10 @@ static int report(struct discarder *d, bool takes) {
         if (status != RELKVANU_STORE_NO_MEMORY) {
             return status;
         }
-        nanosleep(&(struct timespec){0, LEAST_WAIT * 1000000}, NULL); /* nothing was made: the same again, also after a stop */
+        status = pause_for(d->s, LEAST_WAIT); /* nothing was made: the same again */
+        if (status != RELKVANU_STORE_OK) {
+            return status; /* after a stop the batch stays taken, and the next discarder begins with it */
+        }
     }
     uint64_t *taken = d->next;
     d->next = d->files;
@@ -127,23 +154,20 @@ static bool any_gone(const struct discarder *d) {
 
 /* Deletes the batch, reports it, and has the next one, or none. */
 static int discard_batch(struct discarder *d) {
-    int owner = delete_batch(d);
-    if (owner != RELKVANU_STORE_OK) {
-        return owner; /* the batch stays taken: whoever has the job settles it */
+    relkvanu_store *s = d->s;
+    int status = delete_batch(d);
+    if (status != RELKVANU_STORE_OK) {
+        return status; /* the batch stays taken: whoever has the job settles it */
     }
-    bool is_gone = any_gone(d), goes_on = is_gone && !is_stopped(d->s);
-    int status = report(d, goes_on);
-    if (status != RELKVANU_STORE_OK || is_gone) {
-        d->wait = LEAST_WAIT;
-        return status;
-    }
-    status = pause_for(d->s, d->wait);
-    d->wait = d->wait * 2 < MOST_WAIT ? d->wait * 2 : MOST_WAIT;
-    return status;
+    count_failed(d);
+    bool is_gone = any_gone(d), goes_on = is_gone && !d->is_ended && !is_stopped(s) && !is_over(d);
+    s->try_wait = is_gone || s->try_wait == 0 ? LEAST_WAIT : s->try_wait * 2 < MOST_WAIT ? s->try_wait * 2 : MOST_WAIT;
+    s->tries_at = is_gone ? 0 : rks_clock_ns() + s->try_wait * 1000000;
+    return report(d, goes_on);
 }
 
 static int take(struct discarder *d) {
-    int status = await_files(d->s);
+    int status = await_files(d);
     if (status == RELKVANU_STORE_OK) {
         status = report(d, true);
     }
@@ -153,9 +177,10 @@ static int take(struct discarder *d) {
     return status;
 }
 
+/* Until it is stopped, the time is up, or the engine's function has ended it. Then each file that it took is reported. */
 static int discard_all(struct discarder *d) {
     int status = RELKVANU_STORE_OK;
-    while (status == RELKVANU_STORE_OK) {
+    while (status == RELKVANU_STORE_OK && (d->files_len != 0 || !d->is_ended)) {
         status = is_stopped(d->s) && d->files_len == 0 ? RELKVANU_STORE_STOPPED : d->files_len != 0 ? discard_batch(d) : take(d);
     }
     return status;
@@ -188,11 +213,22 @@ static int settle(struct discarder *d) {
         d->files_len = len - at < d->batch ? len - at : d->batch;
         memcpy(d->files, files + at, d->files_len * sizeof *files);
         status = delete_batch(d);
-        status = status == RELKVANU_STORE_OK ? report(d, false) : status;
+        if (status == RELKVANU_STORE_OK) {
+            count_failed(d);
+            status = report(d, false);
+        }
         status = status == RELKVANU_STORE_OK && is_stopped(d->s) ? RELKVANU_STORE_STOPPED : status;
+        status = status == RELKVANU_STORE_OK && (d->is_ended || is_over(d)) ? RELKVANU_STORE_TIMED_OUT : status;
     }
     free(files);
     return status;
+}
+
+static int settle_once(struct discarder *d) {
+    int status = d->s->is_settled ? RELKVANU_STORE_OK : settle(d);
+    d->s->is_settled = status == RELKVANU_STORE_OK;
+    d->files_len = 0;
+    return status == RELKVANU_STORE_TIMED_OUT && d->is_ended ? RELKVANU_STORE_OK : status;
 }
 
 static int run(struct discarder *d) {
@@ -202,11 +238,11 @@ static int run(struct discarder *d) {
     d->calls = malloc((d->batch + 1) * sizeof *d->calls);
     int status = RELKVANU_STORE_NO_MEMORY;
     if (d->files != NULL && d->next != NULL && d->is_gone != NULL && d->calls != NULL) {
-        status = settle(d);
-        d->files_len = 0;
+        status = settle_once(d);
     }
     if (status == RELKVANU_STORE_OK) {
         status = discard_all(d);
+        d->s->is_settled = d->files_len == 0;
     }
     free(d->files);
     free(d->next);
@@ -231,9 +267,9 @@ static int discard(struct discarder *d) {
     if (is_second) {
         return RELKVANU_STORE_NOT_NOW;
     }
-    int status;
-    while ((status = run(d)) == RELKVANU_STORE_NO_MEMORY) {
-        nanosleep(&(struct timespec){1, 0}, NULL); /* it settles again what is taken */
+    int status = RELKVANU_STORE_OK;
+    while (status == RELKVANU_STORE_OK && (status = run(d)) == RELKVANU_STORE_NO_MEMORY && !is_over(d)) {
+        status = pause_for(s, NO_MEMORY_WAIT); /* it settles again what is taken */
     }
     pthread_mutex_lock(&s->mutex);
     s->is_discarding = false;
@@ -242,9 +278,18 @@ static int discard(struct discarder *d) {
 }
 
 int relkvanu_store_discard(relkvanu_store *s, size_t batch, relkvanu_store_delete delete_files, void *with) {
-    return discard(&(struct discarder){.s = s, .delete_files = delete_files, .with = with, .batch = batch, .wait = LEAST_WAIT});
+    return discard(&(struct discarder){.s = s, .delete_files = delete_files, .with = with, .batch = batch, .end = UINT64_MAX});
+}
+
+int relkvanu_store_discard_for(relkvanu_store *s, size_t batch, uint64_t longest, relkvanu_store_delete_some delete_some, void *with) {
+    struct discarder d = {.s = s, .delete_some = delete_some, .with = with, .batch = batch, .end = rks_after(longest)};
+    if (delete_some == NULL) {
+        d.delete_files = relkvanu_store_delete_files;
+        d.with = s;
+    }
+    return discard(&d);
 }
 
 int relkvanu_store_discard_storage(relkvanu_store *s, size_t batch, const relkvanu_storage *storage) {
-    return discard(&(struct discarder){.s = s, .storage = storage, .batch = batch, .wait = LEAST_WAIT});
+    return discard(&(struct discarder){.s = s, .storage = storage, .batch = batch, .end = UINT64_MAX});
 }

@@ -40,6 +40,7 @@ int rks_status_of_errno(int error) {
 
 int rks_file_fault(relkvanu_store *s, const char *what, int error) {
     snprintf(s->fault, sizeof s->fault, "%.400s: %s", what, strerror(error));
+    errno = error;
     return rks_status_of_errno(error);
 }
 

@@ -42,6 +42,68 @@ static int write_part(const struct rks_folder *f, const char *part, const void *
     return error;
 }
 
+/* Writes what a source gives, part by part. Returns 0, or what is wrong as errno. */
+static int write_source(int file, relkvanu_store_source source, void *with) {
+    static const size_t LEN = 1 << 18;
+    char *some = malloc(LEN);
+    off_t at = 0;
+    int64_t len = 1;
+    int error = some == NULL ? ENOMEM : 0;
+    while (error == 0 && len != 0) {
+        errno = 0;
+        len = source(with, some, LEN);
+        if (len < 0 || (uint64_t)len > LEN) {
+            error = errno != 0 ? errno : EIO;
+        } else if (!rks_write_whole(file, some, (size_t)len, at)) {
+            error = errno;
+        }
+        at += error == 0 ? (off_t)len : 0;
+    }
+    free(some);
+    return error;
+}
+
+/* As write_part, of a source. */
+static int write_part_from(const struct rks_folder *f, const char *part, relkvanu_store_source source, void *with) {
+    int file = openat(f->fd, part, O_WRONLY | O_CREAT | O_EXCL | O_NOFOLLOW | O_CLOEXEC, f->mode);
+    if (file < 0) {
+        return errno;
+    }
+    int error = write_source(file, source, with);
+    if (error == 0 && fsync(file) != 0) {
+        error = errno;
+    }
+    if (close(file) != 0 && error == 0) {
+        error = errno;
+    }
+    if (error != 0) {
+        unlinkat(f->fd, part, 0);
+    }
+    return error;
+}
+
+/* Makes the part a second name of a file that exists, and syncs that. */
+static int link_part(const struct rks_folder *f, const char *part, int from, const char *name) {
+    struct stat opened, linked;
+    int file = openat(from, name, O_RDONLY | O_NOFOLLOW | O_NONBLOCK | O_CLOEXEC);
+    if (file < 0) {
+        return errno;
+    }
+    int error = fstat(file, &opened) != 0 ? errno : S_ISREG(opened.st_mode) ? 0 : EINVAL;
+    error = error == 0 && fsync(file) != 0 ? errno : error;
+    close(file);
+    if (error != 0 || linkat(from, name, f->fd, part, 0) != 0) {
+        return error != 0 ? error : errno;
+    }
+    /* The name may be another file's by now. */
+    bool is_same =
+        fstatat(f->fd, part, &linked, AT_SYMLINK_NOFOLLOW) == 0 && linked.st_ino == opened.st_ino && linked.st_dev == opened.st_dev;
+    if (!is_same) {
+        unlinkat(f->fd, part, 0);
+    }
+    return is_same ? 0 : ESTALE;
+}
+
 /* Gives the part its name, unless there is such a file. */
 static int name_part(const struct rks_folder *f, const char *part, const char *name) {
     struct stat found;
@@ -58,8 +120,8 @@ static int name_part(const struct rks_folder *f, const char *part, const char *n
     return error;
 }
 
-int rks_folder_make(const struct rks_folder *f, const char *part, const char *name, const void *contents, size_t len) {
-    int error = write_part(f, part, contents, len);
+/* Names the part, unless it could not be made. */
+static int finish(const struct rks_folder *f, const char *part, const char *name, int error) {
     if (error == 0) {
         error = name_part(f, part, name);
     }
@@ -70,15 +132,33 @@ int rks_folder_make(const struct rks_folder *f, const char *part, const char *na
     return error == 0 ? RELKVANU_STORAGE_OK : failed(error);
 }
 
-int rks_folder_put(const struct rks_folder *f, uint64_t file, const void *contents, size_t len) {
-    char part[NAME], name[NAME];
-    int status = f->check(f->with);
-    if (status != RELKVANU_STORAGE_OK) {
-        return status;
-    }
+int rks_folder_make(const struct rks_folder *f, const char *part, const char *name, const void *contents, size_t len) {
+    return finish(f, part, name, write_part(f, part, contents, len));
+}
+
+/* The names of a file that is put, if the folder is there. */
+static int begin_put(const struct rks_folder *f, uint64_t file, char part[NAME], char name[NAME]) {
     name_of(f, file, PART, part);
     name_of(f, file, "", name);
-    return rks_folder_make(f, part, name, contents, len);
+    return f->check(f->with);
+}
+
+int rks_folder_put(const struct rks_folder *f, uint64_t file, const void *contents, size_t len) {
+    char part[NAME], name[NAME];
+    int status = begin_put(f, file, part, name);
+    return status == RELKVANU_STORAGE_OK ? rks_folder_make(f, part, name, contents, len) : status;
+}
+
+int rks_folder_put_from(const struct rks_folder *f, uint64_t file, relkvanu_store_source source, void *with) {
+    char part[NAME], name[NAME];
+    int status = begin_put(f, file, part, name);
+    return status == RELKVANU_STORAGE_OK ? finish(f, part, name, write_part_from(f, part, source, with)) : status;
+}
+
+int rks_folder_link(const struct rks_folder *f, uint64_t file, int from, const char *other) {
+    char part[NAME], name[NAME];
+    int status = begin_put(f, file, part, name);
+    return status == RELKVANU_STORAGE_OK ? finish(f, part, name, link_part(f, part, from, other)) : status;
 }
 
 /* Reads at most so many bytes from the beginning. Returns how many, or -1. */

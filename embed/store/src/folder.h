@@ -17,6 +17,8 @@ struct rks_folder {
 
 /* The functions of a storage, over such a folder. Each returns a status of relkvanu_storage.h. */
 int rks_folder_put(const struct rks_folder *f, uint64_t file, const void *contents, size_t len);
+int rks_folder_put_from(const struct rks_folder *f, uint64_t file, relkvanu_store_source source, void *with);
+int rks_folder_link(const struct rks_folder *f, uint64_t file, int from, const char *name);
 int rks_folder_get(const struct rks_folder *f, uint64_t file, void *contents, size_t room, uint64_t *len);
 int rks_folder_delete(const struct rks_folder *f, const uint64_t *files, size_t files_len, uint8_t *outcomes);
 int rks_folder_list(const struct rks_folder *f, size_t most, relkvanu_storage_page page, void *with_page);

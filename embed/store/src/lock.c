@@ -13,9 +13,11 @@
 static pthread_mutex_t all_mutex = PTHREAD_MUTEX_INITIALIZER;
 static relkvanu_store *all;
 static pthread_once_t once = PTHREAD_ONCE_INIT;
+static unsigned forks; /* so far */
 
 static void before_fork(void) {
     pthread_mutex_lock(&all_mutex);
+    forks++;
 }
 
 static void after_fork(void) {
@@ -94,12 +96,35 @@ static int set_paths(relkvanu_store *s, const char *path) {
     return RELKVANU_STORE_OK;
 }
 
+static unsigned count_forks(void) {
+    pthread_mutex_lock(&all_mutex);
+    unsigned count = forks;
+    pthread_mutex_unlock(&all_mutex);
+    return count;
+}
+
+/* Opens the file, which a child that is forked later knows of and closes. Returns false if one was forked meanwhile: it has this opening of the
+ * file and does not know of it, so it is not locked, and another one is made. No fork waits for a disk here. */
+static bool is_opened(const char *name, int *file) {
+    unsigned before = count_forks();
+    int opened = open(name, O_RDWR | O_CREAT | O_CLOEXEC, 0600), error = errno;
+    pthread_mutex_lock(&all_mutex);
+    bool is_known = forks == before || opened < 0;
+    *file = is_known ? opened : -1;
+    pthread_mutex_unlock(&all_mutex);
+    if (!is_known) {
+        close(opened);
+    }
+    errno = error;
+    return is_known;
+}
+
 static int opened_beside(relkvanu_store *s, const char *end, int *file) {
     char *name = NULL;
     if (asprintf(&name, "%s%s", s->path, end) < 0) {
         return RELKVANU_STORE_NO_MEMORY;
     }
-    *file = open(name, O_RDWR | O_CREAT | O_CLOEXEC, 0600);
+    while (!is_opened(name, file)) {}
     int status = *file >= 0 ? RELKVANU_STORE_OK : rks_file_fault(s, name, errno);
     free(name);
     return status;
@@ -129,9 +154,9 @@ static int check_named(relkvanu_store *s) {
 /* SQLite's own lock of PATH is a POSIX lock: it ends once anything in this process opens and closes PATH. So there are two others. The lock
  * of PATH.lock keeps other stores out. That of PATH-shm keeps other connections of SQLite out, of any process: in the mode WAL they
  * need it, and this store does not. */
-static int lock_files(relkvanu_store *s, const char *path) {
+int rks_lock(relkvanu_store *s, const char *path) {
     struct flock whole = {.l_type = F_WRLCK, .l_whence = SEEK_SET};
-    char pid[32];
+    char pid[32] = ""; /* the tail is behind it (tail.c) */
     int status = set_paths(s, path);
     if (status != RELKVANU_STORE_OK || (status = opened_beside(s, ".lock", &s->lock)) != RELKVANU_STORE_OK) {
         return status;
@@ -142,9 +167,9 @@ static int lock_files(relkvanu_store *s, const char *path) {
     if ((status = check_named(s)) != RELKVANU_STORE_OK) {
         return status;
     }
-    int len = snprintf(pid, sizeof pid, "%ld\n", (long)getpid());
-    if (ftruncate(s->lock, 0) != 0 || pwrite(s->lock, pid, (size_t)len, 0) != len) {
-        len = 0; /* it is for a message alone, so a full disk does not matter */
+    snprintf(pid, sizeof pid, "%ld\n", (long)getpid());
+    if (pwrite(s->lock, pid, sizeof pid, 0) != sizeof pid) {
+        pid[0] = 0; /* it is for a message alone, so a full disk does not matter */
     }
     if ((status = opened_beside(s, "-shm", &s->shm)) != RELKVANU_STORE_OK) {
         return status;
@@ -154,14 +179,6 @@ static int lock_files(relkvanu_store *s, const char *path) {
         return RELKVANU_STORE_IN_USE;
     }
     return RELKVANU_STORE_OK;
-}
-
-/* No child is forked meanwhile, which would have files that it does not know of. */
-int rks_lock(relkvanu_store *s, const char *path) {
-    pthread_mutex_lock(&all_mutex);
-    int status = lock_files(s, path);
-    pthread_mutex_unlock(&all_mutex);
-    return status;
 }
 
 /* A program that another thread is starting has these files until its exec, so a close alone would leave them locked so long. */
@@ -192,6 +209,7 @@ bool rks_in_place(relkvanu_store *s) {
         s->wal_is = wal;
     }
     if (is_there && is_same_file(&path, &s->path_is) && is_same_file(&wal, &s->wal_is)) {
+        s->wal_is = wal; /* and its size */
         return true;
     }
     snprintf(s->fault, sizeof s->fault, "%.400s: this file or its -wal is not there, or another program has replaced it", s->path);

@@ -37,7 +37,7 @@ static void note(relkvanu_store *s, relkvanu_answer answer) {
         s->is_held = false;
     }
     uint32_t mode = relkvanu_mode(&s->handle).what;
-    s->tells_mode = mode != RELKVANU_MODE_RUNNING && (s->tells_mode || mode != s->last_mode);
+    s->has_stopped = mode != RELKVANU_MODE_RUNNING && (s->has_stopped || mode != s->last_mode);
     s->last_mode = mode;
     if (mode == RELKVANU_MODE_CANCELLED || (answer.what >= RELKVANU_RESTORED_CHECKPOINT && answer.what <= RELKVANU_RESTORED_FRESH)) {
         s->may_sweep = true; /* after a cancel late acknowledgements may still come, until the engine has ended its tasks */

@@ -18,9 +18,17 @@ static int storage_fault(relkvanu_store *s, const char *folder, const char *word
     return RELKVANU_STORE_STORAGE;
 }
 
+/* What the system says of the folder or its marker: that it is not there, or anything else, such as no free descriptor. */
+static int system_fault(relkvanu_store *s, const char *folder, int error) {
+    bool is_gone = error == ENOENT || error == ENOTDIR || error == ELOOP || error == ENAMETOOLONG;
+    int status = is_gone ? storage_fault(s, folder, strerror(error), "") : rks_file_fault(s, folder, error);
+    errno = error;
+    return status;
+}
+
 int rks_open_folder(relkvanu_store *s, const char *folder) {
     s->folder = open(folder, O_RDONLY | O_DIRECTORY | O_CLOEXEC);
-    return s->folder >= 0 ? RELKVANU_STORE_OK : storage_fault(s, folder, strerror(errno), "");
+    return s->folder >= 0 ? RELKVANU_STORE_OK : system_fault(s, folder, errno);
 }
 
 /* A symbolic link may lead to the marker of another folder, so none is followed. */
@@ -72,9 +80,11 @@ static bool found_file(const relkvanu_store *s, char *name, size_t name_len) {
     struct dirent *entry;
     name[0] = 0;
     if (listing == NULL) {
+        int error = errno;
         if (copy >= 0) {
             close(copy);
         }
+        errno = error;
         return false;
     }
     while (errno = 0, name[0] == 0 && (entry = readdir(listing)) != NULL) {
@@ -82,9 +92,10 @@ static bool found_file(const relkvanu_store *s, char *name, size_t name_len) {
             snprintf(name, name_len, "%s", entry->d_name);
         }
     }
-    bool is_read = errno == 0;
+    int error = errno;
     closedir(listing);
-    return is_read;
+    errno = error;
+    return error == 0;
 }
 
 int rks_check_new_folder(relkvanu_store *s, const char *folder) {
@@ -100,7 +111,7 @@ int rks_check_new_folder(relkvanu_store *s, const char *folder) {
         return RELKVANU_STORE_OK;
     }
     if (!found_file(s, name, sizeof name)) {
-        return storage_fault(s, folder, "can't be read", "");
+        return system_fault(s, folder, errno);
     }
     return name[0] == 0 ? RELKVANU_STORE_OK : storage_fault(s, folder, "the job is new, and there are files, such as ", name);
 }
@@ -133,18 +144,21 @@ int rks_owner(const relkvanu_store *s) {
     char identity[RKS_IDENTITY + 1] = "";
     uint64_t marked = 0;
     if (s->folder < 0) {
-        return RELKVANU_STORE_OK;
+        return RELKVANU_STORAGE_OK;
     }
     int file = open_marker(s);
     if (file < 0) {
-        return RELKVANU_STORE_NOT_NOW;
+        return errno == ENOENT || errno == ELOOP ? RELKVANU_STORAGE_NOT_THERE : RELKVANU_STORAGE_FAILED;
     }
+    errno = 0;
     bool is_marker = parses(file, identity, &marked);
+    int error = errno;
     close(file);
+    errno = error;
     if (!is_marker) {
-        return RELKVANU_STORE_NOT_NOW;
+        return error != 0 ? RELKVANU_STORAGE_FAILED : RELKVANU_STORAGE_NOT_THERE;
     }
-    return strcmp(s->identity, identity) == 0 && marked <= s->epoch ? RELKVANU_STORE_OK : RELKVANU_STORE_STORAGE;
+    return strcmp(s->identity, identity) == 0 && marked <= s->epoch ? RELKVANU_STORAGE_OK : RELKVANU_STORAGE_OTHER_JOB;
 }
 
 int rks_read_marker(relkvanu_store *s, const char *folder, uint64_t *marked) {
@@ -152,8 +166,10 @@ int rks_read_marker(relkvanu_store *s, const char *folder, uint64_t *marked) {
     int file = open_marker(s);
     if (file < 0 && errno == ELOOP) {
         return link_fault(s, folder, MARKER);
+    } else if (file < 0 && errno == ENOENT) {
+        return storage_fault(s, folder, "it has no marker: is the storage mounted?", "");
     } else if (file < 0) {
-        return storage_fault(s, folder, errno == ENOENT ? "it has no marker: is the storage mounted?" : strerror(errno), "");
+        return system_fault(s, folder, errno);
     }
     bool is_marker = parses(file, identity, marked);
     close(file);

@@ -36,6 +36,15 @@ static int told(relkvanu_store *s, int status, const char *words) {
     return status;
 }
 
+/* The folder of the storage was not listed: it is gone, or errno says why. */
+static int told_of_listing(relkvanu_store *s, int status) {
+    int error = errno;
+    status = status == RELKVANU_STORE_NOT_DONE ? rks_status_of_errno(error) : status;
+    snprintf(s->fault, sizeof s->fault, "%.300s: the storage folder can't be read: %s", s->path, strerror(error));
+    errno = error;
+    return status;
+}
+
 static bool wants_backup(const relkvanu_store *s) {
     return (s->options.flags & RELKVANU_STORE_BACKUP) != 0;
 }
@@ -63,6 +72,9 @@ static int open_files(relkvanu_store *s, const char *path) {
         status = told(s, RELKVANU_STORE_FAILED, "it has several names, each of which would have a log of its own");
     }
     if (status == RELKVANU_STORE_OK) {
+        status = rks_check_wal(s);
+    }
+    if (status == RELKVANU_STORE_OK) {
         status = rks_write_again(s);
     }
     return status == RELKVANU_STORE_OK ? rks_open_database(s) : status;
@@ -84,6 +96,19 @@ static int check_format(relkvanu_store *s, struct job *job) {
     return RELKVANU_STORE_OK;
 }
 
+/* Reads all pages. SQLite takes a page whose header is damaged for one with fewer rows. An earlier image is wanted where something is damaged. */
+static int check_pages(relkvanu_store *s) {
+    char found[200] = "ok";
+    bool is_checked = (s->options.flags & RELKVANU_STORE_EARLIER_IMAGE) == 0;
+    int status = is_checked ? rks_ask(s, "PRAGMA quick_check(1)", NULL, found, sizeof found) : RELKVANU_STORE_OK;
+    if (status != RELKVANU_STORE_OK || strcmp(found, "ok") == 0) {
+        return status;
+    }
+    const char *code = strstr(found, "error code=");
+    bool is_read = code == NULL || (atoi(code + strlen("error code=")) & 255) == SQLITE_CORRUPT;
+    return told(s, is_read ? RELKVANU_STORE_DAMAGED : RELKVANU_STORE_FAILED, found);
+}
+
 static int read_job(relkvanu_store *s, struct job *job) {
     int64_t application = 0, tables = 0;
     int status = rks_ask(s, "PRAGMA application_id", &application, NULL, 0);
@@ -96,6 +121,7 @@ static int read_job(relkvanu_store *s, struct job *job) {
         return told(s, RELKVANU_STORE_NOT_A_STORE, "it is another kind of database");
     }
     status = check_format(s, job);
+    status = status == RELKVANU_STORE_OK ? check_pages(s) : status;
     status = status == RELKVANU_STORE_OK ? rks_ask(s, "SELECT epoch FROM job", &job->epoch, NULL, 0) : status;
     status = status == RELKVANU_STORE_OK ? rks_ask(s, "SELECT storage FROM job", &job->storage, NULL, 0) : status;
     status = status == RELKVANU_STORE_OK ? rks_ask(s, "SELECT identity FROM job", NULL, job->identity, sizeof job->identity) : status;
@@ -134,7 +160,7 @@ static int choose_first_name(relkvanu_store *s, uint64_t *name) {
     uint64_t greatest = 0;
     int status = is_plain(s) || s->folder < 0 ? RELKVANU_STORE_OK : rks_greatest_file(s, &greatest);
     if (status != RELKVANU_STORE_OK) {
-        return told(s, status, "the storage folder can't be read");
+        return told_of_listing(s, status);
     }
     if (greatest >= RKS_MOST_NAME) {
         return told(s, RELKVANU_STORE_STORAGE, "the storage folder has a file with a number from 2^62 on, so that no name is above it");
@@ -246,7 +272,7 @@ static int pass_names(relkvanu_store *s) {
     }
     int status = rks_greatest_file(s, &greatest);
     if (status != RELKVANU_STORE_OK) {
-        return told(s, status, "the storage folder can't be read");
+        return told_of_listing(s, status);
     }
     if (greatest >= term.b + MOST_PASSED) {
         return told(s, RELKVANU_STORE_STORAGE, "the storage folder has a file with a number 2^24 or more above the names of the backup");
@@ -264,15 +290,34 @@ static int begin_epoch(relkvanu_store *s, const struct job *job) {
     return rks_run(s, sql);
 }
 
+/* The settings that the job was made with, which are its own for good. */
+static int read_settings(relkvanu_store *s, const struct job *job) {
+    uint64_t numbers[7] = {0};
+    relkvanu_answer says = relkvanu_line_says((const uint8_t *)job->opening, strcspn(job->opening, "\n"), numbers, 7);
+    if (says.code == RELKVANU_NO_MEMORY) {
+        return RELKVANU_STORE_NO_MEMORY;
+    }
+    if (says.what != RELKVANU_LINE_CONFIG) {
+        return told(s, RELKVANU_STORE_DAMAGED, "the row of the job is damaged");
+    }
+    s->settings = (relkvanu_settings){numbers[0], numbers[1], numbers[2], numbers[3], numbers[4], numbers[5], numbers[6] != 0};
+    return RELKVANU_STORE_OK;
+}
+
 static int recover(relkvanu_store *s, struct job *job, const relkvanu_store_options *o, relkvanu_store_report *report) {
     char lines[LINES];
     if ((o->flags & RELKVANU_STORE_CREATE_ONLY) != 0) {
         return told(s, RELKVANU_STORE_PRESENT, "it has a job");
     }
     int status = check_storage(s, job, o->storage);
+    status = status == RELKVANU_STORE_OK ? read_settings(s, job) : status;
     status = status == RELKVANU_STORE_OK ? rks_prepare(s) : status;
     status = status == RELKVANU_STORE_OK ? rks_replay(s, report) : status;
+    status = status == RELKVANU_STORE_OK && !job->is_backup ? rks_check_tail(s) : status;
     status = status == RELKVANU_STORE_OK && job->is_backup ? pass_names(s) : status;
+    status = status == RELKVANU_STORE_OK && job->is_backup ? rks_drop_tail(s) : status; /* of another file in this place */
+    /* What a torn commit has left in the -wal goes first: with another one behind it, it would look like two that are lost. */
+    status = status == RELKVANU_STORE_OK ? rks_checkpoint(s, SQLITE_CHECKPOINT_TRUNCATE) : status;
     status = status == RELKVANU_STORE_OK ? begin_epoch(s, job) : status;
     if (status == RELKVANU_STORE_OK) {
         report->is_recovered = true;
@@ -326,9 +371,11 @@ static void fill(relkvanu_store *s, const struct job *job, relkvanu_store_report
     set_steps(report);
     s->clock_offset = report->moment - rks_clock_ns() / 1000000;
     s->last_mode = report->mode.what;
-    s->tells_mode = s->last_mode != RELKVANU_MODE_RUNNING;
+    s->has_stopped = s->last_mode != RELKVANU_MODE_RUNNING;
+    rks_show(s);
     s->may_sweep = report->is_recovered && report->mode.what == RELKVANU_MODE_CANCELLED;
     s->next_image = s->image_place + s->options.image_calls;
+    rks_write_tail(s);
 }
 
 static int open_job(relkvanu_store *s, const char *path, const relkvanu_store_options *o, relkvanu_store_report *report) {
@@ -347,17 +394,21 @@ static int open_job(relkvanu_store *s, const char *path, const relkvanu_store_op
     return status;
 }
 
-static bool prepare(relkvanu_store *s) {
+/* RELKVANU_STORE_OK, or why not. */
+static int prepare(relkvanu_store *s) {
     pthread_condattr_t by_clock;
     s->lock = s->shm = s->folder = s->event = -1;
     s->tail = &s->head;
     s->completed_tail = &s->completed;
     s->process = getpid();
     s->event = eventfd(0, EFD_CLOEXEC | EFD_NONBLOCK);
+    if (s->event < 0) {
+        return rks_file_fault(s, "an eventfd", errno);
+    }
     bool is_done = pthread_mutex_init(&s->mutex, NULL) == 0 && pthread_condattr_init(&by_clock) == 0 &&
                    pthread_condattr_setclock(&by_clock, CLOCK_MONOTONIC) == 0 && pthread_cond_init(&s->changed, &by_clock) == 0 &&
                    sem_init(&s->work, 0, 0) == 0;
-    return is_done && s->event >= 0;
+    return is_done ? RELKVANU_STORE_OK : RELKVANU_STORE_NO_MEMORY;
 }
 
 /* Frees all. A store that is not closed cleanly keeps its -wal. */
@@ -401,25 +452,30 @@ int relkvanu_store_open(relkvanu_store **store, const char *path, const relkvanu
         return RELKVANU_STORE_BAD_ARGUMENT;
     }
     relkvanu_store *s = calloc(1, sizeof *s);
-    if (s == NULL || !prepare(s)) {
+    int status = s == NULL ? RELKVANU_STORE_NO_MEMORY : prepare(s);
+    if (status != RELKVANU_STORE_OK) {
+        memcpy(report->message, s == NULL ? "" : s->fault, s == NULL ? 1 : sizeof report->message);
         free(s);
-        return RELKVANU_STORE_NO_MEMORY;
+        return status;
     }
     s->options = *options;
+    s->settings = options->settings;
     s->options.image_calls = options->image_calls == 0               ? IMAGE_CALLS
                              : options->image_calls > UINT64_MAX / 4 ? RELKVANU_STORE_NO_IMAGES
                                                                      : options->image_calls;
     s->options.most_ahead = options->most_ahead == 0 ? DAY : options->most_ahead;
     rks_list(s);
-    int status = open_job(s, path, options, report);
+    status = open_job(s, path, options, report);
     s->options.storage = NULL;
     s->options.shape = NULL;
     if (status != RELKVANU_STORE_OK) {
+        int error = errno;
         memcpy(report->message, s->fault, sizeof report->message);
         status = status == RELKVANU_STORE_OUT_OF_MEMORY ? RELKVANU_STORE_NO_MEMORY
                  : status == RELKVANU_STORE_BUSY        ? RELKVANU_STORE_IN_USE
                                                         : status;
         release(s);
+        errno = error;
         return status;
     }
     *store = s;

@@ -18,7 +18,7 @@
 #define RKS_WAL_PAGES 1000
 #endif
 
-enum { RKS_CUT = 1000, RKS_MESSAGE = RELKVANU_STORE_MESSAGE, RKS_IDENTITY = 32 };
+enum { RKS_SEEN = 16, RKS_CUT = 1000, RKS_MESSAGE = RELKVANU_STORE_MESSAGE, RKS_IDENTITY = 32 };
 
 /* The format of a file, its user_version: of a job without names, and of one with names. Libraries that know no names refuse the second. A backup
  * has the format of its job and RKS_BACKUP: libraries that know no backups refuse it, and this one unless it is told to open a backup. */
@@ -62,6 +62,20 @@ struct rks_row {
     uint32_t chain; /* the checksum of all calls so far */
 };
 
+/* The last call that was answered, for a file. */
+struct rks_tail {
+    char identity[RKS_IDENTITY + 1];
+    uint64_t inode, place;
+    uint32_t chain;
+};
+
+/* What timers and discarders wait for, of what is committed. */
+struct rks_view {
+    uint64_t tick;              /* the moment of the next one; UINT64_MAX: only a call can bring one */
+    uint64_t clock;             /* clock_offset */
+    bool is_running, has_files; /* the job; files that wait for deletion */
+};
+
 enum rks_statement { RKS_BEGIN, RKS_COMMIT, RKS_ROLLBACK, RKS_INSERT, RKS_IMAGE, RKS_CUT_LOG, RKS_DROP_IMAGES, RKS_STATEMENTS };
 
 struct relkvanu_store {
@@ -73,6 +87,7 @@ struct relkvanu_store {
     char *path, *wal;
     int lock, shm, folder;
     struct stat path_is, wal_is;
+    relkvanu_settings settings;      /* those of the job, which may be others than those of the options */
     char identity[RKS_IDENTITY + 1]; /* of the job, in hexadecimal digits */
     uint64_t epoch;                  /* of this opening */
 
@@ -90,25 +105,34 @@ struct relkvanu_store {
     char fault[RKS_MESSAGE]; /* its words */
     bool is_held;            /* the last tick was held because of the checkpoints that are pending */
     bool may_sweep;
-    bool tells_mode; /* the job has stopped running, and no timer was told yet */
+    bool has_stopped; /* the job, in the group under way */
     uint32_t last_mode;
     uint64_t tick_after;       /* the moment before which no tick is made again after one without memory */
+    uint64_t committed_at;     /* when the last commit was, in ms of the wall clock; 0: none since the opening */
     relkvanu_store_counts led; /* counts of the leaders */
+    uint64_t seen[RKS_SEEN];   /* of the coordinator, when a read began */
 
-    uint64_t clock_offset; /* the moment minus the system's clock, modulo 2^64 */
+    _Atomic uint64_t clock_offset; /* the moment minus the system's clock, modulo 2^64 */
 
     /* the queue; all below is guarded by the mutex */
     pthread_mutex_t mutex;
     pthread_cond_t changed;
     struct rks_waiter *head, **tail;
     bool is_led;
-    int dead;         /* the status that closed the store */
-    uint64_t version; /* of what is committed */
-    unsigned awaiting;
+    int dead; /* the status that closed the store */
+    struct rks_view view;
+    bool tells_mode;  /* the job has stopped running, and no timer was told yet */
+    uint64_t version; /* of the view */
     bool is_stopped, is_discarding;
-    uint64_t swept, unissued; /* files: that sweeps have deleted; that the last one left, since their names were not given out */
+    uint64_t swept, unissued;  /* files: that sweeps have deleted; that the last one left, since their names were not given out */
+    uint64_t failed_deletions; /* of discarders and sweeps */
+    relkvanu_store_measures measures;
     relkvanu_store_counts counts;
     char message[RKS_MESSAGE];
+
+    /* of the thread that discards */
+    uint64_t tries_at, try_wait; /* after a batch of which none was gone: when it tries again, by rks_clock_ns; ms until then */
+    bool is_settled;             /* no file was taken and not reported */
 
     /* submits */
     struct rks_waiter *completed, **completed_tail;
@@ -140,6 +164,18 @@ int rks_write_again(relkvanu_store *s);
 int rks_make_file(relkvanu_store *s);
 bool rks_write_whole(int file, const void *bytes, size_t len, off_t at);
 
+/* wal.c: DAMAGED if answered calls are behind a frame that is damaged. */
+int rks_check_wal(relkvanu_store *s);
+
+/* tail.c */
+void rks_write_tail(relkvanu_store *s);
+int rks_check_tail(relkvanu_store *s);
+int rks_drop_tail(relkvanu_store *s);
+
+/* why.c: notes for this thread why a storage did not do what it was to do. Keeps errno. */
+void rks_why(const char *what, int storage_status);
+void rks_why_file(uint64_t file, int storage_status);
+
 /* marker.c */
 int rks_open_folder(relkvanu_store *s, const char *folder);
 int rks_check_new_folder(relkvanu_store *s, const char *folder);
@@ -154,8 +190,8 @@ bool rks_has_marker(const relkvanu_store *s);
 bool rks_has_own(const relkvanu_store *s);
 bool rks_is_own(const relkvanu_store *s, const char *name);
 
-/* Whose folder it is: RELKVANU_STORE_OK: this opening's, or there is none; RELKVANU_STORE_NOT_NOW: the marker can't be read; RELKVANU_STORE_STORAGE: it
- * names another job or a later opening. */
+/* Whose folder it is, as a storage says it. RELKVANU_STORAGE_OK: this opening's, or there is none; RELKVANU_STORAGE_NOT_THERE: it has no marker;
+ * RELKVANU_STORAGE_OTHER_JOB: its marker names another job or a later opening; RELKVANU_STORAGE_FAILED: errno says why it can't be read. */
 int rks_owner(const relkvanu_store *s);
 
 /* lite.c */
@@ -187,7 +223,7 @@ int rks_make(relkvanu_store *s, struct rks_waiter *group);
 int rks_enter(relkvanu_store *s, struct rks_waiter *w);
 struct rks_waiter *rks_take_group(relkvanu_store *s);
 void rks_lead(relkvanu_store *s, struct rks_waiter *self);
-void rks_hand_on(relkvanu_store *s, int dead, bool is_changed);
+void rks_hand_on(relkvanu_store *s, int dead);
 void rks_drop_answers(relkvanu_store_call *calls, size_t calls_len);
 
 /* submit.c */
@@ -204,11 +240,22 @@ bool rks_has_names(relkvanu_store *s);
 /* Moves those of the files to the front that may be deleted. Of a job with names it also counts those whose names were not given out. */
 int rks_deletable(relkvanu_store *s, uint64_t *files, size_t *files_len, size_t *unissued);
 
-/* storage.c: the greatest number of a file in the folder, or of a part; 0 if there is none. */
+/* storage.c: the greatest number of a file in the folder, or of a part; 0 if there is none. RELKVANU_STORE_STORAGE: the folder is gone;
+ * RELKVANU_STORE_NOT_DONE: errno says why it can't be read. */
 int rks_greatest_file(relkvanu_store *s, uint64_t *greatest);
+
+/* The same, if the folder is the job's. */
+int rks_greatest_of_job(relkvanu_store *s, uint64_t *greatest);
 
 /* timer.c */
 uint64_t rks_clock_ns(void);
+uint64_t rks_wall_clock_ms(void);
 int rks_await(relkvanu_store *s, uint64_t seen, uint64_t until);
+
+/* The moment of rks_clock_ns in so many ms. */
+uint64_t rks_after(uint64_t ms);
+
+/* Shows what timers, discarders and operators look at, and wakes those who wait if it has changed. Only for the thread that leads. */
+void rks_show(relkvanu_store *s);
 
 #endif

@@ -90,7 +90,7 @@ static void bury(relkvanu_store *s, int dead) {
 }
 
 /* The next in the queue leads. If the store is closed, all in the queue are told so. */
-void rks_hand_on(relkvanu_store *s, int dead, bool is_changed) {
+void rks_hand_on(relkvanu_store *s, int dead) {
     struct rks_waiter *failed = NULL;
     if (dead != 0) {
         bury(s, dead);
@@ -106,11 +106,8 @@ void rks_hand_on(relkvanu_store *s, int dead, bool is_changed) {
     if (s->is_led) {
         sem_post(s->head->is_submitted ? &s->work : &s->head->turn);
     }
-    if (is_changed || s->dead != 0) {
-        s->version++;
-        if (s->awaiting != 0) {
-            pthread_cond_broadcast(&s->changed);
-        }
+    if (s->dead != 0) {
+        pthread_cond_broadcast(&s->changed);
     }
     pthread_mutex_unlock(&s->mutex);
     answer_all(s, failed, RELKVANU_STORE_CLOSED, NULL);
@@ -143,10 +140,11 @@ static int tidy(relkvanu_store *s) {
 void rks_lead(relkvanu_store *s, struct rks_waiter *own) {
     struct rks_waiter *group = rks_take_group(s);
     int status = work(s, group), dead = status >= RELKVANU_STORE_FAILED ? status : 0;
-    bool is_changed = status == RELKVANU_STORE_OK && s->rows_len != 0;
     if (dead != 0) {
         bury(s, dead);
+    } else {
+        rks_show(s);
     }
     answer_all(s, group, status, own);
-    rks_hand_on(s, dead != 0 ? 0 : tidy(s), is_changed);
+    rks_hand_on(s, dead != 0 ? 0 : tidy(s));
 }

@@ -7,6 +7,15 @@
 
 enum { PAGE = 256 };
 
+/* What each call that changes something with files, names or moments changes of the coordinator. */
+static void see(relkvanu *handle, uint64_t seen[RKS_SEEN]) {
+    relkvanu_counts counts = relkvanu_file_counts(handle);
+    relkvanu_answer expiry = relkvanu_oldest_expiry(handle), choice = relkvanu_choice(handle), term = relkvanu_term(handle);
+    const uint64_t found[RKS_SEEN] = {relkvanu_moment(handle).a, relkvanu_due(handle).a, relkvanu_mode(handle).what, expiry.what, expiry.a,
+        choice.what, choice.a, term.what, term.a, term.b, counts.in_use, counts.waiting, counts.taken};
+    memcpy(seen, found, sizeof found);
+}
+
 int relkvanu_store_read(relkvanu_store *s, relkvanu **handle) {
     struct rks_waiter w = {0};
     int status = rks_enter(s, &w);
@@ -15,13 +24,83 @@ int relkvanu_store_read(relkvanu_store *s, relkvanu **handle) {
     }
     if (status == RELKVANU_STORE_OK) {
         rks_take_group(s); /* it is this read alone */
+        see(&s->handle, s->seen);
         *handle = &s->handle;
     }
     return status;
 }
 
+int relkvanu_store_look(relkvanu_store *s, relkvanu_reads **reads) {
+    relkvanu *handle;
+    int status = relkvanu_store_read(s, &handle);
+    if (status == RELKVANU_STORE_OK) {
+        *reads = (relkvanu_reads *)handle;
+    }
+    return status;
+}
+
+/* A call through the handle of a read is in no log: no later opening could make the calls after it. */
 void relkvanu_store_read_end(relkvanu_store *s) {
-    rks_hand_on(s, 0, false);
+    uint64_t seen[RKS_SEEN];
+    see(&s->handle, seen);
+    bool is_same = memcmp(seen, s->seen, sizeof seen) == 0;
+    if (!is_same) {
+        snprintf(s->fault, sizeof s->fault, "%.300s: a call was made through the handle of a read, which the log does not have", s->path);
+    }
+    rks_hand_on(s, is_same ? 0 : RELKVANU_STORE_FAILED);
+}
+
+/* The image of docs/IMAGE.md has its members in the order of the alphabet, so the last shape is that of the coordinator. */
+static size_t shape_of(const char *image, uint64_t *shape, size_t shape_len) {
+    static const char KEY[] = "\"shape\":[";
+    const char *at = NULL;
+    size_t found = 0;
+    for (const char *next = strstr(image, KEY); next != NULL; next = strstr(at, KEY)) {
+        at = next + sizeof KEY - 1;
+    }
+    for (char *end; at != NULL && *at >= '0' && *at <= '9'; at = *end == ',' ? end + 1 : end) {
+        uint64_t vertex = strtoull(at, &end, 10);
+        if (found < shape_len) {
+            shape[found] = vertex;
+        }
+        found++;
+    }
+    return found;
+}
+
+/* Returns the image as a text with a zero at its end, to be freed, or NULL without memory. */
+static char *image_of(relkvanu *handle) {
+    size_t len = relkvanu_save(handle, NULL, 0).a;
+    char *image = malloc(len + 1);
+    relkvanu_answer answer = {.code = RELKVANU_NO_MEMORY};
+    if (image != NULL) {
+        answer = relkvanu_save(handle, (uint8_t *)image, len);
+    }
+    if (answer.code != RELKVANU_DONE) {
+        free(image);
+        return NULL;
+    }
+    image[answer.a] = 0;
+    return image;
+}
+
+int relkvanu_store_job(relkvanu_store *s, relkvanu_settings *settings, uint64_t *shape, size_t *shape_len) {
+    relkvanu *handle;
+    size_t room = *shape_len;
+    *shape_len = 0;
+    int status = relkvanu_store_read(s, &handle);
+    if (status != RELKVANU_STORE_OK) {
+        return status;
+    }
+    char *image = image_of(handle);
+    relkvanu_store_read_end(s);
+    if (image == NULL) {
+        return RELKVANU_STORE_NO_MEMORY;
+    }
+    *settings = s->settings;
+    *shape_len = shape_of(image, shape, room);
+    free(image);
+    return *shape_len <= room ? RELKVANU_STORE_OK : RELKVANU_STORE_BAD_ARGUMENT;
 }
 
 void relkvanu_store_count(relkvanu_store *s, relkvanu_store_counts *counts) {
@@ -33,6 +112,18 @@ void relkvanu_store_count(relkvanu_store *s, relkvanu_store_counts *counts) {
         counts->unissued = s->unissued;
         pthread_mutex_unlock(&s->mutex);
     }
+}
+
+void relkvanu_store_measure(relkvanu_store *s, relkvanu_store_measures *measures, size_t measures_len) {
+    relkvanu_store_measures found = {0};
+    if (!rks_is_forked(s)) {
+        pthread_mutex_lock(&s->mutex);
+        found = s->measures;
+        found.failed_deletions = s->failed_deletions;
+        pthread_mutex_unlock(&s->mutex);
+    }
+    memset(measures, 0, measures_len);
+    memcpy(measures, &found, measures_len < sizeof found ? measures_len : sizeof found);
 }
 
 size_t relkvanu_store_message(relkvanu_store *s, char *text, size_t text_len) {

@@ -6,12 +6,18 @@
 #include <string.h>
 #include <unistd.h>
 
-/* Whether the folder has its marker, as a storage says it. */
 static int check_owner(const void *store) {
-    switch (rks_owner(store)) {
-    case RELKVANU_STORE_OK: return RELKVANU_STORAGE_OK;
-    case RELKVANU_STORE_STORAGE: return RELKVANU_STORAGE_OTHER_JOB;
-    default: return RELKVANU_STORAGE_NOT_THERE;
+    return rks_owner(store);
+}
+
+/* What a storage that could not do its part is to a caller of the store: STORAGE means that it is gone or another's, and nothing else. */
+static int status_of(int storage_status, int otherwise) {
+    switch (storage_status) {
+    case RELKVANU_STORAGE_OK: return RELKVANU_STORE_OK;
+    case RELKVANU_STORAGE_NOT_THERE:
+    case RELKVANU_STORAGE_OTHER_JOB: return RELKVANU_STORE_STORAGE;
+    case RELKVANU_STORAGE_PRESENT: return RELKVANU_STORE_PRESENT;
+    default: return otherwise;
     }
 }
 
@@ -73,19 +79,32 @@ int relkvanu_store_storage(relkvanu_store *s, relkvanu_storage *storage) {
     return RELKVANU_STORE_OK;
 }
 
+/* Whether there is a folder to put into. */
+static int has_folder(const relkvanu_store *s) {
+    return rks_is_forked(s) ? RELKVANU_STORE_FORKED : s->folder < 0 ? RELKVANU_STORE_BAD_ARGUMENT : RELKVANU_STORE_OK;
+}
+
+static int told_of_put(uint64_t file, int storage_status) {
+    rks_why_file(file, storage_status);
+    return status_of(storage_status, RELKVANU_STORE_NOT_PUT);
+}
+
 int relkvanu_store_put(relkvanu_store *s, uint64_t file, const void *contents, size_t len) {
-    relkvanu_storage own;
-    int status = relkvanu_store_storage(s, &own);
-    if (status != RELKVANU_STORE_OK) {
-        return status;
-    }
-    switch (own.put(own.with, file, contents, len)) {
-    case RELKVANU_STORAGE_OK: return RELKVANU_STORE_OK;
-    case RELKVANU_STORAGE_PRESENT: return RELKVANU_STORE_PRESENT;
-    case RELKVANU_STORAGE_NOT_THERE:
-    case RELKVANU_STORAGE_OTHER_JOB: return RELKVANU_STORE_STORAGE;
-    default: return RELKVANU_STORE_NOT_PUT;
-    }
+    struct rks_folder folder = folder_of(s);
+    int status = has_folder(s);
+    return status != RELKVANU_STORE_OK ? status : told_of_put(file, rks_folder_put(&folder, file, contents, len));
+}
+
+int relkvanu_store_put_from(relkvanu_store *s, uint64_t file, relkvanu_store_source source, void *with) {
+    struct rks_folder folder = folder_of(s);
+    int status = has_folder(s);
+    return status != RELKVANU_STORE_OK ? status : told_of_put(file, rks_folder_put_from(&folder, file, source, with));
+}
+
+int relkvanu_store_put_link(relkvanu_store *s, uint64_t file, int from, const char *name) {
+    struct rks_folder folder = folder_of(s);
+    int status = has_folder(s);
+    return status != RELKVANU_STORE_OK ? status : told_of_put(file, rks_folder_link(&folder, file, from, name));
 }
 
 void relkvanu_store_delete_files(void *store, const uint64_t *files, size_t files_len, uint8_t *is_gone) {
@@ -107,7 +126,12 @@ static bool note_greatest(void *with, const relkvanu_storage_file *files, size_t
 int rks_greatest_file(relkvanu_store *s, uint64_t *greatest) {
     struct rks_folder folder = folder_of(s);
     *greatest = 0;
-    return rks_folder_list(&folder, 0, note_greatest, greatest) == RELKVANU_STORAGE_OK ? RELKVANU_STORE_OK : RELKVANU_STORE_STORAGE;
+    return status_of(rks_folder_list(&folder, 0, note_greatest, greatest), RELKVANU_STORE_NOT_DONE);
+}
+
+int rks_greatest_of_job(relkvanu_store *s, uint64_t *greatest) {
+    int status = status_of(rks_owner(s), RELKVANU_STORE_NOT_DONE);
+    return status == RELKVANU_STORE_OK ? rks_greatest_file(s, greatest) : status;
 }
 
 /* A sweep that is under way. */
@@ -118,10 +142,16 @@ struct sweep {
     int status;
 };
 
+static int status_of_sweep(int storage_status) {
+    return status_of(storage_status, storage_status == RELKVANU_STORAGE_NO_MEMORY ? RELKVANU_STORE_NO_MEMORY : RELKVANU_STORE_NOT_DONE);
+}
+
 static void delete_found(struct sweep *sweep, const uint64_t *files, size_t len) {
     uint8_t outcomes[RELKVANU_STORAGE_PAGE] = {0};
-    if (sweep->storage->delete_files(sweep->storage->with, files, len, outcomes) != RELKVANU_STORAGE_OK) {
-        sweep->status = RELKVANU_STORE_STORAGE;
+    int status = sweep->storage->delete_files(sweep->storage->with, files, len, outcomes);
+    if (status != RELKVANU_STORAGE_OK) {
+        rks_why("a deletion of the sweep", status);
+        sweep->status = status_of_sweep(status);
         memset(outcomes, 0, sizeof outcomes);
     }
     for (size_t place = 0; place < len; place++) {
@@ -138,21 +168,11 @@ static bool sweep_page(void *with, const relkvanu_storage_file *found, size_t fo
     for (size_t place = 0; place < len; place++) {
         files[place] = found[place].file;
     }
-    sweep->status = len == found_len ? rks_deletable(sweep->s, files, &len, &sweep->unissued) : RELKVANU_STORE_STORAGE;
+    sweep->status = len == found_len ? rks_deletable(sweep->s, files, &len, &sweep->unissued) : RELKVANU_STORE_NOT_DONE;
     if (sweep->status == RELKVANU_STORE_OK && len != 0) {
         delete_found(sweep, files, len);
     }
     return sweep->status == RELKVANU_STORE_OK;
-}
-
-/* What a storage that was not listed to its end is to a caller of the store. */
-static int status_of_listing(int status, int of_page) {
-    switch (status) {
-    case RELKVANU_STORAGE_OK: return RELKVANU_STORE_OK;
-    case RELKVANU_STORAGE_ENDED: return of_page;
-    case RELKVANU_STORAGE_NO_MEMORY: return RELKVANU_STORE_NO_MEMORY;
-    default: return RELKVANU_STORE_STORAGE;
-    }
 }
 
 /* Whether an engine has filled in what a discarder and a sweeper need. */
@@ -160,6 +180,18 @@ bool rks_is_storage(const relkvanu_storage *storage) {
     const uint64_t *reserved = storage->reserved;
     return storage->check != NULL && storage->delete_files != NULL && storage->list != NULL &&
            (reserved[0] | reserved[1] | reserved[2] | reserved[3]) == 0;
+}
+
+/* Sweeps page by page. */
+static int list_all(struct sweep *sweep) {
+    int listed = sweep->storage->list(sweep->storage->with, 0, sweep_page, sweep);
+    if (listed == RELKVANU_STORAGE_ENDED) {
+        return sweep->status;
+    }
+    if (listed != RELKVANU_STORAGE_OK) {
+        rks_why("the listing of the sweep", listed);
+    }
+    return status_of_sweep(listed);
 }
 
 int relkvanu_store_sweep_storage(relkvanu_store *s, const relkvanu_storage *storage, size_t *left) {
@@ -171,17 +203,19 @@ int relkvanu_store_sweep_storage(relkvanu_store *s, const relkvanu_storage *stor
     if (!rks_is_storage(storage)) {
         return RELKVANU_STORE_BAD_ARGUMENT;
     }
-    if (storage->check(storage->with) != RELKVANU_STORAGE_OK) {
-        return RELKVANU_STORE_STORAGE;
+    int checked = storage->check(storage->with);
+    rks_why("the storage", checked);
+    if (checked != RELKVANU_STORAGE_OK) {
+        return status_of_sweep(checked);
     }
     size_t none = 0; /* the right time is asked for also of a storage without files */
     int status = rks_deletable(s, NULL, &none, &sweep.unissued);
     if (status == RELKVANU_STORE_OK) {
-        int listed = storage->list(storage->with, 0, sweep_page, &sweep);
-        status = status_of_listing(listed, sweep.status);
+        status = list_all(&sweep);
     }
     *left = sweep.left;
     pthread_mutex_lock(&s->mutex);
+    s->failed_deletions += sweep.left;
     s->swept += sweep.swept;
     s->unissued = status == RELKVANU_STORE_OK ? sweep.unissued : s->unissued;
     pthread_mutex_unlock(&s->mutex);

@@ -15,6 +15,10 @@ uint64_t rks_clock_ns(void) {
     return ns_of(CLOCK_BOOTTIME);
 }
 
+uint64_t rks_wall_clock_ms(void) {
+    return ns_of(CLOCK_REALTIME) / 1000000;
+}
+
 uint64_t relkvanu_store_now(const relkvanu_store *s) {
     return rks_clock_ns() / 1000000 + s->clock_offset;
 }
@@ -29,10 +33,9 @@ void relkvanu_store_stop(relkvanu_store *s) {
     pthread_mutex_unlock(&s->mutex);
 }
 
-/* Waits for a commit after the version seen, or until a moment of rks_clock_ns. */
+/* Waits for another view than that of the version seen, or until a moment of rks_clock_ns. */
 int rks_await(relkvanu_store *s, uint64_t seen, uint64_t until) {
     pthread_mutex_lock(&s->mutex);
-    s->awaiting++;
     while (s->dead == 0 && !s->is_stopped && s->version == seen) {
         uint64_t now = rks_clock_ns();
         if (now >= until) {
@@ -42,7 +45,6 @@ int rks_await(relkvanu_store *s, uint64_t seen, uint64_t until) {
         uint64_t left = until - now < UINT64_C(3600000000000) ? until - now : UINT64_C(3600000000000), end = ns_of(CLOCK_MONOTONIC) + left;
         pthread_cond_timedwait(&s->changed, &s->mutex, &(struct timespec){(time_t)(end / 1000000000), (long)(end % 1000000000)});
     }
-    s->awaiting--;
     int status = s->dead != 0 ? RELKVANU_STORE_CLOSED : s->is_stopped ? RELKVANU_STORE_STOPPED : RELKVANU_STORE_OK;
     pthread_mutex_unlock(&s->mutex);
     return status;
@@ -66,22 +68,54 @@ struct timer {
     bool is_running, is_news; /* of the job; whether it has stopped running since a timer was told */
 };
 
-static int look(relkvanu_store *s, struct timer *timer, bool tells) {
-    relkvanu *handle;
-    int status = relkvanu_store_read(s, &handle);
-    if (status != RELKVANU_STORE_OK) {
-        return status;
+/* A moment that was given ahead of the clock is the clock's own from now on: a tick is due an interval after it, and not when the clock has
+ * come so far. */
+static void follow_moment(relkvanu_store *s) {
+    uint64_t moment = relkvanu_moment(&s->handle).a, now = relkvanu_store_now(s);
+    if (moment > now) {
+        s->clock_offset += moment - now;
     }
+}
+
+static bool is_same(const struct rks_view *one, const struct rks_view *other) {
+    return one->tick == other->tick && one->clock == other->clock && one->is_running == other->is_running &&
+           one->has_files == other->has_files;
+}
+
+/* So a commit that brings nothing new to timers and discarders wakes none of them. */
+void rks_show(relkvanu_store *s) {
+    follow_moment(s);
+    struct rks_view view = {.tick = tick_moment(s),
+        .clock = s->clock_offset,
+        .is_running = relkvanu_mode(&s->handle).what == RELKVANU_MODE_RUNNING,
+        .has_files = relkvanu_file_counts(&s->handle).waiting != 0};
     pthread_mutex_lock(&s->mutex);
-    timer->seen = s->version;
-    status = s->is_stopped ? RELKVANU_STORE_STOPPED : RELKVANU_STORE_OK;
+    bool is_other = s->has_stopped || !is_same(&view, &s->view);
+    s->tells_mode = !view.is_running && (s->tells_mode || s->has_stopped);
+    s->has_stopped = false;
+    s->view = view;
+    s->measures.wal_bytes = (uint64_t)s->wal_is.st_size;
+    s->measures.log_rows = s->place - s->first;
+    s->measures.last_commit = s->committed_at;
+    if (is_other) {
+        s->version++;
+        pthread_cond_broadcast(&s->changed);
+    }
     pthread_mutex_unlock(&s->mutex);
-    uint64_t next = tick_moment(s), now = relkvanu_store_now(s);
-    timer->wait = next == UINT64_MAX ? UINT64_MAX : next > now ? next - now : 0;
-    timer->is_running = relkvanu_mode(&s->handle).what == RELKVANU_MODE_RUNNING;
-    timer->is_news = s->tells_mode;
+}
+
+static int look(relkvanu_store *s, struct timer *timer, bool tells) {
+    if (rks_is_forked(s)) {
+        return RELKVANU_STORE_FORKED;
+    }
+    uint64_t now = relkvanu_store_now(s);
+    pthread_mutex_lock(&s->mutex);
+    uint64_t next = s->view.tick;
+    int status = s->dead != 0 ? RELKVANU_STORE_CLOSED : s->is_stopped ? RELKVANU_STORE_STOPPED : RELKVANU_STORE_OK;
+    uint64_t wait = next == UINT64_MAX ? UINT64_MAX : next > now ? next - now : 0;
+    *timer = (struct timer){wait, s->version, s->view.is_running, s->tells_mode};
     s->tells_mode = s->tells_mode && !tells;
-    relkvanu_store_read_end(s);
+    pthread_mutex_unlock(&s->mutex);
     return status;
 }
 
@@ -92,15 +126,14 @@ int relkvanu_store_next_tick(relkvanu_store *s, uint64_t *wait) {
     return status == RELKVANU_STORE_STOPPED ? RELKVANU_STORE_OK : status;
 }
 
-/* The moment of rks_clock_ns in so many ms. */
-static uint64_t after(uint64_t ms) {
+uint64_t rks_after(uint64_t ms) {
     uint64_t now = rks_clock_ns();
     return ms > (UINT64_MAX - now) / 1000000 ? UINT64_MAX : now + ms * 1000000;
 }
 
 int relkvanu_store_await_tick(relkvanu_store *s, uint64_t longest, relkvanu_store_call *tick) {
     *tick = (relkvanu_store_call){.call = {.kind = RELKVANU_CALL_TICK, .now = RELKVANU_STORE_NOW}};
-    for (uint64_t end = after(longest);;) {
+    for (uint64_t end = rks_after(longest);;) {
         struct timer timer = {0};
         int status = look(s, &timer, true);
         if (status == RELKVANU_STORE_OK && timer.wait == 0) {
@@ -110,13 +143,14 @@ int relkvanu_store_await_tick(relkvanu_store *s, uint64_t longest, relkvanu_stor
             status = RELKVANU_STORE_TIMED_OUT;
         }
         if (status == RELKVANU_STORE_OK) {
-            uint64_t due = after(timer.wait);
+            uint64_t due = rks_after(timer.wait);
             status = rks_await(s, timer.seen, due < end ? due : end);
         }
         if (status != RELKVANU_STORE_OK) {
             rks_drop_answers(tick, 1);
             if (status == RELKVANU_STORE_TIMED_OUT && !timer.is_running) {
-                tick->answer = (relkvanu_answer){.code = RELKVANU_REFUSED, .what = RELKVANU_NOT_RUNNING};
+                tick->answer = (relkvanu_answer){.code = RELKVANU_REFUSED, .what = RELKVANU_NOT_RUNNING, .a = timer.is_news};
+                return RELKVANU_STORE_NOT_RUNNING;
             }
             return status;
         }

@@ -1,6 +1,8 @@
 /* Calls and reads of one thread: lists, moments, the timer, images and the cut of the log. */
 #include "cases.h"
 
+#include "../src/parts.h"
+
 #include <unistd.h>
 
 static relkvanu_store *new_job(uint64_t image_calls) {
@@ -120,16 +122,62 @@ static void the_next_tick(void) {
     CHECK(wait_of(store) == UINT64_MAX, "ticks are refused");
     const uint64_t longest[] = {600000, 30}; /* told at once, and then it does not spin */
     for (size_t i = 0; i < 2; i++) {
-        CHECK(relkvanu_store_await_tick(store, longest[i], &tick) == RELKVANU_STORE_TIMED_OUT && tick.answer.code == RELKVANU_REFUSED &&
+        CHECK(relkvanu_store_await_tick(store, longest[i], &tick) == RELKVANU_STORE_NOT_RUNNING && tick.answer.code == RELKVANU_REFUSED &&
                   tick.answer.what == RELKVANU_NOT_RUNNING,
             "await: what %" PRIu32, tick.answer.what);
     }
     done(store, RELKVANU_CALL_RESTORE, 120000, 0);
     wait = wait_of(store);
-    CHECK(wait > 60000 && wait <= 120000, "it is restored, and due after %" PRIu64, wait);
+    CHECK(wait > 30000 && wait <= 60000, "it is restored, and due after %" PRIu64, wait);
     relkvanu_store_close(store);
     store = opens(&options, RELKVANU_STORE_OK);
     CHECK(done(store, RELKVANU_CALL_TICK, 180000, 0).what == RELKVANU_TICK_TRIGGERED, "a trigger");
+    relkvanu_store_close(store);
+}
+
+static relkvanu_store *awaited;
+
+/* A moment ahead is the clock's own at once: the timer goes on from it, and so does one that waits already. */
+static void *awaits_a_tick(void *tick) {
+    relkvanu_store_call *found = tick;
+    while (relkvanu_store_await_tick(awaited, 600000, found) == RELKVANU_STORE_TIMED_OUT) {}
+    return tick;
+}
+
+static void a_moment_ahead(void) {
+    static const uint64_t AHEAD = 20 * 3600000;
+    relkvanu_store_options options = job_options(RELKVANU_STORE_CREATE, 0);
+    options.settings.interval = 1000;
+    options.settings.at_once = 3;
+    relkvanu_store_call tick = {.place = 0};
+    pthread_t timer;
+    awaited = opens(&options, RELKVANU_STORE_OK);
+    CHECK(pthread_create(&timer, NULL, awaits_a_tick, &tick) == 0, "a timer");
+    relkvanu_store_call ahead = {.call = {.kind = RELKVANU_CALL_SAVEPOINT, .now = AHEAD}};
+    CHECK(relkvanu_store_calls(awaited, &ahead, 1) == RELKVANU_STORE_OK && ahead.answer.code == RELKVANU_DONE, "20 hours ahead");
+    CHECK(relkvanu_store_now(awaited) >= AHEAD, "now %" PRIu64, relkvanu_store_now(awaited));
+    pthread_join(timer, NULL);
+    CHECK(tick.answer.what == RELKVANU_TICK_TRIGGERED, "what %" PRIu32, tick.answer.what);
+    CHECK(tick_code(awaited, AHEAD + 2 * AHEAD / 20) == RELKVANU_DONE, "2 hours ahead");
+    uint64_t wait = wait_of(awaited);
+    CHECK(wait <= 1000, "the next one is due after %" PRIu64, wait);
+    relkvanu_store_close(awaited);
+}
+
+/* A commit wakes timers and discarders only if what they wait for has changed: otherwise the version of it stays. */
+static void quiet_commits(void) {
+    relkvanu_store_options options = storage_options(RELKVANU_STORE_CREATE, RELKVANU_STORE_NO_IMAGES);
+    relkvanu_store *store = opens(&options, RELKVANU_STORE_OK);
+    checkpoint(store, 1);
+    uint64_t version = store->version;
+    for (int i = 0; i < 50; i++) {
+        done(store, RELKVANU_CALL_SAVEPOINT, 20, 0);
+    }
+    CHECK(
+        store->version <= version + 1, "50 commits, %" PRIu64 " versions", store->version - version); /* the first one may move the clock */
+    version = store->version;
+    checkpoint(store, 101); /* another tick is due, and the files of the first one wait */
+    CHECK(store->version > version && store->view.has_files, "%" PRIu64 " versions", store->version - version);
     relkvanu_store_close(store);
 }
 
@@ -171,4 +219,5 @@ static void images_and_cuts(void) {
 }
 
 const struct test call_cases[] = {{"lists", lists}, {"bad_arguments", bad_arguments}, {"moments", moments},
-    {"the_next_tick", the_next_tick}, {"an_awaited_tick", an_awaited_tick}, {"images_and_cuts", images_and_cuts}, {NULL, NULL}};
+    {"the_next_tick", the_next_tick}, {"a_moment_ahead", a_moment_ahead}, {"quiet_commits", quiet_commits},
+    {"an_awaited_tick", an_awaited_tick}, {"images_and_cuts", images_and_cuts}, {NULL, NULL}};

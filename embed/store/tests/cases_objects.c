@@ -94,7 +94,7 @@ static void a_sweep_of_objects(void) {
     objects.fault_of_list = RELKVANU_STORAGE_FAILED;
     objects.stubborn = 2000;
     objects.page = 700;
-    CHECK(sweeps_as(store, &storage, RELKVANU_STORE_STORAGE) == 1, "a list that is not whole");
+    CHECK(sweeps_as(store, &storage, RELKVANU_STORE_NOT_DONE) == 1, "a list that is not whole");
     objects.fault_of_list = RELKVANU_STORAGE_NO_MEMORY;
     CHECK(sweeps_as(store, &storage, RELKVANU_STORE_NO_MEMORY) == 1, "a list without memory");
     objects.fault_of_list = 0;
@@ -117,7 +117,7 @@ static void pages_that_are_too_large(void) {
         objects.is_there[file] = true;
     }
     objects.page = RELKVANU_STORAGE_PAGE + 1;
-    CHECK(sweeps_as(store, &storage, RELKVANU_STORE_STORAGE) == 0 && objects.deletions == 0, "a page");
+    CHECK(sweeps_as(store, &storage, RELKVANU_STORE_NOT_DONE) == 0 && objects.deletions == 0, "a page");
     relkvanu_store_close(store);
 }
 

@@ -58,7 +58,7 @@ def listed(folder):
 def await_opening(folder, process):
     """Waits until the process has the lock of the job."""
     lock, end = folder / "job.db.lock", time.monotonic() + LONGEST
-    while process.poll() is None and time.monotonic() < end and not (lock.exists() and lock.read_text() == f"{process.pid}\n"):
+    while process.poll() is None and time.monotonic() < end and not (lock.exists() and lock.read_text().startswith(f"{process.pid}\n")):
         time.sleep(0.001)
 
 

@@ -20,6 +20,7 @@ static void print_structs(void) {
     STRUCT(call), FIELD(call, call), FIELD(call, first), FIELD(call, first_len), FIELD(call, second), FIELD(call, second_len),
         FIELD(call, files);
     FIELD(call, files_len), FIELD(call, reserved), FIELD(call, answer), FIELD(call, choice), FIELD(call, place), FIELD(call, term);
+    STRUCT(measures), FIELD(measures, wal_bytes), FIELD(measures, log_rows), FIELD(measures, last_commit), FIELD(measures, failed_deletions);
     STRUCT(completion), FIELD(completion, token), FIELD(completion, status);
     STRUCT(counts), FIELD(counts, commits), FIELD(counts, calls), FIELD(counts, largest), FIELD(counts, images),
         FIELD(counts, failed_images);
@@ -35,7 +36,7 @@ int main(void) {
         NUMBER(FAILED), NUMBER(FULL);
     NUMBER(READ_ONLY), NUMBER(BUSY), NUMBER(OUT_OF_MEMORY), NUMBER(NOT_MADE), NUMBER(CREATE), NUMBER(CREATE_ONLY), NUMBER(ADOPT),
         NUMBER(EARLIER_IMAGE), NUMBER(PLAIN);
-    NUMBER(BACKUP);
+    NUMBER(BACKUP), NUMBER(NOT_RUNNING), NUMBER(NOT_DONE);
     NUMBER(NOW), NUMBER(NO_IMAGES), NUMBER(MOST_CALLS), NUMBER(END_TASKS), NUMBER(RESTORE), NUMBER(SWEEP), NUMBER(START_TASKS),
         NUMBER(DISCARD);
     return 0;

@@ -469,7 +469,7 @@ public final class Store implements AutoCloseable {
         enter();
         try {
             int status = StoreNative.awaitTick(address, millis, outcome);
-            if (status == StoreFault.TIMED_OUT) {
+            if (status == StoreFault.TIMED_OUT || status == StoreFault.NOT_RUNNING) {
                 return Optional.empty();
             }
             check(status);

@@ -37,11 +37,14 @@ public enum StoreFault {
     /** Another program keeps a lock of the file. */
     BUSY(19),
     /** SQLite has no memory for a commit. */
-    OUT_OF_MEMORY(20);
+    OUT_OF_MEMORY(20),
+    /** A sweep: the folder could not be read or synced: sweep again later. */
+    NOT_DONE(22);
 
     static final int OK = 0;
     static final int NO_MEMORY = 2;
     static final int TIMED_OUT = 12;
+    static final int NOT_RUNNING = 21;
     private static final StoreFault[] ALL = values();
     final int status;
 
@@ -63,6 +66,6 @@ public enum StoreFault {
      * store and open it again, or end the process.
      */
     public boolean closes() {
-        return status >= FAILED.status;
+        return status >= FAILED.status && status <= OUT_OF_MEMORY.status;
     }
 }

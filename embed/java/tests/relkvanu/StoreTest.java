@@ -386,7 +386,7 @@ class StoreTest {
     @Test
     void theNumbersOfTheHeader() throws Exception {
         Process layout = new ProcessBuilder(System.getProperty("layout")).start();
-        Map<String, Integer> own = new java.util.HashMap<>(Map.of("OK", StoreFault.OK, "NO_MEMORY", StoreFault.NO_MEMORY, "TIMED_OUT", StoreFault.TIMED_OUT, "NOT_MADE", Store.NOT_MADE));
+        Map<String, Integer> own = new java.util.HashMap<>(Map.of("OK", StoreFault.OK, "NO_MEMORY", StoreFault.NO_MEMORY, "TIMED_OUT", StoreFault.TIMED_OUT, "NOT_RUNNING", StoreFault.NOT_RUNNING, "NOT_MADE", Store.NOT_MADE));
         for (StoreFault it : StoreFault.values()) {
             own.put(it.name(), it.status);
         }

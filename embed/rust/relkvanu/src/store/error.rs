@@ -28,6 +28,8 @@ pub enum StoreErrorKind {
     ReadOnly,
     Busy,
     OutOfMemory,
+    NotRunning,
+    NotDone,
 }
 
 impl StoreErrorKind {
@@ -54,6 +56,8 @@ impl StoreErrorKind {
             sys::store::RELKVANU_STORE_READ_ONLY => ReadOnly,
             sys::store::RELKVANU_STORE_BUSY => Busy,
             sys::store::RELKVANU_STORE_OUT_OF_MEMORY => OutOfMemory,
+            sys::store::RELKVANU_STORE_NOT_RUNNING => NotRunning,
+            sys::store::RELKVANU_STORE_NOT_DONE => NotDone,
             other => unreachable!("status {other}"),
         }
     }

@@ -293,12 +293,16 @@ impl Store {
     }
 
     /// A timer in a loop of a thread: sleeps until a tick is due, at most so many milliseconds, and makes it. Otherwise the error is
-    /// `TimedOut` or `Stopped`.
+    /// `TimedOut` (none was due, or the job is not running: read the mode) or `Stopped`.
     pub fn await_tick(&self, longest: u64) -> Result<Made, CallError> {
         let mut list = List::of(&[Call::Tick { now: NOW }]);
         // SAFETY: the call is this function's own.
-        self.check(unsafe {
+        let status = unsafe {
             sys::store::relkvanu_store_await_tick(self.at(), longest, list.calls.as_mut_ptr())
+        };
+        self.check(match status {
+            sys::store::RELKVANU_STORE_NOT_RUNNING => sys::store::RELKVANU_STORE_TIMED_OUT,
+            other => other,
         })?;
         made(&list.calls[0], Vec::new()).map_err(CallError::Fault)
     }
