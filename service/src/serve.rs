@@ -27,6 +27,8 @@ use tokio::sync::Mutex;
 const WATCHDOG: Duration = Duration::from_secs(5);
 /// After this time without a sign of work the writer counts as stuck.
 const SILENCE: Duration = Duration::from_secs(15);
+/// Connections that may wait until they are accepted. The system may allow fewer (`net.core.somaxconn`).
+const BACKLOG: i32 = 4096;
 /// How long the writer may take for its last group. With the time for the last answers this is less than the unit's `TimeoutStopSec`.
 const STOP_WITHIN: Duration = Duration::from_secs(6);
 /// How long a process that does not lead yet may take to end a step of its start.
@@ -186,6 +188,7 @@ fn open_reader(config: &Config) -> Result<Box<dyn Reader>, DbError> {
 fn listening(config: &Config) -> Result<std::net::TcpListener, Stop> {
     let told = |why: std::io::Error| Stop::Listen { address: config.listen, why };
     let listener = std::net::TcpListener::bind(config.listen).map_err(told)?;
+    rustix::net::listen(&listener, BACKLOG).map_err(|why| told(why.into()))?;
     listener.set_nonblocking(true).map_err(told)?;
     Ok(listener)
 }
