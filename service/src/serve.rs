@@ -4,7 +4,7 @@ use crate::config::{Config, Leading, LogForm};
 use crate::database::Database;
 use crate::exit;
 use crate::history::{Door, Historian, Place};
-use crate::http::{self, App, Audit, Keys, Others, Tls};
+use crate::http::{self, App, Audit, Bodies, Keys, Others, Tls};
 use crate::leader::Leader;
 use crate::log;
 use crate::metrics::Metrics;
@@ -109,7 +109,7 @@ impl Shared {
             place: Arc::clone(&self.history),
             keys,
             audit: Audit::new(config.log_requests),
-            bodies: http::room(config.limits.all_bodies_bytes),
+            bodies: Bodies::of(&config.limits),
             answers: http::room(config.limits.all_answers_bytes),
             limits: config.limits.clone(),
             names: config.names,
