@@ -118,6 +118,10 @@ impl Tokens {
         Ok(Tokens(tokens))
     }
 
+    pub fn are_several(&self) -> bool {
+        self.0.len() > 1
+    }
+
     /// When the last token for this access ends, if all of them do.
     pub fn until(&self, access: Access) -> Option<SystemTime> {
         let ends = self.0.iter().filter(|token| token.access == access).map(|token| token.caller.until);

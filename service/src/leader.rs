@@ -13,6 +13,8 @@ use std::time::Duration;
 
 /// How often a standby looks at the log and at the lease.
 const LOOK_EACH: Duration = Duration::from_millis(100);
+/// How often it reads the log at least: a leader whose lease is long renews it seldom.
+const FOLLOW_EACH: Duration = Duration::from_secs(10);
 
 pub struct Leader {
     pub store: Box<dyn Store>,
@@ -62,12 +64,11 @@ impl Leader {
     /// Follows the log until this process may write. So a take-over has little to read. `None` if the process was told to stop first.
     fn lead(&mut self) -> Result<Option<(Jobs, Lease)>, Stop> {
         let (mut followed, started) = (Followed { jobs: Jobs::of(Shards::ALL), calls: 0 }, Moment::now());
-        self.follow(&mut followed)?;
+        let mut read = self.follow(&mut followed)?;
         self.check_clock(followed.jobs.last_moment())?;
         let mut waits = false;
         while !self.board.is_stopping() {
             self.board.beat();
-            self.metrics.queue.followed();
             let asked = Moment::now();
             match self.store.lead()? {
                 Lead::Here { held } => {
@@ -75,8 +76,11 @@ impl Leader {
                     followed.tell(&format!("leads epoch={}", self.board.epoch()), started, asked);
                     return Ok(Some((followed.jobs, lease)));
                 }
-                Lead::Elsewhere { committed: true } => self.follow(&mut followed)?,
-                Lead::Elsewhere { committed: false } => {}
+                // between two renewals of a lease there may be commits
+                Lead::Elsewhere { committed } if committed || read.elapsed() >= FOLLOW_EACH => {
+                    read = self.follow(&mut followed)?;
+                }
+                Lead::Elsewhere { .. } => {}
             }
             if !std::mem::replace(&mut waits, true) {
                 let (jobs, calls) = (followed.jobs.len(), followed.calls);
@@ -100,12 +104,15 @@ impl Leader {
         Ok((Jobs::of(Shards::default()), Lease::of(self.store.as_ref(), asked)))
     }
 
-    fn follow(&mut self, followed: &mut Followed) -> Result<(), Stop> {
-        let board = &self.board;
+    /// Reads what was committed until now. Returns when it began to.
+    fn follow(&mut self, followed: &mut Followed) -> Result<Moment, Stop> {
+        let (board, since) = (&self.board, Moment::now());
         followed.catch_up(self.reader.as_mut(), &mut || {
             board.beat();
             Ok(())
-        })
+        })?;
+        self.metrics.queue.followed();
+        Ok(since)
     }
 
     /// Reads what the last leader wrote since this process read the log. It keeps its lease meanwhile.

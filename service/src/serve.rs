@@ -4,7 +4,7 @@ use crate::config::{Config, Leading, LogForm};
 use crate::database::Database;
 use crate::exit;
 use crate::history::{Door, Historian, Place};
-use crate::http::{self, App, Audit, Keys, Others, Tls};
+use crate::http::{self, App, Audit, Bodies, Keys, Others, Tls};
 use crate::leader::Leader;
 use crate::log;
 use crate::metrics::Metrics;
@@ -27,6 +27,8 @@ use tokio::sync::Mutex;
 const WATCHDOG: Duration = Duration::from_secs(5);
 /// After this time without a sign of work the writer counts as stuck.
 const SILENCE: Duration = Duration::from_secs(15);
+/// Connections that may wait until they are accepted. The system may allow fewer (`net.core.somaxconn`).
+const BACKLOG: i32 = 4096;
 /// How long the writer may take for its last group. With the time for the last answers this is less than the unit's `TimeoutStopSec`.
 const STOP_WITHIN: Duration = Duration::from_secs(6);
 /// How long a process that does not lead yet may take to end a step of its start.
@@ -107,7 +109,7 @@ impl Shared {
             place: Arc::clone(&self.history),
             keys,
             audit: Audit::new(config.log_requests),
-            bodies: http::room(config.limits.all_bodies_bytes),
+            bodies: Bodies::of(&config.limits),
             answers: http::room(config.limits.all_answers_bytes),
             limits: config.limits.clone(),
             names: config.names,
@@ -186,6 +188,7 @@ fn open_reader(config: &Config) -> Result<Box<dyn Reader>, DbError> {
 fn listening(config: &Config) -> Result<std::net::TcpListener, Stop> {
     let told = |why: std::io::Error| Stop::Listen { address: config.listen, why };
     let listener = std::net::TcpListener::bind(config.listen).map_err(told)?;
+    rustix::net::listen(&listener, BACKLOG).map_err(|why| told(why.into()))?;
     listener.set_nonblocking(true).map_err(told)?;
     Ok(listener)
 }

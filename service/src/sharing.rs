@@ -171,7 +171,7 @@ impl Sharer {
         self.state.to_free = some;
         self.shares.free(&self.state.to_free)?;
         self.state.to_free.clear();
-        self.metrics.forget_all(&jobs.iter().map(String::as_str).collect());
+        self.metrics.forget_all(jobs.iter().map(String::as_str));
         Ok(())
     }
 

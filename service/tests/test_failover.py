@@ -192,34 +192,44 @@ def test_keys_are_looked_up_for_a_group():
 
 
 def with_tls(server, certificate):
-    """A proxy with TLS before a service: its URL."""
+    """A proxy with TLS before a service: its URL, and the context that has its certificate."""
     context = ssl.SSLContext(ssl.PROTOCOL_TLS_SERVER)
     context.load_cert_chain(certificate, f"{certificate}.key")
     between = Between(server, lambda number, body: None)
     between.http.socket = context.wrap_socket(between.http.socket, server_side=True)
-    return f"https://localhost:{between.http.server_address[1]}"
+    return f"https://localhost:{between.http.server_address[1]}", context
+
+
+def a_certificate(path):
+    words = ["openssl", "req", "-x509", "-newkey", "ec", "-pkeyopt", "ec_paramgen_curve:prime256v1", "-nodes", "-days", "2", "-subj", "/CN=localhost"]
+    subprocess.run([*words, "-addext", "subjectAltName=DNS:localhost", "-keyout", f"{path}.key", "-out", path], check=True, stderr=subprocess.DEVNULL)
+    return path
 
 
 def test_https():
     if not os.path.exists(ENGINE):
         raise Skipped(f"{ENGINE} is not built")
     with served(names=True) as server:
-        path = f"{server.folder}/certificate"
-        words = ["openssl", "req", "-x509", "-newkey", "ec", "-pkeyopt", "ec_paramgen_curve:prime256v1", "-nodes", "-days", "2", "-subj", "/CN=localhost"]
-        subprocess.run([*words, "-addext", "subjectAltName=DNS:localhost", "-keyout", f"{path}.key", "-out", path], check=True, stderr=subprocess.DEVNULL)
-        url = with_tls(server, path)
-        begun = time.monotonic()
-        told = subprocess.run([ENGINE, url, "a", "2"], env={**os.environ, "SSL_CERT_FILE": path}, capture_output=True, text=True, timeout=COMMAND, check=False)
+        path, renewed = (a_certificate(f"{server.folder}/{name}") for name in ("certificate", "renewed"))
+        url, context = with_tls(server, path)
+        trusting = {**os.environ, "SSL_CERT_FILE": path}
+        told = subprocess.run([ENGINE, url, "a", "2"], env=trusting, capture_output=True, text=True, timeout=COMMAND, check=False)
         assert told.returncode == 0 and "checkpoints completed" in told.stdout, told
         assert [job["name"] for job in Service(url, ca=path).jobs()] == ["a"]
-        # a certificate that is not trusted stays so: no other try
+        # a certificate that is not trusted is tried again, and ends the client with its patience
         begun = time.monotonic()
-        told = subprocess.run([ENGINE, url, "a", "2"], capture_output=True, text=True, timeout=COMMAND, check=False)
+        told = subprocess.run([ENGINE, url, "b", "2"], capture_output=True, text=True, timeout=COMMAND, check=False)
         assert told.returncode == 1 and "certificate verify failed" in told.stderr, told
+        took = time.monotonic() - begun
+        assert took > 30, took  # its patience is a minute
         try:
-            raise AssertionError(Service(url).jobs())
+            raise AssertionError(Service(url, patience=1).jobs())
         except requests.exceptions.SSLError:
             pass
-        took = time.monotonic() - begun
-        assert took < 55, took  # another try would come for a minute
-        return "the engine in Rust and the client in Python; not without the certificate"
+        # one that is renewed meanwhile ends none
+        engine = subprocess.Popen([ENGINE, url, "c", "2"], env={**os.environ, "SSL_CERT_FILE": renewed}, stdout=subprocess.PIPE, text=True)
+        time.sleep(1)
+        context.load_cert_chain(renewed, f"{renewed}.key")
+        told = engine.communicate(timeout=COMMAND)[0]
+        assert engine.returncode == 0 and "checkpoints completed" in told, told
+        return f"the engine in Rust and the client in Python; without the certificate it ended after {took:.0f} s"

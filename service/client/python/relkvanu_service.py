@@ -258,9 +258,8 @@ class Service:
                     return _body(told)
                 later, leader = _retry_after(told), told.headers.get("relkvanu-leader", "").rstrip("/")
                 error = Failed(told.status_code, told.text)
-            except requests.exceptions.SSLError:
-                raise  # another try has the same certificate
             except _LOST as lost:
+                # a handshake that was cut too, and a certificate that can't be verified: it may be renewed meanwhile
                 error = lost
             if self._notice is not None:
                 self._notice(error)

@@ -10,7 +10,7 @@ use crate::metrics::Metrics;
 use crate::model::{Keeping, KeptSummary};
 use crate::process;
 use crate::store::{room_of, Reader};
-use crate::writer::{Board, ForKeeping, Inbox, Message, Read, ReadDone};
+use crate::writer::{Board, ForKeeping, Inbox, JobState, Message, Read, ReadDone, MOST_JOBS};
 use std::collections::hash_map::Entry;
 use std::collections::{HashMap, HashSet};
 use std::sync::mpsc::{channel, Sender};
@@ -109,12 +109,13 @@ impl Historian {
         let left: Vec<Follower> =
             followers.extract_if(|number, _| !lengths.contains(number)).map(|(_, follower)| follower).collect();
         if !left.is_empty() {
-            self.metrics.forget_all(&left.iter().map(|follower| follower.name.as_str()).collect());
+            self.metrics.forget_all(left.iter().map(|follower| follower.name.as_str()));
         }
         if away == self.away {
             return Ok(());
         }
-        for (job, _) in self.reader.gone()?.into_iter().filter(|(job, _)| away.contains(job)) {
+        let there: HashSet<i64> = self.reader.jobs()?.into_iter().map(|opening| opening.number).collect();
+        for job in away.iter().copied().filter(|job| !there.contains(job)) {
             while tables.within(|| Ok(tables.forget_piece(job)?))? {}
         }
         self.away = away;
@@ -243,17 +244,33 @@ impl Historian {
     /// Writes how many files and pending records each job has, if it is time, and deletes old samples.
     fn sample(&self, tables: &Tables, samples: &mut Samples) -> Result<(), Error> {
         if samples.is_due() {
-            let (reply, answer) = oneshot::channel();
-            let is_sent = self.inbox.try_send(Message::Read(Read::Jobs, reply)).is_ok();
-            match is_sent.then(|| answer.blocking_recv()) {
-                Some(Ok(ReadDone::Jobs(_, jobs))) => samples.add(tables, &jobs)?,
-                _ => return Ok(()),
+            match self.all_jobs() {
+                Some(jobs) => samples.add(tables, &jobs)?,
+                None => return Ok(()),
             }
         }
         if samples.has_old() {
             self.metrics.upkeep.samples_behind(samples.forget(tables)?);
         }
         Ok(())
+    }
+
+    /// The jobs of this process, which the writer reads in pieces; `None` if it does not take the request now.
+    fn all_jobs(&self) -> Option<Vec<JobState>> {
+        let mut all = Vec::<JobState>::new();
+        loop {
+            let after = all.last().map_or(i64::MIN, |job| job.opening.number);
+            let (reply, answer) = oneshot::channel();
+            self.inbox.try_send(Message::Read(Read::Jobs { after, most: MOST_JOBS }, reply)).ok()?;
+            let Ok(ReadDone::Jobs(_, mut piece)) = answer.blocking_recv() else {
+                return None;
+            };
+            let is_last = piece.len() < MOST_JOBS;
+            all.append(&mut piece);
+            if is_last {
+                return Some(all);
+            }
+        }
     }
 
     /// Measures the database and the history, if it is time.

@@ -2,7 +2,7 @@
 use super::error::Error;
 use super::tables::{Tables, PIECE};
 use crate::writer::JobState;
-use std::collections::HashMap;
+use std::collections::{HashMap, HashSet};
 use std::time::{Duration, Instant};
 
 const EACH: Duration = Duration::from_secs(2);
@@ -33,6 +33,10 @@ impl Samples {
     pub fn add(&mut self, tables: &Tables, jobs: &[JobState]) -> Result<(), Error> {
         self.last = Some(Instant::now());
         self.now = jobs.iter().map(|job| job.now).fold(self.now, u64::max);
+        if self.said.len() > jobs.len() {
+            let there: HashSet<i64> = jobs.iter().map(|job| job.opening.number).collect();
+            self.said.retain(|job, _| there.contains(job));
+        }
         tables.within(|| {
             for job in jobs {
                 if self.is_new(job) {

@@ -41,6 +41,8 @@ pub async fn serve<S: Stream>(app: Arc<App>, stream: S, seat: Arc<Seat>) {
     let mut connection = pin!(http.serve_connection(stream, service));
     let most_idle = Duration::from_secs(app.limits.idle_seconds);
     let lost = tokio::select! {
+        // a request that has come is seen before the place is given up
+        biased;
         // a connection that ends badly is its client's business
         _ = connection.as_mut() => return,
         () = activity.idle_for(most_idle) => return,

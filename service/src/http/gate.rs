@@ -110,9 +110,9 @@ async fn dispatch(app: &Arc<App>, route: Route, caller: &Caller, request: Reques
         Route::Ready => Ok(ready(app).await),
         Route::NewJob => writes::new_job(app, caller, request).await,
         Route::DeleteJob(job) => writes::delete_job(app, job, request.uri().query().unwrap_or("")).await,
-        Route::Calls(job) => writes::calls(app, job, request).await,
-        Route::Fence(job) => names::fence(app, job, request).await,
-        Route::Garbage(job) => names::garbage(app, job, request).await,
+        Route::Calls(job) => writes::calls(app, caller, job, request).await,
+        Route::Fence(job) => names::fence(app, caller, job, request).await,
+        Route::Garbage(job) => names::garbage(app, caller, job, request).await,
         Route::Stream(job) => stream::answer(app, job, caller, &request).await,
         read => reads::answer(app, read, caller, request.uri().query().unwrap_or("")).await,
     }

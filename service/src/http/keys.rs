@@ -1,6 +1,6 @@
 //! The tokens and the certificate, which the service reads again at SIGHUP.
 use super::tls::Tls;
-use crate::auth::{NoTokens, Tokens};
+use crate::auth::{Caller, NoTokens, Tokens};
 use crate::log;
 use crate::metrics::Metrics;
 use std::path::PathBuf;
@@ -24,6 +24,11 @@ impl Keys {
 
     pub fn tokens(&self) -> Option<Arc<Tokens>> {
         self.tokens.read().unwrap_or_else(PoisonError::into_inner).clone()
+    }
+
+    /// The name of the caller's token, if there are others too.
+    pub fn token_of(&self, caller: &Caller) -> Option<String> {
+        self.tokens().filter(|tokens| tokens.are_several()).map(|_| caller.name.clone())
     }
 
     pub fn tls(&self) -> Option<&Tls> {

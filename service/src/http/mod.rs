@@ -1,6 +1,7 @@
 //! The HTTP side: connections and their limits, and the path of every request to its answer.
 mod acks;
 mod audit;
+mod bodies;
 mod connection;
 mod gate;
 mod keys;
@@ -26,6 +27,7 @@ mod wire;
 mod writes;
 
 pub use audit::Audit;
+pub use bodies::Bodies;
 pub use keys::Keys;
 pub use others::Others;
 pub use server::serve;
@@ -37,15 +39,16 @@ use crate::history::{self, Door, HistoryReader, Place};
 use crate::log;
 use crate::metrics::Metrics;
 use crate::store::{DbError, Reader};
-use crate::writer::{Board, Inbox, Message, NotSent, Read, ReadDone};
+use crate::model::Shards;
+use crate::writer::{Board, Inbox, JobState, Message, NotSent, Read, ReadDone, MOST_JOBS};
 use reply::{error, Reply};
 use std::error::Error;
 use std::sync::Arc;
 use std::time::Duration;
 use tokio::sync::{oneshot, Mutex, Semaphore};
 
-/// The unit in which room for bodies is counted, in bytes.
-pub const BODY_UNIT: usize = 1024;
+/// The unit in which room for answers is counted, in bytes.
+pub const UNIT: usize = 1024;
 /// How long a read may wait for those before it.
 const READ_WITHIN: Duration = Duration::from_secs(20);
 
@@ -64,9 +67,9 @@ pub struct App {
     /// The other processes, if this one shares the jobs with them.
     pub others: Option<Others>,
     pub audit: Audit,
-    /// Room for the bodies of all requests, in units of [`BODY_UNIT`] bytes.
-    pub bodies: Arc<Semaphore>,
-    /// Room for large answers that were not sent yet, likewise.
+    /// Room for the bodies of all requests.
+    pub bodies: Arc<Bodies>,
+    /// Room for large answers that were not sent yet, in units of [`UNIT`] bytes.
     pub answers: Arc<Semaphore>,
     pub limits: Limits,
     /// Whether a new job gives out names if its creation does not say.
@@ -75,12 +78,12 @@ pub struct App {
 
 /// Room for this many bytes.
 pub fn room(bytes: usize) -> Arc<Semaphore> {
-    Arc::new(Semaphore::new(bytes.div_ceil(BODY_UNIT)))
+    Arc::new(Semaphore::new(bytes.div_ceil(UNIT)))
 }
 
 /// How many units of room these bytes take.
 fn units(bytes: usize) -> u32 {
-    u32::try_from(bytes.div_ceil(BODY_UNIT)).unwrap_or(u32::MAX)
+    u32::try_from(bytes.div_ceil(UNIT)).unwrap_or(u32::MAX)
 }
 
 impl App {
@@ -96,6 +99,27 @@ impl App {
 
     async fn read(&self, read: Read) -> Result<ReadDone, Box<Reply>> {
         self.ask(|reply| Message::Read(read, reply)).await
+    }
+
+    /// The jobs of this process in the order of their numbers, and the shards of which they are all. The writer makes calls between two pieces.
+    async fn jobs(&self) -> Result<(Shards, Vec<JobState>), Box<Reply>> {
+        let (mut all, mut known) = (Vec::<JobState>::new(), None);
+        loop {
+            let after = all.last().map_or(i64::MIN, |job| job.opening.number);
+            let ReadDone::Jobs(shards, mut piece) = self.read(Read::Jobs { after, most: MOST_JOBS }).await? else {
+                return Err(error(500, "the writer answered something else").into());
+            };
+            // jobs that came from another process meanwhile may have numbers that were passed
+            if known.replace(shards).is_some_and(|known| known != shards) {
+                (all, known) = (Vec::new(), None);
+                continue;
+            }
+            let is_last = piece.len() < MOST_JOBS;
+            all.append(&mut piece);
+            if is_last {
+                return Ok((shards, all));
+            }
+        }
     }
 
     /// The number of a job in the database.

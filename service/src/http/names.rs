@@ -4,6 +4,7 @@ use super::query::numbers;
 use super::reply::{bad_field, error, invalid, json_reply, refusal, Reply};
 use super::writes::{key_name, read_body};
 use super::{gate, no_job, wire, App};
+use crate::auth::Caller;
 use crate::model::{sha256, Call, Fault, Garbage, Outcome};
 use crate::writer::{CallsDone, Key, Message, Read, ReadDone};
 use hyper::{Body, Request};
@@ -11,10 +12,10 @@ use relkvanu::Fenced;
 use serde_json::{json, Value};
 
 /// Gives a job names, from a first one on. The call is in its log, and is made once under a key.
-pub async fn fence(app: &App, job: String, request: Request<Body>) -> Result<Reply, Box<Reply>> {
+pub async fn fence(app: &App, caller: &Caller, job: String, request: Request<Body>) -> Result<Reply, Box<Reply>> {
     app.number(&job)?;
     let name = key_name(request.headers())?;
-    let (bytes, _room) = read_body(app, request.into_body()).await?;
+    let (bytes, _room) = read_body(app, caller, request.into_body()).await?;
     let first_name = wire::first_name(&bytes).map_err(|why| invalid(&why))?;
     let key = name.map(|name| Key { name, digest: sha256(&bytes) });
     let (at, calls) = (job.clone(), vec![Call::Fence { first_name }]);
@@ -84,8 +85,8 @@ pub async fn term(app: &App, job: String, query: &str) -> Result<Reply, Box<Repl
 
 /// Which of some files may be deleted, by what is committed. The writer answers only while it surely leads, and this looks again:
 /// a process that was suspended meanwhile sends no answer.
-pub async fn garbage(app: &App, job: String, request: Request<Body>) -> Result<Reply, Box<Reply>> {
-    let (bytes, _room) = read_body(app, request.into_body()).await?;
+pub async fn garbage(app: &App, caller: &Caller, job: String, request: Request<Body>) -> Result<Reply, Box<Reply>> {
+    let (bytes, _room) = read_body(app, caller, request.into_body()).await?;
     let files = wire::garbage(&bytes).map_err(|why| invalid(&why))?;
     let told = app.read(Read::Garbage { job: job.clone(), files }).await?;
     if !app.board.is_ready() {

@@ -64,10 +64,7 @@ async fn metrics(app: &App, query: &str) -> Result<Reply, Box<Reply>> {
         if !app.board.is_ready() {
             return Vec::new();
         }
-        match app.read(Read::Jobs).await {
-            Ok(ReadDone::Jobs(_, jobs)) => jobs,
-            _ => Vec::new(),
-        }
+        app.jobs().await.map_or(Vec::new(), |(_, jobs)| jobs)
     };
     let jobs = tokio::time::timeout(ASK_WRITER, asked).await.unwrap_or_default();
     app.metrics.lead(app.board.is_ready());
@@ -79,7 +76,9 @@ async fn metrics(app: &App, query: &str) -> Result<Reply, Box<Reply>> {
     }
     app.metrics.commit_takes(app.board.commit_takes());
     app.metrics.upkeep.history_up(app.place.works());
-    let text = app.metrics.text(&jobs, || app.board.lags()).map_err(|why| error(500, &why.to_string()))?;
+    // those of many jobs take long, and the other requests go on by another thread
+    let text = tokio::task::block_in_place(|| app.metrics.text(&jobs, || app.board.lags()));
+    let text = text.map_err(|why| error(500, &why.to_string()))?;
     Ok(with_type(200, "text/plain; version=0.0.4", text))
 }
 
@@ -97,16 +96,15 @@ pub async fn jobs(app: &App, caller: &Caller, request: &Request<Body>) -> Result
 
 /// The jobs of this process, with their numbers.
 async fn own_jobs(app: &App, caller: &Caller, after: u64, most: usize) -> Result<(Shards, Value), Box<Reply>> {
-    let ReadDone::Jobs(shards, mut jobs) = app.read(Read::Jobs).await? else {
-        return Err(error(500, "the writer answered something else").into());
-    };
+    let (shards, mut jobs) = app.jobs().await?;
     let number = |job: &JobState| u64::try_from(job.opening.number).unwrap_or(0);
     jobs.retain(|job| number(job) > after && caller.may_see(&job.opening.name));
     let most = most.min(jobs.len());
     let next = (most < jobs.len()).then(|| jobs[..most].last().map_or(after, number));
     let (log, epoch) = (app.board.log(), app.board.epoch());
     let numbers: Vec<u64> = jobs[..most].iter().map(number).collect();
-    let jobs: Vec<Value> = jobs[..most].iter().map(|job| render::job(job, log)).collect();
+    let jobs: Vec<Value> =
+        tokio::task::block_in_place(|| jobs[..most].iter().map(|job| render::job(job, log)).collect());
     Ok((shards, json!({"epoch": epoch, "log": log, "numbers": numbers, "jobs": jobs, "next": next})))
 }
 

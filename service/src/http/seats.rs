@@ -3,10 +3,17 @@ use crate::config::Limits;
 use std::collections::BTreeMap;
 use std::sync::atomic::{AtomicU64, Ordering};
 use std::sync::{Arc, Mutex, MutexGuard, PoisonError};
+use std::time::{Duration, Instant};
 use tokio::sync::Notify;
 
 /// How many connections may ask for the health.
 const HEALTH: usize = 64;
+/// For how long a new connection keeps its place: by then a client has sent its request.
+pub const YOUNG: Duration = Duration::from_secs(1);
+/// For how long it keeps it while it agrees on TLS: if thousands connect at once, this process takes some seconds for all of them.
+pub const AGREEING: Duration = Duration::from_secs(10);
+/// How often a connection that found no place looks whether one is old by now.
+const LOOK: Duration = Duration::from_millis(20);
 
 /// What a connection does, by its last request.
 #[derive(Clone, Copy, Debug, PartialEq, Eq)]
@@ -22,16 +29,27 @@ pub enum Kind {
 }
 
 /// The places of each kind.
-pub struct Places([Mutex<Pool>; 4]);
+pub struct Places {
+    pools: [Mutex<Pool>; 4],
+    /// A place of a stranger is free.
+    is_free: Notify,
+}
 
-/// The places of one kind. If all are taken, a new connection gets that of the one that has had no request for the longest time.
+/// The places of one kind. If all are taken, another connection gets that of the one that has had no request for the longest time, unless
+/// all of them are young.
 struct Pool {
     most: usize,
     /// Connections whose request is being answered.
     busy: usize,
-    /// Those without a request, in the order of their tickets, and how each is told to go.
-    idle: BTreeMap<u64, Arc<Notify>>,
+    /// Those without a request, in the order of their tickets.
+    idle: BTreeMap<u64, Idle>,
     tickets: u64,
+}
+
+/// A connection without a request: until when it keeps its place, and how it is told to go.
+struct Idle {
+    until: Instant,
+    goes: Arc<Notify>,
 }
 
 impl Pool {
@@ -44,16 +62,19 @@ impl Pool {
         if self.busy + self.idle.len() < self.most {
             return true;
         }
-        let longest_idle = self.idle.pop_first();
-        if let Some((_, goes)) = &longest_idle {
+        let now = Instant::now();
+        let longest_idle = self.idle.iter().find(|(_, idle)| idle.until <= now).map(|(ticket, _)| *ticket);
+        let gone = longest_idle.and_then(|ticket| self.idle.remove(&ticket));
+        if let Some(Idle { goes, .. }) = &gone {
             goes.notify_one();
         }
-        longest_idle.is_some()
+        gone.is_some()
     }
 
-    fn add_idle(&mut self, goes: &Arc<Notify>) -> u64 {
+    /// A connection without a request, which keeps its place for so long.
+    fn add_idle(&mut self, goes: &Arc<Notify>, keeps: Duration) -> u64 {
         self.tickets += 1;
-        self.idle.insert(self.tickets, Arc::clone(goes));
+        self.idle.insert(self.tickets, Idle { until: Instant::now() + keeps, goes: Arc::clone(goes) });
         self.tickets
     }
 }
@@ -61,21 +82,37 @@ impl Pool {
 impl Places {
     pub fn of(limits: &Limits) -> Arc<Places> {
         let most = [limits.new_connections, HEALTH, limits.polls, limits.connections];
-        Arc::new(Places(most.map(Pool::new)))
+        Arc::new(Places { pools: most.map(Pool::new), is_free: Notify::new() })
     }
 
-    /// The place of a new connection; `None` if all strangers are being answered.
-    pub fn enter(self: &Arc<Places>) -> Option<Arc<Seat>> {
+    /// The place of a new connection, once there is one: a connection that is young, or is being answered, keeps its own.
+    pub async fn enter(self: &Arc<Places>, keeps: Duration) -> Arc<Seat> {
+        loop {
+            if let Some(seat) = self.enter_now(keeps) {
+                return seat;
+            }
+            let _ = tokio::time::timeout(LOOK, self.is_free.notified()).await;
+        }
+    }
+
+    fn enter_now(self: &Arc<Places>, keeps: Duration) -> Option<Arc<Seat>> {
         let goes = Arc::new(Notify::new());
         let mut strangers = self.pool(Kind::Stranger);
-        let ticket = strangers.make_room().then(|| strangers.add_idle(&goes))?;
+        let ticket = strangers.make_room().then(|| strangers.add_idle(&goes, keeps))?;
         drop(strangers);
         let (requests, state) = (AtomicU64::new(0), Mutex::new(State::Idle(Kind::Stranger, ticket)));
         Some(Arc::new(Seat { places: Arc::clone(self), goes, requests, state }))
     }
 
     fn pool(&self, kind: Kind) -> MutexGuard<'_, Pool> {
-        self.0[kind as usize].lock().unwrap_or_else(PoisonError::into_inner)
+        self.pools[kind as usize].lock().unwrap_or_else(PoisonError::into_inner)
+    }
+
+    /// A connection of this kind has left its place, or another one may have it from now on.
+    fn freed(&self, kind: Kind) {
+        if kind == Kind::Stranger {
+            self.is_free.notify_one();
+        }
     }
 }
 
@@ -129,7 +166,20 @@ impl Seat {
         };
         let mut pool = self.places.pool(kind);
         pool.busy -= 1;
-        *self.state() = State::Idle(kind, pool.add_idle(&self.goes));
+        *self.state() = State::Idle(kind, pool.add_idle(&self.goes, Duration::ZERO));
+        drop(pool);
+        self.places.freed(kind);
+    }
+
+    /// The connection has agreed on TLS. From now on it keeps its place for as long as a new one without TLS.
+    pub fn agreed(&self) {
+        let mut state = self.state();
+        if let State::Idle(kind, ticket) = *state {
+            let mut pool = self.places.pool(kind);
+            if pool.idle.remove(&ticket).is_some() {
+                *state = State::Idle(kind, pool.add_idle(&self.goes, YOUNG));
+            }
+        }
     }
 
     /// Ends once another connection has got the place.
@@ -139,11 +189,18 @@ impl Seat {
 
     fn leave(&self) {
         let left = std::mem::replace(&mut *self.state(), State::None);
-        match left {
-            State::Idle(kind, ticket) => drop(self.places.pool(kind).idle.remove(&ticket)),
-            State::Busy(kind, _) => self.places.pool(kind).busy -= 1,
-            State::None => {}
-        }
+        let kind = match left {
+            State::Idle(kind, ticket) => {
+                self.places.pool(kind).idle.remove(&ticket);
+                kind
+            }
+            State::Busy(kind, _) => {
+                self.places.pool(kind).busy -= 1;
+                kind
+            }
+            State::None => return,
+        };
+        self.places.freed(kind);
     }
 
     fn state(&self) -> MutexGuard<'_, State> {
@@ -168,8 +225,9 @@ mod tests {
         Places::of(&Limits { connections: 2, polls: 1, new_connections: 2, ..Limits::default() })
     }
 
+    /// The place of a new connection that is not young.
     fn seat(places: &Arc<Places>) -> Arc<Seat> {
-        places.enter().unwrap_or_else(|| panic!("there is a place"))
+        places.enter_now(Duration::ZERO).unwrap_or_else(|| panic!("there is a place"))
     }
 
     fn is_lost(seat: &Arc<Seat>) -> bool {
@@ -186,11 +244,37 @@ mod tests {
         let fourth = seat(&places);
         assert_eq!([&third, &fourth].map(is_lost), [false, false]);
         let turns = [&third, &fourth].map(|seat| seat.begin(Kind::Stranger));
-        assert!(turns.iter().all(Option::is_some) && places.enter().is_none());
+        assert!(turns.iter().all(Option::is_some) && places.enter_now(Duration::ZERO).is_none());
         let [turn, other] = turns;
         drop(other);
-        assert!(places.enter().is_some() && is_lost(&fourth) && !is_lost(&third));
+        assert!(places.enter_now(Duration::ZERO).is_some() && is_lost(&fourth) && !is_lost(&third));
         drop(turn);
+    }
+
+    #[test]
+    fn a_young_connection_keeps_its_place() {
+        let (places, hour) = (places(), Duration::from_secs(3600));
+        let (old, young) = (seat(&places), places.enter_now(hour));
+        let other = places.enter_now(hour);
+        assert!(is_lost(&old) && other.is_some() && places.enter_now(hour).is_none());
+        assert!(young.as_ref().is_some_and(|seat| !is_lost(seat)));
+        // one that goes frees its place
+        drop(young);
+        assert!(places.enter_now(hour).is_some());
+    }
+
+    #[test]
+    fn a_connection_is_old_some_time_after_it_agreed() {
+        let places = places();
+        let (one, _two) = (places.enter_now(AGREEING), places.enter_now(AGREEING));
+        let Some(one) = one else { panic!("there is a place") };
+        one.agreed();
+        assert!(places.enter_now(YOUNG).is_none() && !is_lost(&one));
+        std::thread::sleep(YOUNG);
+        assert!(places.enter_now(YOUNG).is_some() && is_lost(&one));
+        // one that lost its place has none to keep
+        one.agreed();
+        assert!(places.enter_now(YOUNG).is_none());
     }
 
     #[test]

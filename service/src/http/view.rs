@@ -4,7 +4,7 @@ use super::others::{self, was_passed, Served};
 use super::query::{numbers, Parameter};
 use super::reads::{files_of, metadata, FilesRead};
 use super::render;
-use super::reply::{error, json_reply, Reply};
+use super::reply::{json_reply, Reply};
 use super::{lists, App};
 use crate::auth::Caller;
 use crate::history::{self, HistoryReader, Search};
@@ -89,9 +89,7 @@ async fn own(
     caller: &Caller,
     [records, samples, files]: [u64; 3],
 ) -> Result<(Shards, Value), Box<Reply>> {
-    let ReadDone::Jobs(shards, mut jobs) = app.read(Read::Jobs).await? else {
-        return Err(error(500, "the writer answered something else").into());
-    };
+    let (shards, mut jobs) = app.jobs().await?;
     jobs.retain(|job| caller.may_see(&job.opening.name));
     let names: Vec<Value> =
         jobs.iter().map(|job| json!({"name": job.opening.name, "mode": render::mode(job.mode)})).collect();

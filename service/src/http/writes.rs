@@ -1,9 +1,10 @@
 //! Requests that change something: a new job, and calls.
 use super::audit::Did;
+use super::bodies::Room;
 use super::others::{self, was_passed, Served};
 use super::query::{numbers, Parameter};
 use super::reply::{bad_field, body, error, invalid, json_reply, refusal, with_header, Reply};
-use super::{gate, no_job, units, wire, App};
+use super::{gate, no_job, wire, App};
 use crate::auth::Caller;
 use crate::model::{settings_json, sha256, Call};
 use crate::writer::{CallsDone, Created, Delete, Deletion, Key, Message, Names};
@@ -11,9 +12,7 @@ use hyper::body::HttpBody;
 use hyper::header::{HeaderMap, LOCATION};
 use hyper::{Body, Request};
 use serde_json::json;
-use std::sync::Arc;
 use std::time::Duration;
-use tokio::sync::OwnedSemaphorePermit;
 
 const KEY: &str = "idempotency-key";
 const LONGEST_KEY: usize = 255;
@@ -24,7 +23,7 @@ const STOP_BODIES: Duration = Duration::from_secs(5);
 
 pub async fn new_job(app: &App, caller: &Caller, request: Request<Body>) -> Result<Reply, Box<Reply>> {
     let (head, body) = request.into_parts();
-    let (bytes, _room) = read_body(app, body).await?;
+    let (bytes, _room) = read_body(app, caller, body).await?;
     let wire::NewJob { name, settings, shape, names } = wire::new_job(&bytes).map_err(|why| invalid(&why))?;
     if !caller.may_see(&name) {
         return Err(gate::not_for(&name).into());
@@ -112,10 +111,10 @@ pub async fn delete_job(app: &App, job: String, query: &str) -> Result<Reply, Bo
     })
 }
 
-pub async fn calls(app: &App, job: String, request: Request<Body>) -> Result<Reply, Box<Reply>> {
+pub async fn calls(app: &App, caller: &Caller, job: String, request: Request<Body>) -> Result<Reply, Box<Reply>> {
     app.number(&job)?;
     let name = key_name(request.headers())?;
-    let (bytes, _room) = read_body(app, request.into_body()).await?;
+    let (bytes, _room) = read_body(app, caller, request.into_body()).await?;
     let calls = wire::calls(&bytes, app.limits.calls).map_err(|why| invalid(&why))?;
     if let Some(call) = calls.iter().find(|call| call.wants_key()).filter(|_| name.is_none()) {
         return Err(key_is_missing(call).into());
@@ -157,10 +156,9 @@ pub(super) fn key_name(headers: &HeaderMap) -> Result<Option<String>, Box<Reply>
     }
 }
 
-/// The whole body, within its limits of bytes and time, and its room, which is reserved until the request is answered.
-pub(super) async fn read_body(app: &App, body: Body) -> Result<(Vec<u8>, OwnedSemaphorePermit), Box<Reply>> {
+/// The whole body, within its limits of bytes and time, and its room, which is kept until the request is answered.
+pub(super) async fn read_body(app: &App, caller: &Caller, body: Body) -> Result<(Vec<u8>, Room), Box<Reply>> {
     let most = app.limits.body_bytes;
-    // a body that does not tell its length gets room as it comes
     let length = body.size_hint().upper().and_then(|length| usize::try_from(length).ok());
     let time = Duration::from_secs(app.limits.body_seconds);
     if length.is_some_and(|length| length > most) {
@@ -168,9 +166,7 @@ pub(super) async fn read_body(app: &App, body: Body) -> Result<(Vec<u8>, OwnedSe
         let _ = tokio::time::timeout(time, pass_over(body, 4 * most)).await;
         return Err(too_long(most).into());
     }
-    let bytes = Vec::with_capacity(length.unwrap_or(0));
-    let mut reading = Reading { app, bytes, room: room_for(app, 0)?, units: 0 };
-    reading.reserve(length.unwrap_or(0))?;
+    let mut reading = Reading { most, bytes: Vec::new(), room: Room::new(&app.bodies, app.keys.token_of(caller)) };
     tokio::select! {
         // most bodies are there at once, and need no timer
         biased;
@@ -184,41 +180,27 @@ pub(super) async fn read_body(app: &App, body: Body) -> Result<(Vec<u8>, OwnedSe
 }
 
 /// A body that is being read, and its room.
-struct Reading<'a> {
-    app: &'a App,
+struct Reading {
+    most: usize,
     bytes: Vec<u8>,
-    room: OwnedSemaphorePermit,
-    units: u32,
+    room: Room,
 }
 
-impl Reading<'_> {
+impl Reading {
     async fn read(&mut self, mut body: Body) -> Result<(), Box<Reply>> {
         while let Some(part) = body.data().await {
             let part = part.map_err(|_| error(400, "the body ended early"))?;
             let length = self.bytes.len() + part.len();
-            if length > self.app.limits.body_bytes {
-                return Err(too_long(self.app.limits.body_bytes).into());
+            if length > self.most {
+                return Err(too_long(self.most).into());
             }
-            self.reserve(length)?;
+            if !self.room.grow(length) {
+                return Err(gate::busy("the bodies of other requests take all room").into());
+            }
             self.bytes.extend_from_slice(&part);
         }
         Ok(())
     }
-
-    /// Gets the room that is missing for so many bytes.
-    fn reserve(&mut self, length: usize) -> Result<(), Box<Reply>> {
-        let missing = units(length).saturating_sub(self.units);
-        if missing > 0 {
-            self.room.merge(room_for(self.app, missing)?);
-            self.units += missing;
-        }
-        Ok(())
-    }
-}
-
-fn room_for(app: &App, units: u32) -> Result<OwnedSemaphorePermit, Box<Reply>> {
-    let room = Arc::clone(&app.bodies).try_acquire_many_owned(units);
-    room.map_err(|_| gate::busy("the bodies of other requests take all room").into())
 }
 
 /// Ends some time after the service was told to stop.

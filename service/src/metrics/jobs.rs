@@ -1,9 +1,8 @@
 //! The gauges of jobs, which each scrape sets anew.
-use super::{forget, gauge, seconds, set, set_seconds};
+use super::{forget, gauge, seconds, set, set_seconds, Families, KINDS, STATES};
 use crate::model::Mode;
 use crate::writer::JobState;
-use prometheus::{GaugeVec, IntGaugeVec, Registry};
-use std::collections::HashSet;
+use prometheus::{GaugeVec, IntGaugeVec};
 
 pub struct Gauges {
     mode: IntGaugeVec,
@@ -84,6 +83,12 @@ impl Gauges {
         })
     }
 
+    /// Those of seconds.
+    fn moments(&self) -> [&GaugeVec; 5] {
+        let Gauges { interval, timeout, completed, opened, image_at, .. } = self;
+        [interval, timeout, completed, opened, image_at]
+    }
+
     /// Those of whole numbers.
     fn whole(&self) -> [&IntGaugeVec; 11] {
         let Gauges {
@@ -103,14 +108,9 @@ impl Gauges {
         [mode, files, pending, savepoints, log_calls, kept_calls, image_bytes, since_image, history, term, next_name]
     }
 
-    pub fn register(&self, registry: &Registry) -> Result<(), prometheus::Error> {
-        for gauge in self.whole() {
-            registry.register(Box::new(gauge.clone()))?;
-        }
-        let Gauges { interval, timeout, completed, opened, image_at, .. } = self;
-        [interval, timeout, completed, opened, image_at]
-            .into_iter()
-            .try_for_each(|gauge| registry.register(Box::new(gauge.clone())))
+    pub fn register(&self, all: &mut Families) -> Result<(), prometheus::Error> {
+        self.whole().into_iter().try_for_each(|gauge| all.add(gauge))?;
+        self.moments().into_iter().try_for_each(|gauge| all.add(gauge))
     }
 
     pub fn set(&self, job: &JobState) {
@@ -127,9 +127,9 @@ impl Gauges {
         set_seconds(&self.timeout, name, settings.timeout);
         set_seconds(&self.completed, name, job.last_completed.unwrap_or(job.opening.started));
         set_seconds(&self.opened, name, job.opening.started);
-        set(&self.files, &[name, "in_use"], job.files.in_use);
-        set(&self.files, &[name, "waiting"], job.files.waiting);
-        set(&self.files, &[name, "taken"], job.files.taken);
+        for (state, number) in STATES.into_iter().zip([job.files.in_use, job.files.waiting, job.files.taken]) {
+            set(&self.files, &[name, state], number);
+        }
         set(&self.pending, &[name, "checkpoint"], job.pending_checkpoints as u64);
         set(&self.pending, &[name, "savepoint"], job.pending_savepoints as u64);
         set(&self.savepoints, &[name], job.savepoints() as u64);
@@ -145,15 +145,14 @@ impl Gauges {
         set(&self.history, &[job], upto);
     }
 
-    /// Jobs were deleted, or given up.
-    pub fn forget(&self, jobs: &HashSet<&str>) {
+    /// A job was deleted, or given up.
+    pub fn forget(&self, job: &str) {
         for gauge in self.whole() {
-            forget(gauge, jobs);
+            forget(gauge, job, &[]);
         }
-        let Gauges { interval, timeout, completed, opened, image_at, .. } = self;
-        for gauge in [interval, timeout, completed, opened, image_at] {
-            forget(gauge, jobs);
-        }
+        forget(&self.files, job, &[&STATES]);
+        forget(&self.pending, job, &[&KINDS]);
+        self.moments().into_iter().for_each(|gauge| forget(gauge, job, &[]));
     }
 
     fn set_log(&self, job: &JobState, name: &str) {

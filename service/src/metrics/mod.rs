@@ -5,19 +5,19 @@ mod queue;
 mod sizes;
 mod upkeep;
 
+use crate::history::Search;
 use crate::model::Outcome;
 use crate::writer::JobState;
 use jobs::Gauges;
 use process::Process;
 use prometheus::core::{Collector, MetricVec, MetricVecBuilder};
-use prometheus::proto::{LabelPair, MetricFamily};
 use prometheus::{
     Encoder, Gauge, GaugeVec, Histogram, HistogramOpts, HistogramVec, IntCounterVec, IntGauge, IntGaugeVec, Opts,
     Registry, TextEncoder,
 };
 use queue::Queue;
 use sizes::SizeMetrics;
-use std::collections::{HashMap, HashSet};
+use std::collections::HashSet;
 use std::sync::{Mutex, MutexGuard, PoisonError};
 use std::time::Duration;
 use upkeep::Upkeep;
@@ -26,8 +26,28 @@ const SECONDS: [f64; 12] = [0.0005, 0.001, 0.002, 0.005, 0.01, 0.02, 0.05, 0.1, 
 const ROWS: [f64; 8] = [1.0, 4.0, 16.0, 64.0, 256.0, 1024.0, 4096.0, 16384.0];
 const DURATIONS: [f64; 12] = [0.1, 0.25, 0.5, 1.0, 2.5, 5.0, 10.0, 30.0, 60.0, 120.0, 300.0, 600.0];
 
+/// The words of labels, by which the values of a job are found again. A deletion looks at these alone, and not at those of all jobs.
+const CALLS: [&str; 13] = [
+    "tick",
+    "savepoint",
+    "ack",
+    "decline",
+    "dispose",
+    "restore",
+    "cancel",
+    "take",
+    "deleted",
+    "undeleted",
+    "fence",
+    "reserve",
+    "forfeit",
+];
+const OUTCOMES: [&str; 5] = ["made", "fenced", "refused", "no_memory", "not_made"];
+const KINDS: [&str; 2] = Search::KINDS;
+const STATES: [&str; 3] = ["in_use", "waiting", "taken"];
+
 pub struct Metrics {
-    registry: Registry,
+    families: Families,
     calls: IntCounterVec,
     requests: IntCounterVec,
     commit_seconds: Histogram,
@@ -52,8 +72,8 @@ pub struct Metrics {
 
 impl Metrics {
     pub fn new() -> Result<Metrics, prometheus::Error> {
-        let metrics = Metrics {
-            registry: Registry::new(),
+        let mut metrics = Metrics {
+            families: Families::default(),
             calls: counter("relkvanu_calls_total", "Calls, by what became of them.", &["job_name", "call", "outcome"])?,
             requests: counter(
                 "relkvanu_http_requests_total",
@@ -104,26 +124,26 @@ impl Metrics {
         Ok(metrics)
     }
 
-    fn register(&self) -> Result<(), prometheus::Error> {
-        let registry = &self.registry;
+    fn register(&mut self) -> Result<(), prometheus::Error> {
+        let all = &mut self.families;
         for counter in [&self.calls, &self.requests, &self.records] {
-            registry.register(Box::new(counter.clone()))?;
+            all.add(counter)?;
         }
         for times in [&self.commit_seconds, &self.commit_rows, &self.image_seconds] {
-            registry.register(Box::new(times.clone()))?;
+            all.add(times)?;
         }
-        registry.register(Box::new(self.images_fail.clone()))?;
-        registry.register(Box::new(self.clock_ahead.clone()))?;
-        registry.register(Box::new(self.leader.clone()))?;
-        registry.register(Box::new(self.shards.clone()))?;
-        registry.register(Box::new(self.connections.clone()))?;
-        registry.register(Box::new(self.commit_takes.clone()))?;
-        registry.register(Box::new(self.durations.clone()))?;
-        self.upkeep.register(registry)?;
-        self.sizes.register(registry)?;
-        self.queue.register(registry)?;
-        self.process.register(registry)?;
-        self.gauges.register(registry)
+        all.add(&self.images_fail)?;
+        all.add(&self.clock_ahead)?;
+        all.add(&self.leader)?;
+        all.add(&self.shards)?;
+        all.add(&self.connections)?;
+        all.add(&self.commit_takes)?;
+        all.add(&self.durations)?;
+        self.upkeep.register(all)?;
+        self.sizes.register(all)?;
+        self.queue.register(all)?;
+        self.process.register(all)?;
+        self.gauges.register(all)
     }
 
     pub fn call(&self, job: &str, call: &str, outcome: &Outcome) {
@@ -177,22 +197,21 @@ impl Metrics {
         self.gauges.history(job, upto);
     }
 
-    /// A job was deleted: its values go.
+    /// A job was deleted, or is another process's: its values go.
     pub fn forget(&self, job: &str) {
-        self.forget_all(&HashSet::from([job]));
+        let _held = self.values();
+        forget(&self.calls, job, &[&CALLS, &OUTCOMES]);
+        forget(&self.records, job, &[&KINDS, &Search::HOWS]);
+        forget(&self.images_fail, job, &[]);
+        forget(&self.durations, job, &[&KINDS]);
+        self.gauges.forget(job);
+        self.upkeep.forget(job);
+        self.sizes.forget(job);
     }
 
-    /// Jobs were deleted, or are another process's. It visits the values of all jobs, so many are forgotten at once.
-    pub fn forget_all(&self, jobs: &HashSet<&str>) {
-        let _held = self.values();
-        for counter in [&self.calls, &self.records] {
-            forget(counter, jobs);
-        }
-        forget(&self.images_fail, jobs);
-        forget(&self.durations, jobs);
-        self.gauges.forget(jobs);
-        self.upkeep.forget(jobs);
-        self.sizes.forget(jobs);
+    /// Jobs were deleted, or are another process's.
+    pub fn forget_all<'a>(&self, jobs: impl IntoIterator<Item = &'a str>) {
+        jobs.into_iter().for_each(|job| self.forget(job));
     }
 
     /// How many shards of the jobs this process serves.
@@ -211,9 +230,7 @@ impl Metrics {
         lags: impl FnOnce() -> Vec<(String, Duration)>,
     ) -> Result<Vec<u8>, prometheus::Error> {
         self.set(jobs, lags);
-        let mut text = Vec::new();
-        TextEncoder::new().encode(&self.registry.gather(), &mut text)?;
-        Ok(text)
+        self.families.text()
     }
 
     /// A job that has gone since it was read has been forgotten, or will be: it gets no values, which would stay.
@@ -237,18 +254,41 @@ impl Metrics {
     }
 }
 
-/// Removes the values of jobs.
-fn forget<T: MetricVecBuilder>(values: &MetricVec<T>, jobs: &HashSet<&str>)
-where
-    MetricVec<T>: Collector,
-{
-    let is_of = |label: &LabelPair| label.get_name() == "job_name" && jobs.contains(label.get_value());
-    let families = values.collect();
-    for metric in families.iter().flat_map(MetricFamily::get_metric).filter(|it| it.get_label().iter().any(is_of)) {
-        let labels: HashMap<&str, &str> =
-            metric.get_label().iter().map(|label| (label.get_name(), label.get_value())).collect();
-        // it may be removed by now
-        let _ = values.remove(&labels);
+/// All metrics. Their texts are written one after another: all values of thousands of jobs at once would take some hundred MiB.
+#[derive(Default)]
+pub struct Families {
+    /// Refuses two metrics of one name.
+    registry: Registry,
+    all: Vec<Box<dyn Collector>>,
+}
+
+impl Families {
+    pub fn add<C: Collector + Clone + 'static>(&mut self, metric: &C) -> Result<(), prometheus::Error> {
+        self.registry.register(Box::new(metric.clone()))?;
+        self.all.push(Box::new(metric.clone()));
+        Ok(())
+    }
+
+    fn text(&self) -> Result<Vec<u8>, prometheus::Error> {
+        let mut text = Vec::new();
+        for metric in &self.all {
+            // the encoder refuses one without a value
+            let families: Vec<_> = metric.collect().into_iter().filter(|it| !it.get_metric().is_empty()).collect();
+            TextEncoder::new().encode(&families, &mut text)?;
+        }
+        Ok(text)
+    }
+}
+
+/// Removes the values of a job, with each of these words in the labels that follow its name.
+fn forget<T: MetricVecBuilder>(values: &MetricVec<T>, job: &str, words: &[&[&str]]) {
+    let mut labels = vec![vec![job]];
+    for more in words {
+        labels = labels.iter().flat_map(|some| more.iter().map(|word| [&some[..], &[*word]].concat())).collect();
+    }
+    for some in labels {
+        // most have no value
+        let _ = values.remove_label_values(&some);
     }
 }
 

@@ -1,5 +1,6 @@
 //! Metrics of the process, under the names that Prometheus' clients give them, and of what was built.
-use prometheus::{Counter, Gauge, IntGauge, IntGaugeVec, Opts, Registry};
+use super::Families;
+use prometheus::{Counter, Gauge, IntGauge, IntGaugeVec, Opts};
 use std::fs;
 use std::time::{SystemTime, UNIX_EPOCH};
 
@@ -43,13 +44,12 @@ impl Process {
         Ok(process)
     }
 
-    pub fn register(&self, registry: &Registry) -> Result<(), prometheus::Error> {
-        registry.register(Box::new(self.cpu.clone()))?;
-        registry.register(Box::new(self.build.clone()))?;
-        for gauge in [&self.resident, &self.virtual_memory, &self.open_files, &self.threads] {
-            registry.register(Box::new(gauge.clone()))?;
-        }
-        [&self.most_files, &self.started].into_iter().try_for_each(|gauge| registry.register(Box::new(gauge.clone())))
+    pub fn register(&self, all: &mut Families) -> Result<(), prometheus::Error> {
+        all.add(&self.cpu)?;
+        all.add(&self.build)?;
+        let numbers = [&self.resident, &self.virtual_memory, &self.open_files, &self.threads];
+        numbers.into_iter().try_for_each(|gauge| all.add(gauge))?;
+        [&self.most_files, &self.started].into_iter().try_for_each(|gauge| all.add(gauge))
     }
 
     /// Asks the system. What it does not say stays as it was.

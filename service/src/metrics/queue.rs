@@ -1,5 +1,6 @@
 //! Metrics of what waits: requests for the writer, and jobs for their ticks.
-use prometheus::{Gauge, Histogram, HistogramOpts, IntGauge, Registry};
+use super::Families;
+use prometheus::{Gauge, Histogram, HistogramOpts, IntGauge};
 use std::time::{Duration, SystemTime, UNIX_EPOCH};
 
 const WAITS: [f64; 12] = [0.0005, 0.001, 0.0025, 0.005, 0.01, 0.025, 0.05, 0.1, 0.25, 1.0, 5.0, 30.0];
@@ -28,11 +29,11 @@ impl Queue {
         })
     }
 
-    pub fn register(&self, registry: &Registry) -> Result<(), prometheus::Error> {
-        registry.register(Box::new(self.requests.clone()))?;
-        registry.register(Box::new(self.waited.clone()))?;
-        registry.register(Box::new(self.tick_late.clone()))?;
-        registry.register(Box::new(self.followed.clone()))
+    pub fn register(&self, all: &mut Families) -> Result<(), prometheus::Error> {
+        all.add(&self.requests)?;
+        all.add(&self.waited)?;
+        all.add(&self.tick_late)?;
+        all.add(&self.followed)
     }
 
     pub fn length(&self, requests: usize) {

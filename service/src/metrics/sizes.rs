@@ -1,8 +1,10 @@
 //! Metrics of sizes: the bytes of a job's files, and of its last records.
-use super::forget;
+use super::{forget, Families, KINDS, STATES};
 use crate::model::Bytes;
-use prometheus::{IntGaugeVec, Opts, Registry};
-use std::collections::HashSet;
+use prometheus::{IntGaugeVec, Opts};
+
+/// Of which files of a record the bytes are.
+const OF: [&str; 2] = ["new", "all"];
 
 pub struct SizeMetrics {
     files: IntGaugeVec,
@@ -28,28 +30,29 @@ impl SizeMetrics {
         })
     }
 
-    pub fn register(&self, registry: &Registry) -> Result<(), prometheus::Error> {
-        [&self.files, &self.sized, &self.records].into_iter().try_for_each(|it| registry.register(Box::new(it.clone())))
+    pub fn register(&self, all: &mut Families) -> Result<(), prometheus::Error> {
+        [&self.files, &self.sized, &self.records].into_iter().try_for_each(|it| all.add(it))
     }
 
     pub fn job(&self, job: &str, bytes: &Bytes) {
-        for (state, number) in [("in_use", bytes.in_use), ("waiting", bytes.waiting), ("taken", bytes.taken)] {
+        for (state, number) in STATES.into_iter().zip([bytes.in_use, bytes.waiting, bytes.taken]) {
             set(&self.files, &[job, state], number);
         }
         set(&self.sized, &[job], bytes.files);
     }
 
-    /// Jobs were deleted, or given up.
-    pub fn forget(&self, jobs: &HashSet<&str>) {
-        for gauge in [&self.files, &self.sized, &self.records] {
-            forget(gauge, jobs);
-        }
+    /// A job was deleted, or given up.
+    pub fn forget(&self, job: &str) {
+        forget(&self.files, job, &[&STATES]);
+        forget(&self.sized, job, &[]);
+        forget(&self.records, job, &[&KINDS, &OF]);
     }
 
     /// A record completed, with these bytes of its new files and of all.
     pub fn record(&self, job: &str, kind: &str, (fresh, full): (u64, u64)) {
-        set(&self.records, &[job, kind, "new"], fresh);
-        set(&self.records, &[job, kind, "all"], full);
+        for (of, number) in OF.into_iter().zip([fresh, full]) {
+            set(&self.records, &[job, kind, of], number);
+        }
     }
 }
 

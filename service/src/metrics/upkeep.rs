@@ -1,8 +1,7 @@
 //! Metrics of what the service does beside its calls: the history, deletions, and the room that it takes.
-use super::forget;
+use super::{forget, Families};
 use crate::auth::{Access, Tokens};
-use prometheus::{Gauge, GaugeVec, IntGauge, IntGaugeVec, Opts, Registry};
-use std::collections::HashSet;
+use prometheus::{Gauge, GaugeVec, IntGauge, IntGaugeVec, Opts};
 use std::time::{Duration, SystemTime, UNIX_EPOCH};
 
 pub struct Upkeep {
@@ -42,15 +41,11 @@ impl Upkeep {
         })
     }
 
-    pub fn register(&self, registry: &Registry) -> Result<(), prometheus::Error> {
-        registry.register(Box::new(self.history_up.clone()))?;
-        [&self.history_lag, &self.token_until]
-            .into_iter()
-            .try_for_each(|it| registry.register(Box::new(it.clone())))?;
-        [&self.keys_behind, &self.samples_behind]
-            .into_iter()
-            .try_for_each(|it| registry.register(Box::new(it.clone())))?;
-        [&self.bytes, &self.free].into_iter().try_for_each(|it| registry.register(Box::new(it.clone())))
+    pub fn register(&self, all: &mut Families) -> Result<(), prometheus::Error> {
+        all.add(&self.history_up)?;
+        [&self.history_lag, &self.token_until].into_iter().try_for_each(|it| all.add(it))?;
+        [&self.keys_behind, &self.samples_behind].into_iter().try_for_each(|it| all.add(it))?;
+        [&self.bytes, &self.free].into_iter().try_for_each(|it| all.add(it))
     }
 
     pub fn history_up(&self, is_up: bool) {
@@ -61,9 +56,9 @@ impl Upkeep {
         self.history_lag.with_label_values(&[job]).set(lag.as_secs_f64());
     }
 
-    /// Jobs were deleted, or given up.
-    pub fn forget(&self, jobs: &HashSet<&str>) {
-        forget(&self.history_lag, jobs);
+    /// A job was deleted, or given up.
+    pub fn forget(&self, job: &str) {
+        forget(&self.history_lag, job, &[]);
     }
 
     /// When the last token for each access ends, if it does.

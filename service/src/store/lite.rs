@@ -4,7 +4,7 @@ use super::error::{DbError, Failure, Unusable};
 use super::files::{self, Opened};
 use super::lite_write::write;
 use super::moved::{self, MOVED};
-use super::rows::{is_event, steps_after, Group, Keyed, Lead, Store, Written, MOST_STARTS, OF_JOBS, VERSION};
+use super::rows::{is_event, steps_after, Committed, Group, Keyed, Lead, Store, Written, MOST_STARTS, OF_JOBS, VERSION};
 use crate::model::{lengths_text, Held, Shards};
 use rusqlite::config::DbConfig;
 use rusqlite::{ffi, params, Connection, ErrorCode, OptionalExtension};
@@ -148,11 +148,14 @@ impl Store for Lite {
     }
 
     fn commit(&mut self, group: &Group) -> Written {
+        // nobody else can lead, so each commit renews what needs no renewal
+        let committed = Committed { renews: true };
         if group.is_empty() {
-            return Ok(());
+            return Ok(committed);
         }
         write(&mut self.connection, group).map_err(failure)?;
-        self.opened.check().map_err(Failure::Lost)
+        self.opened.check().map_err(Failure::Lost)?;
+        Ok(committed)
     }
 
     fn keyed(&mut self, keys: &[(i64, String)]) -> Result<Vec<Keyed>, DbError> {
@@ -167,7 +170,7 @@ impl Store for Lite {
     }
 
     fn forget_keys(&mut self, before: u64, most: u64) -> Result<u64, DbError> {
-        let sql = "delete from request where (job, key) in (select job, key from request where at < ? limit ?)";
+        let sql = "delete from request where (job, key) in (select job, key from request where at < ? order by at limit ?)";
         Ok(self.connection.execute(sql, [signed(before), signed(most)])? as u64)
     }
 

@@ -7,8 +7,8 @@ use super::pg_columns::Columns;
 use super::pg_commit::{Statements, CALLS};
 use super::pg_members::{self, Members, Shares, Watch};
 use super::pq::{Connection, Failed, Rows};
-use super::rows::{is_event, steps_after, Group, Keyed, Lead, Store, Written, OF_JOBS, VERSION};
-use crate::model::{Held, Shards};
+use super::rows::{is_event, steps_after, Committed, Group, Keyed, Lead, Store, Written, OF_JOBS, VERSION};
+use crate::model::{Held, Moment, Shards};
 use std::collections::BTreeMap;
 use std::ffi::CStr;
 use std::time::Duration;
@@ -44,6 +44,8 @@ pub struct Pg {
     name: String,
     address: String,
     lease: Duration,
+    /// When the commit began that renewed the lease last.
+    renewed: Option<Moment>,
     epochs: BTreeMap<u8, u64>,
     watch: Watch,
 }
@@ -61,10 +63,12 @@ impl Pg {
         connection.prepare(KEYED_NAME, KEYED)?;
         // those of a renewal and of calls, which a leader needs in any case
         let mut statements = Statements::default();
-        statements.name(&mut connection, &[])?;
-        statements.name(&mut connection, CALLS)?;
+        for (parts, renews) in [(&[][..], true), (CALLS, true), (CALLS, false)] {
+            statements.name(&mut connection, parts, renews)?;
+        }
         let (name, address) = (relkvanu_client::new_key(), address.to_string());
-        Ok(Pg { connection, statements, name, address, lease, epochs: BTreeMap::new(), watch: Watch::default() })
+        let (epochs, watch) = (BTreeMap::new(), Watch::default());
+        Ok(Pg { connection, statements, name, address, lease, renewed: None, epochs, watch })
     }
 
     /// The connection by which this process shares the jobs with others.
@@ -72,8 +76,8 @@ impl Pg {
         Shares::open(url, &self.name, self.lease)
     }
 
-    fn write(&mut self, columns: Columns, shards: Shards) -> Result<Rows, Failed> {
-        let name = self.statements.name(&mut self.connection, &columns.parts)?;
+    fn write(&mut self, columns: Columns, shards: Shards, renews: bool) -> Result<Rows, Failed> {
+        let name = self.statements.name(&mut self.connection, &columns.parts, renews)?;
         // a shard that this process does not have has an epoch that never was
         let epoch = |shard: u8| self.epochs.get(&shard).map_or(-1, |epoch| *epoch as i64);
         let mut given = vec![
@@ -95,7 +99,9 @@ impl Store for Pg {
             return Ok(Lead::Elsewhere { committed });
         }
         for member in &members.all {
-            pg_members::expel(&mut self.connection, member)?;
+            if !pg_members::expel(&mut self.connection, member)? {
+                self.watch.lives(member);
+            }
         }
         let held = pg_members::take_all(&mut self.connection, &self.name, &self.address, &seconds(self.lease))?;
         if held.is_empty() {
@@ -124,12 +130,17 @@ impl Store for Pg {
     fn commit(&mut self, group: &Group) -> Written {
         let (columns, shards) = (Columns::of(group), group.shards());
         let wanted: Vec<usize> = std::iter::once(1).chain(columns.counts.iter().copied()).collect();
-        let rows = self.write(columns, shards).map_err(failure)?;
+        let since = Moment::now();
+        let renews = group.is_empty() || self.renewed.is_none_or(|renewed| renewed.elapsed() >= self.beat());
+        let rows = self.write(columns, shards, renews).map_err(failure)?;
         let written = (0..wanted.len()).map(|column| cell(&rows, column).and_then(|text| text.parse().ok()));
-        if written.eq(wanted.into_iter().map(Some)) {
-            return Ok(());
+        if !written.eq(wanted.into_iter().map(Some)) {
+            return Err(Failure::Lost(DbError::NotLeading));
         }
-        Err(Failure::Lost(DbError::NotLeading))
+        if renews {
+            self.renewed = Some(since);
+        }
+        Ok(Committed { renews })
     }
 
     fn keyed(&mut self, keys: &[(i64, String)]) -> Result<Vec<Keyed>, DbError> {
@@ -141,7 +152,7 @@ impl Store for Pg {
 
     fn forget_keys(&mut self, before: u64, most: u64) -> Result<u64, DbError> {
         let sql = "with gone as (delete from request where (job, key) in
-            (select job, key from request where at < $1::bigint limit $2::bigint) returning 1) select count(*) from gone";
+            (select job, key from request where at < $1::bigint order by at limit $2::bigint) returning 1) select count(*) from gone";
         let rows = self.connection.query(sql, &[&before.to_string(), &most.to_string()])?;
         Ok(cell(&rows, 0).and_then(|count| count.parse().ok()).unwrap_or(0))
     }

@@ -8,35 +8,41 @@ use std::fmt::Write;
 const PARTS: &str = include_str!("../../sql/pg_commit.sql");
 /// What a part begins with.
 const PART: &str = "-- part ";
-/// The lease and the fence: $1 seconds of the lease, $2 the member, and $3 and $4 the shards that the group writes with their epochs. It
-/// locks the member's row, which has to go before another process gets a shard of it. A leader that was stopped holds no lock.
-const LEASE: &str = "update member set beat = beat + 1, until = clock_timestamp() + $1::float8 * interval '1 s' where name = $2
+/// The fence: $1 seconds of the lease, $2 the member, and $3 and $4 the shards that the group writes with their epochs. It locks the
+/// member's row, which has to go before another process gets a shard of it. A leader that was stopped holds no lock. It writes no version of
+/// the row: those of thousands of commits would stay beside a long read, as a dump is, and each commit would visit them all.
+const LEASE: &str = "select 1 from member where name = $2 and $1::float8 > 0
+    and not exists (select from unnest($3::bigint[], $4::bigint[]) u(number, epoch)
+    left join shard on shard.number = u.number and shard.epoch = u.epoch and shard.owner = $2 where shard.number is null)
+    for no key update";
+/// The same, which renews the lease too.
+const RENEWAL: &str = "update member set beat = beat + 1, until = clock_timestamp() + $1::float8 * interval '1 s' where name = $2
     and not exists (select from unnest($3::bigint[], $4::bigint[]) u(number, epoch)
     left join shard on shard.number = u.number and shard.epoch = u.epoch and shard.owner = $2 where shard.number is null) returning 1";
-/// How many parameters that has.
+/// How many parameters each has.
 const OF_LEASE: usize = 4;
 
 /// The parts of a group with calls alone.
 pub const CALLS: &[usize] = &[1];
 
-/// The statements that the connection knows, by the lists of their parts.
+/// The statements that the connection knows, by their names.
 #[derive(Default)]
-pub struct Statements(HashSet<Vec<usize>>);
+pub struct Statements(HashSet<CString>);
 
 impl Statements {
-    /// The name of the statement of these parts, which rise. Prepares it if it is new.
-    pub fn name(&mut self, connection: &mut Connection, parts: &[usize]) -> Result<CString, Failed> {
-        let name = name(parts);
-        if !self.0.contains(parts) {
-            connection.prepare(&name, &statement(parts))?;
-            self.0.insert(parts.to_vec());
+    /// The name of the statement of these parts, which rise, with the lease's renewal or without. Prepares it if it is new.
+    pub fn name(&mut self, connection: &mut Connection, parts: &[usize], renews: bool) -> Result<CString, Failed> {
+        let name = name(parts, renews);
+        if !self.0.contains(&name) {
+            connection.prepare(&name, &statement(parts, renews))?;
+            self.0.insert(name.clone());
         }
         Ok(name)
     }
 }
 
-fn name(parts: &[usize]) -> CString {
-    let mut name = String::from("commit");
+fn name(parts: &[usize], renews: bool) -> CString {
+    let mut name = String::from(if renews { "renew" } else { "commit" });
     for part in parts {
         // a write to a text does not fail
         let _ = write!(name, "_{part}");
@@ -44,11 +50,12 @@ fn name(parts: &[usize]) -> CString {
     CString::new(name).unwrap_or_else(|_| CStr::to_owned(c"commit"))
 }
 
-/// It answers how many members it renewed, and how many rows it wrote of each of its parts that is counted.
-fn statement(parts: &[usize]) -> String {
+/// It answers how many members it locked, and how many rows it wrote of each of its parts that is counted.
+fn statement(parts: &[usize], renews: bool) -> String {
+    let lease = if renews { RENEWAL } else { LEASE };
     let texts: Vec<&str> = PARTS.split(PART).skip(1).map(body).collect();
     let (mut with, mut counts, mut before) =
-        (format!("l as ({LEASE})"), "(select count(*) from l)".to_string(), OF_LEASE);
+        (format!("l as ({lease})"), "(select count(*) from l)".to_string(), OF_LEASE);
     for text in parts.iter().filter_map(|part| texts.get(*part)) {
         let (numbered, parameters) = numbered(text, before);
         before += parameters;
@@ -84,9 +91,10 @@ mod tests {
 
     #[test]
     fn a_statement_has_the_parts_that_it_needs() {
-        let renewal = statement(&[]);
-        assert_eq!(renewal, format!("with l as ({LEASE}) select (select count(*) from l)"));
-        let calls = statement(&[1, 6]);
+        let renewal = statement(&[], true);
+        assert_eq!(renewal, format!("with l as ({RENEWAL}) select (select count(*) from l)"));
+        let calls = statement(&[1, 6], false);
+        assert!(calls.starts_with(&format!("with l as ({LEASE}), c as (")), "{calls}");
         assert!(
             calls.contains("insert into call select")
                 && calls.contains("delete from call using l, unnest($13::bigint[], $14")

@@ -1,6 +1,5 @@
 //! The processes that share a database of PostgreSQL: which there are, which one owns each shard, and how shards change hands. A member
-//! that commits nothing for the length of its lease, an empty group too, is deleted: then its shards are free, and no commit of it
-//! succeeds.
+//! that does not renew its lease for as long as that lasts is deleted: then its shards are free, and no commit of it succeeds.
 use super::error::DbError;
 use super::pq::{Connection, Failed};
 use super::rows::MOST_STARTS;
@@ -22,8 +21,9 @@ const TAKE_ALL: &str = "with free as (select number from shard where owner is nu
     me as (insert into member select $1, $2, false, 0, $3::float8, clock_timestamp() + $3::float8 * interval '1 s'
         where (select count(*) from free) = (select count(*) from shard) returning name)
     update shard set owner = me.name, epoch = epoch + 1 from me returning shard.number, epoch";
-/// Waits for a commit of the member that is under way; then its beat is another one.
-const EXPEL: &str = "delete from member where name = $1 and beat = $2::bigint returning 1";
+/// Passes over a member whose commit is under way: it holds the row's lock.
+const EXPEL: &str = "with silent as (select name from member where name = $1 and beat = $2::bigint for update skip locked)
+    delete from member using silent where member.name = silent.name returning 1";
 const LEAVE: &str = "delete from member where name = $1";
 /// In the order of their numbers, so that two processes never wait for each other. One that was deleted gets none: the owner has to be a
 /// member.
@@ -112,18 +112,18 @@ fn member(row: &[Option<String>]) -> Result<Member, DbError> {
     Ok(Member { name: name.clone(), address: address.clone(), spreads: spreads == "t", beat, lease })
 }
 
-/// Members as they were seen last, and since when each has committed nothing: by the clock of this machine, since that of the database
+/// Members as they were seen last, and since when each has not renewed its lease: by the clock of this machine, since that of the database
 /// may be set while it serves.
 #[derive(Default)]
 pub struct Watch {
     seen: HashMap<String, (i64, Moment)>,
-    /// Those that have committed since this process watches.
+    /// Those that have renewed their lease since this process watches.
     committed: HashSet<String>,
     noted: Option<Moment>,
 }
 
 impl Watch {
-    /// Notes the members as they are now. Returns whether one has committed since they were noted last, or came or went.
+    /// Notes the members as they are now. Returns whether one has renewed its lease since they were noted last, or came or went.
     pub fn note(&mut self, all: &[Member]) -> bool {
         let before = self.seen.len();
         self.seen.retain(|name, _| all.iter().any(|member| member.name == *name));
@@ -151,12 +151,17 @@ impl Watch {
         }
     }
 
-    /// Whether a member has committed since this process watches. One that was killed is a member until its lease is over.
+    /// Counts anew for a member that could not be expelled: it commits at this moment, or has just done so.
+    pub fn lives(&mut self, member: &Member) {
+        self.seen.insert(member.name.clone(), (member.beat, Moment::now()));
+    }
+
+    /// Whether a member has renewed its lease since this process watches. One that was killed is a member until its lease is over.
     pub fn has_committed(&self, name: &str) -> bool {
         self.committed.contains(name)
     }
 
-    /// Whether a member has committed nothing for the length of its lease, and of this one.
+    /// Whether a member has not renewed its lease for the length of it, and of this one.
     pub fn is_over(&self, member: &Member, lease: Duration) -> bool {
         self.seen.get(&member.name).is_some_and(|(_, since)| since.elapsed() >= member.lease.max(lease))
     }
@@ -189,7 +194,7 @@ impl Shares {
         Ok(())
     }
 
-    /// The members as they are now, without those that have committed nothing for the length of their lease. These are deleted.
+    /// The members as they are now, without those that have not renewed their lease for the length of it. These are deleted.
     pub fn look(&mut self) -> Result<Members, DbError> {
         let members = Members::read(&mut self.connection)?;
         self.watch.begin_anew_after(self.lease / BLIND);
@@ -199,6 +204,8 @@ impl Shares {
         for member in &over {
             if expel(&mut self.connection, member)? {
                 log::warn(&format!("the process at {} has not renewed its lease: its shards are free", member.address));
+            } else {
+                self.watch.lives(member);
             }
         }
         if over.is_empty() {
@@ -253,7 +260,7 @@ pub fn join(connection: &mut Connection, name: &str, address: &str, lease: &str)
     connection.query(JOIN, &[name, address, lease]).map(|_| ())
 }
 
-/// Deletes a member that has not committed since it was seen. Returns whether it did.
+/// Deletes a member that has not renewed its lease since it was seen, and commits nothing now. Returns whether it did.
 pub fn expel(connection: &mut Connection, member: &Member) -> Result<bool, Failed> {
     Ok(connection.query(EXPEL, &[&member.name, &member.beat.to_string()])?.len() == 1)
 }
@@ -321,6 +328,16 @@ mod tests {
         assert!(!watch.is_over(&member("a", 1), hour) && watch.is_over(&member("b", 7), zero));
         assert!(!watch.is_over(&member("b", 7), hour) && !watch.is_over(&member("c", 0), zero));
         assert!(watch.note(&[member("a", 1)]) && !watch.note(&[member("a", 1)]));
+    }
+
+    #[test]
+    fn one_that_commits_now_counts_anew() {
+        let (mut watch, a) = (Watch::default(), member("a", 3));
+        watch.note(std::slice::from_ref(&a));
+        std::thread::sleep(Duration::from_millis(40));
+        assert!(watch.is_over(&a, Duration::ZERO));
+        watch.lives(&a);
+        assert!(!watch.is_over(&a, Duration::ZERO));
     }
 
     #[test]

@@ -120,14 +120,21 @@ pub fn steps_after(found: i64, steps: [&'static str; VERSION]) -> impl Iterator<
     steps.into_iter().skip(usize::try_from(found).unwrap_or(0))
 }
 
-pub type Written = Result<(), Failure>;
+/// What a commit did beside its rows.
+#[derive(Clone, Copy, Debug, PartialEq, Eq)]
+pub struct Committed {
+    /// Whether it renewed the lease.
+    pub renews: bool,
+}
+
+pub type Written = Result<Committed, Failure>;
 
 /// Which process leads.
 #[derive(Clone, Debug, PartialEq, Eq)]
 pub enum Lead {
     /// This one, which may write the jobs of all shards from now on.
     Here { held: Vec<Held> },
-    /// Another one, and whether it has committed something since this was last asked.
+    /// Another one, and whether it has renewed its lease since this was last asked.
     Elsewhere { committed: bool },
 }
 
@@ -151,7 +158,7 @@ pub trait Store: Send {
     /// deletes parts of images that an earlier owner did not write whole. Fails if it no longer has them.
     fn begin(&mut self, name: &str, held: &[Held], lengths: &[(i64, u64)]) -> Result<(), DbError>;
 
-    /// Commits a group, or renews the lease if it is empty.
+    /// Commits a group. Renews the lease if that is due, or the group is empty.
     fn commit(&mut self, group: &Group) -> Written;
 
     /// The answers that were committed under these keys of jobs.

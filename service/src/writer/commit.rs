@@ -28,8 +28,8 @@ impl Writer {
         loop {
             let since = Moment::now();
             match self.store.commit(&round.group) {
-                Ok(()) => {
-                    self.lease.renewed(since);
+                Ok(committed) => {
+                    self.lease.committed(committed, since);
                     break;
                 }
                 // calls do not wait for an image that can't be written
@@ -107,7 +107,8 @@ impl Writer {
                 ForKeeping::Past(past) => (None, None, Group { past, ..Group::default() }),
             };
             let is_written = match self.store.commit(&group) {
-                Ok(()) => true,
+                // it may have renewed the lease: the next one does so too
+                Ok(_) => true,
                 Err(Failure::Again(why) | Failure::TooLarge(why)) => {
                     log::warn(&format!("a summary of the history was not written: {why}"));
                     false

@@ -38,7 +38,7 @@ impl Writer {
         let gone = GoneJob { job: number, name: name.to_string(), at: self.clock.now() };
         let since = Moment::now();
         match self.store.commit(&Group { gone: vec![gone], ..Group::default() }) {
-            Ok(()) => self.lease.renewed(since),
+            Ok(committed) => self.lease.committed(committed, since),
             Err(Failure::Again(why) | Failure::TooLarge(why)) => {
                 log::warn(&format!("job {name} was not deleted: {why}"));
                 return Deletion::Busy;

@@ -5,7 +5,8 @@ use super::message::ForKeeping;
 use super::replay::StartError;
 use crate::model::{Job, NoJob, Opening, Shards};
 use crate::store::Reader;
-use std::collections::HashMap;
+use std::collections::{BTreeMap, HashMap, HashSet};
+use std::ops::Bound;
 
 /// Reports that the work goes on. An error ends it.
 pub type Beat<'a> = &'a mut dyn FnMut() -> Result<(), StartError>;
@@ -16,8 +17,8 @@ pub struct Jobs {
     shards: Shards,
     jobs: Vec<Job>,
     places: HashMap<String, usize>,
-    numbers: HashMap<i64, usize>,
-    /// Places of jobs that were given up, which others may get.
+    numbers: BTreeMap<i64, usize>,
+    /// Places of jobs that were deleted or given up, which others may get.
     empty: Vec<usize>,
     last_number: i64,
     last_moment: u64,
@@ -69,12 +70,8 @@ impl Jobs {
             self.places().into_iter().filter(|place| shards.has_job(self.number_at(*place))).collect();
         let mut given_up = Vec::with_capacity(places.len());
         for place in places {
-            let job = &mut self.jobs[place];
-            job.close();
-            self.places.remove(&job.opening.name);
-            self.numbers.remove(&job.opening.number);
-            given_up.push((place, job.opening.name.clone()));
-            self.empty.push(place);
+            given_up.push((place, self.jobs[place].opening.name.clone()));
+            self.unopen(place);
         }
         given_up
     }
@@ -114,6 +111,12 @@ impl Jobs {
         (0..self.jobs.len()).filter(|place| !self.jobs[*place].is_deleted).collect()
     }
 
+    /// The places of at most so many jobs with numbers above this one, in the order of their numbers.
+    pub fn places_after(&self, number: i64, most: usize) -> Vec<usize> {
+        let after = (Bound::Excluded(number), Bound::Unbounded);
+        self.numbers.range(after).take(most).map(|(_, place)| *place).collect()
+    }
+
     /// Jobs that were deleted, of which the database has something left.
     pub fn leftovers(&self) -> Vec<i64> {
         self.leftovers.clone()
@@ -121,19 +124,16 @@ impl Jobs {
 
     /// Whether the jobs that this is of are there.
     pub fn has(&self, given: &ForKeeping) -> bool {
-        let is_there = |number| self.place_of(number).is_some_and(|place| !self.jobs[place].is_deleted);
         match given {
             ForKeeping::Summary { job, .. } => self.place(job).is_some(),
-            ForKeeping::Past(past) => past.iter().all(|record| is_there(record.job)),
+            ForKeeping::Past(past) => past.iter().all(|record| self.place_of(record.job).is_some()),
         }
     }
 
-    /// Forgets a job that was deleted. Its place stays empty.
+    /// Forgets a job that was deleted. Another one may get its place.
     pub fn delete(&mut self, place: usize) {
-        let job = &mut self.jobs[place];
-        job.close();
-        self.last_gone = self.last_gone.max(job.opening.number);
-        self.places.remove(&job.opening.name);
+        self.last_gone = self.last_gone.max(self.number_at(place));
+        self.unopen(place);
     }
 
     /// Forgets the jobs that the database has as deleted. Returns whether there was one.
@@ -142,12 +142,19 @@ impl Jobs {
         let gone: Vec<(i64, u64)> = gone.into_iter().filter(|(job, _)| self.shards.has_job(*job)).collect();
         self.leftovers = gone.iter().filter(|(_, is_empty)| *is_empty == 0).map(|(job, _)| *job).collect();
         self.last_gone = gone.iter().map(|(job, _)| *job).max().unwrap_or(0).max(self.last_gone);
-        let places = gone.iter().filter_map(|(job, _)| self.place_of(*job));
-        let places: Vec<usize> = places.filter(|place| !self.jobs[*place].is_deleted).collect();
+        let places: Vec<usize> = gone.iter().filter_map(|(job, _)| self.place_of(*job)).collect();
         for place in &places {
             self.delete(*place);
         }
         Ok(!places.is_empty())
+    }
+
+    /// Forgets the jobs that are none of these: they were deleted, and the database need not know that any more.
+    fn delete_all_but(&mut self, there: &HashSet<i64>) {
+        let gone = self.numbers.iter().filter(|(number, _)| !there.contains(number)).map(|(_, place)| *place);
+        for place in gone.collect::<Vec<_>>() {
+            self.delete(place);
+        }
     }
 
     /// A job's number in the database.
@@ -163,10 +170,6 @@ impl Jobs {
     /// How many jobs there are that are not deleted.
     pub fn count(&self) -> usize {
         self.places.len()
-    }
-
-    pub fn all(&mut self) -> impl Iterator<Item = &mut Job> {
-        self.jobs.iter_mut().filter(|job| !job.is_deleted)
     }
 
     /// The last moment of the log.

@@ -1,6 +1,6 @@
 //! How long this process surely leads.
 use crate::model::Moment;
-use crate::store::{Failure, Group, Store};
+use crate::store::{Committed, Failure, Group, Store};
 use std::time::Duration;
 
 /// A leader takes this part of its lease as over before it is: clocks are not equally fast, and an answer needs time to be sent.
@@ -19,9 +19,11 @@ impl Lease {
         Lease { length: store.lease(), since: asked }
     }
 
-    /// It was renewed by a commit that began then.
-    pub fn renewed(&mut self, since: Moment) {
-        self.since = since;
+    /// A commit that began then was made.
+    pub fn committed(&mut self, committed: Committed, since: Moment) {
+        if committed.renews {
+            self.since = since;
+        }
     }
 
     /// How long ago it was renewed.
@@ -50,8 +52,8 @@ impl Lease {
     /// Renews it by an empty commit.
     pub fn renew(&mut self, store: &mut dyn Store) -> Result<(), Failure> {
         let since = Moment::now();
-        store.commit(&Group::default())?;
-        self.since = since;
+        let committed = store.commit(&Group::default())?;
+        self.committed(committed, since);
         Ok(())
     }
 }

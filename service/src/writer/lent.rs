@@ -36,7 +36,7 @@ fn needs(message: &Message) -> Option<&String> {
         Message::Read(read, _) => match read {
             Read::Record { job, .. } | Read::File { job, .. } | Read::Garbage { job, .. } => Some(job),
             Read::Taken(job) | Read::Term(job) => Some(job),
-            Read::Jobs | Read::Job(_) => None,
+            Read::Jobs { .. } | Read::Job(_) => None,
         },
         Message::Keep(..) | Message::Returned(_) | Message::Imaged(_) | Message::Stop => None,
         Message::Adopt(_) | Message::GiveUp(..) => None,

@@ -116,9 +116,16 @@ pub enum Created {
     Elsewhere,
 }
 
+/// How many jobs the writer reads at once, between two groups of calls.
+pub const MOST_JOBS: usize = 500;
+
 #[derive(Debug)]
 pub enum Read {
-    Jobs,
+    /// At most so many jobs with numbers above this one, in their order.
+    Jobs {
+        after: i64,
+        most: usize,
+    },
     Job(String),
     Record {
         job: String,
@@ -141,7 +148,7 @@ pub enum Read {
 
 #[derive(Debug)]
 pub enum ReadDone {
-    /// The jobs of this process, and the shards of which they are all.
+    /// Jobs of this process, and the shards that it has.
     Jobs(Shards, Vec<JobState>),
     Job(Box<JobState>),
     /// A live record, or `None` if none has the number.

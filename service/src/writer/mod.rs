@@ -25,7 +25,7 @@ pub use delete::Delete;
 pub use imager::Imager;
 pub use jobs::Jobs;
 pub use lease::Lease;
-pub use message::{CallsDone, Created, Deletion, ForKeeping, Key, Message, Names, Read, ReadDone};
+pub use message::{CallsDone, Created, Deletion, ForKeeping, Key, Message, Names, Read, ReadDone, MOST_JOBS};
 pub use moves::Adoption;
 pub use queue::{queue, Inbox, Messages, NotSent};
 pub use replay::StartError;

@@ -50,10 +50,9 @@ pub fn read(jobs: &mut Jobs, read: Read, now: u64, lent: Option<&JobState>) -> R
         None => state(job, now),
     };
     match read {
-        Read::Jobs => {
-            let mut states: Vec<JobState> = jobs.all().map(state).collect();
-            states.sort_unstable_by_key(|state| state.opening.number);
-            ReadDone::Jobs(jobs.shards(), states)
+        Read::Jobs { after, most } => {
+            let places = jobs.places_after(after, most);
+            ReadDone::Jobs(jobs.shards(), places.into_iter().map(|place| state(jobs.at(place))).collect())
         }
         Read::Job(name) => of(jobs, &name, |job| ReadDone::Job(Box::new(state(job)))),
         Read::Record { job, id } => of(jobs, &job, |job| ReadDone::Record(record(job, id))),

@@ -26,10 +26,12 @@ const LONGEST_PAUSE: Duration = Duration::from_secs(1);
 /// The longest Retry-After that is believed.
 const LONGEST_LATER: Duration = Duration::from_secs(60);
 const LEADER: &str = "relkvanu-leader";
+/// What an error of TLS says if the certificate can't be verified.
+const UNVERIFIED: &str = "certificate verify failed";
 
 #[derive(Debug, thiserror::Error)]
 pub enum Error {
-    /// The address, its certificate or the token can't be used.
+    /// The address or the token can't be used, or the certificate could not be verified until the patience ended.
     #[error("address or token: {0}")]
     Address(String),
     /// The service was not reached, or did not answer.
@@ -68,6 +70,15 @@ impl Error {
             Error::Status { status, .. } => is_passing(*status),
             Error::Address(_) | Error::Answer(_) | Error::Refused(_) | Error::OtherLog(_) => false,
             Error::Fenced { .. } | Error::OldTerm => false,
+        }
+    }
+
+    /// Whether another try may reach the service. A certificate that can't be verified may be renewed meanwhile.
+    fn is_tried_again(&self) -> bool {
+        match self {
+            Error::Unreached(_) => true,
+            Error::Address(why) => why.contains(UNVERIFIED),
+            _ => false,
         }
     }
 
@@ -190,7 +201,7 @@ impl Requests {
                     return Ok(told);
                 }
                 Ok(told) => (told.error(), told.later(), told.leader()),
-                Err(error @ Error::Unreached(_)) => (error, Duration::ZERO, None),
+                Err(error) if error.is_tried_again() => (error, Duration::ZERO, None),
                 Err(error) => return Err(error),
             };
             let rest = self.addresses.after(place, later.max(jittered(pause)), leader.as_deref());
@@ -243,8 +254,7 @@ async fn within<T>(most: Duration, work: impl Future<Output = Result<T, hyper::E
         Ok(Ok(done)) => Ok(done),
         Ok(Err(error)) => {
             let why = error.to_string();
-            // another try has the same certificate
-            let is_bad = why.contains("certificate verify failed");
+            let is_bad = why.contains(UNVERIFIED);
             Err(if is_bad { Error::Address(why) } else { Error::Unreached(why) })
         }
         Err(_) => Err(Error::Unreached(format!("it did not answer within {:.1} s", most.as_secs_f64()))),

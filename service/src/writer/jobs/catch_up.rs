@@ -3,7 +3,7 @@ use super::super::replay::{missing, repeat, resume, StartError};
 use super::{Beat, Jobs};
 use crate::model::{Entry, FileBytes, Keeping, Kept, KeptImage, KeptSummary};
 use crate::store::Reader;
-use std::collections::{BTreeMap, HashMap};
+use std::collections::{BTreeMap, BTreeSet, HashMap};
 
 const PAGE: u32 = 10_000;
 /// From which job on: all.
@@ -20,18 +20,24 @@ impl Jobs {
         let after = if self.read_to.is_some() { self.last_number } else { 0 };
         let changed = self.changed(reader)?;
         beat()?;
-        let (mut behind, from) = (changed, self.jobs.len());
-        for opening in reader.jobs_after(self.shards, after)? {
+        let openings = reader.jobs_after(self.shards, after)?;
+        if after == 0 {
+            self.delete_all_but(&openings.iter().map(|opening| opening.number).collect());
+        }
+        let mut opened = Vec::new();
+        for opening in openings {
             if self.numbers.contains_key(&opening.number) {
                 continue;
             }
             let name = opening.name.clone();
-            self.open(opening).map_err(|why| StartError::NotOpened { job: name, why })?;
+            opened.push(self.open(opening).map_err(|why| StartError::NotOpened { job: name, why })?);
         }
-        behind.extend(from..self.jobs.len());
         self.delete_gone(reader)?;
-        self.resume_all(from..self.jobs.len(), reader, beat)?;
-        self.read_logs(behind, reader, beat)
+        opened.retain(|place| !self.jobs[*place].is_deleted);
+        self.resume_all(opened.iter().copied(), reader, beat)?;
+        // the place of a job that was deleted may be that of a new one
+        let behind: BTreeSet<usize> = changed.into_iter().chain(opened).collect();
+        self.read_logs(behind.into_iter().collect(), reader, beat)
     }
 
     /// The next time all jobs and all logs are looked at. Where several processes wrote, neither the numbers of jobs nor the moments of calls
@@ -209,7 +215,7 @@ impl Jobs {
         }
         for (job, sizes) in sizes {
             beat()?;
-            if let Some(place) = self.place_of(job).filter(|place| !self.jobs[*place].is_deleted) {
+            if let Some(place) = self.place_of(job) {
                 let job = &mut self.jobs[place];
                 let (name, seq) = (job.opening.name.clone(), job.seq);
                 job.take_sizes(&sizes).ok_or(StartError::NoMemory { job: name, seq })?;

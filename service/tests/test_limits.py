@@ -1,0 +1,286 @@
+"""The limits of requests, each met once: bodies, answers and the writer's queue. No token, no slow sender and no deletion holds up others."""
+import http.client
+import os
+import re
+import socket
+import sqlite3
+import threading
+import time
+
+from harness import COMMAND, Server, configured, folder, served, until
+from relkvanu_service import Service, cancel, savepoint
+from test_api import JOB
+from test_bytes import filled
+
+SETTINGS = {"interval": 1 << 40}
+TICK = {"calls": [{"call": "tick"}]}
+TOKENS = {"a": "a" * 20, "b": "b" * 20}
+MIB = 1 << 20
+
+
+def two_teams(at, limits):
+    """A service with a token for each of two jobs."""
+    with open(f"{at}/token", "w", encoding="utf-8") as it:
+        it.writelines(f"write {token} jobs={job} name=team-{job}\n" for job, token in TOKENS.items())
+    server = Server(at, args=[*configured(at, f"[limits]\n{limits}"), "--token-file", f"{at}/token"]).start()
+    for job, token in TOKENS.items():
+        assert server.request("POST", "/v1/jobs", {**JOB, "name": job}, token)[0] == 201
+    return server
+
+
+def begun(server, job, length, sent):
+    """A request of a team whose body has this length, and of which so much was sent."""
+    it = socket.create_connection(("127.0.0.1", server.port), timeout=COMMAND)
+    head = f"POST /v1/jobs/{job}/calls HTTP/1.1\r\nHost: localhost\r\nAuthorization: Bearer {TOKENS[job]}\r\n"
+    it.sendall(f"{head}Content-Type: application/json\r\nContent-Length: {length}\r\n\r\n".encode() + b" " * sent)
+    return it
+
+
+def status_of(connection):
+    answer = http.client.HTTPResponse(connection)
+    answer.begin()
+    return answer.status, answer.read()
+
+
+def test_announced_bodies_take_no_room():
+    """Connections that announce large bodies and send a byte: others make their calls."""
+    with folder() as at:
+        server = two_teams(at, f"body_bytes = {MIB}\nall_bodies_bytes = {4 * MIB}")
+        slow = [begun(server, "a", MIB, 1) for _ in range(20)]
+        until(lambda: "relkvanu_http_connections 20" in server.get("/healthz")[2] or True)
+        told = [server.request("POST", f"/v1/jobs/{job}/calls", TICK, token)[0] for job, token in TOKENS.items() for _ in range(20)]
+        for it in slow:
+            it.close()
+        server.kill()
+        assert told == [200] * 40, told
+        return f"{len(slow)} bodies of {MIB} bytes are announced, and 40 requests answered"
+
+
+def test_a_token_takes_a_part_of_the_room():
+    """One team fills its part by bodies that never end. Another one goes on, with a body of the greatest length too."""
+    with folder() as at:
+        server = two_teams(at, f"body_bytes = {MIB}\nall_bodies_bytes = {8 * MIB}\nbody_seconds = 3600")
+        slow = [begun(server, "a", MIB, MIB - 1) for _ in range(10)]
+        refused = []
+        # those that found no room were answered; the others wait for their last byte
+        until(lambda: len(told_by(slow, refused)) >= 5)
+        large = begun(server, "b", MIB, MIB - len(b'{"calls":[]}'))
+        large.sendall(b'{"calls":[]}')
+        whole, small = status_of(large)[0], server.request("POST", "/v1/jobs/b/calls", TICK, TOKENS["b"])[0]
+        for it in slow:
+            it.close()
+        # the room is free again
+        until(lambda: server.request("POST", "/v1/jobs/a/calls", TICK, TOKENS["a"])[0] == 200)
+        server.kill()
+        assert set(refused) == {503} and len(refused) <= 6, refused
+        assert whole in (200, 400) and small == 200, (whole, small)
+        return f"{10 - len(refused)} of 10 bodies of a team fit, and the other one goes on"
+
+
+def told_by(connections, statuses):
+    """Adds the statuses of the connections that were answered by now."""
+    for it in list(connections):
+        it.settimeout(0.05)
+        try:
+            if it.recv(1, socket.MSG_PEEK):
+                it.settimeout(COMMAND)
+                statuses.append(status_of(it)[0])
+                connections.remove(it)
+        except TimeoutError:
+            pass
+    return statuses
+
+
+def test_bodies_without_a_length_take_room_too():
+    with folder() as at:
+        server = Server(at, args=configured(at, f"[limits]\nbody_bytes = {MIB}\nall_bodies_bytes = {MIB}\n")).start()
+        Service(server.url).open("a", SETTINGS, [1])
+        first = http.client.HTTPConnection("127.0.0.1", server.port, timeout=COMMAND)
+        first.putrequest("POST", "/v1/jobs/a/calls")
+        first.putheader("Content-Type", "application/json")
+        first.putheader("Transfer-Encoding", "chunked")
+        first.endheaders()
+        part = b" " * 700_000
+        first.send(b"%x\r\n%s\r\n" % (len(part), part))
+
+        def second():
+            it = http.client.HTTPConnection("127.0.0.1", server.port, timeout=COMMAND)
+            it.request("POST", "/v1/jobs/a/calls", iter([part]), {"Content-Type": "application/json"}, encode_chunked=True)
+            return it.getresponse().status
+
+        # until the first one has come it is 400: spaces are no calls
+        until(lambda: second() == 503)
+        server.kill()
+        return "503 beside a body that takes most of the room"
+
+
+def test_a_body_that_is_too_long():
+    with folder() as at:
+        server = Server(at, args=configured(at, f"[limits]\nbody_bytes = 4096\nall_bodies_bytes = {MIB}\n")).start()
+        Service(server.url).open("a", SETTINGS, [1])
+        text = '{"calls":[{"call":"tick"}]}'
+        statuses = []
+        for length in (4096, 4097):
+            it = http.client.HTTPConnection("127.0.0.1", server.port, timeout=COMMAND)
+            it.request("POST", "/v1/jobs/a/calls", text.ljust(length), {"Content-Type": "application/json"})
+            statuses.append((it.getresponse().status))
+        server.kill()
+        assert statuses == [200, 413], statuses
+        return "4096 bytes are taken, and 4097 refused"
+
+
+def test_an_answer_that_is_larger_than_all_room_gets_all_of_it():
+    """The room of large answers: one that needs more gets all of it, and another one waits for it."""
+    with folder() as at:
+        server = Server(at, args=configured(at, f"[limits]\nall_answers_bytes = {MIB}\n")).start()
+        filled(server, 1)
+        path = "/v1/jobs/large/records/2"
+        status, head, _ = server.get(path)
+        assert status == 200 and int(head["content-length"]) > MIB, (status, head)
+        # a reader that reads nothing keeps the room
+        slow = socket.socket()
+        slow.setsockopt(socket.SOL_SOCKET, socket.SO_RCVBUF, 1 << 12)
+        slow.connect(("127.0.0.1", server.port))
+        slow.sendall(f"GET {path} HTTP/1.1\r\nHost: localhost\r\n\r\n".encode())
+        slow.recv(1, socket.MSG_PEEK)
+        refused = server.get(path)
+        slow.close()
+        until(lambda: server.get(path)[0] == 200)
+        server.kill()
+        assert refused[0] == 503 and "other large answers" in str(refused[2]), refused
+        return f"an answer of {head['content-length']} bytes in a room of {MIB}, and 503 beside it"
+
+
+def test_a_queue_that_is_full_refuses():
+    with folder() as at:
+        server = Server(at, args=configured(at, "[limits]\nqueue = 2\n")).start()
+        Service(server.url).open("a", SETTINGS, [1])
+        base = sqlite3.connect(server.database, isolation_level=None)
+        base.execute("begin immediate")  # so that no commit ends
+        told = []
+
+        def ask():
+            told.append(server.request("POST", "/v1/jobs/a/calls", TICK))
+
+        threads = [threading.Thread(target=ask) for _ in range(12)]
+        for thread in threads:
+            thread.start()
+        until(lambda: told)
+        refused = list(told)
+        base.execute("rollback")
+        for thread in threads:
+            thread.join()
+        server.kill()
+        assert all(status == 503 and "too many requests wait" in str(text) for status, _, text in refused), refused
+        statuses = sorted(status for status, _, _ in told)
+        assert statuses[0] == 200 and set(statuses) == {200, 503}, statuses
+        return f"{statuses.count(503)} of {len(statuses)} were refused"
+
+
+def test_open_files_are_divided():
+    """600 open files are 472 connections: half of them of clients, a quarter new ones."""
+    with folder() as at:
+        args = configured(at, "[limits]\nconnections = 2000\nnew_connections = 2000\n")
+        server = Server(at, prefix=["prlimit", "--nofile=600:600"], args=args).start()
+        server.kill()
+        assert "allows 236 connections, 118 that wait for events and 118 new ones" in server.log(), server.log()[-400:]
+        return "236, 118 and 118"
+
+
+def writer_seconds(server):
+    """The processor's time of the writer's thread."""
+    for thread in os.listdir(f"/proc/{server.process.pid}/task"):
+        with open(f"/proc/{server.process.pid}/task/{thread}/stat", encoding="utf-8") as it:
+            name, rest = it.read().split("(", 1)[1].rsplit(")", 1)
+        if name == "writer":
+            words = rest.split()
+            return (int(words[11]) + int(words[12])) / os.sysconf("SC_CLK_TCK")
+    raise AssertionError("there is no writer")
+
+
+def test_a_deletion_looks_at_no_other_job():
+    """The writer's time for deletions beside many jobs: it would be a minute's if each looked at the metrics of all jobs."""
+    jobs, gone = 1500, 40
+    with served() as server:
+        service = Service(server.url)
+        for number in range(jobs + gone):
+            service.open(f"j{number}", SETTINGS, [1]).call(savepoint())
+        for number in range(gone):
+            service.job(f"j{number}").call(cancel())
+        assert f'relkvanu_calls_total{{call="cancel",job_name="j{gone - 1}",outcome="made"}} 1' in server.get("/metrics")[2]
+        before = writer_seconds(server)
+        for number in range(gone):
+            service.delete(f"j{number}")
+        took = writer_seconds(server) - before
+        left = re.findall(rf'job_name="j{gone - 1}"', server.get("/metrics")[2])
+        assert took < 0.02 * gone and not left, (took, left)
+        return f"{took / gone * 1000:.1f} ms of the processor for a deletion beside {jobs} jobs"
+
+
+def test_lists_of_many_jobs_come_in_pieces():
+    """The writer reads a part of the jobs at a time. The list has each once, in the order of their numbers."""
+    jobs = 1100
+    with served() as server:
+        service = Service(server.url)
+        for number in range(jobs):
+            service.open(f"j{number}", SETTINGS, [1])
+        told = [job["name"] for job in service.jobs()]
+        assert told == [f"j{number}" for number in range(jobs)], told[:5]
+        text = server.get("/metrics")[2]
+        assert len(re.findall(r"^relkvanu_mode\{", text, re.M)) == jobs
+        assert len(server.get("/v1/view")[2]["jobs"]) == jobs
+        return f"{jobs} jobs"
+
+
+def test_a_commit_is_measured():
+    """How many commits there were and of how many calls, and that the time of a slow one shows."""
+    with served() as server:
+        job = Service(server.url).open("a", SETTINGS, [1])
+        before = {name: metric(server, name) for name in MEASURED}
+        for _ in range(3):
+            job.call(savepoint())
+        job.calls([savepoint()] * 2)
+        base = sqlite3.connect(server.database, isolation_level=None)
+        base.execute("begin immediate")
+        thread = threading.Thread(target=lambda: job.call(savepoint()))
+        thread.start()
+        until(lambda: metric(server, "relkvanu_commit_under_way_seconds") > 0.5)
+        base.execute("rollback")
+        thread.join()
+        more = {name: metric(server, name) - before[name] for name in MEASURED}
+        assert more["relkvanu_commit_seconds_count"] == more["relkvanu_commit_calls_count"] == 5, more
+        assert more["relkvanu_commit_calls_sum"] == 6, more
+        assert 0.5 < more["relkvanu_commit_seconds_sum"] < 60, more
+        assert metric(server, "relkvanu_commit_under_way_seconds") == 0
+        return f"5 commits of 6 calls in {more['relkvanu_commit_seconds_sum']:.2f} s"
+
+
+MEASURED = [f"relkvanu_commit_{of}_{what}" for of in ("seconds", "calls") for what in ("count", "sum")]
+
+
+def metric(server, name):
+    """The value of a metric."""
+    found = re.search(rf"^{re.escape(name)} (\S+)$", server.get("/metrics")[2], re.M)
+    assert found, f"there is no {name}"
+    return float(found[1])
+
+
+def test_moments_are_those_of_what_happened():
+    """When a job was opened, and when its last image was made."""
+    with folder() as at:
+        server = Server(at, args=["--image-calls", "5"]).start()
+        began = time.time()
+        job = Service(server.url).open("a", SETTINGS, [1])
+        opened = job.state()["opened"] / 1000
+        assert metric(server, 'relkvanu_job_opened_timestamp_seconds{job_name="a"}') == opened and abs(opened - began) < 30
+        assert metric(server, 'relkvanu_image_timestamp_seconds{job_name="a"}') == opened
+        for _ in range(6):
+            time.sleep(0.01)
+            job.call({"call": "tick"})
+        until(lambda: metric(server, 'relkvanu_image_bytes{job_name="a"}') > 0)
+        with sqlite3.connect(server.database) as base:
+            at_image = base.execute("select max(at) from image").fetchone()[0] / 1000
+        told = metric(server, 'relkvanu_image_timestamp_seconds{job_name="a"}')
+        server.kill()
+        assert told == at_image > opened, (told, at_image, opened)
+        return "those of the opening and of the image"

@@ -1,0 +1,133 @@
+"""PostgreSQL over a year: a table of keys in its steady state, a read that lasts for hours beside the commits, and commits that last."""
+import re
+import subprocess
+import threading
+import time
+
+from harness import Server, configured, folder, leader_and_standby, until
+from postgres import postgres
+from relkvanu_service import Service
+
+SETTINGS = {"interval": 1 << 40}
+DAY = 24 * 3_600_000
+KEYS = 300_000
+TICK = {"call": "tick"}
+
+
+def in_the_steady_state(database, keys):
+    """Fills the table of keys as some days of work leave it: each key lives for a day, and those that come fill the room of those that
+    went. A part has come and gone since the table was analyzed last. Autovacuum would have done so at a tenth of the table."""
+    each = DAY / keys
+    last = int(time.time() * 1000) + 60_000
+    total = keys + 15 * (keys // 10) + keys * 6 // 100
+    first = last - int(total * each)
+
+    def add(begin, end):
+        database.sql(f"""set synchronous_commit = off; insert into request select 1, md5(g::text), {first} + (g::float8 * {each})::bigint,
+            md5(g::text) || md5(g::text), repeat('x', 120) from generate_series({begin}, {end} - 1) g""")
+
+    def drop(upto):
+        database.sql(f"delete from request where at < {first} + ({upto}::float8 * {each})::bigint")
+
+    database.sql("alter table request set (autovacuum_enabled = false)")
+    add(0, keys)
+    at, step = keys, keys // 10
+    for turn in range(15):
+        drop(at + step - keys)
+        if turn % 2:
+            database.sql("vacuum request")
+        add(at, at + step)
+        at += step
+        if turn % 5 == 4:
+            database.sql("analyze request")
+    rest = keys * 6 // 100
+    drop(at + rest - keys)
+    add(at, at + rest)
+    database.sql("vacuum (analyze false) request")
+
+
+def plans(database, of):
+    """The plans of the statements that the service made, of those that have this text: PostgreSQL writes them to its log."""
+    with open(f"{database.data}/log", encoding="utf-8") as it:
+        found = it.read().split("LOG:  ")
+    return [it for it in found if it.startswith("duration") and of in it]
+
+
+def test_old_keys_are_found_by_their_index():
+    """The planner expects old rows early in the table, and there is none: without an order it would read all of it each second."""
+    with postgres() as database, folder() as at:
+        server = Server(at, database.url).start()
+        Service(server.url).open("a", SETTINGS, [1])
+        server.stop()
+        in_the_steady_state(database, KEYS)
+        with open(f"{database.data}/postgresql.conf", "a", encoding="utf-8") as it:
+            it.write("session_preload_libraries = 'auto_explain'\nauto_explain.log_min_duration = 0\nauto_explain.log_nested_statements = on\n")
+            it.write("log_min_messages = log\n")
+        database.stop("fast")
+        database.start()
+        server.start()
+        until(lambda: len(plans(database, "delete from request")) >= 3)
+        server.stop()
+        found = plans(database, "delete from request")
+        assert all("request_at on request" in plan for plan in found), found[0]
+        assert not any("Seq Scan on request" in plan for plan in found), found[0]
+        return f"{len(found)} deletions beside {KEYS} keys, each by the index"
+
+
+def test_a_commit_writes_no_version_of_the_member():
+    """Versions of its one row stay beside a read that lasts, as a dump: so commits make one for each third of a lease alone."""
+    with postgres() as database, folder() as at:
+        server = Server(at, database.url, configured(at, "lease_seconds = 60\n")).start()
+        job, beat = Service(server.url).open("a", SETTINGS, [1]), "select beat from member"
+        before = int(database.sql(beat))
+        for _ in range(300):
+            job.call(TICK)
+        beats = int(database.sql(beat)) - before
+        calls = int(database.sql("select count(*) from call"))
+        server.stop()
+        assert calls >= 300 and beats <= 10, (calls, beats)
+        return f"{calls} calls in as many commits, and {beats} versions of the row"
+
+
+def test_commits_beside_a_long_read():
+    """Time of the same calls before a snapshot is held, and beside it once thousands of commits were made."""
+    with postgres() as database, folder() as at:
+        server = Server(at, database.url).start()
+        job = Service(server.url).open("a", SETTINGS, [1])
+        holds = subprocess.Popen(["psql", "-qX", database.url], stdin=subprocess.PIPE, stdout=subprocess.DEVNULL, text=True)
+        holds.stdin.write("begin isolation level repeatable read; select 1;\n")
+        holds.stdin.flush()
+        until(lambda: database.sql("select count(*) from pg_stat_activity where state = 'idle in transaction'") == "1")
+        for _ in range(2000):
+            job.call(TICK)
+        size = int(database.sql("select pg_relation_size('member') / 8192"))
+        holds.stdin.write("rollback;\n")
+        holds.stdin.close()
+        holds.wait()
+        server.stop()
+        assert size <= 2, size
+        return f"{size} pages of `member` beside a read"
+
+
+def test_a_commit_that_lasts_keeps_its_leader():
+    """A commit that takes longer than the lease: the leader's row is locked meanwhile, so a standby does not take over."""
+    with postgres() as database, folder() as at:
+        leader, standby = leader_and_standby(at, database.url, "lease_seconds = 2\n")
+        job = Service(leader.url).open("a", SETTINGS, [1])
+        job.call(TICK)
+        epoch = "select max(epoch) from shard"
+        before = database.sql(epoch)
+        database.sql("""create function slow() returns trigger language plpgsql as 'begin perform pg_sleep(5); return null; end';
+            create trigger slow after insert on call for each statement execute function slow()""")
+        began, told = time.monotonic(), []
+        thread = threading.Thread(target=lambda: told.append(job.call(TICK)))
+        thread.start()
+        thread.join()
+        took = time.monotonic() - began
+        database.sql("drop trigger slow on call")
+        job.call(TICK)
+        after = database.sql(epoch), leader.process.poll(), standby.process.poll()
+        leader.kill()
+        standby.kill()
+        assert told and took >= 5 and after == (before, None, None), (told, took, before, after)
+        return f"a commit of {took:.1f} s with a lease of 2 s"
