@@ -10,7 +10,7 @@ import os
 import pathlib
 import threading
 from dataclasses import dataclass
-from typing import Any, Callable, Dict, Iterator, List, NoReturn, Optional, Sequence, Tuple, Union
+from typing import Any, Callable, Container, Dict, Iterator, List, NoReturn, Optional, Sequence, Tuple, Union
 
 from relkvanu import header, store_header
 from relkvanu.coordinator import (
@@ -552,6 +552,21 @@ class Store:
             by_number = ctypes.cast(_library.relkvanu_store_delete_files, store_header.relkvanu_store_delete)
             deletes = by_number if delete is None else store_header.relkvanu_store_delete(delete_files)
             status = _library.relkvanu_store_discard(store, batch, deletes, store)
+        if status != store_header.STOPPED:
+            self._check(status)
+
+    def discard_lists(self, delete: Callable[[List[int]], Container[int]], batch: int = 1000) -> None:
+        """As discard(), for a storage that deletes many files by one request: delete(files) is given up to `batch` of them, 1 to 4095, and returns those
+        that may be there still, as `delete` of a relkvanu.storage.Storage does. An OSError says that all may be there."""
+        def delete_files(_: Any, files: Any, length: int, is_gone: Any) -> None:
+            some = list(files[:length])
+            with contextlib.suppress(OSError):
+                failed = delete(some)
+                for place, file in enumerate(some):
+                    is_gone[place] = file not in failed
+
+        with self._use() as store:
+            status = _library.relkvanu_store_discard(store, batch, store_header.relkvanu_store_delete(delete_files), None)
         if status != store_header.STOPPED:
             self._check(status)
 
