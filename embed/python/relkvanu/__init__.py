@@ -1,14 +1,14 @@
 """The coordinator of a stream processor's checkpoints, over the shared library.
 
 librelkvanu.so.0 comes from the folder that RELKVANU_LIB names. Otherwise it is beside this file, where an installation puts it, or
-the system's loader finds it. If there is none, the import raises ImportError. docs/RULES.md says what each call does, and when it is
+the system's loader finds it. It is loaded with the first name that needs it, as by `from relkvanu import Coordinator`, which raises
+ImportError if there is none. relkvanu.storage, relkvanu.s3 and relkvanu.parts need none. docs/RULES.md says what each call does, and when it is
 refused. All exceptions of the package are an Error.
 """
-from relkvanu import calls, lines
-from relkvanu.coordinator import (
-    BadArgument, BadLine, Closed, Coordinator, Error, Fenced, OutOfMemory, OutOfRange, Refused, Settings, TooShort, Unknown, version,
-)
-from relkvanu.discarder import Discarded, Discarder, Outbox, Patience
+import importlib
+from typing import TYPE_CHECKING, Any
+
+from relkvanu.errors import Error
 from relkvanu.reads import Chosen, FileCounts, Garbage, Kind, Live, Mode, RunningTerm, Standing
 from relkvanu.replies import Forfeited, Named, Reply, Reserved, Shown, Taken
 # embed/bindings makes the import of replies
@@ -18,6 +18,22 @@ from relkvanu.replies import (
     Undeleted,
 )
 # embed/bindings: end
+
+if TYPE_CHECKING:
+    from relkvanu import calls, lines
+    from relkvanu.coordinator import (
+        BadArgument, BadLine, Closed, Coordinator, Fenced, OutOfMemory, OutOfRange, Refused, Settings, TooShort, Unknown, version,
+    )
+    from relkvanu.discarder import Discarded, Discarder, Outbox, Patience
+else:
+    def __getattr__(name: str) -> Any:
+        """What needs the library, at its first use."""
+        if name in ("calls", "coordinator", "discarder", "lines"):
+            return importlib.import_module(f"relkvanu.{name}")
+        if name not in __all__:
+            raise AttributeError(f"module 'relkvanu' has no attribute {name!r}")
+        found = getattr(importlib.import_module("relkvanu.coordinator"), name, None)
+        return getattr(importlib.import_module("relkvanu.discarder"), name) if found is None else found
 
 __all__ = [
     "BadArgument", "BadLine", "Chosen", "Closed", "Coordinator", "Discarded", "Discarder", "Error", "Fenced", "FileCounts",

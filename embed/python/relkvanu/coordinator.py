@@ -9,6 +9,7 @@ from dataclasses import dataclass
 from typing import Any, Callable, Dict, Iterator, NoReturn, Optional, Sequence, Tuple, TypeVar, Union
 
 from relkvanu import header
+from relkvanu.errors import Error as Error  # also under this name
 from relkvanu.reads import CHOSEN, LIVE, Chosen, FileCounts, Garbage, Live, Mode, RunningTerm, Standing
 from relkvanu.replies import MADE, HeldAtOnce, Reply, Shown, Taken
 
@@ -52,10 +53,6 @@ NAMES: Dict[int, Dict[int, str]] = {
     },
 }
 # embed/bindings: end
-
-
-class Error(Exception):
-    """What all exceptions of this package are. The call that raised it has changed nothing."""
 
 
 class Refused(Error):

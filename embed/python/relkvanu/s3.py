@@ -2,6 +2,7 @@
 as it does everywhere: in the environment, ~/.aws, or the role of the machine."""
 import errno
 import posixpath
+import threading
 from typing import Any, Callable, Dict, Iterable, Iterator, List, Optional
 
 import boto3  # type: ignore[import]
@@ -15,12 +16,20 @@ __all__ = ["Bucket", "KeepsVersions", "client"]
 MOST_KEYS = 1000  # in a DeleteObjects, and on a page of a listing
 GONE = ("NoSuchBucket",)  # not NoSuchKey: that is an object that is not there
 ABSENT = ("NoSuchKey", "404", "NotFound")
+OTHERS = {"PreconditionFailed": errno.EEXIST, "NotImplemented": errno.ENOSYS}
+_asks = threading.local()  # of a thread that asks the server to refuse a key that is there
 
 
 def client(endpoint: Optional[str] = None, region: Optional[str] = None) -> Any:
     """A client that tries each request three times, and waits at most a minute for an answer. All requests here may come twice."""
     how = Config(retries={"mode": "standard", "max_attempts": 3}, connect_timeout=10, read_timeout=60)
     return boto3.client("s3", endpoint_url=endpoint, region_name=region, config=how)
+
+
+def _if_none_match(params: Any, **_: Any) -> None:
+    """boto3 has no word for it before 1.35."""
+    if getattr(_asks, "once", False):
+        params["headers"]["If-None-Match"] = "*"
 
 
 class Bucket:
@@ -34,6 +43,7 @@ class Bucket:
         self.marker = self.names.marker(job) if marker is None else Marker(posixpath.join(posixpath.dirname(prefix), marker.name), marker.text)
         self._s3 = client() if s3 is None else s3
         self._keeps_versions = keeps_versions
+        self._heeds: Optional[bool] = None  # whether the server refuses to put a key that is there
         if not keeps_versions and self._ask(self._s3.get_bucket_versioning).get("Status"):
             raise KeepsVersions(errno.EINVAL, "the bucket keeps versions", bucket)
         if is_new:
@@ -52,11 +62,42 @@ class Bucket:
 
     def put(self, file: int, contents: bytes) -> None:
         """One request, so the object is whole or not there. It has at most 5 GiB. After a time-out the object may come later, so its number
-        is never given again. A server is not asked to refuse an object that is there: not all heed that."""
+        is never given again. The server refuses an object that is there. Not all servers heed that, so the first put tries it: if this one does
+        not, each put looks first."""
         name = self.names.of(file)
-        if self._is_there(name):
+        if self._heeds is None:
+            self._heeds = self._tried_to_heed()
+        if not self._heeds and self._is_there(name):
             raise Exists(errno.EEXIST, "there is such an object", f"{self.bucket}/{name}")
-        self._ask(self._s3.put_object, Key=name, Body=contents)
+        if not self._heeds:
+            self._ask(self._s3.put_object, Key=name, Body=contents)
+        elif not self._put_once(name, contents):
+            raise Exists(errno.EEXIST, "there is such an object", f"{self.bucket}/{name}")
+
+    def _tried_to_heed(self) -> bool:
+        """Whether the server refuses to put a key that is there: the marker, with the bytes that it has."""
+        self.check()
+        try:
+            return not self._put_once(self.marker.name, self.marker.text.encode())
+        except StorageError as error:
+            if error.errno != errno.ENOSYS:
+                raise
+            return False
+
+    def _put_once(self, name: str, contents: bytes) -> bool:
+        """Whether an object was made. If the request came twice, the answer to the second says that the first has made it."""
+        self._s3.meta.events.register("before-call.s3.PutObject", _if_none_match, unique_id="relkvanu-if-none-match")
+        _asks.once = True
+        try:
+            self._ask(self._s3.put_object, Key=name, Body=contents)
+        except StorageError as error:
+            if error.errno != errno.EEXIST:
+                raise
+            came_twice = getattr(error.__cause__, "response", {}).get("ResponseMetadata", {}).get("RetryAttempts", 0) > 0
+            return came_twice and name != self.marker.name and self._read(name) == contents
+        finally:
+            _asks.once = False
+        return True
 
     def get(self, file: int) -> bytes:
         found = self._read(self.names.of(file))
@@ -150,7 +191,8 @@ class Bucket:
         return contents
 
     def _ask(self, request: Callable[..., Any], **words: Any) -> Any:
-        """Makes a request. Raises NotThere if there is no bucket, and StorageError with ENOENT if there is no object."""
+        """Makes a request. Raises NotThere if there is no bucket, and StorageError: with ENOENT if there is no object, with EEXIST if there is
+        one that there must not be, and with ENOSYS if the server can't do it."""
         where = f"{self.bucket}/{words.get('Key', self.names.prefix)}"
         try:
             return request(Bucket=self.bucket, **words)
@@ -158,6 +200,6 @@ class Bucket:
             code = str(error.response.get("Error", {}).get("Code", ""))
             if code in GONE:
                 raise NotThere(errno.ENOENT, str(error), where) from error
-            raise StorageError(errno.ENOENT if code in ABSENT else errno.EIO, str(error), where) from error
+            raise StorageError(errno.ENOENT if code in ABSENT else OTHERS.get(code, errno.EIO), str(error), where) from error
         except (BotoCoreError, OSError) as error:
             raise StorageError(errno.EIO, str(error), where) from error

@@ -5,11 +5,14 @@ import errno
 import itertools
 import os
 import re
-from typing import Callable, Dict, Iterable, Iterator, List, NamedTuple, Optional, Protocol, Sequence, Set, Tuple, Union
+from typing import TYPE_CHECKING, Callable, Dict, Iterable, Iterator, List, NamedTuple, Optional, Protocol, Sequence, Set, Tuple, Union
 
-from relkvanu.coordinator import Coordinator, Error
-from relkvanu.discarder import Outbox
+from relkvanu.errors import Error
 from relkvanu.replies import Counted
+
+if TYPE_CHECKING:  # these need the library, and a task that puts a file has none
+    from relkvanu.coordinator import Coordinator
+    from relkvanu.discarder import Outbox
 
 MARKER = ".relkvanu-storage"
 PART = ".part"  # behind the name of a file that is not whole yet
@@ -333,14 +336,14 @@ class Folder:
                 raise StorageError(error.errno, error.strerror, self.path) from error
 
 
-def unknown(core: Coordinator, files: Iterable[int]) -> Set[int]:
+def unknown(core: "Coordinator", files: Iterable[int]) -> Set[int]:
     """Those of the files that the coordinator does not know: no record uses them, they don't wait and are not taken."""
     waiting = set(itertools.takewhile(lambda it: it is not None, map(core.waiting_file, itertools.count())))
     taken = set(core.taken_files())
     return {file for file in files if file not in waiting and file not in taken and core.count(file) == Counted(file, 0)}
 
 
-def discard(outbox: Outbox, storage: Storage, most: int = 64) -> Tuple[int, Dict[int, str]]:
+def discard(outbox: "Outbox", storage: Storage, most: int = 64) -> Tuple[int, Dict[int, str]]:
     """Takes files, deletes them and reports each. Returns how many were taken, and those that wait again, each with the reason."""
     files = outbox.take(most).files
     failed = storage.delete(files) if files else {}

@@ -17,9 +17,9 @@ import threading
 import time
 from typing import Any, Callable, Dict, Iterator, List, Optional, Sequence, Tuple, TypeVar, Union
 
-import streamz  # type: ignore[import]
-import streamz.core  # type: ignore[import]
-import streamz.sinks  # type: ignore[import]
+import streamz
+import streamz.core
+import streamz.sinks
 
 from relkvanu.coordinator import Error, Fenced, OutOfMemory, Refused, Settings
 from relkvanu.replies import AckCompleted, DeclineFailed, Failed, RestoredCheckpoint, RestoredSavepoint, SavepointTriggered, Triggered

@@ -13,6 +13,7 @@ from unittest import mock
 
 import boto3
 from botocore.config import Config
+from botocore.exceptions import ClientError
 
 import relkvanu.sweep
 from relkvanu import Coordinator, FileCounts, Settings, savepoints
@@ -106,6 +107,41 @@ class Files(OnAServer):
         self.assertEqual(self.files.get(0), b"")
         with self.assertRaises(StorageError):
             self.files.get(1)
+
+    def requests(self, *calls):
+        """The requests that are made by each of the calls."""
+        made = []
+        self.s3.meta.events.register("before-call.s3.*", lambda model, **_: made.append(model.name), unique_id="test")
+        return [(call(), made[:], made.clear())[1] for call in calls]
+
+    def test_put_is_one_request(self):
+        first, *later = self.requests(*(lambda file=file: self.files.put(file, b"state") for file in (1, 2, 3)))
+        self.assertEqual((first, later), (["GetObject", "PutObject", "PutObject"], [["PutObject"]] * 2))
+        with self.assertRaises(Exists):
+            self.files.put(2, b"state")
+
+    def test_a_server_that_does_not_refuse_an_object_that_is_there(self):
+        with mock.patch("relkvanu.s3._if_none_match", lambda **_: None):
+            self.files.put(1, b"first")
+            self.assertEqual(self.requests(lambda: self.files.put(2, b"state")), [["HeadObject", "PutObject"]])
+            with self.assertRaises(Exists):
+                self.files.put(1, b"second")
+        self.assertEqual((self.files.get(1), self.files.check()), (b"first", None))
+
+    def test_a_server_that_knows_no_such_condition(self):
+        error = ClientError({"Error": {"Code": "NotImplemented"}}, "PutObject")
+        with mock.patch.object(self.s3, "put_object", side_effect=[error, {}]) as put:
+            self.files.put(1, b"state")
+        self.assertEqual([it.kwargs["Key"] for it in put.mock_calls], ["jobs/orders/.relkvanu-storage", "jobs/orders/1.sst"])
+
+    def test_a_put_that_the_client_makes_twice(self):
+        self.files.put(1, b"state")
+        self.s3.put_object(Bucket=self.bucket, Key="jobs/orders/2.sst", Body=b"state")
+        error = ClientError({"Error": {"Code": "PreconditionFailed"}, "ResponseMetadata": {"RetryAttempts": 1}}, "PutObject")
+        with mock.patch.object(self.s3, "put_object", side_effect=error):
+            self.files.put(2, b"state")
+            with self.assertRaises(Exists):
+                self.files.put(2, b"other")
 
     def test_pages(self):
         for file in range(25):

@@ -54,11 +54,26 @@ class Exceptions(unittest.TestCase):
             self.assertEqual(job.tick(1000), Triggered(expired=0, id=1))
 
     def test_a_missing_library_is_told_at_import(self):
+        for program in ("from relkvanu import Coordinator", "from relkvanu import *", "import relkvanu; relkvanu.Outbox", "import relkvanu.lines"):
+            told = self.without_library(program)
+            self.assertEqual(told.returncode, 1)
+            self.assertRegex(told.stderr.strip().split("\n")[-1], "^ImportError: the library of Relkvanu .*librelkvanu.so.0.*RELKVANU_LIB")
+            self.assertNotIn("Exception ignored", told.stderr)
+
+    def test_a_task_that_puts_files_needs_no_library(self):
+        told = self.without_library("import tempfile; from relkvanu import Error, storage\n"
+                                    "with tempfile.TemporaryDirectory() as folder, storage.Folder(folder, 'orders', is_new=True) as files:\n"
+                                    "    files.put(7, b'state'); print(files.get(7), issubclass(storage.StorageError, Error))")
+        self.assertEqual((told.stdout, told.stderr, told.returncode), ("b'state' True\n", "", 0))
+
+    def test_the_names_of_the_package(self):
+        self.assertEqual([it for it in relkvanu.__all__ if not hasattr(relkvanu, it)], [])
+        self.assertFalse(hasattr(relkvanu, "nothing"))
+
+    def without_library(self, program):
         with tempfile.TemporaryDirectory() as empty:
-            told = subprocess.run([sys.executable, "-c", "import relkvanu"], env={**os.environ, "RELKVANU_LIB": empty}, stderr=subprocess.PIPE, text=True)
-        self.assertEqual(told.returncode, 1)
-        self.assertRegex(told.stderr.strip().split("\n")[-1], "^ImportError: the library of Relkvanu .*librelkvanu.so.0.*RELKVANU_LIB")
-        self.assertNotIn("Exception ignored", told.stderr)
+            return subprocess.run(
+                [sys.executable, "-c", program], env={**os.environ, "RELKVANU_LIB": empty}, stdout=subprocess.PIPE, stderr=subprocess.PIPE, text=True)
 
 
 if __name__ == "__main__":

@@ -1,0 +1,600 @@
+"""Tests of relkvanu.dask, relkvanu.daskstream and relkvanu.outputs over a cluster in this process."""
+import asyncio
+import os
+import pathlib
+import pickle
+import re
+import sqlite3
+import subprocess
+import sys
+import tempfile
+import time
+import unittest
+from unittest import mock
+
+import dask.array as da
+import streamz
+from distributed import Client, LocalCluster
+
+import words
+from relkvanu import daskstream, outputs, records
+from relkvanu.dask import Checkpoints, NotPersisted, Place
+from relkvanu.daskstream import GraphError
+from relkvanu.parts import Failed, PartError, State, part_of, pickled, place_of, take_step
+
+
+def add(total, number):
+    return total + number
+
+
+def count(counts, word):
+    counts[word] = counts.get(word, 0) + 1
+    return counts
+
+
+def size_and_state(counts, word):
+    counts[word] = counts.get(word, 0) + 1
+    return counts, len(counts)
+
+
+def fails(number):
+    if number == 13:
+        raise ZeroDivisionError
+    return number
+
+
+def row(it):
+    return (it,)
+
+
+def impure():
+    impure.calls += 1
+    return impure.calls
+
+
+def wait_until(condition):
+    end = time.monotonic() + 60
+    while not condition():
+        assert time.monotonic() < end
+        time.sleep(0.01)
+
+
+class Base(unittest.TestCase):
+    @classmethod
+    def setUpClass(cls):
+        cls.cluster = LocalCluster(n_workers=2, threads_per_worker=1, processes=False, dashboard_address=None, silence_logs=50)
+        cls.client = Client(cls.cluster)
+
+    @classmethod
+    def tearDownClass(cls):
+        cls.client.close()
+        cls.cluster.close()
+
+    def setUp(self):
+        self.temporary = tempfile.TemporaryDirectory()
+        self.addCleanup(self.temporary.cleanup)
+        self.folder = pathlib.Path(self.temporary.name)
+        self.state = self.folder / "state"
+        self.state.mkdir()
+
+    def files(self):
+        return sorted(int(it) for it in os.listdir(self.state) if it.isdecimal())
+
+
+class Collections(Base):
+    def opened(self, create=True, **more):
+        return Checkpoints(self.client, self.state, self.folder / "job.db", create=create, **more)
+
+    def test_unchanged_partitions_are_not_written(self):
+        with self.opened() as checkpoints:
+            self.assertIsNone(checkpoints.load())
+            x = da.arange(8, chunks=1).persist()
+            self.assertRaises(NotPersisted, checkpoints.save, 0, x=x + 1)
+            self.assertEqual(checkpoints.save("one", x=x)[:3], (1, 8, 0))
+            self.assertEqual(checkpoints.save("two", x=x)[:3], (2, 0, 8))
+            y = da.concatenate([x[:7], x[7:] + 1]).persist()
+            self.assertEqual(checkpoints.save("three", x=y)[:3], (3, 1, 7))
+            wait_until(lambda: checkpoints.counts() == (9, 0))
+        with self.opened(create=False) as checkpoints:
+            meta, found = checkpoints.load()
+            self.assertEqual((meta, list(found["x"].compute())), ("three", [0, 1, 2, 3, 4, 5, 6, 8]))
+            self.assertEqual(checkpoints.save("four", x=found["x"])[1:3], (0, 8))
+        self.assertEqual(len(self.files()), 9)
+
+    def test_the_same_partition_twice(self):
+        with self.opened() as checkpoints:
+            checkpoints.load()
+            (one,) = self.client.map(add, [1], [2])
+            self.assertEqual(checkpoints.save(None, x=[one, one], y=one)[1:3], (1, 0))
+            self.assertEqual(len(self.files()), 2)
+            _, found = checkpoints.load()
+            self.assertEqual(self.client.gather([*found["x"], found["y"]]), [3, 3, 3])
+
+    def test_what_fails_is_declined(self):
+        with self.opened() as checkpoints:
+            checkpoints.load()
+            checkpoints.save(1, x=[self.client.submit(add, 1, 2)])
+            self.assertRaises(ZeroDivisionError, checkpoints.save, 2, x=[self.client.submit(fails, 13), self.client.submit(fails, 14)])
+            self.assertRaises(Failed, checkpoints.save, 2, x=[])
+            meta, found = checkpoints.load()
+            self.assertEqual((meta, found["x"][0].result()), (1, 3))
+            self.assertEqual(len(self.files()), 2)
+
+    def test_files_that_are_damaged_or_gone(self):
+        with self.opened() as checkpoints:
+            checkpoints.load()
+            checkpoints.save(1, x=self.client.map(add, [1, 2], [3, 4]))
+        files = self.files()
+        for file in files:
+            path = self.state / str(file)
+            data = path.read_bytes()
+            path.write_bytes(data[:-1] + bytes([data[-1] ^ 1]))
+            with self.opened(create=False) as checkpoints:
+                with self.assertRaises(PartError):
+                    self.client.gather(checkpoints.load()[1]["x"])
+            path.unlink()
+            with self.opened(create=False) as checkpoints:
+                self.assertRaises(PartError, checkpoints.load)
+            path.write_bytes(data)
+        self.assertEqual(self.files(), files)
+
+    def test_run_goes_back(self):
+        falls = {3: OSError(), 5: asyncio.CancelledError()}
+
+        def step(number, x):
+            if number == 8:
+                return None
+            if number in falls:
+                raise falls.pop(number)
+            return number + 1, {"x": x + number}
+
+        with self.opened() as checkpoints:
+            number, found = checkpoints.run(step, lambda: (0, {"x": da.zeros(4, chunks=2)}))
+            self.assertEqual((number, list(found["x"].compute())), (8, [28.0] * 4))
+        self.assertEqual(len(self.files()), 3)
+
+    def test_what_is_cancelled_is_an_ordinary_exception(self):
+        with self.opened() as checkpoints:
+            checkpoints.load()
+            checkpoints.save(1, x=[self.client.submit(add, 1, 2)])
+            lost = self.client.submit(add, 3, 4)
+            lost.cancel()
+            for fault in (lost, asyncio.CancelledError(), None):
+                save = checkpoints.save
+                if fault is not lost:
+                    save = mock.Mock(side_effect=fault)
+                with mock.patch.object(records, "wait", save if fault is not lost and fault else records.wait):
+                    with self.assertRaises(Exception):
+                        checkpoints.save(2, x=[lost])
+                self.assertEqual(checkpoints.load()[0], 1)
+            self.assertEqual(len(self.files()), 2)
+
+    def test_a_wrong_place(self):
+        self.assertRaises(Exception, self.opened, create=False)
+        (self.state / "5").write_bytes(b"")
+        self.assertRaises(OSError, self.opened)
+
+    def test_a_path_is_that_of_the_driver(self):
+        self.assertEqual(place_of("state", "orders"), Place(os.path.abspath("state"), "orders"))
+        self.assertEqual(place_of("s3://state/x", "orders"), Place("s3://state/x", "orders"))
+        self.assertEqual(place_of(Place("state", "orders", "e"), "x"), Place(os.path.abspath("state"), "orders", "e"))
+
+    def test_a_function_that_is_not_pure(self):
+        """Dask gives the same key twice, and another value, once nobody has held it meanwhile."""
+        impure.calls = 0
+        with self.opened() as checkpoints:
+            checkpoints.load()
+            one = self.client.submit(impure)
+            self.assertEqual((one.result(), checkpoints.save(1, x=one)[1:3]), (1, (1, 0)))
+            key = one.key
+            del one
+            wait_until(lambda: not self.client.run_on_scheduler(lambda dask_scheduler: key in dask_scheduler.tasks))
+            two = self.client.submit(impure)
+            self.assertEqual((two.result(), two.key, checkpoints.save(2, x=two)[1:3]), (2, key, (1, 0)))
+            self.assertEqual(checkpoints.load()[1]["x"].result(), 2)
+
+    def test_equal_values_that_are_pickled_in_two_ways(self):
+        a = "".join(["a", "b"])
+        one, two = (a, a), (a, "".join(["a", "b"]))
+        self.assertNotEqual(pickled(one), pickled(two))
+        with self.opened() as checkpoints:
+            checkpoints.load()
+            checkpoints.save(1, x=self.client.scatter([{one: 1}], hash=False))
+            checkpoints.save(2, x=self.client.scatter([{two: 1}], hash=False))
+            self.assertEqual(checkpoints.load()[1]["x"][0].result(), {("ab", "ab"): 1})
+            self.assertEqual(part_of(one, 1000), part_of(two, 1000))
+
+    def test_a_class_of_the_program(self):
+        class Own:
+            def __init__(self, it):
+                self.it = it
+
+        self.assertRaises((pickle.PicklingError, AttributeError), pickle.dumps, Own(1))
+        self.assertEqual(pickle.loads(pickled(Own(1))).it, 1)
+
+    def test_progress_is_seen(self):
+        seen = []
+        with self.opened(watch=seen.append) as checkpoints:
+            checkpoints.load()
+            checkpoints.save(1, x=da.arange(4, chunks=1).persist())
+        self.assertEqual([(it.status, it.key.startswith("put_part-")) for it in seen[0]], [("finished", True)] * 4)
+
+    def test_a_sweep_comes_by_itself(self):
+        with mock.patch.object(records, "SWEEP_EVERY", 0.05), self.opened() as checkpoints:
+            checkpoints.load()
+            checkpoints.save(1, x=self.client.submit(add, 1, 2))
+            checkpoints.load()  # its names are those of an earlier term now
+            late = max(self.files()) + 1
+            (names,) = [checkpoints._records._reserve(1)]
+            checkpoints._records.storage.put(names[0], b"late")
+            checkpoints._records._give_up(0, names)
+            self.assertGreaterEqual(names[0], late)
+            wait_until(lambda: names[0] not in self.files())
+            self.assertEqual(len(self.files()), 2)
+
+
+class Streams(Base):
+    def graph(self):
+        source = streamz.Stream()
+        total = source.scatter().map(fails).accumulate(add, start=0, stream_name="total")
+        gathered = []
+        sink = total.buffer(4).gather().sink(gathered.append)
+        return source, total, sink, gathered
+
+    def opened(self, source, **more):
+        return daskstream.Checkpoints(source, self.state, self.folder / "job.db", **{"client": self.client, "create": True, **more})
+
+    def test_states_come_back(self):
+        source, *kept = self.graph()
+        with self.opened(source) as checkpoints:
+            for it in range(1, 6):
+                checkpoints.emit(it, it)
+            checkpoints.checkpoint()
+            checkpoints.emit(100, 100)
+        source, *kept = self.graph()
+        with self.opened(source) as checkpoints:
+            self.assertEqual((checkpoints.position, checkpoints.state("total")), (5, 15))
+            self.assertEqual(checkpoints.checkpoint()[1:3], (0, 1))
+        self.assertEqual(len(self.files()), 2)
+
+    def test_what_fails_goes_back(self):
+        """The exception comes up below a buffer, whose loop streamz would end."""
+        source, total, sink, gathered = self.graph()
+        with self.opened(source) as checkpoints:
+            checkpoints.emit(1, 1)
+            checkpoints.checkpoint()
+            checkpoints.emit(13, 2)
+            self.assertRaises(ZeroDivisionError, checkpoints.checkpoint)
+            self.assertRaises(ZeroDivisionError, checkpoints.emit, 3, 3)
+            self.assertEqual(checkpoints.restore(), 1)
+            checkpoints.emit(3, 3)
+            checkpoints.checkpoint()
+            self.assertEqual(checkpoints.state("total"), 4)
+            self.assertEqual(gathered, [1, 4])
+
+    def test_what_is_cancelled_goes_back(self):
+        source, total, *kept = self.graph()
+        with self.opened(source) as checkpoints:
+            checkpoints.emit(1, 1)
+            checkpoints.checkpoint()
+            total.state.cancel()
+            with self.assertRaises(Exception):
+                checkpoints.emit(2, 2)
+                checkpoints.checkpoint()
+            checkpoints.run(lambda position: [(it, it) for it in range(position + 1, 5)])
+            self.assertEqual((checkpoints.position, checkpoints.state("total")), (4, 10))
+
+    def test_graphs_that_are_refused(self):
+        for build in (
+            lambda it: it.scatter().accumulate(add).sink(print), lambda it: it.scatter().filter(bool).accumulate(add),
+            lambda it: it.scatter().flatten().accumulate(add), lambda it: it.scatter().pluck(0).accumulate(add),
+            lambda it: it.scatter().accumulate(add).partition(2), lambda it: it.scatter().map(abs),
+            lambda it: [it.scatter().accumulate(add), it.scatter().accumulate(add)], lambda it: it.accumulate(add),
+            lambda it: it.scatter().accumulate(add, with_state=True),
+        ):
+            source = streamz.Stream()
+            kept = build(source)
+            self.assertRaises(GraphError, self.opened, source)
+            self.assertIsNotNone(kept)
+
+    def test_a_client_that_is_made_after_the_graph(self):
+        with mock.patch("streamz.core._dask_default_client", side_effect=ValueError):
+            source = streamz.Stream()
+            kept = source.scatter().accumulate(add, start=0)
+        self.assertRaisesRegex(GraphError, "before the client", self.opened, source)
+        self.assertIsNotNone(kept)
+
+    def test_keyed_states_that_do_not_change_are_not_written(self):
+        def keyed():
+            source = streamz.Stream()
+            return source, daskstream.keyed(source.scatter(), count, start={}, parts=4, name="words")
+
+        source, nodes = keyed()
+        with self.opened(source) as checkpoints:
+            checkpoints.emit(list("abcdefgh"), 1)
+            self.assertEqual(checkpoints.checkpoint()[1:3], (4, 0))
+            checkpoints.emit(["a", "a"], 2)
+            self.assertEqual(checkpoints.checkpoint()[1:3], (1, 3))
+        source, nodes = keyed()
+        with self.opened(source) as checkpoints:
+            checkpoints.emit(["b"], 3)
+            self.assertEqual(checkpoints.checkpoint()[1:3], (1, 3))
+            found = [checkpoints.state(f"words-{it}") for it in range(4)]
+            self.assertEqual({key: number for it in found for key, number in it.items()}, {**dict.fromkeys("cdefgh", 1), "a": 3, "b": 2})
+            self.assertEqual(sum(map(len, found)), 8)
+        self.assertEqual(len(self.files()), 5)
+
+    def test_what_is_passed_on_is_that_of_its_step(self):
+        """A later step changes the state in place while nodes below have not read it yet."""
+        source, seen, sizes = streamz.Stream(), [], []
+        words = source.scatter()
+        kept = [words.accumulate(count, start={}, stream_name="counts").buffer(100).gather().sink(seen.append),
+                words.accumulate(size_and_state, start={}, returns_state=True, stream_name="sizes").buffer(100).gather().sink(sizes.append)]
+        with self.opened(source) as checkpoints:
+            checkpoints.run(lambda _: [(it, it) for it in "abcabcabcd"])
+            self.assertEqual([sum(it.values()) for it in seen], list(range(1, 11)))
+            self.assertEqual((sizes, checkpoints.state("sizes")), ([1, 2, 3, 3, 3, 3, 3, 3, 3, 4], {"a": 3, "b": 3, "c": 3, "d": 1}))
+        self.assertEqual(len(kept), 2)
+
+    def test_a_state_without_a_start(self):
+        def graph():
+            source = streamz.Stream()
+            return source, source.scatter().accumulate(add, stream_name="total")
+
+        source, kept = graph()
+        with self.opened(source) as checkpoints:
+            checkpoints.checkpoint()
+        source, kept = graph()
+        with self.opened(source) as checkpoints:
+            checkpoints.emit([1], 1)
+            checkpoints.emit([2], 2)
+            checkpoints.checkpoint()
+        source, kept = graph()
+        with self.opened(source) as checkpoints:
+            self.assertEqual(checkpoints.state("total"), [1, 2])
+
+    def test_a_step_that_dask_does_again(self):
+        state = State({})
+        once = take_step(state, "a", count, 1, False, True, {})
+        self.assertRaises(Failed, take_step, state, "a", count, 1, False, True, {})
+        moved = pickle.loads(pickle.dumps(once))
+        twice = take_step(once, "a", count, 2, False, True, {})
+        self.assertEqual((once.result, twice.result), ({"a": 1}, {"a": 2}))
+        self.assertEqual(take_step(moved, "a", count, 2, False, False, {}).value, {"a": 2})
+        self.assertRaises(Failed, take_step, pickle.loads(pickle.dumps(once)), "a", count, 2, False, True, {})
+
+    def test_parts(self):
+        self.assertEqual([part_of(it, 8) for it in ("a", "b", 7, 1, True, ("a", 1), ("a", True))], [3, 1, 2, 7, 7, 6, 6])
+        self.assertRaises(TypeError, part_of, 1.0, 8)
+
+    def test_the_same_in_one_process(self):
+        def graph():
+            source, rows = streamz.Stream(), outputs.Files(str(self.folder), "rows")
+            total = source.map(fails).accumulate(add, start=0, stream_name="total")
+            return source, rows, [total, total.sink(rows), source.accumulate(add, stream_name="none")]
+
+        source, rows, kept = graph()
+        with self.opened(source, client=None, outputs=[rows]) as checkpoints:
+            checkpoints.run(lambda _: [(1, 1), (2, 2)])
+            self.assertRaises(ZeroDivisionError, checkpoints.emit, 13, 3)
+            self.assertRaises(ZeroDivisionError, checkpoints.emit, 4, 4)
+            self.assertRaises(ZeroDivisionError, checkpoints.checkpoint)
+            self.assertEqual((checkpoints.restore(), rows.rows), (2, []))
+        source, rows, kept = graph()
+        with self.opened(source, client=None, outputs=[rows]) as checkpoints:
+            checkpoints.emit(3, 3)
+            checkpoints.checkpoint()
+            self.assertEqual((checkpoints.state("total"), checkpoints.state("none")), (6, 6))
+        self.assertEqual([it.read_text() for it in sorted(self.folder.glob("*.jsonl"))], ["1\n3\n", "6\n"])
+        self.assertEqual(len(self.files()), 3)
+
+
+class Outputs(Base):
+    def setUp(self):
+        super().setUp()
+        sqlite3.connect(self.folder / "rows.db").execute("CREATE TABLE rows (it INTEGER)").connection.commit()
+
+    def table(self):
+        return outputs.Table(lambda: sqlite3.connect(self.folder / "rows.db"), "INSERT INTO rows VALUES (?)", name="rows")
+
+    def rows(self):
+        return [it for it, in sqlite3.connect(self.folder / "rows.db").execute("SELECT it FROM rows ORDER BY it")]
+
+    def test_a_table(self):
+        table = self.table()
+        table.publish("a", 1, [(1,), (2,)], "x")
+        table.publish("a", 1, [(1,), (2,)], "x")
+        self.assertRaises(outputs.OutputError, table.publish, "a", 1, [(3,)], "y")
+        table.publish("a", 3, [(3,)], "z")
+        self.assertRaises(outputs.OutputError, table.publish, "a", 2, [(9,)], "y")
+        table.publish("b", 1, [(4,)], "x")
+        self.assertEqual(self.rows(), [1, 2, 3, 4])
+
+    def test_a_row_that_the_database_refuses(self):
+        table = self.table()
+        self.assertRaises(sqlite3.Error, table.publish, "a", 1, [(1,), (2, 3)], "x")
+        self.assertEqual(self.rows(), [])
+        table.publish("a", 1, [(1,)], "z")
+        self.assertEqual(self.rows(), [1])
+
+    def test_files(self):
+        files = outputs.Files(str(self.folder))
+        files.publish("a", 1, [[1], [2]], "x")
+        files.publish("a", 1, [[1], [2]], "x")
+        self.assertRaises(outputs.OutputError, files.publish, "a", 1, [[3]], "y")
+        (self.folder / f"a-{2:020}.jsonl.part").write_text("half")
+        files.publish("a", 2, [[4]], "z")
+        self.assertEqual([it.read_text() for it in sorted(self.folder.glob("*.jsonl"))], ["[1]\n[2]\n", "[4]\n"])
+        self.assertEqual(list(self.folder.glob("*.part")), [])
+
+    def opened(self):
+        source, table = streamz.Stream(), self.table()
+        kept = source.scatter().accumulate(add, start=0, stream_name="total").gather().map(row).sink(table)
+        return source, kept, table, daskstream.Checkpoints(
+            source, self.state, self.folder / "job.db", client=self.client, create=True, outputs=[table])
+
+    def test_a_checkpoint_that_is_complete_and_not_published(self):
+        source, kept, table, checkpoints = self.opened()
+        with checkpoints:
+            checkpoints.emit(1, 1)
+            checkpoints.checkpoint()
+            checkpoints.emit(2, 2)
+            table.publish = None
+            self.assertRaises(TypeError, checkpoints.checkpoint)  # complete, and the process ends before it is published
+            self.assertEqual(self.rows(), [1])
+        source, kept, table, checkpoints = self.opened()
+        with checkpoints:
+            self.assertEqual((checkpoints.position, self.rows()), (2, [1, 3]))
+            checkpoints.emit(3, 3)
+            checkpoints.checkpoint()
+            self.assertEqual(self.rows(), [1, 3, 6])
+
+    def test_rows_after_the_last_checkpoint_are_given_up(self):
+        source, kept, table, checkpoints = self.opened()
+        with checkpoints:
+            checkpoints.emit(1, 1)
+            checkpoints.checkpoint()
+            checkpoints.emit(2, 2)
+            self.assertEqual((checkpoints.restore(), table.rows), (1, []))
+            checkpoints.emit(3, 3)
+            checkpoints.checkpoint()
+            self.assertEqual(self.rows(), [1, 4])
+
+
+async def lost_after_a_move(key, dask_scheduler):
+    """A result moves to another worker, as when Dask makes room on the first, and that other one dies."""
+    (first,) = [it.address for it in dask_scheduler.tasks[key].who_has]
+    (second,) = set(dask_scheduler.workers) - {first}
+    await dask_scheduler.replicate(keys=[key], n=2)
+    await dask_scheduler.delete_worker_data(worker_address=first, keys=[key], stimulus_id="test")
+    await dask_scheduler.remove_worker(address=second, stimulus_id="test", close=True)
+
+
+class InPlace(Base):
+    """States that their functions change in place. Each test loses a worker of its own cluster."""
+
+    def lost(self, after):
+        after.result()
+        self.client.run_on_scheduler(lost_after_a_move, after.key)
+        return after
+
+    def setUp(self):
+        super().setUp()
+        self.tearDownClass()
+        self.setUpClass()
+
+    def test_dask_counts_twice(self):
+        before = self.client.submit(dict, pure=False)
+        self.assertEqual(self.lost(self.client.submit(count, before, "a")).result(), {"a": 2})  # so steps are numbered
+
+    def numbered(self, build):
+        source = streamz.Stream()
+        node = build(source.scatter())
+        with daskstream.Checkpoints(source, self.state, self.folder / "job.db", client=self.client, create=True) as checkpoints:
+            checkpoints.emit(["a"], 1)
+            before = node.state.result() and node.state  # a node below may hold it, and then it stays on its worker as it is
+            checkpoints.emit(["a"], 2)
+            self.lost(node.state)
+            with self.assertRaises(Failed):
+                checkpoints.checkpoint()
+            checkpoints.run(lambda _: [(["a"], 1), (["a"], 2)])
+            self.assertIsNotNone(before)
+            return sum(checkpoints.state(node.name).values())
+
+    def test_accumulate_says_so(self):
+        self.assertEqual(self.numbered(lambda it: it.map(first).accumulate(count, start={}, stream_name="counts")), 2)
+
+    def test_keyed_says_so(self):
+        self.assertEqual(self.numbered(lambda it: daskstream.keyed(it, count, start={}, parts=1, name="words")[0]), 2)
+
+    def test_a_worker_that_is_lost_in_a_save(self):
+        with Checkpoints(self.client, self.state, self.folder / "job.db", create=True, patience=60) as checkpoints:
+            checkpoints.load()
+            x = da.arange(8, chunks=1).persist()
+            checkpoints.save(1, x=x)
+            wait_until(lambda: all(it.status == "finished" for it in self.client.futures_of(x)))
+
+            def dies(_):
+                self.client.run_on_scheduler(lose_one)
+
+            checkpoints._records._watch = dies
+            y = (x + 1).persist()
+            try:
+                checkpoints.save(2, x=y)
+                want = 2
+            except Exception:
+                want = 1
+            checkpoints._records._watch = None
+            meta, found = checkpoints.load()
+            self.assertEqual((meta, list(found["x"].compute())), (want, [it + want - 1 for it in range(8)]))
+        self.assertEqual(len(self.files()), 9)
+
+
+async def lose_one(dask_scheduler):
+    await dask_scheduler.remove_worker(address=next(iter(dask_scheduler.workers)), stimulus_id="test", close=True)
+
+
+def first(words):
+    return words[0]
+
+
+class Workers(unittest.TestCase):
+    def test_a_worker_needs_neither_the_library_nor_streamz(self):
+        program = """
+import sys
+from relkvanu.parts import Place, State, get_part, loads_state, put_part, dumps_value
+place = Place(sys.argv[1], "orders")
+place.open(is_new=True)
+part = put_part(place, 7, State([1]), None, dumps_value)
+print(get_part(place, part, loads_state).value, put_part(place, 8, State([1]), part, dumps_value).file)
+print([it for it in ("relkvanu.coordinator", "relkvanu.store", "streamz", "distributed") if it in sys.modules])
+"""
+        with tempfile.TemporaryDirectory() as folder:
+            told = subprocess.run([sys.executable, "-c", program, folder], env={**os.environ, "RELKVANU_LIB": "/nowhere"},
+                                  stdout=subprocess.PIPE, stderr=subprocess.PIPE, text=True)
+        self.assertEqual((told.stdout, told.stderr), ("[1] 7\n[]\n", ""))
+
+
+PAGE = pathlib.Path(__file__).resolve().parent.parent.parent / "docs/DASK.md"
+
+
+def block(language):
+    """The only block of the page that begins so."""
+    (found,) = re.findall(rf"^```{language}\n(.*?)^```$", PAGE.read_text(encoding="utf-8"), re.M | re.S)
+    return found
+
+
+class Page(Base):
+    def test_the_first_program_word_for_word(self):
+        """With the page's commands, in a network of its own, where nobody has the page's port. The second time it goes on from its end."""
+        program = block("python first.py")
+        self.assertLessEqual(len(program.splitlines()), 15)
+        (self.folder / "first").mkdir()
+        (self.folder / "first/first.py").write_text(program)
+        commands = f"ip link set lo up; trap 'kill $(jobs -p); wait' EXIT\n{block('sh')}python3 first.py\n"
+        told = subprocess.run(["unshare", "-rn", "bash", "-ec", commands], cwd=self.folder / "first", stdout=subprocess.PIPE, stderr=subprocess.PIPE, text=True,
+                              env={**os.environ, "PATH": f"/usr/bin:/bin:{os.environ['PATH']}"}, timeout=900)
+        self.assertEqual((told.stdout, told.returncode), ("50 1225000000.0\n" * 2, 0), told.stderr[-2000:])
+        self.assertEqual(sorted(it.name for it in (self.folder / "first").iterdir() if it.name.startswith(("first", "state"))),
+                         ["first.db", "first.py", "state"])
+        self.assertEqual(len([it for it in os.listdir(self.folder / "first/state") if it.isdecimal()]), 11)
+
+    def test_the_stream_of_the_page(self):
+        text = self.folder / "text"
+        text.write_text("a word of a text\n" * 1000)
+        rows = self.folder / "rows.db"
+        sqlite3.connect(rows).execute("CREATE TABLE lines (number INTEGER, words INTEGER)").connection.commit()
+        found = {"words": words.words, "lengths": words.lengths, "count": words.count, "read": words.batches(text), "streamz": streamz,
+                 "Client": lambda _: self.client, "connect": lambda: sqlite3.connect(rows), "Table": outputs.Table, "keyed": daskstream.keyed,
+                 "Checkpoints": daskstream.Checkpoints}
+        program = block("python")
+        for name in ("state", "words.db"):
+            self.assertEqual(program.count(f'"{name}"'), 1)
+            program = program.replace(f'"{name}"', repr(str(self.folder / name)))
+        exec(program, found)
+        self.assertEqual(sum(it.state.result().value.get("a", 0) for it in found["counts"]), 2000)
+        self.assertEqual(sqlite3.connect(rows).execute("SELECT count(*), sum(words) FROM lines").fetchone(), (1000, 5000))
+
+
+if __name__ == "__main__":
+    unittest.main()

@@ -1,0 +1,402 @@
+"""Checkpoints of a streamz graph, in one process or with its work on a Dask cluster: the states of its accumulate nodes, a position of its source, and
+its outputs (relkvanu.outputs).
+
+With a Client the graph has scatter() and gather(). The driver takes a checkpoint when no element is under way. Workers write the states, which
+never pass the driver, and those that have not changed are not written. After the driver, a worker or the scheduler was killed, the job goes on
+from the last complete checkpoint: each element counts once in the states, and is once in the outputs. docs/DASK.md has an example.
+"""
+import asyncio
+import logging
+import threading
+import time
+from operator import getitem
+from typing import Any, Awaitable, Callable, Dict, Iterable, List, Optional, Sequence, Tuple, Union
+
+import streamz
+import streamz.core
+import streamz.dask
+from distributed import Client, Future, default_client
+
+from relkvanu import outputs as published
+from relkvanu.parts import (
+    Failed, Nothing, Part, PartError, Place, State, dumps_value, fold_all, loads_state, part_of, pickled, result_of, split, take_step, value_of,
+)
+from relkvanu.records import LOST, Path, Record, Records, Saved, Watch, losses
+from relkvanu.streamz import STATELESS, GraphError, _nodes
+from relkvanu.streamz import _stateful as stateful_of_one_process
+
+__all__ = ["Checkpoints", "Failed", "GraphError", "PartError", "Place", "Saved", "keyed", "part_of"]
+
+LOG = logging.getLogger(__name__)
+ON_WORKERS = (streamz.dask.map, streamz.dask.starmap, streamz.dask.accumulate, streamz.dask.union, streamz.dask.scatter)
+BUFFERS = (streamz.core.buffer, streamz.dask.buffer)
+PAUSE = 0.5  # seconds before run() goes on from the last checkpoint
+Read = Callable[[Any], Iterable[Tuple[Any, Any]]]
+
+
+def _nothing(_: Any) -> None:
+    return None
+
+
+def keyed(stream: Any, fold: Callable[[Any, Any], Any], start: Any, parts: int, name: str, key: Optional[Callable[[Any], Any]] = None,
+          ahead: int = 8) -> List[Any]:
+    """State by key: `stream` is on workers and has lists of elements, and each of the `parts` accumulate nodes that are returned folds those of
+    its keys, and may change its state in place. The parts run beside each other. At most `ahead` lists are under way."""
+    lists = stream.map(split, parts, key)
+    nodes = [lists.map(getitem, it).accumulate(fold_all, start=start, returns_state=True, fold=fold, stream_name=f"{name}-{it}")
+             for it in range(parts)]
+    ends = nodes[0].union(*nodes[1:]) if parts > 1 else nodes[0]
+    ends.buffer(ahead * parts).gather().sink(_nothing)  # the next lists wait for these
+    return nodes
+
+
+# The graph.
+
+
+def _is_on_workers(node: Any) -> bool:
+    """Whether the node gives futures to those below it."""
+    return isinstance(node, streamz.dask.DaskStream) and not isinstance(node, streamz.dask.gather)
+
+
+def _name(node: Any) -> None:
+    """streamz 0.6.4 gives the name of such a node to its function."""
+    node.name = node.name or getattr(node, "kwargs", {}).pop("stream_name", None)
+
+
+def _check_node(node: Any, sources: Sequence[Any]) -> None:
+    kind = type(node).__name__
+    if type(node) not in (*STATELESS, *ON_WORKERS, *BUFFERS, streamz.core.accumulate, streamz.dask.gather):
+        raise GraphError(f"a {kind} node keeps or delays elements")
+    if type(node) in (*STATELESS, streamz.core.accumulate) and any(_is_on_workers(it) for it in node.upstreams):
+        raise GraphError(f"a {kind} node would get futures: gather() first, or map() on the workers")
+    if type(node) is streamz.Stream and not any(node is it for it in sources) and not node.upstreams:
+        raise GraphError("the graph has another source")
+    if getattr(node, "with_state", False):
+        raise GraphError("an accumulate node with with_state passes its state on: use returns_state")
+
+
+def _stateful(nodes: Sequence[Any], sources: Sequence[Any], client: Client) -> Dict[str, Any]:
+    """The accumulate nodes by name."""
+    for node in nodes:
+        _check_node(node, sources)
+        if isinstance(node, ON_WORKERS):
+            _name(node)
+    if default_client() is not client:
+        raise GraphError("the nodes of streamz use the default client, which is another one")
+    if any(it.loop is not client.loop for it in nodes):
+        raise GraphError("the graph has no scatter(), or it was made before the client, and has an event loop of its own")
+    found = [it for it in nodes if type(it) in (streamz.core.accumulate, streamz.dask.accumulate)]
+    names = [it.name if it.name or len(found) > 1 else "accumulate" for it in found]
+    if not found or None in names or len(set(names)) < len(names):
+        raise GraphError("each accumulate node needs a stream_name of its own, and there has to be one")
+    return dict(zip(names, found))
+
+
+def _number(node: Any, client: Client) -> None:
+    """Lets an accumulate node on workers number its steps (take_step)."""
+    node.step = 0
+
+    def update(x: Any, who: Any = None, metadata: Any = None) -> Any:
+        node.step += 1
+        passes_on = bool(node.downstreams)
+        node.state = client.submit(
+            take_step, node.state, x, node.func, node.step, node.returns_state, passes_on, node.kwargs, pure=False)
+        return node._emit(client.submit(result_of, node.state, pure=False), metadata=metadata) if passes_on else []
+
+    node.update = update
+
+
+class _Flight:
+    """The elements that are under way. After end() those of before go no further: each looks when it comes out of a wait. pass_on() is called
+    on the event loop."""
+
+    def __init__(self) -> None:
+        self.now = 0  # which flight
+        self._count = 0  # of this one
+        self.fault: Optional[BaseException] = None
+        self._changed = threading.Condition()
+        self._ended: List[asyncio.Future[None]] = []
+
+    def begin(self) -> int:
+        with self._changed:
+            self._count += 1
+            return self.now
+
+    def done(self, flight: int) -> None:
+        with self._changed:
+            self._count -= flight == self.now
+            self._changed.notify_all()
+
+    def fail(self, flight: int, fault: BaseException) -> None:
+        with self._changed:
+            if flight == self.now and self.fault is None:
+                self.fault = fault
+            self._changed.notify_all()
+
+    async def pass_on(self, flight: int, results: Callable[[], Any]) -> None:
+        """Gives an element to the nodes below, and waits until they have taken it, or the flight has ended."""
+        if flight != self.now:
+            return
+        end = asyncio.get_running_loop().create_future()
+        self._ended.append(end)
+        work = asyncio.ensure_future(_all(results()))
+        try:
+            await asyncio.wait({work, end}, return_when=asyncio.FIRST_COMPLETED)
+            if work.done():
+                work.result()
+        finally:
+            self._ended = [it for it in self._ended if it is not end]
+
+    def end(self) -> None:
+        """On the event loop, if there is one."""
+        with self._changed:
+            self.now, self._count, self.fault = self.now + 1, 0, None
+        for it in self._ended:
+            if not it.done():
+                it.set_result(None)
+
+    def landed(self, patience: float) -> None:
+        """Waits until no element is under way. Raises what happened to one."""
+        with self._changed:
+            if not self._changed.wait_for(lambda: self._count == 0 or self.fault is not None, patience):
+                raise Failed(f"{self._count} elements are under way after {patience} s")
+            if self.fault is not None:
+                raise self.fault
+
+
+async def _all(results: Sequence[Awaitable[Any]]) -> None:
+    await asyncio.gather(*results)
+
+
+def _lost(fault: BaseException) -> BaseException:
+    """As relkvanu.records.losses."""
+    return Failed(f"lost with a worker or the scheduler: {fault}") if isinstance(fault, LOST) else fault
+
+
+def _watch(node: Any, flight: _Flight, client: Client) -> None:
+    """Counts the elements that a node holds back, and lets none of an ended flight out of it. A fault in a node below a buffer, which would end
+    the buffer's loop, is kept for the caller of emit()."""
+    put, emit = node.update, node._emit
+
+    async def through(now: int, wait: Optional[Awaitable[Any]], x: Any, metadata: Any) -> None:
+        try:
+            x = x if wait is None else await wait
+            if isinstance(node, streamz.dask.scatter):
+                x = x[0]
+            await flight.pass_on(now, lambda: emit(x, metadata=metadata))
+        except (Exception, asyncio.CancelledError) as fault:
+            told = _lost(fault)
+            flight.fail(now, told)
+            if not isinstance(node, BUFFERS):
+                raise told from None
+        finally:
+            flight.done(now)
+
+    if isinstance(node, BUFFERS):
+        node.update = lambda x, who=None, metadata=None: put((flight.begin(), x), metadata=metadata)
+        node._emit = lambda item, metadata=None: through(item[0], None, item[1], metadata)
+    elif isinstance(node, streamz.dask.scatter):
+        node.update = lambda x, who=None, metadata=None: through(
+            flight.begin(), client.scatter([x], asynchronous=True, hash=False), None, metadata)
+    elif isinstance(node, streamz.dask.gather):
+        node.update = lambda x, who=None, metadata=None: through(flight.begin(), client.gather(x, asynchronous=True), None, metadata)
+
+
+class Checkpoints:
+    """The checkpoints of a graph. `with Checkpoints(..) as checkpoints:` closes it. One thread at a time may call.
+
+    After it is made, `position` is that of the last complete checkpoint, or None, and the states are in the nodes again.
+    """
+
+    def __init__(self, sources: Any, storage: Union[Path, Place], coordinator: Path, *, client: Optional[Client] = None, create: bool = False,
+                 every: float = 10, outputs: Sequence[published.Output] = (), patience: float = 300, watch: Optional[Watch] = None) -> None:
+        """Recovers the job whose coordinator is this file, on a disk of this machine, or makes one if `create` says so. `storage` has the states:
+        `s3://bucket/prefix`, a folder that all machines have, or a Place. With a client the graph's work is on its cluster. A checkpoint is
+        taken `every` so many seconds, if elements come. `outputs` are sinks of the graph that are exactly once. An element and a
+        checkpoint take at most `patience` seconds each. `watch` is given the futures of a checkpoint's writes."""
+        self._sources = list(sources) if isinstance(sources, (list, tuple)) else [sources]
+        self._client, self._every, self._patience = client, every, patience
+        self._flight = _Flight()
+        self._nodes = self._looked_at(_nodes(self._sources))
+        self._outputs = {it.name: it for it in outputs}
+        if len(self._outputs) < len(outputs):
+            raise GraphError("each output needs a name of its own")
+        self._starts = {name: self._start(node) for name, node in self._nodes.items()}
+        self.position: Any = None
+        self.saved: Optional[Saved] = None
+        self._records = Records(client, storage, coordinator, create=create, patience=patience, dumps=dumps_value, loads=loads_state, watch=watch)
+        try:
+            self.restore()
+        except BaseException:
+            self._records.close()
+            raise
+
+    def _looked_at(self, nodes: Sequence[Any]) -> Dict[str, Any]:
+        """The nodes with a state, by name. Those on workers are numbered and watched from here on."""
+        if self._client is None:
+            return stateful_of_one_process(nodes, self._sources)
+        found = _stateful(nodes, self._sources, self._client)
+        for node in nodes:
+            if isinstance(node, streamz.dask.accumulate):
+                _number(node, self._client)
+            _watch(node, self._flight, self._client)
+        return found
+
+    def __enter__(self) -> "Checkpoints":
+        return self
+
+    def __exit__(self, *_: object) -> None:
+        self.close()
+
+    def close(self) -> None:
+        """It takes no checkpoint."""
+        self._records.close()
+
+    def run(self, read: Read, failures: int = 20) -> None:
+        """Emits what read(position) has: elements, each with the position after it. At its end it takes a checkpoint. After an exception
+        it goes back to the last checkpoint and reads again from there, `failures` times without a new one."""
+        left, last = failures, self.saved
+        while True:
+            try:
+                if left < failures:
+                    self.restore()
+                for x, position in read(self.position):
+                    self.emit(x, position)
+                self.checkpoint()
+                return
+            except (Exception, *LOST) as fault:
+                left, last = (failures if self.saved is not last else left) - 1, self.saved
+                if left < 0 or (self._client is not None and self._client.status == "closed"):
+                    raise
+                LOG.warning("back to the last checkpoint: %r", fault)
+                time.sleep(PAUSE)
+
+    def emit(self, x: Any, position: Any, source: Optional[Any] = None) -> None:
+        """Gives an element to the graph. `position` is where the caller goes on after it. Takes a checkpoint if one is due. After an exception only
+        restore() goes on."""
+        if self._flight.fault is not None:
+            raise self._flight.fault
+        to = self._sources[0] if source is None else source
+        if self._client is None:
+            self._emitted_here(to, x)
+        else:
+            self._on_loop(self._emitted(to, x))
+        self.position = position
+        if time.monotonic() >= self._due:
+            self.checkpoint()
+
+    def checkpoint(self) -> Saved:
+        """Takes a checkpoint now, and publishes what the outputs have. If it raises, the one before stands: restore()."""
+        times = [time.monotonic()]
+        self._flight.landed(self._patience)
+        times.append(time.monotonic())
+        packed = {name: published.pack(it) for name, it in self._outputs.items()}
+        saved = self._records.save((self.position, packed), {name: [self._written(it.state)] for name, it in self._nodes.items()})
+        times.append(time.monotonic())
+        self._publish(saved.id, packed)
+        times.append(time.monotonic())
+        self.saved, self._due = saved, times[-1] + self._every
+        LOG.info("record %d: %d parts, %d bytes; waited %.3f s for elements, wrote for %.3f s, published for %.3f s",
+                 saved.id, saved.written, saved.size, *(after - before for before, after in zip(times, times[1:])))
+        return saved
+
+    def restore(self) -> Any:
+        """Puts the states of the last checkpoint back, and tells the outputs of it again. What outputs had for a later one is given up. Returns the
+        position, or None if there is no checkpoint."""
+        self._in_place(self._flight.end)
+        if self._client is not None:
+            with losses():
+                self._client.wait_for_workers(1, timeout=self._patience)
+        record = self._records.restore()
+        states = {name: self._loaded(name, record) for name in self._nodes}
+        self._in_place(lambda: self._put_back(states))
+        for output in self._outputs.values():
+            output.rows = []
+        self.position = None
+        if record is not None:
+            self.position, packed = record.meta
+            self._publish(record.id, packed)
+        self._due = time.monotonic() + self._every
+        return self.position
+
+    def counts(self) -> Tuple[int, int]:
+        """How many files are in use, and how many wait for deletion."""
+        return self._records.counts()
+
+    def state(self, name: str) -> Any:
+        """The state of a node, in the driver's memory."""
+        it = self._nodes[name].state
+        with losses():
+            return value_of(it.result(self._patience) if isinstance(it, Future) else it)
+
+    # States.
+
+    def _start(self, node: Any) -> bytes:
+        """As bytes, because a function of the graph may change a state in place."""
+        return pickled(Nothing.YET if node.state is streamz.core.no_default else node.state)
+
+    def _written(self, state: Any) -> Any:
+        return Nothing.YET if state is streamz.core.no_default else state
+
+    def _loaded(self, name: str, record: Optional[Record]) -> Any:
+        """The state of a node: on workers a State or its future, in this process the value."""
+        is_on_workers = isinstance(self._nodes[name], streamz.dask.accumulate)
+        if record is None:
+            state = loads_state(self._starts[name])
+        else:
+            self._check_names(record)
+            part: Part = record.parts[name][0]
+            state = self._records.load([part])[0] if is_on_workers else self._records.value(part)
+        if is_on_workers:
+            return state
+        return streamz.core.no_default if state.value is Nothing.YET else state.value
+
+    def _check_names(self, record: Record) -> None:
+        if record.parts.keys() != self._nodes.keys():
+            raise GraphError(f"checkpoint {record.id} has the states of {sorted(record.parts)}, and the graph has {sorted(self._nodes)}")
+
+    def _publish(self, record: int, packed: Dict[str, bytes]) -> None:
+        """An output that is new, or that is no more, has nothing in this record."""
+        for name, output in self._outputs.items():
+            if name in packed:
+                published.publish(output, self._records.identity, record, packed[name])
+
+    # The event loop.
+
+    def _on_loop(self, work: Any) -> Any:
+        assert self._client is not None
+        try:
+            return asyncio.run_coroutine_threadsafe(work, self._client.loop.asyncio_loop).result(self._patience)
+        except LOST as fault:
+            raise _lost(fault) from None
+
+    def _emitted_here(self, source: Any, x: Any) -> None:
+        try:
+            source.emit(x)
+        except BaseException as fault:
+            self._flight.fail(self._flight.now, fault)
+            raise
+
+    async def _emitted(self, source: Any, x: Any) -> None:
+        flight = self._flight.begin()
+        try:
+            await source.emit(x, asynchronous=True)
+        except Exception as fault:
+            self._flight.fail(flight, fault)
+            raise
+        finally:
+            self._flight.done(flight)
+
+    def _in_place(self, work: Callable[[], None]) -> None:
+        """Does it where elements go on: on the event loop, or here."""
+        async def run() -> None:
+            work()
+
+        if self._client is None:
+            work()
+        else:
+            self._on_loop(run())
+
+    def _put_back(self, states: Dict[str, State]) -> None:
+        for name, state in states.items():
+            self._nodes[name].state, self._nodes[name].step = state, 0
