@@ -1,5 +1,5 @@
 -- What each event does, and its answer.
-use Rattle.std.specs.Prelude.{ℕ, ◌&&◌, nat_lt, ◌==◌, Option, Some, None, Result, Ok, Err, slice_get, if◌then◌else◌}
+use Rattle.std.specs.Prelude.{◌≡◌, ℕ, ◌&&◌, nat_lt, ◌==◌, Option, Some, None, Result, Ok, Err, slice_get, if◌then◌else◌}
 use Rattle.std.specs.List.{list_any}
 use Rattle.ckpt_align.specs.declared.input.Input.{Input}
 use Rattle.ckpt_align.specs.declared.input.Input.TheVariants.{Open, Held, Ended}
@@ -54,3 +54,7 @@ step a (Element i) = element a (slice_get a.inputs i)
 step a (Barrier i n) = if_open a (slice_get a.inputs i) (barrier a i n)
 step a (End i) = if_open a (slice_get a.inputs i) (settled (with_input a i Ended))
 step a (GiveUp n) = give_up a n
+
+-- some aligner answers some event with the cut of this record
+abbrev pub IsCut : ℕ → Type 0
+IsCut id = (a : Alignment) × (e : Event) × ((step a e).1 ≡ Ok (Cut id))

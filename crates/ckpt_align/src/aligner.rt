@@ -3,8 +3,10 @@
 ghost use Rattle.std.specs.Prelude.{◌≡◌, ◌↔◌, false, map, Ok, Err, Some, IfOk, IfErr, OnOk, OnErr, slice_get};
 ghost use Rattle.std.specs.List.{list_any};
 ghost use Rattle.ckpt_align.specs.Alignment.{all_released, held_for, is_a_task, is_aligning, is_late, is_open, opened, released, with_input};
+ghost use Rattle.ckpt_align.specs.Histories.{cut_as};
 ghost use Rattle.ckpt_align.specs.Steps.{Stepped, barrier, element, give_up, if_open, settled, step};
 
+use crate::cut::Cut;
 use crate::event::{Answer, Event, Refusal};
 use crate::input::Input;
 use ckpt_ids::CheckpointId;
@@ -150,6 +152,20 @@ impl Aligner {
                 Ok(self.settle())
             }
             Event::GiveUp(id) => Ok(self.give_up(id.0)),
+        }
+    }
+
+    /// As [`Aligner::apply`]; and at a cut the [`Cut`], with which the task acknowledges the record.
+    pub fn ask(&mut self, event: Event) -> Result<(Answer, Option<Cut>), Refusal>
+        ensures state { self.new ≡ (step self.old event).0 }
+        ensures answer { IfOk result (λ told. (step self.old event).1 ≡ Ok told.0) }
+        ensures refusal { IfErr result (λ why. (step self.old event).1 ≡ Err why) }
+        ensures refused { OnErr result (self.new ≡ self.old) }
+        ensures cut { IfOk result (λ told. told.1 ≡ cut_as (Ok told.0)) }
+    {
+        match self.apply(event)? {
+            Answer::Cut(id) => Ok((Answer::Cut(id), Some(Cut::of(id)))),
+            answer => Ok((answer, None)),
         }
     }
 

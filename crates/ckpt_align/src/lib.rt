@@ -9,10 +9,12 @@
 #![tactic(auto)]
 
 pub mod aligner;
+pub mod cut;
 pub mod event;
 pub mod input;
 pub mod laws;
 
 pub use aligner::{Aligner, MOST_INPUTS, OpenFault};
+pub use cut::Cut;
 pub use event::{Answer, Event, Refusal};
 pub use input::Input;

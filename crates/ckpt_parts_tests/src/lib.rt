@@ -9,6 +9,8 @@
 #[cfg(test)]
 mod align;
 #[cfg(test)]
+mod ledger;
+#[cfg(test)]
 mod parts;
 #[cfg(test)]
 mod secrets;
