@@ -92,7 +92,7 @@ typedef struct {
 /* A call, for relkvanu_call_line and relkvanu_make and of relkvanu_line_call. The first two do not read fields that its kind does not use;
  * the third sets them to 0. */
 typedef struct {
-    uint32_t kind;   /* RELKVANU_CALL_TICK to RELKVANU_CALL_FORFEIT */
+    uint32_t kind;   /* RELKVANU_CALL_TICK to RELKVANU_CALL_CONFIGURE */
     uint16_t vertex; /* with index: the subtask of an ack or a decline */
     uint16_t index;
     uint64_t now;    /* the moment, if the kind has one */
@@ -143,6 +143,7 @@ typedef struct {
 #define RELKVANU_UNDELETED 20u           /* a: file. The file waits again */
 #define RELKVANU_SHOWN 21u               /* a: bytes at the start of the buffer */
 #define RELKVANU_COUNTED 22u             /* a: file, b: uses. The uses by live records. "count {a} {b}" */
+#define RELKVANU_CONFIGURED 61u          /* a: checkpoints dropped, b: files released. The job has the new settings */
 
 /* what, if a read is RELKVANU_DONE */
 #define RELKVANU_MODE_RUNNING 23u   /* the job takes checkpoints */
@@ -208,6 +209,7 @@ typedef struct {
 #define RELKVANU_NOT_TAKEN 13u           /* the file was not fetched for deletion, or was reported before */
 #define RELKVANU_NO_SUCH_RECORD 14u      /* no live record has the number */
 #define RELKVANU_IDS_USED_UP 15u         /* no number is left for another record */
+#define RELKVANU_AT_ONCE 16u             /* as many checkpoints are pending as may be, or more than the new settings allow */
 
 /* what, if code is RELKVANU_FENCED */
 #define RELKVANU_OLD_TERM 1u       /* the term of the task has ended, or has not begun */
@@ -255,6 +257,8 @@ typedef struct {
 #define RELKVANU_CALL_FENCE 13u   /* relkvanu_fence */
 #define RELKVANU_CALL_RESERVE 14u /* relkvanu_reserve */
 #define RELKVANU_CALL_FORFEIT 15u /* relkvanu_forfeit */
+#define RELKVANU_CALL_TRIGGER 16u
+#define RELKVANU_CALL_CONFIGURE 17u
 
 /* The same numbers as types, for debuggers, and for a compiler that warns of a switch which lacks one: switch ((enum relkvanu_refusal)
  * answer.what). A later version may give others. The packages of other languages and relkvanu_answer_text are made from these, and from the
@@ -297,6 +301,7 @@ enum relkvanu_reply {
     relkvanu_reply_undeleted = RELKVANU_UNDELETED,
     relkvanu_reply_shown = RELKVANU_SHOWN,
     relkvanu_reply_counted = RELKVANU_COUNTED,
+    relkvanu_reply_configured = RELKVANU_CONFIGURED,
     relkvanu_reply_mode_running = RELKVANU_MODE_RUNNING,
     relkvanu_reply_mode_failed = RELKVANU_MODE_FAILED,
     relkvanu_reply_mode_cancelled = RELKVANU_MODE_CANCELLED,
@@ -353,7 +358,8 @@ enum relkvanu_refusal {
     relkvanu_refusal_too_many_savepoints = RELKVANU_TOO_MANY_SAVEPOINTS,
     relkvanu_refusal_not_taken = RELKVANU_NOT_TAKEN,
     relkvanu_refusal_no_such_record = RELKVANU_NO_SUCH_RECORD,
-    relkvanu_refusal_ids_used_up = RELKVANU_IDS_USED_UP
+    relkvanu_refusal_ids_used_up = RELKVANU_IDS_USED_UP,
+    relkvanu_refusal_at_once = RELKVANU_AT_ONCE
 };
 
 /* Why a term or the names refuse a call. */
@@ -408,7 +414,9 @@ enum relkvanu_call_kind {
     relkvanu_call_kind_count = RELKVANU_CALL_COUNT,
     relkvanu_call_kind_fence = RELKVANU_CALL_FENCE,
     relkvanu_call_kind_reserve = RELKVANU_CALL_RESERVE,
-    relkvanu_call_kind_forfeit = RELKVANU_CALL_FORFEIT
+    relkvanu_call_kind_forfeit = RELKVANU_CALL_FORFEIT,
+    relkvanu_call_kind_trigger = RELKVANU_CALL_TRIGGER,
+    relkvanu_call_kind_configure = RELKVANU_CALL_CONFIGURE
 };
 
 /* Opens a coordinator in a closed handle, from the moment now on. Its first record has the number first, 1 to 2^62 - 1.
@@ -429,6 +437,13 @@ void relkvanu_close(relkvanu *handle);
  * RELKVANU_TICK_TRIGGERED to RELKVANU_TICK_FAILED. Refused: RELKVANU_MOMENT_TOO_LARGE, RELKVANU_NOT_RUNNING, RELKVANU_IDS_USED_UP.
  * Takes memory only if it triggers. */
 RELKVANU_NODISCARD relkvanu_answer relkvanu_tick(relkvanu *handle, uint64_t now);
+
+/* Triggers a checkpoint now, whatever the interval and the pause. Nothing expires: make a tick first if records may be too old.
+ * The interval counts from it, as after a tick that triggers.
+ *
+ * RELKVANU_TICK_TRIGGERED with a 0. Refused: RELKVANU_MOMENT_TOO_LARGE, RELKVANU_NOT_RUNNING, RELKVANU_IDS_USED_UP, RELKVANU_AT_ONCE.
+ * Takes memory. */
+RELKVANU_NODISCARD relkvanu_answer relkvanu_trigger(relkvanu *handle, uint64_t now);
 
 /* Triggers a savepoint. At most 1000 savepoints are pending or done.
  *
@@ -470,6 +485,16 @@ RELKVANU_NODISCARD relkvanu_answer relkvanu_restore(relkvanu *handle, uint64_t n
  *
  * RELKVANU_CANCELLED. Refused: RELKVANU_MOMENT_TOO_LARGE, RELKVANU_NOT_RUNNING (cancelled). Takes no memory. */
 RELKVANU_NODISCARD relkvanu_answer relkvanu_cancel(relkvanu *handle, uint64_t now);
+
+/* The job has these settings from now on, until the next call of this kind. A job that has failed may have others too.
+ *
+ * It deletes: done checkpoints above the new number retained, the oldest first, are dropped at once, and their files wait for deletion.
+ * The next checkpoint is due when it was, and at the latest one new interval from now. Nothing expires before the next tick, and
+ * the failures in a row count on, as many as are tolerated now.
+ *
+ * RELKVANU_CONFIGURED. RELKVANU_BAD_ARGUMENT with RELKVANU_BAD_CONFIG is checked first. Refused: RELKVANU_MOMENT_TOO_LARGE,
+ * RELKVANU_NOT_RUNNING (cancelled), RELKVANU_AT_ONCE. Takes no memory. */
+RELKVANU_NODISCARD relkvanu_answer relkvanu_configure(relkvanu *handle, uint64_t now, const relkvanu_settings *settings);
 
 /* Fetches at most files_len files that wait for deletion, the longest waiting first, and writes them to the
  * start of files. Report each one by relkvanu_deleted or relkvanu_undeleted.
@@ -568,17 +593,18 @@ RELKVANU_NODISCARD relkvanu_answer relkvanu_line(relkvanu *handle, const uint8_t
  * of numbers, in the line's order; keep is 1 and delete is 0. Checks no number against the limits of a job.
  *
  * RELKVANU_TOO_SHORT, and a is how many places it needs; or RELKVANU_BAD_LINE with the fault. Neither changes the buffer. A restore
- * line with a bad shape is RELKVANU_LINE_CALL, and so is each line with fence, reserve, forfeit or in: relkvanu_line says what is wrong
- * with it. Takes memory only for the lists of an ack, job, restore or forfeit line. */
+ * line with a bad shape is RELKVANU_LINE_CALL, and so is each line with fence, reserve, forfeit, in, trigger or configure: relkvanu_line
+ * says what is wrong with it. Takes memory only for the lists of an ack, job, restore or forfeit line. */
 RELKVANU_NODISCARD relkvanu_answer relkvanu_line_says(const uint8_t *line, size_t line_len, uint64_t *numbers, size_t numbers_len);
 
 /* Writes the call that a line says: its kind, numbers and term to call, and its lists to the start of first and second. For an ack these
  * are the fresh and the reused files, each in ascending order. For a restore, first is the new shape, or empty. For a forfeit, first is the
- * names, in ascending order. It is the inverse of relkvanu_call_line: that function writes a line that says this call.
+ * names, in ascending order. For a configure, first is the seven numbers of relkvanu_settings, in its order; keep_on_cancel is 0 or 1. It
+ * is the inverse of relkvanu_call_line: that function writes a line that says this call.
  *
  * RELKVANU_LINE_CALL, and a and b are how many items first and second have; RELKVANU_TOO_SHORT, and a and b are how many places they
- * need. A line that says no call, or a restore line with a bad shape, has the answer of relkvanu_line: RELKVANU_SKIPPED,
- * RELKVANU_BAD_LINE or RELKVANU_BAD_ARGUMENT. A restore line with the savepoint 0 is RELKVANU_REFUSED with
+ * need. A line that says no call, a restore line with a bad shape, or a configure line with bad settings, has the answer of relkvanu_line:
+ * RELKVANU_SKIPPED, RELKVANU_BAD_LINE or RELKVANU_BAD_ARGUMENT. A restore line with the savepoint 0 is RELKVANU_REFUSED with
  * RELKVANU_NO_SUCH_SAVEPOINT, since 0 stands for the latest record in a relkvanu_call. Only RELKVANU_LINE_CALL changes call and the
  * buffers. Takes memory only for the lists of an ack, job, restore or forfeit line. */
 RELKVANU_NODISCARD relkvanu_answer relkvanu_line_call(const uint8_t *line, size_t line_len, relkvanu_call *call, uint64_t *first, size_t first_len, uint64_t *second, size_t second_len);
@@ -586,10 +612,11 @@ RELKVANU_NODISCARD relkvanu_answer relkvanu_line_call(const uint8_t *line, size_
 /* Writes the line of a call, without a newline and without a zero at its end. relkvanu_line reads it as that call.
  *
  * For an ack, first and second are the fresh and the reused files, in any order. For a restore, first is the new shape, or
- * empty. For a forfeit, first is the names, in any order. A call with a term other than 0 is written after in and the term.
+ * empty. For a forfeit, first is the names, in any order. For a configure, first is the seven numbers of relkvanu_settings, in its
+ * order; keep_on_cancel is 0 or 1. A call with a term other than 0 is written after in and the term.
  *
- * RELKVANU_WRITTEN; RELKVANU_TOO_SHORT, and a is how many bytes it needs; RELKVANU_BAD_ARGUMENT with RELKVANU_BAD_KIND or
- * RELKVANU_BAD_SHAPE; RELKVANU_BAD_LINE with RELKVANU_FAULT_TOO_LONG if the line would be too long. No line is cut. Only
+ * RELKVANU_WRITTEN; RELKVANU_TOO_SHORT, and a is how many bytes it needs; RELKVANU_BAD_ARGUMENT with RELKVANU_BAD_KIND, RELKVANU_BAD_SHAPE
+ * or RELKVANU_BAD_CONFIG; RELKVANU_BAD_LINE with RELKVANU_FAULT_TOO_LONG if the line would be too long. No line is cut. Only
  * RELKVANU_WRITTEN changes the buffer. Takes memory. */
 RELKVANU_NODISCARD relkvanu_answer relkvanu_call_line(const relkvanu_call *call, const uint64_t *first, size_t first_len, const uint64_t *second, size_t second_len, uint8_t *line, size_t line_len);
 
@@ -599,8 +626,8 @@ RELKVANU_NODISCARD relkvanu_answer relkvanu_call_line(const relkvanu_call *call,
  * call, first and second are those of relkvanu_call_line. The line has no newline and no zero at its end. A take writes the files that it
  * fetches to the start of files.
  *
- * The first of these that applies: RELKVANU_CLOSED; RELKVANU_BAD_ARGUMENT with RELKVANU_BAD_KIND or RELKVANU_BAD_SHAPE; RELKVANU_BAD_LINE
- * with RELKVANU_FAULT_TOO_LONG if the line would be too long; RELKVANU_TOO_SHORT with a 0, and b is how many bytes line needs; what
+ * The first of these that applies: RELKVANU_CLOSED; RELKVANU_BAD_ARGUMENT with RELKVANU_BAD_KIND, RELKVANU_BAD_SHAPE or
+ * RELKVANU_BAD_CONFIG; RELKVANU_BAD_LINE with RELKVANU_FAULT_TOO_LONG if the line would be too long; RELKVANU_TOO_SHORT with a 0, and b is how many bytes line needs; what
  * relkvanu_line returns for the line. So RELKVANU_TOO_SHORT with b 0 is that of a take, and a is how many places files needs, or of a show,
  * which returns what relkvanu_show returns with an empty buffer. Only an answer with RELKVANU_DONE changes the handle, files, line or made.
  * Takes memory for the line, and as relkvanu_line does. */

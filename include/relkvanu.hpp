@@ -76,6 +76,7 @@ enum class error : int {
     not_taken = RELKVANU_REFUSED << 8 | RELKVANU_NOT_TAKEN, /* The file was not fetched for deletion, or was reported before. */
     no_such_record = RELKVANU_REFUSED << 8 | RELKVANU_NO_SUCH_RECORD, /* No live record has the number. */
     ids_used_up = RELKVANU_REFUSED << 8 | RELKVANU_IDS_USED_UP, /* No number is left for another record. */
+    at_once = RELKVANU_REFUSED << 8 | RELKVANU_AT_ONCE, /* As many checkpoints are pending as may be, or more than the new settings allow. */
     no_memory = RELKVANU_NO_MEMORY << 8, /* Make the same call again. */
     closed = RELKVANU_CLOSED << 8, /* The coordinator was moved from. */
     already_open = RELKVANU_BAD_ARGUMENT << 8 | RELKVANU_ALREADY_OPEN, /* The handle has a coordinator already. */
@@ -216,6 +217,7 @@ struct decline_failed { std::uint64_t released; }; /* The record is dropped, and
 struct decline_late {}; /* The record was done or had ended. */
 struct disposed { std::uint64_t released; }; /* The savepoint is gone. */
 struct cancelled { std::uint64_t dropped, released; }; /* The job has ended for good. */
+struct configured { std::uint64_t checkpoints, released; }; /* The job has the new settings. */
 /* embed/bindings: end */
 /* clang-format on */
 struct reported {
@@ -521,6 +523,15 @@ public:
     /* A fetched file could not be deleted: it waits again, behind all others. */
     report_answer undeleted(std::uint64_t file) noexcept {
         return report(relkvanu_undeleted(&handle_, file));
+    }
+
+    /* Triggers a checkpoint now, whatever the interval and the pause. Nothing expires: make a tick first if records may be too old. The
+     * interval counts from it, as after a tick that triggers. */
+    [[nodiscard]] tick_answer trigger(std::uint64_t now) noexcept {
+        if (is_ahead(now)) {
+            return too_large();
+        }
+        return tick_of(relkvanu_trigger(&handle_, now));
     }
     /* embed/bindings: end */
     /* clang-format on */

@@ -153,6 +153,12 @@ public:
     cancel_answer cancel(std::uint64_t now = RELKVANU_STORE_NOW) noexcept {
         return one<cancel_answer>(call(RELKVANU_CALL_CANCEL, now), cancel_of);
     }
+
+    /* Triggers a checkpoint now, whatever the interval and the pause. Nothing expires: make a tick first if records may be too old. The
+     * interval counts from it, as after a tick that triggers. */
+    [[nodiscard]] tick_answer trigger(std::uint64_t now = RELKVANU_STORE_NOW) noexcept {
+        return one<tick_answer>(call(RELKVANU_CALL_TRIGGER, now), tick_of);
+    }
     /* embed/bindings: end */
     /* clang-format on */
 

@@ -240,7 +240,7 @@ static void written(void) {
     }
     relkvanu_answer answer = relkvanu_call_line(&call, many, FILES, NULL, 0, (uint8_t *)end - ROOM, ROOM);
     CHECK(answer.code == RELKVANU_BAD_LINE && answer.what == RELKVANU_FAULT_TOO_LONG);
-    call.kind = RELKVANU_CALL_FORFEIT + 1;
+    call.kind = UINT32_MAX;
     answer = relkvanu_call_line(&call, NULL, 0, NULL, 0, NULL, 0);
     CHECK(answer.code == RELKVANU_BAD_ARGUMENT && answer.what == RELKVANU_BAD_KIND);
 }

@@ -215,10 +215,10 @@ static void try_writing(void) {
         wanted(calls[at].text, relkvanu_line_says(text, len, NULL, 0), RELKVANU_DONE, RELKVANU_LINE_CALL, 0, 0);
         free(text);
     }
-    relkvanu_call unknown = {0}, last = {.kind = RELKVANU_CALL_FORFEIT + 1}, restore = {RELKVANU_CALL_RESTORE, 0, 0, 1, 0, 0};
+    relkvanu_call unknown = {0}, last = {.kind = UINT32_MAX}, restore = {RELKVANU_CALL_RESTORE, 0, 0, 1, 0, 0};
     static const uint64_t none[] = {0};
     wanted("no kind", relkvanu_call_line(&unknown, NULL, 0, NULL, 0, NULL, 0), RELKVANU_BAD_ARGUMENT, RELKVANU_BAD_KIND, 0, 0);
-    wanted("kind 16", relkvanu_call_line(&last, NULL, 0, NULL, 0, NULL, 0), RELKVANU_BAD_ARGUMENT, RELKVANU_BAD_KIND, 0, 0);
+    wanted("the greatest kind", relkvanu_call_line(&last, NULL, 0, NULL, 0, NULL, 0), RELKVANU_BAD_ARGUMENT, RELKVANU_BAD_KIND, 0, 0);
     wanted("a bad shape", relkvanu_call_line(&restore, none, 1, NULL, 0, NULL, 0), RELKVANU_BAD_ARGUMENT, RELKVANU_BAD_SHAPE, 0, 0);
     wanted("no shape", relkvanu_call_line(&restore, NULL, 0, NULL, 0, NULL, 0), RELKVANU_TOO_SHORT, 0, 16, 0);
 }

@@ -29,6 +29,10 @@ static void round_trips(void) {
         {"in 3 undeleted 5", {RELKVANU_CALL_UNDELETED, 0, 0, 0, 5, 3}, {0}, {0}, 0, 0},
         {"in 3 show 5", {RELKVANU_CALL_SHOW, 0, 0, 0, 5, 3}, {0}, {0}, 0, 0},
         {"in 3 count 5", {RELKVANU_CALL_COUNT, 0, 0, 0, 5, 3}, {0}, {0}, 0, 0},
+        {"trigger 4", {RELKVANU_CALL_TRIGGER, 0, 0, 4, 0, 0}, {0}, {0}, 0, 0},
+        {"in 3 trigger 4", {RELKVANU_CALL_TRIGGER, 0, 0, 4, 0, 3}, {0}, {0}, 0, 0},
+        {"configure 4 1000 0 1 10000 0 1 delete", {RELKVANU_CALL_CONFIGURE, 0, 0, 4, 0, 0}, {1000, 0, 1, 10000, 0, 1, 0}, {0}, 7, 0},
+        {"in 3 configure 4 10 5 64 1 1000 2 keep", {RELKVANU_CALL_CONFIGURE, 0, 0, 4, 0, 3}, {10, 5, 64, 1, 1000, 2, 1}, {0}, 7, 0},
         {"ack 4 5 1.2 +6 +7 =8", {RELKVANU_CALL_ACK, 1, 2, 4, 5, 0}, {6, 7}, {8}, 2, 1},
     };
     for (size_t at = 0; at < sizeof lines / sizeof *lines; at++) {

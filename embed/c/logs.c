@@ -187,6 +187,7 @@ static void fenced_answers(void) {
 static void twins(void) {
     relkvanu job = named(5), twin = named(5);
     uint64_t fresh[] = {6, 5}, reused = 5, given_up[] = {8, 7}, shape_of_two[] = {2}, files[PLACES], others[PLACES];
+    relkvanu_settings others_settings = {500, 0, 2, 10000, 3, 2, true}, bad_settings = {9, 0, 2, 10000, 3, 2, true};
 #define TWINS(text, call)                                                          \
     do {                                                                           \
         relkvanu_answer left = line_into(&job, text, files, PLACES), right = call; \
@@ -202,9 +203,14 @@ static void twins(void) {
     TWINS("forfeit 1 8 7", relkvanu_forfeit(&twin, 1, given_up, 2));
     TWINS("in 3 savepoint 1000", relkvanu_savepoint(&twin, 1000));
     TWINS("in 1 ack 1000 2 0.0 =5", relkvanu_ack_in(&twin, 1, 1000, 2, 0, 0, NULL, 0, &reused, 1));
+    TWINS("in 3 configure 1500 500 0 2 10000 3 2 keep", relkvanu_configure(&twin, 1500, &others_settings));
+    TWINS("configure 1500 9 0 2 10000 3 2 keep", relkvanu_configure(&twin, 1500, &bad_settings));
     TWINS("in 3 tick 2000", relkvanu_tick(&twin, 2000));
     TWINS("in 1 decline 2000 3 0.0", relkvanu_decline_in(&twin, 1, 2000, 3, 0, 0));
     TWINS("in 3 restore 2100 2 2", relkvanu_restore(&twin, 2100, 2, shape_of_two, 1));
+    TWINS("in 3 trigger 2100", relkvanu_trigger(&twin, 2100));
+    TWINS("trigger 2100", relkvanu_trigger(&twin, 2100));
+    TWINS("trigger 2100", relkvanu_trigger(&twin, 2100));
     TWINS("in 1 decline 2100 3 0.0", relkvanu_decline_in(&twin, 1, 2100, 3, 0, 0));
     TWINS("in 3 dispose 2", relkvanu_dispose(&twin, 2));
     TWINS("in 3 count 5", relkvanu_count(&twin, 5));

@@ -5,7 +5,7 @@
 #include "fenced.h"
 #include "refusing_heap.h"
 
-enum { PLACES = 4 };
+enum { PLACES = 8 };
 
 static const relkvanu_call OLD = {77, 78, 79, 80, 81, 82}; /* of no call */
 

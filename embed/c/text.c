@@ -33,6 +33,7 @@ static const char *done_text(uint32_t what) {
     case RELKVANU_UNDELETED: return "undeleted {a}";
     case RELKVANU_SHOWN: return "shown {a}";
     case RELKVANU_COUNTED: return "count {a} {b}";
+    case RELKVANU_CONFIGURED: return "configured {a} {b}";
     case RELKVANU_MODE_RUNNING: return "mode running";
     case RELKVANU_MODE_FAILED: return "mode failed";
     case RELKVANU_MODE_CANCELLED: return "mode cancelled";
@@ -92,6 +93,7 @@ static const char *refused_text(uint32_t what) {
     case RELKVANU_NOT_TAKEN: return "refused NotTaken";
     case RELKVANU_NO_SUCH_RECORD: return "refused NoSuchRecord";
     case RELKVANU_IDS_USED_UP: return "refused IdsUsedUp";
+    case RELKVANU_AT_ONCE: return "refused AtOnce";
     default: return UNKNOWN;
     }
 }

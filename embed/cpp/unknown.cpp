@@ -30,6 +30,7 @@ relkvanu_answer relkvanu_dispose(relkvanu *, uint64_t) { return answer(); }
 relkvanu_answer relkvanu_cancel(relkvanu *, uint64_t) { return answer(); }
 relkvanu_answer relkvanu_deleted(relkvanu *, uint64_t) { return answer(); }
 relkvanu_answer relkvanu_undeleted(relkvanu *, uint64_t) { return answer(); }
+relkvanu_answer relkvanu_trigger(relkvanu *, uint64_t) { return answer(); }
 /* embed/bindings: end */
 relkvanu_answer relkvanu_moment(relkvanu *) { return answer(); }
 relkvanu_answer relkvanu_due(relkvanu *) { return answer(); }
@@ -64,7 +65,7 @@ template <class Answer> static bool is_unknown(const Answer &told) {
 static int others(ckpt::Coordinator &job) {
     /* clang-format off */
     /* embed/bindings makes the calls of one number */
-    return !is_unknown(job.tick(1)) + !is_unknown(job.savepoint(1)) + !is_unknown(job.dispose(1)) + !is_unknown(job.cancel(1)) + !is_unknown(job.deleted(1)) + !is_unknown(job.undeleted(1));
+    return !is_unknown(job.tick(1)) + !is_unknown(job.savepoint(1)) + !is_unknown(job.dispose(1)) + !is_unknown(job.cancel(1)) + !is_unknown(job.deleted(1)) + !is_unknown(job.undeleted(1)) + !is_unknown(job.trigger(1));
     /* embed/bindings: end */
     /* clang-format on */
 }

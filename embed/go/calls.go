@@ -24,6 +24,8 @@ const (
 	CallFence     CallKind = C.RELKVANU_CALL_FENCE   // Relkvanu_fence.
 	CallReserve   CallKind = C.RELKVANU_CALL_RESERVE // Relkvanu_reserve.
 	CallForfeit   CallKind = C.RELKVANU_CALL_FORFEIT // Relkvanu_forfeit.
+	CallTrigger   CallKind = C.RELKVANU_CALL_TRIGGER
+	CallConfigure CallKind = C.RELKVANU_CALL_CONFIGURE
 	// embed/bindings: end
 )
 

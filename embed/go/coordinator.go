@@ -240,6 +240,12 @@ func (c *Coordinator) Cancel(now uint64) (Cancelled, error) {
 	return Cancelled{Dropped: uint64(answer.a), Released: uint64(answer.b)}, err
 }
 
+// Trigger: Triggers a checkpoint now, whatever the interval and the pause. Nothing expires: make a tick first if records may be too old.
+// The interval counts from it, as after a tick that triggers.
+func (c *Coordinator) Trigger(now uint64) (Ticked, error) {
+	return replied(c, now, ticked, func(handle *C.relkvanu) C.relkvanu_answer { return C.relkvanu_trigger(handle, C.uint64_t(now)) })
+}
+
 // embed/bindings: end
 
 // Ack is the acknowledgement of a subtask, which wrote the fresh files and names the reused ones again, in any order. It synced the fresh

@@ -37,6 +37,7 @@ const (
 	NotTaken            Refusal = C.RELKVANU_NOT_TAKEN            // The file was not fetched for deletion, or was reported before.
 	NoSuchRecord        Refusal = C.RELKVANU_NO_SUCH_RECORD       // No live record has the number.
 	IDsUsedUp           Refusal = C.RELKVANU_IDS_USED_UP          // No number is left for another record.
+	AtOnce              Refusal = C.RELKVANU_AT_ONCE              // As many checkpoints are pending as may be, or more than the new settings allow.
 	// embed/bindings: end
 )
 

@@ -117,6 +117,9 @@ func CountLine(file uint64) ([]byte, error) { return ofNumber(CallCount, file) }
 // FenceLine is the line of a Fence.
 func FenceLine(firstName uint64) ([]byte, error) { return ofNumber(CallFence, firstName) }
 
+// TriggerLine is the line of a Trigger.
+func TriggerLine(now uint64) ([]byte, error) { return atMoment(CallTrigger, now) }
+
 // embed/bindings: end
 
 // AckLine is the line of an Ack.

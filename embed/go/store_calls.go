@@ -156,6 +156,12 @@ func (s *Store) Cancel() (Cancelled, error) {
 	return one[Cancelled](s, Call{Kind: CallCancel, Now: StoreNow})
 }
 
+// Trigger: Triggers a checkpoint now, whatever the interval and the pause. Nothing expires: make a tick first if records may be too old.
+// The interval counts from it, as after a tick that triggers.
+func (s *Store) Trigger() (Ticked, error) {
+	return one[Ticked](s, Call{Kind: CallTrigger, Now: StoreNow})
+}
+
 // embed/bindings: end
 
 // Ack is the acknowledgement of a subtask, as that of Coordinator.

@@ -44,9 +44,15 @@ class Call(NamedTuple):
         """Whether it changes a coordinator, with names or without. A fence has a reply of its own, and a count is a read."""
         return bool(self.replies) and not self.is_read
 
+    def family(self) -> str:
+        """The call whose replies these are. It is another one if a reply begins with its name: a trigger is answered as a tick."""
+        others = [member for member, _ in header.enums()["call_kind"].members]
+        first = self.replies[0].name.partition("_")[0].lower() if self.replies else self.name
+        return first if first in others else self.name
+
     def reply(self) -> Optional[Number]:
-        """Its reply, if it has one alone."""
-        return self.replies[0] if len(self.replies) == 1 else None
+        """Its reply, if it has one alone, and no other call has it."""
+        return self.replies[0] if len(self.replies) == 1 and self.family() == self.name else None
 
     def names_record(self) -> bool:
         """Whether a reply names a record that the call made."""

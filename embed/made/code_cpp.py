@@ -93,7 +93,7 @@ def comment(text: str) -> str:
 
 def declared(call: Call, given: str) -> str:
     """The head of a method. An answer that names a new record may not be dropped."""
-    return f"    {'[[nodiscard]] ' if call.names_record() else ''}{call.name}_answer {call.name}({given}) noexcept {{\n"
+    return f"    {'[[nodiscard]] ' if call.names_record() else ''}{call.family()}_answer {call.name}({given}) noexcept {{\n"
 
 
 def method(call: Call) -> str:
@@ -103,7 +103,7 @@ def method(call: Call) -> str:
         return text + f"        return report(relkvanu_{call.name}(&handle_, {call.number}));\n    }}\n"
     if call.has_moment():
         text += "        if (is_ahead(now)) {\n            return too_large();\n        }\n"
-    return text + f"        return {call.name}_of(relkvanu_{call.name}(&handle_{f', {call.number}' if call.number else ''}));\n    }}\n"
+    return text + f"        return {call.family()}_of(relkvanu_{call.name}(&handle_{f', {call.number}' if call.number else ''}));\n    }}\n"
 
 
 def store_method(call: Call) -> str:
@@ -111,7 +111,7 @@ def store_method(call: Call) -> str:
     given = f"std::uint64_t {call.number}{default}" if call.number else ""
     number = (", now" if call.has_moment() else f", 0, {call.number}") if call.number else ", 0"
     text = comment(call.comment) + declared(call, given)
-    return text + f"        return one<{call.name}_answer>(call(RELKVANU_{call.kind()}{number}), {call.name}_of);\n    }}\n"
+    return text + f"        return one<{call.family()}_answer>(call(RELKVANU_{call.kind()}{number}), {call.family()}_of);\n    }}\n"
 
 
 def case(it: Number) -> str:

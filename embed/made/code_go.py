@@ -110,7 +110,7 @@ def own(found: List[Call]) -> List[Call]:
 
 def reply_of(call: Call) -> str:
     reply = call.reply()
-    return camel(reply.name) if reply else camel(call.name) + "ed"
+    return camel(reply.name) if reply else camel(call.family()) + "ed"
 
 
 def c_call(call: Call) -> str:

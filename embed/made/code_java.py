@@ -333,12 +333,12 @@ def told(call: Call) -> str:
     """What a call returns, in words."""
     it = call.reply()
     fields = ", ".join(what for _, _, what in it.fields()) if it else ""
-    return RESULTS_OF_CALLS.get(call.name, fields or "that it was done")
+    return RESULTS_OF_CALLS.get(call.family(), fields or "that it was done")
 
 
 def reply_type(call: Call) -> str:
     it = call.reply()
-    return f"Reply.{header.reply_name(it) if it else INTERFACES[call.name.upper() + '_']}"
+    return f"Reply.{header.reply_name(it) if it else INTERFACES[call.family().upper() + '_']}"
 
 
 def lines_of(text: str) -> str:

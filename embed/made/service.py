@@ -71,9 +71,13 @@ def with_own_reply() -> List[Tuple[Call, Number]]:
     return [(call, it) for call, it in ((call, call.reply()) for call in calls.stored()) if it is not None]
 
 
+# Calls that the service does not take.
+NOT_TAKEN = ("configure",)
+
+
 def names() -> str:
     """The names of the calls of requests, in words: first those of tasks."""
-    kinds = [member for member, _ in header.enums()["call_kind"].members if member not in ("ack", "decline", "fence", *calls.READS)]
+    kinds = [member for member, _ in header.enums()["call_kind"].members if member not in ("ack", "decline", "fence", *NOT_TAKEN, *calls.READS)]
     *most, last = ["ack", "decline", *kinds]
     return f'const CALLS: &str = "{", ".join(most)} and {last}";\n'
 

@@ -50,6 +50,7 @@ reply_bytes (reply.Deleted file) = codes "deleted" ++ spaced file
 reply_bytes (reply.Undeleted file) = codes "undeleted" ++ spaced file
 reply_bytes (reply.Shown metadata) = metadata_bytes metadata
 reply_bytes (reply.Counted file uses) = codes "count" ++ spaced file ++ spaced uses
+reply_bytes (reply.Configured dropped released) = codes "configured" ++ spaced dropped ++ spaced released
 
 -- the name of a refusal, and the file that it names
 unfoldable pub refusal_bytes : Refusal → List ℕ
@@ -68,6 +69,7 @@ refusal_bytes refusal.TooManySavepoints = codes "TooManySavepoints"
 refusal_bytes refusal.NotTaken = codes "NotTaken"
 refusal_bytes refusal.NoSuchRecord = codes "NoSuchRecord"
 refusal_bytes refusal.IdsUsedUp = codes "IdsUsedUp"
+refusal_bytes refusal.AtOnce = codes "AtOnce"
 
 -- the text of an answer, with a newline at its end
 unfoldable pub answer_bytes : Answer → List ℕ

@@ -38,5 +38,6 @@ fn write_name(text: &mut String, refusal: Refusal) -> Result<(), AllocError>
         Refusal::NotTaken => text.push_str("NotTaken"),
         Refusal::NoSuchRecord => text.push_str("NoSuchRecord"),
         Refusal::IdsUsedUp => text.push_str("IdsUsedUp"),
+        Refusal::AtOnce => text.push_str("AtOnce"),
     }
 }

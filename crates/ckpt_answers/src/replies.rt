@@ -35,6 +35,9 @@ pub(crate) fn write_reply(alloc: Global, text: &mut String, reply: &Reply) -> Re
         Reply::Undeleted(file) => write_number(text, "undeleted ", file.0),
         Reply::Shown(metadata) => text.push_str(metadata_text(alloc, metadata)?.as_str()),
         Reply::Counted(file, uses) => write_two(text, "count ", file.0, *uses as u64),
+        Reply::Configured { dropped, released } => {
+            write_two(text, "configured ", *dropped as u64, *released)
+        }
     }
 }
 

@@ -4,3 +4,5 @@ pub mod DropDone
 pub mod Drops
 pub mod HandOut
 pub mod Moves
+pub mod Past
+pub mod Settings

@@ -18,6 +18,7 @@ pub use Answering.RefusalRepeats.*
 pub use Answering.Reports.*
 pub use Completing.Calls.*
 pub use Ending.DropDone.*
+pub use Ending.Settings.*
 pub use Ending.Drops.*
 pub use Ending.HandOut.*
 pub use Ending.Moves.*

@@ -18,7 +18,7 @@ pub use Rattle.ckpt_ids.proofs.OrderedLemmas.{filter-filter, filter-none, filter
 pub use Rattle.ckpt_ids.proofs.{OrderLemmas.subtasks_in_order, OrderLemmas.uses_in_order, PlaceLemmas.find-none, PlaceLemmas.first_differs, PlaceLemmas.get_or_any}
 pub use Rattle.ckpt_ids.specs.Ordered.{AreDistinct, ComesBefore, IsIn, IsInOrder, IsStrictOrder, in_order, in_order_once, put, put_once}
 pub use Rattle.ckpt_ids.specs.Records.{Holder, Pin, Record, Subtask, Use, acknowledged, count, has_acknowledged, holder_before, is_present, metadata_of, missing, released, same_holder, use_before}
-pub use Rattle.ckpt_ids.specs.declared.call.Call.TheVariants.{Ack, Deleted, Dispose, Restore, Savepoint, Show, Take, Tick, Undeleted}
+pub use Rattle.ckpt_ids.specs.declared.call.Call.TheVariants.{Ack, Deleted, Dispose, Restore, Savepoint, Show, Take, Tick, Trigger, Undeleted}
 pub use Rattle.ckpt_ids.specs.declared.reply.Refusal.TheVariants.{FileGone, InUse, NameTaken, NoSuchRecord, NoSuchSavepoint, NotTaken}
 pub use Rattle.ckpt_ids.specs.declared.reply.Reply.{Reply, TheVariants.AckCompleted, TheVariants.Disposed, TheVariants.Shown, TheVariants.Ticked}
 pub use Rattle.ckpt_ids.specs.declared.{ack.Acked.Acked, ack.Metadata.Metadata, numbers.CheckpointId.CheckpointId, numbers.Kind.Kind, subtask.SubtaskId.SubtaskId}
@@ -27,7 +27,7 @@ pub use Rattle.ckpt_ids.specs.{Acknowledged.AreInSubtaskOrder, Acknowledged.ackn
 pub use Rattle.ckpt_ids.specs.{Ascending.IsAscending, Ascending.IsAscendingSet, Ascending.ascending, Ascending.ascending_set, Places.LiesAt}
 pub use Rattle.ckpt_ids.specs.{Shapes.IsShape, Shapes.is_subtask, Shapes.subtasks, contracts.numbers.Kind.the_type}
 pub use Rattle.ckpt_ids.{proofs.ResultLemmas.on_each_error, proofs.ShapeLemmas.length-subtasks_from, specs.Records.uses, specs.Records.uses_of}
-pub use Rattle.ckpt_model.proofs.Answering.Accepted.{IsAcceptedAck, accepted_ack, accepted_cancel, accepted_decline, accepted_restore, accepted_restore_savepoint, accepted_savepoint, accepted_tick}
+pub use Rattle.ckpt_model.proofs.Answering.Accepted.{IsAcceptedAck, accepted_ack, accepted_cancel, accepted_decline, accepted_restore, accepted_restore_savepoint, accepted_savepoint, accepted_configure, accepted_tick, accepted_trigger}
 pub use Rattle.ckpt_model.proofs.Answering.RefusalRows.{first_row-none, row_fails, row_holds, row_last, rows_fail, rows_hold}
 pub use Rattle.ckpt_model.proofs.Records.Counts.{IsIn-from_find, count_by-le, count_by_at_most_more, fails-from_find, find_agree, map_itself, map_same}
 pub use Rattle.ckpt_model.proofs.Records.Present.{Holds, Holds-from_use, IsHeld, IsHeld-from_present, present-from_IsHeld}
@@ -77,4 +77,4 @@ pub use denote.Param.Send.{AllSend, IsSend, recorded_send, sendable, struct_send
 pub use denote.Struct.{Declared.Declared, Declared.fields, Declared.row, Declared.shape, Struct.Struct}
 unfoldable pub use Rattle.ckpt_core.specs.Inside.Parts.{state_of}
 unfoldable pub use Rattle.ckpt_model.specs.Steps.{ack, acknowledged_in, after_expiry, cancel, completed_with, decline, decline_pending, dispose, dropping, effect, failed_over, restarted, restore}
-unfoldable pub use Rattle.ckpt_model.specs.{Refusals.refusal, State.choice_of, State.drop, State.pins_now, Steps.start_or_hold, Steps.take_files, Steps.tick, Steps.triggered}
+unfoldable pub use Rattle.ckpt_model.specs.{Refusals.refusal, State.choice_of, State.drop, State.pins_now, Steps.configure, Steps.start_or_hold, Steps.take_files, Steps.tick, Steps.triggered, Steps.with_config}

@@ -8,5 +8,6 @@ pub mod Moving
 pub mod Parts
 pub mod PendingRecords
 pub mod RecordFacts
+pub mod Settings
 pub mod SoundRecords
 pub mod Starting

@@ -121,16 +121,20 @@ impl Core {
     }
 }
 
-/// Does nothing. Its contract says that the shape of a restore is a valid shape.
+/// Does nothing. Its contract says that the shape of a restore is a valid shape, and that a
+/// configuration is within its limits.
 fn recall_call(call: &Call)
     ensures { IsCall call.now }
 {
-    if let Call::Restore {
-        shape: Some(shape),
-        ..
-    } = call
-    {
-        shape.recall();
+    match call {
+        Call::Restore {
+            shape: Some(shape),
+            ..
+        } => shape.recall(),
+        Call::Configure { config, .. } => {
+            let _ = config.interval();
+        }
+        _ => (),
     }
 }
 
@@ -174,6 +178,7 @@ impl Parts {
                 shape: Some(shape),
             } => self.restore_in(*now, *target, shape),
             Call::Take { most } => self.take(*most),
+            Call::Trigger { now } => self.trigger_now(*now),
             _ => Ok(self.answer_in_place(call, place)),
         }
     }
@@ -199,6 +204,7 @@ impl Parts {
             } => self.restore(*now, *target),
             Call::Cancel { now } => self.cancel(*now),
             Call::Count { file } => self.count(*file),
+            Call::Configure { now, config } => self.configure(*now, config),
             _ => unreachable!(),
         }
     }

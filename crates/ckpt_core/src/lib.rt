@@ -24,6 +24,7 @@ pub mod recovery;
 mod refusals;
 mod reopening;
 mod saving;
+mod settings;
 mod triggers;
 
 pub use ckpt_hash::Secret;

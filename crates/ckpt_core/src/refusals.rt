@@ -2,21 +2,22 @@
 ghost use Rattle.std.specs.Prelude.{◌≡◌, ◌++◌, ◌==◌, ℕ, List, find, not, nat_le, option_copied, option_map, IfOk, IfSome, None, Option, Some};
 ghost use Rattle.std.specs.List.{list_any};
 ghost use Rattle.std.specs.Result.{result_err};
-ghost use Rattle.ckpt_ids.specs.declared.call.Call.TheVariants.{Tick, Savepoint, Ack, Decline, Restore, Cancel};
+ghost use Rattle.ckpt_ids.specs.declared.call.Call.TheVariants.{Tick, Savepoint, Ack, Decline, Restore, Cancel, Trigger, Configure};
 ghost use Rattle.ckpt_ids.specs.declared.reply.Refusal.TheVariants.{NotRunning, UnknownCheckpoint, NameTaken, FileGone, IdsUsedUp};
 ghost use Rattle.ckpt_core.specs.Inside.FileFacts.{IsAscending, is_present};
 ghost use Rattle.ckpt_core.specs.Inside.RecordFacts.{Record};
 ghost use Rattle.ckpt_core.specs.Inside.Parts.{AreSound, IsPendingAt, IsPlaceIn, IsPlaceOf, early_refusal, is_known_in, part_refusal, records_in, state_of, with_pins};
 ghost use Rattle.ckpt_model.specs.Refusals.{files_refusal, has_repeats, is_cancelled, is_done_savepoint, is_foreign, is_running, moment_too_large};
-ghost use Rattle.ckpt_model.specs.Refusals.{named, pending_of, refusal, refuse_if, savepoints, was_not_given};
+ghost use Rattle.ckpt_model.specs.Refusals.{named, pending_checkpoints, pending_of, refusal, refuse_if, savepoints, was_not_given};
 
 use crate::parts::Parts;
 use ckpt_ids::{
-    Call, CheckpointId, FileId, Files, MOMENTS_END, MOST_FILES, MOST_SAVEPOINTS, NUMBERS_END,
+    Call, CheckpointId, Config, FileId, Files, MOMENTS_END, MOST_FILES, MOST_SAVEPOINTS, NUMBERS_END,
     Refusal, SubtaskId, Target,
 };
 use ckpt_model::Mode;
 use ckpt_pending::Pending;
+use ckpt_rules::limit_of;
 
 /// An `Err` with the refusal if the test holds.
 fn refuse_if(test: bool, why: Refusal) -> Result<(), Refusal>
@@ -125,6 +126,8 @@ impl Parts {
             Call::Decline { now, id, subtask } => self.test_decline(*now, *id, *subtask),
             Call::Restore { now, target, .. } => at_place(self.test_restore(*now, *target), None),
             Call::Cancel { now } => at_place(self.test_cancel(*now), None),
+            Call::Trigger { now } => at_place(self.test_trigger(*now), None),
+            Call::Configure { now, config } => at_place(self.test_configure(*now, config), None),
             Call::Dispose { .. }
             | Call::Show { .. }
             | Call::Take { .. }
@@ -154,6 +157,33 @@ impl Parts {
             Refusal::TooManySavepoints,
         )?;
         self.test_next()
+    }
+
+    /// Condition: the parts are sound.
+    fn test_trigger(&self, now: u64) -> Result<(), Refusal>
+        requires { AreSound self.now }
+        ensures { result_err result ≡ refusal (state_of self.now) (Trigger now) }
+    {
+        test_moment(now)?;
+        self.test_running()?;
+        self.test_next()?;
+        refuse_if(
+            self.pending_checkpoints() >= limit_of(&self.opened.config) as usize,
+            Refusal::AtOnce,
+        )
+    }
+
+    /// Condition: the parts are sound.
+    fn test_configure(&self, now: u64, config: &Config) -> Result<(), Refusal>
+        requires { AreSound self.now }
+        ensures { result_err result ≡ refusal (state_of self.now) (Configure now config.now) }
+    {
+        test_moment(now)?;
+        self.test_not_cancelled()?;
+        refuse_if(
+            self.pending_checkpoints() > limit_of(config) as usize,
+            Refusal::AtOnce,
+        )
     }
 
     /// Tests an acknowledgement, and returns the place of its record if that is pending.
@@ -332,6 +362,17 @@ impl Parts {
     {
         self.recall_groups();
         self.store.has_savepoint(id)
+    }
+
+    /// How many checkpoints are pending.
+    ///
+    /// Condition: the parts are sound.
+    fn pending_checkpoints(&self) -> usize
+        requires { AreSound self.now }
+        ensures { result ≡ pending_checkpoints (state_of self.now) }
+    {
+        self.recall_groups();
+        self.pending.checkpoints()
     }
 
     /// How many savepoints are pending or done.

@@ -156,6 +156,34 @@ impl Parts {
         }
     }
 
+    /// Triggers a checkpoint, whatever the interval and the pause. If memory runs out, nothing has
+    /// changed.
+    ///
+    /// Conditions: the parts are sound, and the call is accepted.
+    #[inline(never)]
+    pub(crate) fn trigger_now(&mut self, now: u64) -> Result<Reply, CoreFault>
+        requires sound { AreSound self.old }
+        requires accepted { IsAccepted self.old (call.Trigger now) }
+        ensures ok { IfOk result (Answers self.old self.new (call.Trigger now)) }
+        ensures err { OnErr result (Stays self.old self.new) }
+        ensures fault { IfErr result (λ fault. fault ≡ Memory) }
+    {
+        let before = self.clock;
+        self.clock.see(now);
+        match self.trigger(Kind::Checkpoint) {
+            Ok(id) => {
+                let moment = self.clock.read(0);
+                self.clock.triggered(&self.opened.config, moment);
+                let end = TickEnd::Triggered(id);
+                Ok(Reply::Ticked { expired: 0, end })
+            }
+            Err(error) => {
+                self.clock = before;
+                Err(CoreFault::from(error))
+            }
+        }
+    }
+
     /// Time has passed: records that are too old expire, and a checkpoint is triggered if nothing
     /// holds it back. Only a trigger takes memory. If memory runs out, nothing has changed.
     ///

@@ -1,5 +1,6 @@
 //! The calls of a coordinator.
 
+use crate::config::Config;
 use crate::files::Files;
 use crate::numbers::{CheckpointId, FileId};
 use crate::shape::Shape;
@@ -97,5 +98,17 @@ pub enum Call {
     Count {
         /// The file to count.
         file: FileId,
+    },
+    /// Triggers a checkpoint now, whatever the interval and the pause. Nothing expires in it.
+    Trigger {
+        /// The moment of the call.
+        now: u64,
+    },
+    /// The job has this configuration from now on.
+    Configure {
+        /// The moment of the call.
+        now: u64,
+        /// The new configuration.
+        config: Config,
     },
 }

@@ -28,6 +28,7 @@ impl fmt::Display for Refusal {
             Refusal::NotTaken => f.write_str("NotTaken"),
             Refusal::NoSuchRecord => f.write_str("NoSuchRecord"),
             Refusal::IdsUsedUp => f.write_str("IdsUsedUp"),
+            Refusal::AtOnce => f.write_str("AtOnce"),
         }
     }
 }

@@ -33,7 +33,8 @@ pub enum TickEnd {
 /// The reply to an accepted call.
 #[derive(Debug, Drop, PartialEq, Eq)]
 pub enum Reply {
-    /// `expired` pending records expired. `end` says how the tick ended.
+    /// `expired` pending records expired. `end` says how the tick ended. A Trigger answers as a tick
+    /// that triggers, with nothing expired.
     Ticked { expired: u32, end: TickEnd },
     /// A savepoint was triggered, with this number.
     SavepointTriggered(CheckpointId),
@@ -65,6 +66,9 @@ pub enum Reply {
     Shown(Metadata),
     /// How often live records use the file.
     Counted(FileId, u32),
+    /// The configuration is the new one. `dropped` done checkpoints were above the new number
+    /// retained, and `released` files were released.
+    Configured { dropped: u32, released: u64 },
 }
 
 /// Why a call was refused: the first of these that applies. A refused call changes nothing.
@@ -101,6 +105,8 @@ pub enum Refusal {
     NoSuchRecord,
     /// All numbers up to 2^62 - 1 were given.
     IdsUsedUp,
+    /// As many checkpoints are pending as may be at once; or more than the new configuration allows.
+    AtOnce,
 }
 
 /// The answer to a call.

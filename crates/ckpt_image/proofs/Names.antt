@@ -22,7 +22,7 @@ pub use Rattle.serde_json.specs.Written.{compact_text, has_float}
 pub use Rattle.serde_json.specs.declared.value.Value.{Value}
 pub use Rattle.std.proofs.Common.{Bool, List, None, Option, Some, [], add-one, ap, arith, drop, false, get_or, inl, inr, length, map, refl, rules, subst, suc, sym, take, true, zero, ℕ, ⊎_elim, ◌&&◌}
 pub use Rattle.std.proofs.Common.{◌++◌, ◌+◌, ◌<◌, ◌^◌, ◌∙◌, ◌∷◌, ◌≡◌, ◌≤◌}
-pub use Rattle.std.proofs.lemmas.Bool.{and_from, and_parts, and_right, le-leb, lt-ltb}
+pub use Rattle.std.proofs.lemmas.Bool.{and_from, and_parts, and_right, lt-ltb}
 pub use Rattle.std.proofs.lemmas.List.{map_push, take_all, take_more}
 pub use Rattle.std.specs.Option.{option_map}
 pub use Rattle.std.specs.Prelude.{Err, Ok, OnOk, Result, max, nat_lt, option_and_then}

@@ -1,16 +1,15 @@
 -- The text that is written for a state is read as that state.
-use Rattle.ckpt_image.proofs.Names.{◌≡◌, ℕ, ◌<◌, ◌^◌, Bool, true, false, List, [], ◌∷◌, map, refl, sym, ap, ◌∙◌, inl, inr, Some, None, Option, nat_lt, option_and_then, option_map, le-leb, lt-ltb}
+use Rattle.ckpt_image.proofs.Names.{◌≡◌, ℕ, ◌<◌, ◌^◌, Bool, true, false, List, [], ◌∷◌, map, refl, sym, ap, ◌∙◌, inl, inr, Some, None, Option, nat_lt, option_and_then, option_map, lt-ltb}
 use Rattle.ckpt_image.proofs.Names.{Acked, AreInSubtaskOrder, Configuration, IsWithinLimits, is_within_limits, IsIn, Record, Opening, State, kind_name, list, members, natural, state_name, Data}
 use Rattle.ckpt_image.proofs.Names.{object, string, items_of, AckFits, Fits, RecordFits, image_of, image_of_any_version, ack_of, acks_of, are_in_subtask_order, clock_of, config_of, each, files_of}
 use Rattle.ckpt_image.proofs.Names.{kind_of, list_of, mode_of, number_below, number_of, only, opening_of, optional_of, outbox_of, saved_of, shape_of, state_of, version_of, ack_data, clock_data}
 use Rattle.ckpt_image.proofs.Names.{config_data, image_data, image_members, mode_name, naturals, opening_data, optional, outbox_data, record_data}
-use Rattle.ckpt_ids.specs.declared.limits.TheConstants.{LEAST_INTERVAL, LONGEST_DURATION, MOST_AT_ONCE, MOST_RETAINED, MOST_TOLERABLE}
 use Rattle.ckpt_ids.specs.declared.numbers.Kind.{Kind}
 use Rattle.ckpt_ids.specs.declared.numbers.Kind.TheVariants.{Checkpoint, Savepoint}
 use Rattle.ckpt_ids.specs.Ascending.{IsAscending, ascending}
 use Rattle.ckpt_ids.specs.Shapes.{IsShape, is_shape}
 use Rattle.ckpt_ids.proofs.AscendingLemmas.{ascending_already}
-use Rattle.ckpt_ids.proofs.LimitLemmas.{shape_holds}
+use Rattle.ckpt_ids.proofs.LimitLemmas.{limits_hold, shape_holds}
 use Rattle.ckpt_model.specs.declared.mode.Mode.{Mode}
 use Rattle.ckpt_model.specs.declared.mode.Mode.TheVariants.{Running, Failed, Cancelled}
 
@@ -58,21 +57,6 @@ modes Failed = refl
 modes Cancelled = refl
 
 -- ---- tests that the types keep
-
-limits_hold : (c : Configuration) → IsWithinLimits c → is_within_limits c ≡ true
-limits_hold c l =
-    rw (
-      le-leb LEAST_INTERVAL c.interval l.interval_from,
-      le-leb c.interval LONGEST_DURATION l.interval_to,
-      le-leb c.pause LONGEST_DURATION l.pause_to,
-      le-leb 1 c.at_once l.at_once_from,
-      le-leb c.at_once MOST_AT_ONCE l.at_once_to,
-      le-leb 1 c.timeout l.timeout_from,
-      le-leb c.timeout LONGEST_DURATION l.timeout_to,
-      le-leb c.tolerable MOST_TOLERABLE l.tolerable_to,
-      le-leb 1 c.retained l.retained_from,
-      le-leb c.retained MOST_RETAINED l.retained_to,
-    ) refl
 
 order_holds : (acks : List Acked) → AreInSubtaskOrder acks → are_in_subtask_order acks ≡ true
 order_holds [] order = refl

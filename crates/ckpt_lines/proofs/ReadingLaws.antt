@@ -1,6 +1,6 @@
 -- The reading of a line never says that memory ran out.
 use Rattle.ckpt_lines.proofs.Names.{◌≡◌, ◌≢◌, ℕ, Bool, false, cond, List, [], ◌∷◌, Option, Result, Ok, Err, IfErr, refl, codes, ok_or, bytes_eq, strip_carriage_return, SubtaskId, LineFault, Keyword}
-use Rattle.ckpt_lines.proofs.Names.{Line, FileWord, ◌>>=◌, is_memory, place, number_place, subtask_place, retention_place, target_place, ended, each, config_line, job_line, some_parallelisms}
+use Rattle.ckpt_lines.proofs.Names.{Line, FileWord, ◌>>=◌, is_memory, place, number_place, subtask_place, retention_place, target_place, ended, each, config_line, settings, job_line, some_parallelisms}
 use Rattle.ckpt_lines.proofs.Names.{start_line, number_line, only_number, file_places, ack_line, decline_line, restore_line, all_line, row, row_of, line_of, is_too_long, reading, number, subtask}
 use Rattle.ckpt_lines.proofs.Names.{retention, target_of, savepoint, file_word, signed, number_of, subtask_of, words_of, common_steps, arith}
 use Rattle.ckpt_lines.specs.declared.fault.LineFault.TheVariants as fault
@@ -73,15 +73,19 @@ pub number_then : {B : Type 0} (words : List (List ℕ)) (f : ℕ × List (List 
 number_then words f next = bind (number_place words) f (number_place-no_memory words) next
 
 -- the end, and the line
-ended_then : (words : List (List ℕ)) (line : Line) → NoMemory (ended words >>= λ _. Ok line)
+ended_then : {A : Type 0} (words : List (List ℕ)) (line : A) → NoMemory (ended words >>= λ _. Ok line)
 ended_then words line = bind (ended words) _ (ended-no_memory words) (λ _. tt)
 
-config-no_memory : (words : List (List ℕ)) → NoMemory (config_line words)
-unfolding config_line
-config-no_memory words =
+pub settings-no_memory : (words : List (List ℕ)) → NoMemory (settings words)
+unfolding settings
+settings-no_memory words =
     number_then words _ (λ interval. number_then interval.1 _ (λ pause. number_then pause.1 _ (λ at_once. number_then at_once.1 _ (λ timeout.
     number_then timeout.1 _ (λ tolerable. number_then tolerable.1 _ (λ retained.
     bind (retention_place retained.1) _ (retention_place-no_memory retained.1) (λ keep. ended_then keep.1 _)))))))
+
+config-no_memory : (words : List (List ℕ)) → NoMemory (config_line words)
+unfolding config_line
+config-no_memory words = bind (settings words) _ (settings-no_memory words) (λ v. tt)
 
 some-no_memory : (parallelisms : List ℕ) → NoMemory (some_parallelisms parallelisms)
 some-no_memory parallelisms = grind (arith, common_steps)

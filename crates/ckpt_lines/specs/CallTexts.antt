@@ -1,14 +1,15 @@
 -- How calls are written as lines of a script, and the lines that open a job.
-use Rattle.std.specs.Prelude.{ℕ, ⊤, ◌≤◌, ◌<◌, ◌^◌, All, Bool, true, false, List, [], ◌++◌, flat_map, codes, decimal, length, Option, Some, None, Ok, ◌≡◌}
+use Rattle.std.specs.Prelude.{ℕ, ⊤, ◌≤◌, ◌<◌, ◌^◌, All, Bool, true, false, List, [], ◌++◌, flat_map, codes, decimal, length, Option, Some, None, Ok, Err, ◌≡◌}
 use Rattle.ckpt_ids.specs.declared.subtask.SubtaskId.{SubtaskId}
 use Rattle.ckpt_ids.specs.declared.call.Target.{Target}
 use Rattle.ckpt_ids.specs.declared.call.Target.TheVariants as target
 use Rattle.ckpt_ids.specs.declared.call.Call.{Call}
 use Rattle.ckpt_ids.specs.declared.call.Call.TheVariants as call
 use Rattle.ckpt_ids.specs.Ascending.{IsAscending}
-use Rattle.ckpt_ids.specs.Configuration.{Configuration}
+use Rattle.ckpt_ids.specs.Configuration.{Configuration, IsWithinLimits}
 use Rattle.ckpt_ids.specs.Shapes.{IsShape}
 use Rattle.ckpt_lines.specs.declared.limits.TheConstants.{LONGEST_LINE}
+use Rattle.ckpt_lines.specs.declared.fault.LineFault.TheVariants as fault
 use Rattle.ckpt_lines.specs.declared.line.Line.{Line}
 use Rattle.ckpt_lines.specs.declared.line.Line.TheVariants as line
 use Rattle.ckpt_lines.specs.Reading.{reading}
@@ -37,6 +38,21 @@ abbrev pub parallelisms : Option (List ℕ) → List ℕ
 parallelisms None = []
 parallelisms (Some shape) = shape
 
+abbrev pub retention_text : Bool → List ℕ
+retention_text true = codes " keep"
+retention_text false = codes " delete"
+
+-- when checkpoints are triggered
+unfoldable pub triggers_text : Configuration → List ℕ
+triggers_text c = spaced c.interval ++ spaced c.pause ++ spaced c.at_once
+
+-- when they expire, and which are kept
+unfoldable pub limits_text : Configuration → List ℕ
+limits_text c = spaced c.timeout ++ spaced c.tolerable ++ spaced c.retained ++ retention_text c.keep_on_cancel
+
+unfoldable pub settings_text : Configuration → List ℕ
+settings_text c = triggers_text c ++ limits_text c
+
 -- the line of a call, without its newline
 unfoldable pub call_text : Call → List ℕ
 call_text (call.Tick now) = codes "tick" ++ spaced now
@@ -51,21 +67,11 @@ call_text (call.Deleted file) = codes "deleted" ++ spaced file
 call_text (call.Undeleted file) = codes "undeleted" ++ spaced file
 call_text (call.Show id) = codes "show" ++ spaced id
 call_text (call.Count file) = codes "count" ++ spaced file
-
-abbrev pub retention_text : Bool → List ℕ
-retention_text true = codes " keep"
-retention_text false = codes " delete"
-
--- when checkpoints are triggered
-unfoldable pub triggers_text : Configuration → List ℕ
-triggers_text c = codes "config" ++ spaced c.interval ++ spaced c.pause ++ spaced c.at_once
-
--- when they expire, and which are kept
-unfoldable pub limits_text : Configuration → List ℕ
-limits_text c = spaced c.timeout ++ spaced c.tolerable ++ spaced c.retained ++ retention_text c.keep_on_cancel
+call_text (call.Trigger now) = codes "trigger" ++ spaced now
+call_text (call.Configure now config) = codes "configure" ++ spaced now ++ settings_text config
 
 unfoldable pub config_text : Configuration → List ℕ
-config_text c = triggers_text c ++ limits_text c
+config_text c = codes "config" ++ settings_text c
 
 abbrev pub line_of_config : Configuration → Line
 line_of_config c = line.Config c.interval c.pause c.at_once c.timeout c.tolerable c.retained c.keep_on_cancel
@@ -107,7 +113,15 @@ FitsCall (call.Deleted file) = Fits file
 FitsCall (call.Undeleted file) = Fits file
 FitsCall (call.Show id) = Fits id
 FitsCall (call.Count file) = Fits file
+FitsCall (call.Trigger now) = Fits now
+FitsCall (call.Configure now config) = Fits now × IsWithinLimits config
 
 -- a text within the limit of lines is read as this line
 abbrev pub IsReadAs : Line → List ℕ → Type 0
 IsReadAs read text = length text ≤ LONGEST_LINE → reading text ≡ Ok read
+
+-- A script with this line makes this call. Scripts have no line for two of the calls: their first word is unknown there.
+abbrev pub IsScriptLine : Call → List ℕ → Type 0
+IsScriptLine (call.Trigger now) text = length text ≤ LONGEST_LINE → reading text ≡ Err fault.Word
+IsScriptLine (call.Configure now config) text = length text ≤ LONGEST_LINE → reading text ≡ Err fault.Word
+IsScriptLine made text = IsReadAs (line.Call made) text

@@ -3,6 +3,7 @@ use Rattle.std.specs.Prelude.{◌≡◌, ℕ, Bool, true, false, not, ◌&&◌, 
 use Rattle.std.specs.List.{filter_map}
 use Rattle.std.specs.Str.Lines.{strip_carriage_return}
 use Rattle.ckpt_ids.specs.declared.subtask.SubtaskId.{SubtaskId}
+use Rattle.ckpt_ids.specs.declared.config.ConfigValues.{ConfigValues}
 use Rattle.ckpt_ids.specs.declared.call.Call as calls
 use Rattle.ckpt_ids.specs.declared.call.Call.TheVariants as call
 use Rattle.ckpt_ids.specs.declared.call.Target.{Target}
@@ -65,8 +66,9 @@ each read (word ∷ words) = do
   xs ← each read words
   Ok (x ∷ xs)
 
-unfoldable pub config_line : List (List ℕ) → Result Line LineFault
-config_line words = do
+-- the seven settings, and nothing after them
+unfoldable pub settings : List (List ℕ) → Result ConfigValues LineFault
+settings words = do
   interval ← number_place words
   pause ← number_place interval.1
   at_once ← number_place pause.1
@@ -75,7 +77,20 @@ config_line words = do
   retained ← number_place tolerable.1
   keep ← retention_place retained.1
   _ ← ended keep.1
-  Ok (Config interval.0 pause.0 at_once.0 timeout.0 tolerable.0 retained.0 keep.0)
+  Ok (record {
+    interval = interval.0;
+    pause = pause.0;
+    at_once = at_once.0;
+    timeout = timeout.0;
+    tolerable = tolerable.0;
+    retained = retained.0;
+    keep_on_cancel = keep.0;
+  })
+
+unfoldable pub config_line : List (List ℕ) → Result Line LineFault
+config_line words = do
+  v ← settings words
+  Ok (Config v.interval v.pause v.at_once v.timeout v.tolerable v.retained v.keep_on_cancel)
 
 abbrev pub some_parallelisms : List ℕ → Result Line LineFault
 some_parallelisms [] = Err fault.Missing

@@ -6,7 +6,7 @@ use Rattle.ckpt_lines.specs.declared.fault.LineFault.TheVariants as fault
 use Rattle.ckpt_lines.specs.declared.keyword.Keyword.TheVariants as keyword
 use Rattle.ckpt_lines.specs.declared.line.Line.TheVariants.{Skip, Config, Job, Start, Call, BadShape}
 use Rattle.ckpt_lines.specs.Keywords.{keyword_of}
-use Rattle.ckpt_lines.specs.Reading.{reading, line_of, row, number_line, only_number, start_line, job_line, ack_line, restore_line, config_line, number_place}
+use Rattle.ckpt_lines.specs.Reading.{reading, line_of, row, number_line, only_number, start_line, job_line, ack_line, restore_line, config_line, settings, number_place}
 use Rattle.ckpt_lines.specs.Reading.{subtask_place, target_place, retention_place, file_places, each, ended}
 use Rattle.ckpt_lines.specs.Usual.{IsUsual}
 use Rattle.ckpt_lines.specs.Values.{number_of, part_of, subtask_of, target_of, file_word}
@@ -29,7 +29,7 @@ unfolding reading line_of
 comment = refl
 
 pub configuration : reading (codes "config 1000 0 1 500 2 3 keep") ≡ Ok (Config 1000 0 1 500 2 3 true)
-unfolding reading line_of keyword_of row config_line number_place number_of retention_place ended
+unfolding reading line_of keyword_of row config_line settings number_place number_of retention_place ended
 configuration = refl
 
 pub job : reading (codes "job 007 2") ≡ Ok (Job (7 ∷ 2 ∷ []))
@@ -92,6 +92,15 @@ further_word = refl
 pub unknown : reading (codes "Tick 5") ≡ Err fault.Word
 unfolding reading line_of keyword_of
 unknown = refl
+
+-- scripts have no line for these two calls
+pub no_trigger : reading (codes "trigger 5") ≡ Err fault.Word
+unfolding reading line_of keyword_of
+no_trigger = refl
+
+pub no_configure : reading (codes "configure 5 1000 0 1 500 2 3 keep") ≡ Err fault.Word
+unfolding reading line_of keyword_of
+no_configure = refl
 
 -- the number may have spaces around it
 pub usual : IsUsual (codes "take   5 " ++ 13 ∷ [])

@@ -1,25 +1,26 @@
 //! The line of a call.
 ghost use Rattle.std.specs.Prelude.{◌≡◌, ◌++◌, IfOk, OnOk, string_bytes};
-ghost use Rattle.ckpt_ids.specs.declared.call.Call.TheVariants.{Ack, Decline, Restore};
-ghost use Rattle.ckpt_lines.specs.declared.line.Line.TheVariants as line;
-ghost use Rattle.ckpt_lines.specs.CallTexts.{call_text, FitsCall, IsReadAs};
+ghost use Rattle.ckpt_ids.specs.declared.call.Call.TheVariants.{Ack, Configure, Decline, Restore};
+ghost use Rattle.ckpt_lines.specs.CallTexts.{call_text, FitsCall, IsScriptLine};
 
+use crate::opening::write_settings;
 use crate::pieces::{
     write_fresh, write_number, write_reused, write_shape, write_subtask, write_target,
 };
-use ckpt_ids::{Call, CheckpointId, Files, Shape, SubtaskId, Target};
+use ckpt_ids::{Call, CheckpointId, Config, Files, Shape, SubtaskId, Target};
 use std::alloc::{AllocError, Global};
 
 /// Room for most lines, which then allocate once.
 const USUAL_LENGTH: usize = 64;
 
-/// The line of a call, without its newline. A script with this line makes that call.
+/// The line of a call, without its newline. A script with this line makes that call, but for a
+/// [`Call::Trigger`] and a [`Call::Configure`]: only logs have their lines.
 ///
 /// A line of more than 131,072 bytes is too long to be read. Only an acknowledgement with more
 /// files than a coordinator accepts can have such a line. Fails only if memory runs out.
 pub fn call_line(alloc: Global, call: &Call) -> Result<String, AllocError>
     ensures text { IfOk result (λ text. string_bytes text ≡ call_text call.now) }
-    ensures read { IfOk result (λ text. IsReadAs (line.Call call.now) (string_bytes text)) }
+    ensures read { IfOk result (λ text. IsScriptLine call.now (string_bytes text)) }
 {
     let mut text = String::with_capacity(alloc, USUAL_LENGTH)?;
     write_call(&mut text, call)?;
@@ -54,6 +55,8 @@ pub fn write_call(text: &mut String, call: &Call) -> Result<(), AllocError>
         Call::Undeleted { file } => write_number(text, "undeleted ", file.0),
         Call::Show { id } => write_number(text, "show ", id.0),
         Call::Count { file } => write_number(text, "count ", file.0),
+        Call::Trigger { now } => write_number(text, "trigger ", *now),
+        Call::Configure { now, config } => write_configure(text, *now, config),
     }
 }
 
@@ -107,4 +110,15 @@ fn write_restore(
         Some(shape) => write_shape(text, shape),
         None => Ok(()),
     }
+}
+
+#[tactic(auto, unfolding(crate::specs::CallTexts::call_text))]
+fn write_configure(text: &mut String, now: u64, config: &Config) -> Result<(), AllocError>
+    ensures text { OnOk result (string_bytes text.new ≡ string_bytes text.old ++ call_text (Configure now config.now)) }
+    ensures fits { OnOk result (FitsCall (Configure now config.now)) }
+{
+    // The contract of this read says that the values are within their limits.
+    let _ = config.interval();
+    write_number(text, "configure ", now)?;
+    write_settings(text, config)
 }

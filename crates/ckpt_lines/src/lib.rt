@@ -10,7 +10,8 @@
 //! as what was written.
 //!
 //! A language with more lines reads their words by [`Words`], and the other lines by [`line_of`]. It
-//! writes calls by [`write_call`] and [`write_number`].
+//! writes calls by [`write_call`] and [`write_number`]. [`write_call`] also writes the two calls that
+//! only such a language has lines for, a trigger and another configuration.
 #![tactic(auto)]
 
 mod calls;
@@ -39,7 +40,7 @@ pub use numbers::Numbers;
 pub use opening::{config_line, job_line, start_line};
 pub use parse::{line_of, parse_line, without_return};
 pub use pieces::write_number;
-pub use rows::{end, only_number};
+pub use rows::{end, only_number, settings};
 pub use usual::usual_call;
 pub use values::number_of;
 pub use words::Words;

@@ -4,7 +4,8 @@ use ckpt_ids::{Call, CheckpointId};
 
 /// What a line of a job script says. Moments and durations are milliseconds.
 ///
-/// The variants say which line each is. `Call` is twelve of them: `tick now`, `savepoint now`,
+/// The variants say which line each is. `Call` is twelve of them, and a script has no line for the
+/// other two calls: `tick now`, `savepoint now`,
 /// `ack now id v.s` and then file words, `decline now id v.s`, `dispose id`,
 /// `restore now latest|id` and then the parallelisms of a new shape if there is one, `cancel now`,
 /// `take n`, `deleted f`, `undeleted f`, `show id` and `count f`.

@@ -1,7 +1,7 @@
 //! The lines that open a job: `config`, `job` and `start`.
 ghost use Rattle.std.specs.Prelude.{◌≡◌, ◌++◌, IfOk, OnOk, string_bytes};
 ghost use Rattle.ckpt_lines.specs.declared.line.Line.TheVariants.{Job, Start};
-ghost use Rattle.ckpt_lines.specs.CallTexts.{config_text, job_text, limits_text, line_of_config, retention_text, start_text, triggers_text, IsReadAs};
+ghost use Rattle.ckpt_lines.specs.CallTexts.{config_text, job_text, limits_text, line_of_config, retention_text, settings_text, start_text, triggers_text, IsReadAs};
 
 use crate::pieces::{write_number, write_shape};
 use ckpt_ids::{Config, Shape};
@@ -23,6 +23,15 @@ pub fn config_line(alloc: Global, config: &Config) -> Result<String, AllocError>
 fn write_config(text: &mut String, config: &Config) -> Result<(), AllocError>
     ensures { OnOk result (string_bytes text.new ≡ string_bytes text.old ++ config_text config.now) }
 {
+    text.push_str("config")?;
+    write_settings(text, config)
+}
+
+/// Appends the settings, each after a space.
+#[tactic(auto, unfolding(crate::specs::CallTexts::settings_text))]
+pub(crate) fn write_settings(text: &mut String, config: &Config) -> Result<(), AllocError>
+    ensures { OnOk result (string_bytes text.new ≡ string_bytes text.old ++ settings_text config.now) }
+{
     write_triggers(text, config)?;
     write_limits(text, config)
 }
@@ -31,7 +40,7 @@ fn write_config(text: &mut String, config: &Config) -> Result<(), AllocError>
 fn write_triggers(text: &mut String, config: &Config) -> Result<(), AllocError>
     ensures { OnOk result (string_bytes text.new ≡ string_bytes text.old ++ triggers_text config.now) }
 {
-    write_number(text, "config ", config.interval())?;
+    write_number(text, " ", config.interval())?;
     write_number(text, " ", config.pause())?;
     write_number(text, " ", u64::from(config.at_once()))
 }

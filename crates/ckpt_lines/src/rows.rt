@@ -1,7 +1,7 @@
 //! Each kind of line, from the words after its first.
 ghost use Rattle.std.specs.Prelude.{◌≡◌, true};
 ghost use Rattle.ckpt_lines.specs.Keywords.{takes_memory};
-ghost use Rattle.ckpt_lines.specs.Reading.{ack_line, all_line, config_line, decline_line, ended, job_line, number_call, number_line, only_number, restore_line, row, start_line, Reads, IsExact};
+ghost use Rattle.ckpt_lines.specs.Reading.{ack_line, all_line, config_line, decline_line, ended, job_line, number_call, number_line, only_number, restore_line, row, settings, start_line, Reads, IsExact};
 
 use crate::fault::LineFault;
 use crate::keyword::Keyword;
@@ -10,7 +10,7 @@ use crate::lists::{files, numbers};
 use crate::places::{keep_or_delete, subtask, target};
 use crate::restoring::restoring;
 use crate::words::Words;
-use ckpt_ids::{Call, CheckpointId, FileId};
+use ckpt_ids::{Call, CheckpointId, ConfigValues, FileId};
 use std::alloc::Global;
 
 /// Checks that no word follows the last one.
@@ -35,9 +35,10 @@ pub fn only_number(words: &mut Words<'_>) -> Result<u64, LineFault>
     Ok(number)
 }
 
-#[tactic(auto, unfolding(crate::specs::Reading::config_line))]
-fn config(words: &mut Words<'_>) -> Result<Line, LineFault>
-    ensures { IsExact result (config_line words.old) }
+/// The settings of a job, which have to be the last words. They may be outside their limits.
+#[tactic(auto, unfolding(crate::specs::Reading::settings))]
+pub fn settings(words: &mut Words<'_>) -> Result<ConfigValues, LineFault>
+    ensures { IsExact result (settings words.old) }
 {
     let interval = words.number()?;
     let pause = words.number()?;
@@ -47,7 +48,7 @@ fn config(words: &mut Words<'_>) -> Result<Line, LineFault>
     let retained = words.number()?;
     let keep_on_cancel = keep_or_delete(words)?;
     end(words)?;
-    Ok(Line::Config {
+    Ok(ConfigValues {
         interval,
         pause,
         at_once,
@@ -55,6 +56,22 @@ fn config(words: &mut Words<'_>) -> Result<Line, LineFault>
         tolerable,
         retained,
         keep_on_cancel,
+    })
+}
+
+#[tactic(auto, unfolding(crate::specs::Reading::config_line))]
+fn config(words: &mut Words<'_>) -> Result<Line, LineFault>
+    ensures { IsExact result (config_line words.old) }
+{
+    let values = settings(words)?;
+    Ok(Line::Config {
+        interval: values.interval,
+        pause: values.pause,
+        at_once: values.at_once,
+        timeout: values.timeout,
+        tolerable: values.tolerable,
+        retained: values.retained,
+        keep_on_cancel: values.keep_on_cancel,
     })
 }
 

@@ -119,6 +119,13 @@ impl<'a> Words<'a> {
         Words { rest: text }
     }
 
+    /// The text of the words that are left.
+    pub fn rest(&self) -> &'a [u8]
+        ensures { words_of result.now ≡ self.now }
+    {
+        self.rest
+    }
+
     /// Whether no word is left.
     pub fn is_empty(&self) -> bool
         ensures { IsTrue result ↔ (self.now ≡ []) }

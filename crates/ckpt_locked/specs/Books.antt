@@ -4,6 +4,7 @@ use Rattle.ckpt_ids.specs.declared.call.Call.{Call}
 use Rattle.ckpt_ids.specs.declared.reply.Answer.{Answer}
 use Rattle.ckpt_ids.specs.declared.reply.Answer.TheVariants.{Done}
 use Rattle.ckpt_ids.specs.declared.reply.Reply.TheVariants.{Counted}
+use Rattle.ckpt_ids.specs.Configuration.{Configuration}
 use Rattle.ckpt_ids.specs.Records.{count, uses}
 use Rattle.ckpt_model.specs.State.{State, Opening, opened}
 use Rattle.ckpt_model.specs.Steps.{step}
@@ -51,11 +52,11 @@ pub record IsHistory (h : History) : Type 0 where
   pub can_open : CanOpen h.opening
   pub are_calls : AreCalls (calls_of h.entries)
 
--- the model of the coordinator and of the list beside it
-abbrev pub history_of : State → List Entry → ℕ → History
-history_of core entries keep = record { opening = core.opening; entries = entries; keep = keep }
+-- the model of the coordinator and of the list beside it, with the configuration that the book was opened with
+abbrev pub history_of : Configuration → State → List Entry → ℕ → History
+history_of first core entries keep = record { opening = record core.opening { config = first }; entries = entries; keep = keep }
 
 -- the coordinator is the replay of the list
-pub record IsKept (core : State) (entries : List Entry) (keep : ℕ) : Type 0 where
-  pub history : IsHistory (history_of core entries keep)
-  pub is_replay : core ≡ state_of_book (history_of core entries keep)
+pub record IsKept (first : Configuration) (core : State) (entries : List Entry) (keep : ℕ) : Type 0 where
+  pub history : IsHistory (history_of first core entries keep)
+  pub is_replay : core ≡ state_of_book (history_of first core entries keep)

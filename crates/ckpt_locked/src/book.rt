@@ -26,6 +26,8 @@ pub struct Entry {
 #[derive(Debug)]
 pub struct Book {
     alloc: Global,
+    /// What the book was opened with: the coordinator's configuration may be another one by now.
+    first: Config,
     core: Core,
     entries: Recent<Entry>,
 }
@@ -34,6 +36,7 @@ impl Drop for Book {
     fn drop(self) {
         let Book {
             alloc: _,
+            first: _,
             core: _,
             entries: _,
         } = self;
@@ -45,9 +48,9 @@ impl Model for Book {
 
     ghost Value = { History };
 
-    ghost view = { λ b. history_of b.core b.entries.items b.entries.keep };
+    ghost view = { λ b. history_of b.first b.core b.entries.items b.entries.keep };
 
-    ghost invariant = { λ b. IsKept b.core b.entries.items b.entries.keep };
+    ghost invariant = { λ b. IsKept b.first b.core b.entries.items b.entries.keep };
 }
 
 impl Book {
@@ -99,6 +102,7 @@ impl Book {
         let entries = Recent::new(alloc);
         Ok(Book {
             alloc,
+            first: config,
             core,
             entries,
         })

@@ -11,9 +11,9 @@ use Rattle.ckpt_terms.specs.declared.machine.FenceFault.{FenceFault}
 use Rattle.ckpt_terms.specs.Fencing.{FencedStepped, fenced_step}
 use Rattle.ckpt_terms.specs.Machines.{Issued, fence_fault, fenced_of, first_names, issued_by, machine_of}
 use Rattle.ckpt_session.specs.declared.outcome.Outcome.TheVariants as script_outcome
-use Rattle.ckpt_session.specs.declared.outcome.ScriptRefusal.TheVariants.{NotStarted}
+use Rattle.ckpt_session.specs.declared.outcome.ScriptRefusal.TheVariants.{BadConfig, NotStarted}
 use Rattle.ckpt_session.specs.ScriptTexts.{fault_bytes}
-use Rattle.ckpt_session.specs.Sessions.{Done, Scene, obeyed, opening_scene, refused}
+use Rattle.ckpt_session.specs.Sessions.{Done, Scene, after_start, obeyed, opening_scene, refused}
 use Rattle.ckpt_term_lines.specs.declared.line.TermLine.{TermLine}
 use Rattle.ckpt_term_lines.specs.declared.line.TermLine.TheVariants as line
 use Rattle.ckpt_log.specs.declared.outcome.LogOutcome.{LogOutcome}
@@ -85,6 +85,7 @@ unfoldable pub log_done : LogScene → TermLine → LogDone
 log_done log (line.Fence first) = log_fenced log log.scene.core first
 log_done log (line.Call call) = log_called log log.scene.core log.names call
 log_done log (line.Other said) = log_set log said
+log_done log line.BadConfig = in_script log (after_start log.scene (refused log.scene BadConfig))
 log_done log line.NoCall = log_refused log NoCall
 
 -- what a line leaves, and what it prints

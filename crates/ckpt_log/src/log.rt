@@ -1,7 +1,7 @@
 //! A log that is being replayed: what its lines do, and what they print.
 ghost use Rattle.std.specs.Prelude.{◌≡◌, ◌++◌, Ok, Err, IfOk, OnOk, is_err, string_bytes};
 ghost use Rattle.ckpt_model.specs.Steps.{step};
-ghost use Rattle.ckpt_session.specs.Sessions.{before_start, configured, obeyed, shaped, started_so_far};
+ghost use Rattle.ckpt_session.specs.Sessions.{after_start, before_start, configured, obeyed, refused, shaped, started_so_far};
 ghost use Rattle.ckpt_term_lines.specs.TermReading.{term_reading};
 ghost use Rattle.ckpt_log.specs.Logs.{in_script, log_called, log_done, log_fenced, log_said, log_set, opening_log, plainly_called, stepped};
 
@@ -110,6 +110,7 @@ impl Log {
             TermLine::Fence { first } => self.fence(first),
             TermLine::Call(call) => self.call(&call),
             TermLine::Other(said) => self.set(said),
+            TermLine::BadConfig => Ok(self.refuse_config()),
             TermLine::NoCall => Ok(LogOutcome::Refused(LogRefusal::NoCall)),
         }
     }
@@ -150,6 +151,16 @@ impl Log {
             return not_started();
         }
         LogOutcome::Script(Outcome::Refused(ScriptRefusal::BadShape))
+    }
+
+    /// The answer to a `configure` whose settings are outside their limits.
+    fn refuse_config(&self) -> LogOutcome
+        ensures { (self.now, result) ≡ in_script self.now (after_start self.now.scene (refused self.now.scene ScriptRefusal.BadConfig)) }
+    {
+        if self.machine.is_none() {
+            return not_started();
+        }
+        LogOutcome::Script(Outcome::Refused(ScriptRefusal::BadConfig))
     }
 
     /// Does what a line of a script says that is no call.

@@ -19,7 +19,7 @@ pub use Rattle.ckpt_ids.specs.Records.{Pin, Record, Subtask, Use, acknowledged, 
 pub use Rattle.ckpt_ids.specs.Shapes.{IsShape, is_subtask, same_subtask, subtasks}
 pub use Rattle.ckpt_ids.specs.declared.ack.Acked.{Acked}
 pub use Rattle.ckpt_ids.specs.declared.call.Call.{Call}
-pub use Rattle.ckpt_ids.specs.declared.call.Call.TheVariants.{Ack, Cancel, Count, Decline, Deleted, Dispose, Restore, Savepoint, Show, Take, Tick, Undeleted}
+pub use Rattle.ckpt_ids.specs.declared.call.Call.TheVariants.{Ack, Cancel, Configure, Count, Decline, Deleted, Dispose, Restore, Savepoint, Show, Take, Tick, Trigger, Undeleted}
 pub use Rattle.ckpt_ids.specs.declared.call.Target.{Target}
 pub use Rattle.ckpt_ids.specs.declared.numbers.Kind.{Kind}
 pub use Rattle.ckpt_ids.specs.declared.reply.Answer.{Answer}
@@ -44,13 +44,13 @@ pub use Rattle.ckpt_model.specs.Refusals.{moment_of, named, pending_of, refuse_i
 pub use Rattle.ckpt_model.specs.Refusals.{was_not_given, where_pending}
 unfoldable pub use Rattle.ckpt_model.specs.Refusals.{refusal}
 pub use Rattle.ckpt_model.specs.Soundness.{IsCall, IsRecord, IsSound, id_before}
-pub use Rattle.ckpt_model.specs.State.{Opening, State, choice_from, chosen, files_of, in_outbox, is_checkpoint, is_done_checkpoint, is_expired, is_known, is_pending, kept}
+pub use Rattle.ckpt_model.specs.State.{Opening, State, choice_from, chosen, files_of, in_outbox, is_checkpoint, is_done_checkpoint, is_expired, is_known, is_pending, is_surplus, kept}
 pub use Rattle.ckpt_model.specs.State.{last_checkpoint, opened, record_of, released_by, unpinned}
 unfoldable pub use Rattle.ckpt_model.specs.State.{choice_of, drop, pins_now}
 pub use Rattle.ckpt_model.specs.Steps.{Stepped, at_moment, cancelled, cleared, dropped_by, fails_the_job, failures_with, pending_checkpoints, replaced, rolled_back, show, superseded, unless_refused}
 pub use Rattle.ckpt_model.specs.Steps.{with_records, without}
 unfoldable pub use Rattle.ckpt_model.specs.Steps.{ack, acknowledged_in, after_expiry, cancel, completed_with, decline, decline_pending, dispose, dropping, effect, failed_over, restarted, restore}
-unfoldable pub use Rattle.ckpt_model.specs.Steps.{start_or_hold, step, step_computes, take_files, tick, triggered}
+unfoldable pub use Rattle.ckpt_model.specs.Steps.{configure, start_or_hold, step, step_computes, take_files, tick, triggered, with_config}
 pub use Rattle.ckpt_model.specs.declared.mode.Mode.{Mode}
 pub use Rattle.ckpt_model.specs.declared.mode.Mode.TheVariants.{Cancelled, Failed, Running}
 pub use Rattle.ckpt_pending.proofs.FullLemmas.{full_from_missing}

@@ -6,9 +6,11 @@ pub mod Drops
 pub mod Histories
 pub mod Opening
 pub mod Outbox
+pub mod Settings
 pub mod Triggers
 pub use Acks.*
 pub use Completions.*
 pub use Drops.*
 pub use Outbox.*
+pub use Settings.*
 pub use Triggers.*

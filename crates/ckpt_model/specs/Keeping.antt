@@ -3,7 +3,7 @@ use Rattle.std.specs.Prelude.{◌≡◌, ℕ, ◌≤◌, Bool, true, false, not,
 use Rattle.std.specs.List.{list_any}
 use Rattle.ckpt_ids.specs.declared.call.Target.TheVariants as target
 use Rattle.ckpt_ids.specs.declared.call.Call.{Call}
-use Rattle.ckpt_ids.specs.declared.call.Call.TheVariants.{Ack, Restore, Cancel}
+use Rattle.ckpt_ids.specs.declared.call.Call.TheVariants.{Ack, Restore, Cancel, Configure}
 use Rattle.ckpt_ids.specs.declared.reply.Choice.TheVariants as choice
 use Rattle.ckpt_ids.specs.declared.reply.Reply.TheVariants as reply
 use Rattle.ckpt_ids.specs.declared.reply.Answer.{Answer}
@@ -62,14 +62,15 @@ abbrev pub newer_than : ℕ → State → ℕ
 newer_than id m = count_by (λ s. is_done_checkpoint s && nat_lt id s.id) m.records
 
 -- A call that may drop the done checkpoint of this number: an accepted Restore to a savepoint, an accepted Cancel of a
--- job that does not keep them, and an acknowledgement that completes a record and leaves as many newer ones as are
--- retained.
+-- job that does not keep them, an acknowledgement that completes a record and leaves as many newer ones as are
+-- retained, and an accepted Configure with as many newer ones as are retained from then on.
 abbrev pub may_drop : ℕ → State → Call → Bool
 may_drop id m (Restore now (target.Savepoint its_id) shape) = is_accepted (step m (Restore now (target.Savepoint its_id) shape)).1
 may_drop id m (Cancel now) = is_accepted (step m (Cancel now)).1 && not m.opening.config.keep_on_cancel
 may_drop id m (Ack now its_id subtask fresh reused) =
     let x : Stepped = step m (Ack now its_id subtask fresh reused) in
     is_completing x.1 && nat_le m.opening.config.retained (newer_than id x.0)
+may_drop id m (Configure now config) = is_accepted (step m (Configure now config)).1 && nat_le config.retained (newer_than id m)
 may_drop id m call = false
 
 -- a live done checkpoint stays, unchanged, through every call that may not drop it

@@ -11,6 +11,7 @@ pub mod Opening
 pub mod Progress
 pub mod Reads
 pub mod Refusals
+pub mod Settings
 pub mod Soundness
 pub mod State
 pub mod Steps

@@ -1,7 +1,7 @@
 -- The calls that may run out of memory. All others, and each refused call, take no memory.
 use Rattle.std.specs.Prelude.{Bool, true, false, nat_lt, is_some}
 use Rattle.ckpt_ids.specs.declared.call.Call.{Call}
-use Rattle.ckpt_ids.specs.declared.call.Call.TheVariants.{Tick, Savepoint, Ack, Restore, Take, Show}
+use Rattle.ckpt_ids.specs.declared.call.Call.TheVariants.{Tick, Savepoint, Ack, Restore, Take, Show, Trigger}
 use Rattle.ckpt_ids.specs.declared.reply.Answer.{Answer}
 use Rattle.ckpt_ids.specs.declared.reply.Answer.TheVariants.{Done, Refused}
 use Rattle.ckpt_ids.specs.declared.reply.Reply.{Reply}
@@ -32,6 +32,7 @@ wants (Ack now id subtask fresh reused) reply = ack_wants reply
 wants (Restore now target shape) reply = is_some shape
 wants (Take most) reply = true
 wants (Show id) reply = true
+wants (Trigger now) reply = true
 wants call reply = false
 
 abbrev pub answer_wants : Call → Answer → Bool

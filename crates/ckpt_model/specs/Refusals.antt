@@ -5,13 +5,14 @@ use Rattle.ckpt_ids.specs.declared.limits.TheConstants.{MOMENTS_END, MOST_FILES,
 use Rattle.ckpt_ids.specs.declared.subtask.SubtaskId.{SubtaskId}
 use Rattle.ckpt_ids.specs.declared.call.Target.TheVariants as target
 use Rattle.ckpt_ids.specs.declared.call.Call.{Call}
-use Rattle.ckpt_ids.specs.declared.call.Call.TheVariants.{Tick, Savepoint, Ack, Decline, Dispose, Restore, Cancel, Deleted, Undeleted, Show}
+use Rattle.ckpt_ids.specs.declared.call.Call.TheVariants.{Tick, Savepoint, Ack, Decline, Dispose, Restore, Cancel, Deleted, Undeleted, Show, Trigger, Configure}
 use Rattle.ckpt_ids.specs.declared.reply.Refusal.{Refusal}
 use Rattle.ckpt_ids.specs.declared.reply.Refusal.TheVariants.{MomentTooLarge, NotRunning, TooManyFiles, RepeatedFile, UnknownCheckpoint, UnknownSubtask, AlreadyAcknowledged}
-use Rattle.ckpt_ids.specs.declared.reply.Refusal.TheVariants.{NameTaken, FileGone, NoSuchSavepoint, InUse, TooManySavepoints, NotTaken, NoSuchRecord, IdsUsedUp}
+use Rattle.ckpt_ids.specs.declared.reply.Refusal.TheVariants.{NameTaken, FileGone, NoSuchSavepoint, InUse, TooManySavepoints, NotTaken, NoSuchRecord, IdsUsedUp, AtOnce}
 pub use Rattle.ckpt_ids.specs.Ordered.{has_repeats}
 use Rattle.ckpt_ids.specs.Records.{Record, uses, is_present, has_acknowledged}
 use Rattle.ckpt_ids.specs.Shapes.{is_subtask}
+use Rattle.ckpt_rules.specs.Trigger.{limit}
 use Rattle.ckpt_model.specs.declared.mode.Mode.{Mode}
 use Rattle.ckpt_model.specs.declared.mode.Mode.TheVariants.{Running, Failed, Cancelled}
 use Rattle.ckpt_model.specs.State.{State, record_of, is_pending, is_checkpoint, is_known}
@@ -32,6 +33,8 @@ moment_of (Ack now id subtask fresh reused) = Some now
 moment_of (Decline now id subtask) = Some now
 moment_of (Restore now target shape) = Some now
 moment_of (Cancel now) = Some now
+moment_of (Trigger now) = Some now
+moment_of (Configure now config) = Some now
 moment_of call = None
 
 abbrev pub is_running : Mode → Bool
@@ -64,6 +67,8 @@ not_running m (Tick now) = refuse_if (not (is_running m.mode)) NotRunning
 not_running m (Savepoint now) = refuse_if (not (is_running m.mode)) NotRunning
 not_running m (Restore now target shape) = refuse_if (is_cancelled m.mode) NotRunning
 not_running m (Cancel now) = refuse_if (is_cancelled m.mode) NotRunning
+not_running m (Trigger now) = refuse_if (not (is_running m.mode)) NotRunning
+not_running m (Configure now config) = refuse_if (is_cancelled m.mode) NotRunning
 not_running m call = None
 
 abbrev pub too_many_files : Call → Option Refusal
@@ -159,7 +164,17 @@ no_such_record m call = None
 abbrev pub ids_used_up : State → Call → Option Refusal
 ids_used_up m (Tick now) = refuse_if (nat_le NUMBERS_END m.next) IdsUsedUp
 ids_used_up m (Savepoint now) = refuse_if (nat_le NUMBERS_END m.next) IdsUsedUp
+ids_used_up m (Trigger now) = refuse_if (nat_le NUMBERS_END m.next) IdsUsedUp
 ids_used_up m call = None
+
+abbrev pub pending_checkpoints : State → ℕ
+pending_checkpoints m = count_by (λ r. is_pending r && is_checkpoint r) m.records
+
+-- a trigger: as many are pending as may be; a configuration: more are than it allows
+abbrev pub at_once : State → Call → Option Refusal
+at_once m (Trigger now) = refuse_if (nat_le (limit m.opening.config) (pending_checkpoints m)) AtOnce
+at_once m (Configure now config) = refuse_if (nat_lt (limit config) (pending_checkpoints m)) AtOnce
+at_once m call = None
 
 unfoldable pub refusal : State → Call → Option Refusal
 refusal m call = first_some (
@@ -178,4 +193,5 @@ refusal m call = first_some (
     ∷ not_taken m call
     ∷ no_such_record m call
     ∷ ids_used_up m call
+    ∷ at_once m call
     ∷ [])

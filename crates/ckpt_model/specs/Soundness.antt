@@ -4,7 +4,7 @@ use Rattle.std.specs.Prelude.{◌≡◌, ◌≢◌, ℕ, ◌<◌, ◌≤◌, Boo
 use Rattle.ckpt_ids.specs.declared.limits.TheConstants.{MOMENTS_END, MOST_SAVEPOINTS, NUMBERS_END}
 use Rattle.ckpt_ids.specs.declared.ack.Acked.{Acked}
 use Rattle.ckpt_ids.specs.declared.call.Call.{Call}
-use Rattle.ckpt_ids.specs.declared.call.Call.TheVariants.{Restore}
+use Rattle.ckpt_ids.specs.declared.call.Call.TheVariants.{Restore, Configure}
 use Rattle.ckpt_ids.specs.Acknowledged.{AreInSubtaskOrder}
 use Rattle.ckpt_ids.specs.Ascending.{IsAscendingSet}
 use Rattle.ckpt_ids.specs.Configuration.{IsWithinLimits}
@@ -68,7 +68,8 @@ pub record IsSound (m : State) : Type 0 where
   pub unused : (f : ℕ) → in_outbox m f ≡ true → is_present (uses m.records) f ≡ false
   pub apart : AreDistinct (m.waiting ++ m.taken)
 
--- a call that can be made: if a restore has a shape, it is a valid shape
+-- a call that can be made: if a restore has a shape, it is a valid shape; and a configuration is within its limits
 abbrev pub IsCall : Call → Type 0
 IsCall (Restore now target shape) = IfSome shape IsShape
+IsCall (Configure now config) = IsWithinLimits config
 IsCall call = ⊤

@@ -15,7 +15,7 @@ use Rattle.ckpt_ids.specs.Ascending.{ascending_set}
 use Rattle.ckpt_rules.specs.Trigger.{gap}
 pub use Rattle.ckpt_store.specs.Storing.{choice_from}
 
--- What a coordinator was opened with, which no call changes
+-- What a coordinator was opened with. A Configure puts its configuration in the place of the one there, and no other call changes it.
 pub record Opening : Type 0 where
   pub config : Configuration
   pub shape : List ℕ

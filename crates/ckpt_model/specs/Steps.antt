@@ -1,5 +1,5 @@
 -- What a call does to the state, and its answer.
-use Rattle.std.specs.Prelude.{ℕ, ◌+◌, max, Bool, true, false, not, ◌&&◌, ◌||◌, nat_lt, ◌==◌, List, [], ◌∷◌, ◌++◌, map, filter, length, count_by, take, if◌then◌else◌, Option, Some, None, unwrap_or, ⊤}
+use Rattle.std.specs.Prelude.{ℕ, ◌+◌, min, max, Bool, true, false, not, ◌&&◌, ◌||◌, nat_lt, ◌==◌, List, [], ◌∷◌, ◌++◌, map, filter, length, count_by, take, if◌then◌else◌, Option, Some, None, unwrap_or, ⊤}
 use Rattle.std.specs.Prelude as prelude
 use Rattle.ckpt_ids.specs.declared.subtask.SubtaskId.{SubtaskId}
 use Rattle.ckpt_ids.specs.declared.numbers.Kind.{Kind}
@@ -7,7 +7,7 @@ use Rattle.ckpt_ids.specs.declared.numbers.Kind.TheVariants as kind
 use Rattle.ckpt_ids.specs.declared.call.Target.{Target}
 use Rattle.ckpt_ids.specs.declared.call.Target.TheVariants as target
 use Rattle.ckpt_ids.specs.declared.call.Call.{Call}
-use Rattle.ckpt_ids.specs.declared.call.Call.TheVariants.{Tick, Savepoint, Ack, Decline, Dispose, Restore, Cancel, Take, Deleted, Undeleted, Show, Count}
+use Rattle.ckpt_ids.specs.declared.call.Call.TheVariants.{Tick, Savepoint, Ack, Decline, Dispose, Restore, Cancel, Take, Deleted, Undeleted, Show, Count, Trigger, Configure}
 use Rattle.ckpt_ids.specs.declared.reply.TickEnd.TheVariants as end
 use Rattle.ckpt_ids.specs.declared.reply.Reply.{Reply}
 use Rattle.ckpt_ids.specs.declared.reply.Reply.TheVariants as reply
@@ -16,6 +16,7 @@ use Rattle.ckpt_ids.specs.declared.reply.Answer.TheVariants.{Done, Refused}
 use Rattle.ckpt_ids.specs.declared.reply.Refusal.{Refusal}
 use Rattle.ckpt_ids.specs.declared.reply.Refusal.TheVariants.{NoSuchRecord}
 use Rattle.ckpt_ids.specs.Ascending.{ascending}
+use Rattle.ckpt_ids.specs.Configuration.{Configuration}
 use Rattle.ckpt_ids.specs.Records.{Record, acknowledged, uses, count, missing, metadata_of}
 use Rattle.ckpt_rules.specs.declared.hold.Hold.{Hold}
 use Rattle.ckpt_rules.specs.declared.hold.Hold.TheVariants.{Interval, AtOnce, Pause, Go}
@@ -23,6 +24,7 @@ use Rattle.ckpt_rules.specs.Trigger.{gap, hold}
 use Rattle.ckpt_model.specs.declared.mode.Mode.TheVariants.{Running, Failed, Cancelled}
 use Rattle.ckpt_model.specs.State.{State, is_pending, is_checkpoint, is_done_checkpoint, record_of, is_known, drop, released_by, is_expired, is_subsumed, is_surplus, choice_of, pins_now}
 use Rattle.ckpt_model.specs.Refusals.{refusal, moment_of, pending_of}
+pub use Rattle.ckpt_model.specs.Refusals.{pending_checkpoints}
 
 abbrev pub Stepped : Type 0
 Stepped = State × Answer
@@ -43,9 +45,6 @@ triggered m kind = record m {
 -- Source: Configuration, execution.checkpointing.tolerable-failed-checkpoints.
 unfoldable pub failed_over : State → State
 failed_over m = record (drop m is_pending None) { mode = Failed }
-
-abbrev pub pending_checkpoints : State → ℕ
-pending_checkpoints m = count_by (λ r. is_pending r && is_checkpoint r) m.records
 
 unfoldable pub start_or_hold : State → ℕ → Hold → Stepped
 start_or_hold m expired Interval = (m, Done (reply.Ticked expired end.HeldInterval))
@@ -149,6 +148,21 @@ cancel m = (
   Done (reply.Cancelled (dropped_by m (cancelled m)) (length (released_by m (cancelled m) None))),
 )
 
+-- The settings are these from now on. The next checkpoint is due when it was, and at the latest one new interval from now.
+-- The failures in a row count on, as many as are tolerated now. This is the project's own rule.
+unfoldable pub with_config : State → Configuration → State
+with_config m c = record m {
+  opening = record m.opening { config = c };
+  due = min m.due (m.latest + gap c);
+  failures = min m.failures c.tolerable;
+}
+
+-- done checkpoints past the new number retained are dropped at once; nothing expires or is triggered before the next tick
+unfoldable pub configure : State → Configuration → Stepped
+configure m c =
+    let n : State = with_config m c in
+    (drop n (is_surplus n) None, Done (reply.Configured (dropped_by n (is_surplus n)) (length (released_by n (is_surplus n) None))))
+
 -- the outbox hands files to a caller that deletes them
 unfoldable pub take_files : State → ℕ → Stepped
 take_files m n = (record m { waiting = prelude.drop n m.waiting; taken = m.taken ++ take n m.waiting }, Done (reply.Taken (take n m.waiting)))
@@ -174,6 +188,8 @@ effect m (Deleted file) = (record m { taken = without file m.taken }, Done (repl
 effect m (Undeleted file) = (record m { taken = without file m.taken; waiting = m.waiting ++ file ∷ [] }, Done (reply.Undeleted file))
 effect m (Show id) = (m, show (record_of m id))
 effect m (Count file) = (m, Done (reply.Counted file (count (uses m.records) file)))
+effect m (Trigger now) = start_or_hold m 0 Go
+effect m (Configure now config) = configure m config
 
 abbrev pub at_moment : State → Option ℕ → State
 at_moment m None = m
@@ -188,5 +204,5 @@ step m call = unless_refused m call (refusal m call)
 
 -- what a proof unfolds to compute a step
 unfoldable pub step_computes : ⊤
-unfolding drop choice_of pins_now refusal triggered failed_over start_or_hold after_expiry tick completed_with acknowledged_in ack dropping decline_pending decline dispose restarted restore cancel take_files effect step
+unfolding drop choice_of pins_now refusal triggered failed_over start_or_hold after_expiry tick completed_with acknowledged_in ack dropping decline_pending decline dispose restarted restore cancel with_config configure take_files effect step
 step_computes = tt

@@ -5,7 +5,7 @@ use Rattle.std.specs.List.{range_with_len}
 use Rattle.ckpt_ids.specs.declared.numbers.Kind.TheVariants as kind
 use Rattle.ckpt_ids.specs.declared.call.Target.TheVariants as target
 use Rattle.ckpt_ids.specs.declared.reply.Choice.TheVariants as choice
-use Rattle.ckpt_ids.specs.declared.call.Call.TheVariants.{Tick, Savepoint, Ack, Decline, Dispose, Restore, Cancel, Take, Deleted, Undeleted, Show, Count}
+use Rattle.ckpt_ids.specs.declared.call.Call.TheVariants.{Tick, Savepoint, Ack, Decline, Dispose, Restore, Cancel, Take, Deleted, Undeleted, Show, Count, Trigger, Configure}
 use Rattle.ckpt_ids.specs.declared.reply.TickEnd.TheVariants as end
 use Rattle.ckpt_ids.specs.declared.reply.Refusal.TheVariants as refusal
 use Rattle.ckpt_ids.specs.declared.reply.Reply.TheVariants as reply
@@ -401,3 +401,31 @@ pub last_number : answers (opened (record { config = usual; shape = 1 ∷ []; st
     )
 unfolding step_computes
 last_number = refl
+
+-- a checkpoint now: whatever the interval, but not one more than may be pending; the next tick counts from it
+pub checkpoint_now : answers (opening usual (1 ∷ [])) (
+    Trigger 100 ∷ Trigger 200 ∷ Ack 200 1 (subtask 0 0) (1 ∷ []) [] ∷ Trigger 300 ∷ Ack 300 2 (subtask 0 0) (2 ∷ []) []
+    ∷ Tick 1299 ∷ Tick 1300 ∷ Cancel 1400 ∷ Trigger 1500 ∷ Trigger (2 ^ 62) ∷ []
+    ) ≡ (
+    Done (reply.Ticked 0 (end.Triggered 1)) ∷ Refused refusal.AtOnce ∷ Done (reply.AckCompleted 0 0)
+    ∷ Done (reply.Ticked 0 (end.Triggered 2)) ∷ Done (reply.AckCompleted 1 1) ∷ Done (reply.Ticked 0 end.HeldInterval)
+    ∷ Done (reply.Ticked 0 (end.Triggered 3)) ∷ Done (reply.Cancelled 2 1) ∷ Refused refusal.NotRunning ∷ Refused refusal.MomentTooLarge ∷ []
+    )
+unfolding step_computes
+checkpoint_now = refl
+
+-- other settings: three checkpoints are retained, then one; the interval is longer, then shorter; two are pending, and one may be
+pub other_settings : answers (opening (record usual { retained = 3; at_once = 2 }) (1 ∷ [])) (
+    Trigger 10 ∷ Ack 10 1 (subtask 0 0) (1 ∷ []) [] ∷ Trigger 20 ∷ Ack 20 2 (subtask 0 0) (2 ∷ []) [] ∷ Trigger 30 ∷ Ack 30 3 (subtask 0 0) (3 ∷ []) []
+    ∷ Configure 40 (record usual { interval = 9000; retained = 2; at_once = 2 }) ∷ Tick 1030 ∷ Tick 2030 ∷ Trigger 2040
+    ∷ Configure 2050 (record usual { interval = 500 }) ∷ Decline 2050 4 (subtask 0 0) ∷ Restore 2060 target.Latest None
+    ∷ Configure 2070 (record usual { interval = 500 }) ∷ Tick 2569 ∷ Tick 2570 ∷ Take 9 ∷ []
+    ) ≡ (
+    Done (reply.Ticked 0 (end.Triggered 1)) ∷ Done (reply.AckCompleted 0 0) ∷ Done (reply.Ticked 0 (end.Triggered 2)) ∷ Done (reply.AckCompleted 0 0)
+    ∷ Done (reply.Ticked 0 (end.Triggered 3)) ∷ Done (reply.AckCompleted 0 0)
+    ∷ Done (reply.Configured 1 1) ∷ Done (reply.Ticked 0 (end.Triggered 4)) ∷ Done (reply.Ticked 0 end.HeldInterval) ∷ Done (reply.Ticked 0 (end.Triggered 5))
+    ∷ Refused refusal.AtOnce ∷ Done (reply.DeclineFailed 0) ∷ Done (reply.Restored (choice.Checkpoint 3) 0)
+    ∷ Done (reply.Configured 1 1) ∷ Done (reply.Ticked 0 end.HeldInterval) ∷ Done (reply.Ticked 0 (end.Triggered 6)) ∷ Done (reply.Taken (1 ∷ 2 ∷ [])) ∷ []
+    )
+unfolding step_computes
+other_settings = refl

@@ -1,6 +1,7 @@
 //! The laws of the coordinator, each on a function that does nothing.
 
 ghost use Rattle.std.specs.Prelude.{◌≡◌, ℕ, true, List, ◌++◌, Option};
+ghost use Rattle.ckpt_ids.specs.Configuration.{Configuration, IsWithinLimits};
 ghost use Rattle.ckpt_ids.specs.declared.call.Call.{Call};
 ghost use Rattle.ckpt_ids.specs.Ordered.{IsIn};
 ghost use Rattle.ckpt_ids.specs.Records.{Record, is_present, uses};
@@ -9,6 +10,7 @@ ghost use Rattle.ckpt_model.specs.Histories.{replay};
 ghost use Rattle.ckpt_model.specs.Soundness.{IsSound};
 ghost use Rattle.ckpt_model.specs.Laws.{Exchange, Part, CanOpen, AreCalls, Balance, Handed, Accounted, Outgoing, NoneLeaks, UsedNoMore, Outbox, Acknowledgements, Numbers, Savepoints, ChoiceIsLive, PinsStay};
 ghost use Rattle.ckpt_model.specs.Images.{AreAlike, CanHold, GoesOnAs, IsCut, settled};
+ghost use Rattle.ckpt_model.specs.Settings.{OpeningIs, ConfiguresNow, IsAsTick};
 ghost use Rattle.ckpt_model.specs.Interleavings.{NewFile, SeatedCalls, AnyOrder};
 ghost use Rattle.ckpt_model.specs.Progress.{Completes, TimedPart};
 ghost use Rattle.ckpt_model.specs.Keeping.{TakesNewest, Restores, LeavesDone, Keeps, KeepsThrough};
@@ -134,6 +136,22 @@ pub fn outbox()
 pub fn settling()
     ensures held { (m : State) → CanHold m → CanHold (settled m) }
     ensures alike { (m : State) → AreAlike m (settled m) }
+{}
+
+/// The shape, the start and the first number that a coordinator was opened with stay, and its
+/// configuration is that of the last accepted Configure, if there is one.
+///
+/// An accepted Configure leaves what a restart takes, each pending record and each savepoint, and
+/// makes no checkpoint due later.
+pub fn settings()
+    ensures opening { (o : Opening) (calls : List Call) → OpeningIs o calls }
+    ensures configures { (m : State) (now : ℕ) (config : Configuration) → IsSound m → IsWithinLimits config → ConfiguresNow m now config }
+{}
+
+/// A Trigger leaves the state and gives the answer of a tick that triggers, if nothing expires in
+/// that tick.
+pub fn trigger()
+    ensures { (m : State) (now : ℕ) → IsAsTick m now }
 {}
 
 /// Two states that differ in the order of the fetched files alone answer every list of calls the

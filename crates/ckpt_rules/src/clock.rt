@@ -1,6 +1,6 @@
 //! When the next checkpoint may start.
 
-ghost use Rattle.std.specs.Prelude.{◌≡◌, ◌+◌, ◌*◌, ◌<◌, max, Some, None};
+ghost use Rattle.std.specs.Prelude.{◌≡◌, ◌+◌, ◌*◌, ◌<◌, max, min, Some, None};
 ghost use Rattle.ckpt_ids.specs.declared.limits.TheConstants.{LONGEST_DURATION, MOMENTS_END};
 ghost use Rattle.ckpt_rules.specs.Moments.{Moments, IsInRange};
 ghost use Rattle.ckpt_rules.specs.Trigger.{gap, limit, hold, pause_ends};
@@ -166,6 +166,17 @@ impl Clock {
         ensures { self.new ≡ record self.old { due = now + gap config.now } }
     {
         self.due = now + gap_of(config);
+    }
+
+    /// The job is configured anew `now`. The next checkpoint is due when it was, and at the latest as
+    /// after a trigger now.
+    ///
+    /// Condition: the moment is below 2^62.
+    pub fn configured(&mut self, config: &Config, now: u64)
+        requires { now < MOMENTS_END }
+        ensures { self.new ≡ record self.old { due = min self.old.due (now + gap config.now) } }
+    {
+        self.due = self.due.min(now + gap_of(config));
     }
 
     /// A checkpoint completed `now`: the pause begins.

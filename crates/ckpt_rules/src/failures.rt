@@ -1,6 +1,6 @@
 //! How many failures in a row a job tolerates.
 
-ghost use Rattle.std.specs.Prelude.{◌≡◌, ◌+◌, ◌<◌, ◌^◌, ◌↔◌, IsTrue};
+ghost use Rattle.std.specs.Prelude.{◌≡◌, ◌+◌, ◌<◌, ◌^◌, ◌↔◌, min, IsTrue};
 ghost use Rattle.ckpt_rules.specs.FailureCount.{FailureCount};
 
 use std::marker::Model;
@@ -53,6 +53,14 @@ impl Failures {
         ensures { result ≡ self.now.number }
     {
         self.number
+    }
+
+    /// The job tolerates this many failures in a row from now on. Of those so far as many count.
+    pub fn tolerate(&mut self, tolerable: u32)
+        ensures { self.new ≡ record { tolerable = tolerable; number = min self.old.number tolerable } }
+    {
+        self.tolerable = tolerable;
+        self.number = self.number.min(tolerable);
     }
 
     /// Sets the failures to 0: a checkpoint completed, or the job was restarted.

@@ -212,6 +212,18 @@ impl Store {
         self.base
     }
 
+    /// Retains this many checkpoints from now on. Takes no memory.
+    ///
+    /// Condition: there are no more than that.
+    pub fn retain(&mut self, retained: u32)
+        requires some { 1 ≤ retained }
+        requires few { length self.old.checkpoints ≤ retained }
+        ensures value { self.new ≡ record self.old { retained = retained; spare = self.new.spare } }
+        ensures room { self.old.spare ≤ self.new.spare }
+    {
+        self.retained = retained;
+    }
+
     /// Drops the completed checkpoint with the least number, and returns that number. Takes no
     /// memory.
     pub fn pop_lowest(&mut self) -> Option<CheckpointId>

@@ -6,15 +6,19 @@ use Rattle.std.specs.Str.Lines.{strip_carriage_return}
 use Rattle.std.proofs.lemmas.Slice.Eq.{bytes_eq-Decides}
 use Rattle.ckpt_lines.specs.declared.fault.LineFault.{LineFault}
 use Rattle.ckpt_lines.specs.declared.fault.LineFault.TheVariants as fault
+use Rattle.ckpt_ids.specs.declared.call.Call.{Call}
 use Rattle.ckpt_lines.specs.declared.line.Line.{Line}
+use Rattle.ckpt_lines.specs.declared.line.Line.TheVariants as script
+use Rattle.ckpt_terms.specs.declared.call.FencedCall.TheVariants as call
+use Rattle.ckpt_term_lines.specs.declared.line.TermLine.TheVariants as term_line
 use Rattle.ckpt_lines.specs.Keywords.{keyword_of}
 use Rattle.ckpt_lines.specs.Reading.{begins_with_a_list, is_too_long, line_of, number_place, reading}
 use Rattle.ckpt_lines.specs.Values.{number_of}
 use Rattle.ckpt_lines.specs.Words.{words_of}
 use Rattle.ckpt_term_lines.specs.declared.keyword.TermKeyword.{TermKeyword}
-use Rattle.ckpt_term_lines.specs.declared.keyword.TermKeyword.TheVariants.{Fence, Reserve, Forfeit, In}
+use Rattle.ckpt_term_lines.specs.declared.keyword.TermKeyword.TheVariants.{Fence, Reserve, Forfeit, In, Trigger, Configure}
 use Rattle.ckpt_term_lines.specs.TermKeywords.{term_keyword_of, term_keywords, term_spelling}
-use Rattle.ckpt_term_lines.specs.TermReading.{TermBegins, in_takes_memory, plain_row, term_line_of, term_reading, without_term}
+use Rattle.ckpt_term_lines.specs.TermReading.{TermBegins, in_takes_memory, made_line, plain_row, script_row, term_line_of, term_reading, without_term}
 
 -- what is found passes the test
 passes : {X : Type 0} (p : X → Bool) (xs : List X) (x : X) → find p xs ≡ Some x → p x ≡ true
@@ -40,6 +44,8 @@ no_line Fence words = refl
 no_line Reserve words = refl
 no_line Forfeit words = refl
 no_line In words = refl
+no_line Trigger words = refl
+no_line Configure words = refl
 
 -- the words of a script's line are read as that line
 pub as_script : (words : List (List ℕ)) (read : Line) → line_of words ≡ Ok read → term_line_of words ≡ Ok (without_term read)
@@ -52,6 +58,19 @@ as_script (word ∷ words) read is = by (term_keyword_of word) refl
     by (Some first) e =
         let none : line_of (word ∷ words) ≡ Err fault.Word = ap (λ (w : List ℕ). line_of (w ∷ words)) (sym (spelled word first e)) ∙ no_line first words in
         let clash : ◌≡◌ {A = Result Line LineFault} (Err fault.Word) (Ok read) = sym none ∙ is in
+        absurd cc
+
+-- and with a term, if they say something
+pub as_script_in : (term : ℕ) (words : List (List ℕ)) (c : Call) → line_of words ≡ Ok (script.Call c) → made_line term words ≡ Ok (term_line.Call (call.Make term c))
+unfolding made_line script_row line_of
+as_script_in term [] c is = absurd cc
+as_script_in term (word ∷ words) c is = by (term_keyword_of word) refl
+  where
+    by : (first : Option TermKeyword) → term_keyword_of word ≡ first → made_line term (word ∷ words) ≡ Ok (term_line.Call (call.Make term c))
+    by None e = rw (e, is) refl
+    by (Some first) e =
+        let none : line_of (word ∷ words) ≡ Err fault.Word = ap (λ (w : List ℕ). line_of (w ∷ words)) (sym (spelled word first e)) ∙ no_line first words in
+        let clash : ◌≡◌ {A = Result Line LineFault} (Err fault.Word) (Ok (script.Call c)) = sym none ∙ is in
         absurd cc
 
 extends_by : (line : List ℕ) (read : Line) (b : Bool) → is_too_long line ≡ b → reading line ≡ Ok read → term_reading line ≡ Ok (without_term read)

@@ -2,14 +2,14 @@
 use Rattle.std.proofs.Common.{◌≡◌, ◌≢◌, ℕ, false, List, [], ◌∷◌, Option, Some, None, Err, refl}
 use Rattle.std.specs.Str.Lines.{strip_carriage_return}
 use Rattle.ckpt_lines.specs.declared.fault.LineFault.TheVariants as fault
-use Rattle.ckpt_lines.specs.Reading.{each, is_memory, is_too_long, line_of, only_number}
+use Rattle.ckpt_lines.specs.Reading.{each, is_memory, is_too_long, line_of, only_number, settings}
 use Rattle.ckpt_lines.specs.Values.{number}
 use Rattle.ckpt_lines.specs.Words.{words_of}
-use Rattle.ckpt_lines.proofs.ReadingLaws.{NoMemory, bind, either, line_of-no_memory, number_then, numbers-no_memory, only-no_memory}
+use Rattle.ckpt_lines.proofs.ReadingLaws.{NoMemory, bind, either, line_of-no_memory, number_then, numbers-no_memory, only-no_memory, settings-no_memory}
 use Rattle.ckpt_term_lines.specs.declared.keyword.TermKeyword.{TermKeyword}
 use Rattle.ckpt_term_lines.specs.declared.keyword.TermKeyword.TheVariants as keyword
 use Rattle.ckpt_term_lines.specs.TermKeywords.{term_keyword_of}
-use Rattle.ckpt_term_lines.specs.TermReading.{fence_row, forfeit_row, in_row, name_places, plain_row, reserve_row, some_line, term_line_of, term_reading, term_row, term_row_of}
+use Rattle.ckpt_term_lines.specs.TermReading.{configure_row, fence_row, forfeit_row, in_row, made_line, made_row, name_places, plain_row, reserve_row, script_row, term_line_of, term_reading, term_row, term_row_of, trigger_row}
 
 fence-no_memory : (words : List (List ℕ)) → NoMemory (fence_row words)
 unfolding fence_row
@@ -26,13 +26,35 @@ forfeit-no_memory : (words : List (List ℕ)) → NoMemory (forfeit_row words)
 unfolding forfeit_row
 forfeit-no_memory words = number_then words _ (λ term. bind (name_places term.1) _ (names-no_memory term.1) (λ names. tt))
 
-some-no_memory : (words : List (List ℕ)) → NoMemory (some_line words)
-some-no_memory [] = refl
-some-no_memory (word ∷ words) = line_of-no_memory (word ∷ words)
+trigger-no_memory : (term : ℕ) (words : List (List ℕ)) → NoMemory (trigger_row term words)
+unfolding trigger_row
+trigger-no_memory term words = bind (only_number words) _ (only-no_memory words) (λ now. tt)
+
+configure-no_memory : (term : ℕ) (words : List (List ℕ)) → NoMemory (configure_row term words)
+unfolding configure_row
+configure-no_memory term words = number_then words _ (λ now. bind (settings now.1) _ (settings-no_memory now.1) (λ values. tt))
+
+script-no_memory : (term : ℕ) (words : List (List ℕ)) → NoMemory (script_row term words)
+unfolding script_row
+script-no_memory term words = bind (line_of words) _ (line_of-no_memory words) (λ line. tt)
+
+made_row-no_memory : (first : Option TermKeyword) (term : ℕ) (all words : List (List ℕ)) → NoMemory (made_row first term all words)
+made_row-no_memory None term all words = script-no_memory term all
+made_row-no_memory (Some keyword.Trigger) term all words = trigger-no_memory term words
+made_row-no_memory (Some keyword.Configure) term all words = configure-no_memory term words
+made_row-no_memory (Some keyword.Fence) term all words = script-no_memory term all
+made_row-no_memory (Some keyword.Reserve) term all words = script-no_memory term all
+made_row-no_memory (Some keyword.Forfeit) term all words = script-no_memory term all
+made_row-no_memory (Some keyword.In) term all words = script-no_memory term all
+
+made-no_memory : (term : ℕ) (words : List (List ℕ)) → NoMemory (made_line term words)
+unfolding made_line
+made-no_memory term [] = refl
+made-no_memory term (word ∷ words) = made_row-no_memory (term_keyword_of word) term (word ∷ words) words
 
 in-no_memory : (words : List (List ℕ)) → NoMemory (in_row words)
 unfolding in_row
-in-no_memory words = number_then words _ (λ term. bind (some_line term.1) _ (some-no_memory term.1) (λ line. tt))
+in-no_memory words = number_then words _ (λ term. made-no_memory term.0 term.1)
 
 plain-no_memory : (words : List (List ℕ)) → NoMemory (plain_row words)
 unfolding plain_row
@@ -44,6 +66,8 @@ row-no_memory keyword.Fence words = fence-no_memory words
 row-no_memory keyword.Reserve words = reserve-no_memory words
 row-no_memory keyword.Forfeit words = forfeit-no_memory words
 row-no_memory keyword.In words = in-no_memory words
+row-no_memory keyword.Trigger words = trigger-no_memory 0 words
+row-no_memory keyword.Configure words = configure-no_memory 0 words
 
 row_of-no_memory : (first : Option TermKeyword) (all words : List (List ℕ)) → NoMemory (term_row_of first all words)
 row_of-no_memory None all words = plain-no_memory all

@@ -1,26 +1,28 @@
 -- The line of each call is read as that call.
-use Rattle.std.proofs.Common.{◌≡◌, ℕ, Bool, true, false, eqb, length, List, [], ◌∷◌, ◌++◌, Ok, refl, sym, subst, append_assoc}
+use Rattle.std.proofs.Common.{◌≡◌, ℕ, Bool, true, false, eqb, length, List, [], ◌∷◌, ◌++◌, Ok, refl, sym, ap, subst, append_assoc}
 use Rattle.std.proofs.lemmas.Bool.{eqb-true, le-ltb}
 use Rattle.std.specs.Prelude.{map, flat_map, codes, decimal}
 use Rattle.ckpt_ids.specs.declared.call.Call.{Call}
 use Rattle.ckpt_lines.specs.declared.limits.TheConstants.{LONGEST_LINE}
 use Rattle.ckpt_lines.specs.declared.line.Line.{Line}
 use Rattle.ckpt_lines.specs.declared.line.Line.TheVariants as script
-use Rattle.ckpt_lines.specs.Reading.{line_of}
+use Rattle.ckpt_ids.specs.declared.call.Call.TheVariants as made
+use Rattle.ckpt_ids.specs.Configuration.{Configuration, IsWithinLimits}
+use Rattle.ckpt_ids.proofs.LimitLemmas.{limits_hold}
 use Rattle.ckpt_answers.specs.Texts.{spaced}
-use Rattle.ckpt_lines.specs.CallTexts.{Fits, FitsCall, call_text}
+use Rattle.ckpt_lines.specs.CallTexts.{Fits, FitsCall, call_text, settings_text}
 use Rattle.ckpt_lines.proofs.LineLemmas.{Each, IsWritten, each_next, from_all, next, no_strip, plain_by}
 use Rattle.ckpt_lines.proofs.NumberWords.{each-numbers, number_place-decimal, plain_number, plain_numbers, stays}
-use Rattle.ckpt_lines.proofs.ReadBack.{Says, one, only, parts_4, says_call}
+use Rattle.ckpt_lines.proofs.ReadBack.{Says, configure_parts, configure_written, is_scripted, one, only, parts_4, says_call, settings_read, settings_words, trigger_written}
 use Rattle.ckpt_ids.specs.Ascending.{IsAscending}
 use Rattle.ckpt_terms.specs.declared.call.FencedCall.{FencedCall}
 use Rattle.ckpt_terms.specs.declared.call.FencedCall.TheVariants as call
 use Rattle.ckpt_term_lines.specs.declared.line.TermLine.{TermLine}
 use Rattle.ckpt_term_lines.specs.declared.line.TermLine.TheVariants as line
 use Rattle.ckpt_term_lines.specs.TermKeywords.{term_keyword_of}
-use Rattle.ckpt_term_lines.specs.TermReading.{fence_row, forfeit_row, in_row, reserve_row, some_line, term_line_of, term_reading, term_row, without_term}
+use Rattle.ckpt_term_lines.specs.TermReading.{configure_row, fence_row, forfeit_row, in_row, made_line, reserve_row, term_line_of, term_reading, term_row, trigger_row, without_term}
 use Rattle.ckpt_term_lines.specs.TermTexts.{FitsTermCall, IsTermReadAs, fence_text, made_text, term_text}
-use Rattle.ckpt_term_lines.proofs.FirstWords.{as_script}
+use Rattle.ckpt_term_lines.proofs.FirstWords.{as_script, as_script_in}
 
 -- The text has words that are read as this line.
 record TermSays (read : TermLine) (text : List ℕ) : Type 0 where
@@ -66,31 +68,90 @@ says_forfeit term names fits all order = record {
   is = rw (number_place-decimal term (map decimal names) fits, each-numbers names all, stays names order) refl;
 }
 
--- the line of a call has words, since one without words is skipped
-some_words : (c : Call) (words : List (List ℕ)) → line_of words ≡ Ok (script.Call c) → some_line words ≡ Ok (script.Call c)
-unfolding line_of
-some_words c [] is = absurd cc
-some_words c (word ∷ words) is = is
-
-says_in : (term : ℕ) (c : Call) → Fits term → FitsCall c → TermSays (line.Call (call.Make term c)) (codes "in" ++ 32 ∷ (decimal term ++ 32 ∷ call_text c))
+-- a call of a script, with a term
+says_in : (term : ℕ) (c : Call) → is_scripted c ≡ true → Fits term → FitsCall c → TermSays (line.Call (call.Make term c)) (codes "in" ++ 32 ∷ (decimal term ++ 32 ∷ call_text c))
 unfolding term_line_of term_keyword_of term_row in_row
-says_in term c fits call_fits =
-    let said : Says (script.Call c) (call_text c) = says_call c call_fits in
+says_in term c scripted fits call_fits =
+    let said : Says (script.Call c) (call_text c) = says_call c scripted call_fits in
     record {
       words = codes "in" ∷ decimal term ∷ said.words;
       written = next (codes "in") (decimal term ++ 32 ∷ call_text c) (decimal term ∷ said.words) (plain_by (codes "in") refl)
           (next (decimal term) (call_text c) said.words (plain_number term fits) said.written);
-      is = rw (number_place-decimal term said.words fits, some_words c said.words said.is) refl;
+      is = rw (number_place-decimal term said.words fits, as_script_in term said.words c said.is) refl;
     }
 
-says_made : (term : ℕ) (c : Call) → Fits term → FitsCall c → TermSays (line.Call (call.Make term c)) (made_text term c)
-says_made term c fits call_fits = by (eqb term 0) refl
+-- a checkpoint now
+trigger_row-is : (term now : ℕ) → Fits now → trigger_row term (decimal now ∷ []) ≡ Ok (line.Call (call.Make term (made.Trigger now)))
+unfolding trigger_row
+trigger_row-is term now fits = rw (only now fits) refl
+
+says_trigger : (now : ℕ) → Fits now → TermSays (line.Call (call.Make 0 (made.Trigger now))) (codes "trigger" ++ 32 ∷ decimal now)
+unfolding term_line_of term_keyword_of term_row
+says_trigger now fits = record { words = codes "trigger" ∷ decimal now ∷ []; written = trigger_written now fits; is = trigger_row-is 0 now fits }
+
+says_trigger_in : (term now : ℕ) → Fits term → Fits now → TermSays (line.Call (call.Make term (made.Trigger now))) (codes "in" ++ 32 ∷ (decimal term ++ 32 ∷ (codes "trigger" ++ 32 ∷ decimal now)))
+unfolding term_line_of term_keyword_of term_row in_row made_line
+says_trigger_in term now fits fits' = record {
+  words = codes "in" ∷ decimal term ∷ codes "trigger" ∷ decimal now ∷ [];
+  written = next (codes "in") _ _ (plain_by (codes "in") refl) (next (decimal term) _ _ (plain_number term fits) (trigger_written now fits'));
+  is = rw (number_place-decimal term (codes "trigger" ∷ decimal now ∷ []) fits, trigger_row-is term now fits') refl;
+}
+
+-- other settings
+configure_row-is : (term now : ℕ) (c : Configuration) → Fits now → IsWithinLimits c → configure_row term (decimal now ∷ settings_words c) ≡ Ok (line.Call (call.Make term (made.Configure now c)))
+unfolding configure_row
+configure_row-is term now c fits is = rw (number_place-decimal now (settings_words c) fits, settings_read c is, limits_hold c is) refl
+
+says_configure : (now : ℕ) (c : Configuration) → Fits now → IsWithinLimits c → TermSays (line.Call (call.Make 0 (made.Configure now c))) (codes "configure" ++ 32 ∷ (decimal now ++ settings_text c))
+unfolding term_line_of term_keyword_of term_row
+says_configure now c fits is = record { words = codes "configure" ∷ decimal now ∷ settings_words c; written = configure_written now c fits is; is = configure_row-is 0 now c fits is }
+
+says_configure_in : (term now : ℕ) (c : Configuration) → Fits term → Fits now → IsWithinLimits c →
+    TermSays (line.Call (call.Make term (made.Configure now c))) (codes "in" ++ 32 ∷ (decimal term ++ 32 ∷ (codes "configure" ++ 32 ∷ (decimal now ++ settings_text c))))
+unfolding term_line_of term_keyword_of term_row in_row made_line
+says_configure_in term now c fits fits' is = record {
+  words = codes "in" ∷ decimal term ∷ codes "configure" ∷ decimal now ∷ settings_words c;
+  written = next (codes "in") _ _ (plain_by (codes "in") refl) (next (decimal term) _ _ (plain_number term fits) (configure_written now c fits' is));
+  is = rw (number_place-decimal term (codes "configure" ∷ decimal now ∷ settings_words c) fits, configure_row-is term now c fits' is) refl;
+}
+
+-- with a term of a task, or with none
+made_says : (term : ℕ) (c : Call) → (term ≡ 0 → TermSays (line.Call (call.Make term c)) (call_text c)) →
+    TermSays (line.Call (call.Make term c)) (codes "in" ++ 32 ∷ (decimal term ++ 32 ∷ call_text c)) → TermSays (line.Call (call.Make term c)) (made_text term c)
+made_says term c plain inside = by (eqb term 0) refl
   where
     by : (b : Bool) → eqb term 0 ≡ b → TermSays (line.Call (call.Make term c)) (made_text term c)
-    by true none =
-        let zero : term ≡ 0 = eqb-true term 0 none in
-        rw none (subst (λ (n : ℕ). TermSays (line.Call (call.Make n c)) (call_text c)) (sym zero) (says_plain (script.Call c) (call_text c) (says_call c call_fits)))
-    by false some = rw some (put_together _ _ _ (parts_4 (codes "in") (spaced term) (codes " ") (call_text c)) (says_in term c fits call_fits))
+    by true none = rw none (plain (eqb-true term 0 none))
+    by false some = rw some (put_together _ _ _ (parts_4 (codes "in") (spaced term) (codes " ") (call_text c)) inside)
+
+says_scripted : (term : ℕ) (c : Call) → is_scripted c ≡ true → Fits term → FitsCall c → TermSays (line.Call (call.Make term c)) (made_text term c)
+says_scripted term c scripted fits call_fits =
+    made_says term c (λ zero. subst (λ (n : ℕ). TermSays (line.Call (call.Make n c)) (call_text c)) (sym zero) (says_plain (script.Call c) (call_text c) (says_call c scripted call_fits)))
+    (says_in term c scripted fits call_fits)
+
+says_made : (term : ℕ) (c : Call) → Fits term → FitsCall c → TermSays (line.Call (call.Make term c)) (made_text term c)
+unfolding call_text
+says_made term (made.Trigger now) fits call_fits =
+    made_says term (made.Trigger now) (λ zero. subst (λ (n : ℕ). TermSays (line.Call (call.Make n (made.Trigger now))) (codes "trigger" ++ 32 ∷ decimal now)) (sym zero) (says_trigger now call_fits))
+    (says_trigger_in term now fits call_fits)
+says_made term (made.Configure now c) fits call_fits =
+    let text : List ℕ = codes "configure" ++ 32 ∷ (decimal now ++ settings_text c) in
+    let same : call_text (made.Configure now c) ≡ text = configure_parts now c in
+    made_says term (made.Configure now c)
+    (λ zero. put_together _ _ _ same (subst (λ (n : ℕ). TermSays (line.Call (call.Make n (made.Configure now c))) text) (sym zero) (says_configure now c call_fits.0 call_fits.1)))
+    (put_together _ _ _ (ap (λ (t : List ℕ). codes "in" ++ 32 ∷ (decimal term ++ 32 ∷ t)) same) (says_configure_in term now c fits call_fits.0 call_fits.1))
+says_made term (made.Tick now) fits call_fits = says_scripted term (made.Tick now) refl fits call_fits
+says_made term (made.Savepoint now) fits call_fits = says_scripted term (made.Savepoint now) refl fits call_fits
+says_made term (made.Ack now id s fresh reused) fits call_fits = says_scripted term (made.Ack now id s fresh reused) refl fits call_fits
+says_made term (made.Decline now id s) fits call_fits = says_scripted term (made.Decline now id s) refl fits call_fits
+says_made term (made.Dispose id) fits call_fits = says_scripted term (made.Dispose id) refl fits call_fits
+says_made term (made.Restore now t shape) fits call_fits = says_scripted term (made.Restore now t shape) refl fits call_fits
+says_made term (made.Cancel now) fits call_fits = says_scripted term (made.Cancel now) refl fits call_fits
+says_made term (made.Take most) fits call_fits = says_scripted term (made.Take most) refl fits call_fits
+says_made term (made.Deleted file) fits call_fits = says_scripted term (made.Deleted file) refl fits call_fits
+says_made term (made.Undeleted file) fits call_fits = says_scripted term (made.Undeleted file) refl fits call_fits
+says_made term (made.Show id) fits call_fits = says_scripted term (made.Show id) refl fits call_fits
+says_made term (made.Count file) fits call_fits = says_scripted term (made.Count file) refl fits call_fits
 
 says : (c : FencedCall) → FitsTermCall c → TermSays (line.Call c) (term_text c)
 unfolding term_text

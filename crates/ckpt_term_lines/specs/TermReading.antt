@@ -1,19 +1,22 @@
--- What a line of a log says whose job gives out names: one of four kinds of line, or a line of a script.
+-- What a line of a log says whose job gives out names: one of six kinds of line, or a line of a script.
 use Rattle.std.specs.Prelude.{◌≡◌, ℕ, Bool, true, false, not, ◌&&◌, List, [], ◌∷◌, if◌then◌else◌, Option, Some, None, Result, Ok, Err}
 use Rattle.std.specs.Str.Lines.{strip_carriage_return}
+use Rattle.ckpt_ids.specs.declared.call.Call.TheVariants as made
 use Rattle.ckpt_ids.specs.Ascending.{ascending}
+use Rattle.ckpt_ids.specs.Configuration.{Configuration, is_within_limits}
+use Rattle.ckpt_ids.specs.ConfigurationValues.{configured_by}
 use Rattle.ckpt_lines.specs.declared.fault.LineFault.{LineFault}
 use Rattle.ckpt_lines.specs.declared.fault.LineFault.TheVariants as fault
 use Rattle.ckpt_lines.specs.declared.line.Line.{Line}
 use Rattle.ckpt_lines.specs.declared.line.Line.TheVariants as script
-use Rattle.ckpt_lines.specs.Reading.{◌>>=◌, begins_with_a_list, each, is_too_long, line_of, number_place, only_number}
+use Rattle.ckpt_lines.specs.Reading.{◌>>=◌, begins_with_a_list, each, is_too_long, line_of, number_place, only_number, settings}
 use Rattle.ckpt_lines.specs.Values.{number}
 use Rattle.ckpt_lines.specs.Words.{words_of}
 use Rattle.ckpt_terms.specs.declared.call.FencedCall.TheVariants as call
 use Rattle.ckpt_term_lines.specs.declared.keyword.TermKeyword.{TermKeyword}
 use Rattle.ckpt_term_lines.specs.declared.keyword.TermKeyword.TheVariants as keyword
 use Rattle.ckpt_term_lines.specs.declared.line.TermLine.{TermLine}
-use Rattle.ckpt_term_lines.specs.declared.line.TermLine.TheVariants.{Fence, Call, Other, NoCall}
+use Rattle.ckpt_term_lines.specs.declared.line.TermLine.TheVariants.{Fence, Call, Other, BadConfig, NoCall}
 use Rattle.ckpt_term_lines.specs.TermKeywords.{term_keyword_of}
 
 unfoldable pub fence_row : List (List ℕ) → Result TermLine LineFault
@@ -39,11 +42,6 @@ forfeit_row words = do
   names ← name_places term.1
   Ok (Call (call.Forfeit term.0 names))
 
--- the line of a script that these words are; there must be one
-abbrev pub some_line : List (List ℕ) → Result Line LineFault
-some_line [] = Err fault.Missing
-some_line (word ∷ words) = line_of (word ∷ words)
-
 -- with this term a call, a bad shape, or no call
 abbrev pub in_term : ℕ → Line → TermLine
 in_term term (script.Call made) = Call (call.Make term made)
@@ -55,11 +53,44 @@ abbrev pub without_term : Line → TermLine
 without_term (script.Call made) = Call (call.Make 0 made)
 without_term line = Other line
 
+-- a checkpoint now, with this term
+unfoldable pub trigger_row : ℕ → List (List ℕ) → Result TermLine LineFault
+trigger_row term words = do
+  now ← only_number words
+  Ok (Call (call.Make term (made.Trigger now)))
+
+-- settings outside their limits make no call
+abbrev pub configuring : ℕ → ℕ → Configuration → TermLine
+configuring term now config = if is_within_limits config then Call (call.Make term (made.Configure now config)) else BadConfig
+
+-- other settings, with this term
+unfoldable pub configure_row : ℕ → List (List ℕ) → Result TermLine LineFault
+configure_row term words = do
+  now ← number_place words
+  values ← settings now.1
+  Ok (configuring term now.0 (configured_by values))
+
+-- a line of a script, with this term
+unfoldable pub script_row : ℕ → List (List ℕ) → Result TermLine LineFault
+script_row term words = do
+  line ← line_of words
+  Ok (in_term term line)
+
+-- what the first word says after `in` and a term, with all words, and with those after the first
+abbrev pub made_row : Option TermKeyword → ℕ → List (List ℕ) → List (List ℕ) → Result TermLine LineFault
+made_row (Some keyword.Trigger) term all words = trigger_row term words
+made_row (Some keyword.Configure) term all words = configure_row term words
+made_row first term all words = script_row term all
+
+-- what is said with this term; there must be a word
+unfoldable pub made_line : ℕ → List (List ℕ) → Result TermLine LineFault
+made_line term [] = Err fault.Missing
+made_line term (word ∷ words) = made_row (term_keyword_of word) term (word ∷ words) words
+
 unfoldable pub in_row : List (List ℕ) → Result TermLine LineFault
 in_row words = do
   term ← number_place words
-  line ← some_line term.1
-  Ok (in_term term.0 line)
+  made_line term.0 term.1
 
 unfoldable pub plain_row : List (List ℕ) → Result TermLine LineFault
 plain_row words = do
@@ -72,6 +103,8 @@ term_row keyword.Fence words = fence_row words
 term_row keyword.Reserve words = reserve_row words
 term_row keyword.Forfeit words = forfeit_row words
 term_row keyword.In words = in_row words
+term_row keyword.Trigger words = trigger_row 0 words
+term_row keyword.Configure words = configure_row 0 words
 
 -- what the first word says, with all words, and with those after the first
 abbrev pub term_row_of : Option TermKeyword → List (List ℕ) → List (List ℕ) → Result TermLine LineFault

@@ -9,13 +9,17 @@ pub(crate) enum TermKeyword {
     Reserve,
     Forfeit,
     In,
+    Trigger,
+    Configure,
 }
 
-const KEYWORDS: [TermKeyword; 4] = [
+const KEYWORDS: [TermKeyword; 6] = [
     TermKeyword::Fence,
     TermKeyword::Reserve,
     TermKeyword::Forfeit,
     TermKeyword::In,
+    TermKeyword::Trigger,
+    TermKeyword::Configure,
 ];
 
 /// The spelling of the keyword in a log.
@@ -27,6 +31,8 @@ fn spelling(keyword: TermKeyword) -> &'static [u8]
         TermKeyword::Reserve => b"reserve",
         TermKeyword::Forfeit => b"forfeit",
         TermKeyword::In => b"in",
+        TermKeyword::Trigger => b"trigger",
+        TermKeyword::Configure => b"configure",
     }
 }
 

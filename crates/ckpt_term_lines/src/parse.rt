@@ -43,9 +43,9 @@ fn term_line_of(alloc: Global, text: &[u8]) -> Result<TermLine, LineFault>
 
 /// Reads one line of a log: the bytes before its newline. [`TermLine`] has the form of each line.
 ///
-/// The first word decides. A line that begins with none of `fence`, `reserve`, `forfeit` and `in` is
-/// read as [`parse_line`](ckpt_lines::parse_line) reads it. Numbers, words, spaces and the carriage
-/// return are as in a script.
+/// The first word decides. A line that begins with none of `fence`, `reserve`, `forfeit`, `in`,
+/// `trigger` and `configure` is read as [`parse_line`](ckpt_lines::parse_line) reads it. Numbers,
+/// words, spaces and the carriage return are as in a script.
 ///
 /// Returns [`LineFault::TooLong`] for more than [`LONGEST_LINE`] bytes, the carriage return
 /// included. Otherwise returns [`LineFault::Word`] if the first word is unknown, or the first one

@@ -1,12 +1,13 @@
 //! The lines that scripts do not have, from the words after their first.
 ghost use Rattle.std.specs.Prelude.{◌≡◌, true};
-ghost use Rattle.ckpt_lines.specs.Reading.{begins_with_a_list, line_of, IsExact, Reads};
-ghost use Rattle.ckpt_term_lines.specs.TermReading.{fence_row, forfeit_row, in_row, in_takes_memory, name_places, reserve_row, some_line, term_row, term_row_takes_memory};
+ghost use Rattle.ckpt_lines.specs.Reading.{begins_with_a_list, IsExact, Reads};
+ghost use Rattle.ckpt_lines.specs.Words.{words_of};
+ghost use Rattle.ckpt_term_lines.specs.TermReading.{configure_row, fence_row, forfeit_row, in_row, in_takes_memory, made_line, name_places, reserve_row, script_row, term_row, term_row_takes_memory, trigger_row};
 
-use crate::keyword::TermKeyword;
-use crate::line::{TermLine, in_term};
-use ckpt_ids::{FileId, Files};
-use ckpt_lines::{Line, LineFault, Words, line_of, number_of, only_number};
+use crate::keyword::{TermKeyword, keyword_of};
+use crate::line::{TermLine, configuring, in_term};
+use ckpt_ids::{Call, FileId, Files};
+use ckpt_lines::{LineFault, Words, line_of, number_of, only_number, settings};
 use ckpt_terms::FencedCall;
 use std::alloc::Global;
 
@@ -48,15 +49,52 @@ fn forfeit(alloc: Global, words: &mut Words<'_>) -> Result<TermLine, LineFault>
     Ok(TermLine::Call(FencedCall::Forfeit { term, names }))
 }
 
-/// The line of a script that these words are. There must be one.
-fn some_line(alloc: Global, words: &mut Words<'_>) -> Result<Line, LineFault>
-    ensures line { Reads result (some_line words.old) }
+#[tactic(auto, unfolding(crate::specs::TermReading::trigger_row))]
+fn trigger(term: u64, words: &mut Words<'_>) -> Result<TermLine, LineFault>
+    ensures { IsExact result (trigger_row term words.old) }
+{
+    let now = only_number(words)?;
+    Ok(TermLine::Call(FencedCall::Make {
+        term,
+        call: Call::Trigger { now },
+    }))
+}
+
+#[tactic(auto, unfolding(crate::specs::TermReading::configure_row))]
+fn configure(term: u64, words: &mut Words<'_>) -> Result<TermLine, LineFault>
+    ensures { IsExact result (configure_row term words.old) }
+{
+    let now = words.number()?;
+    let values = settings(words)?;
+    Ok(configuring(term, now, values))
+}
+
+/// A line of a script, with this term.
+#[tactic(auto, unfolding(crate::specs::TermReading::script_row))]
+fn script(alloc: Global, term: u64, words: &mut Words<'_>) -> Result<TermLine, LineFault>
+    ensures line { Reads result (script_row term words.old) }
     ensures memory { result ≡ Err LineFault.Memory → begins_with_a_list words.old ≡ true }
 {
-    if words.is_empty() {
+    let line = line_of(alloc, words)?;
+    Ok(in_term(term, line))
+}
+
+/// What this text says with this term. There must be a word.
+#[tactic(auto, unfolding(crate::specs::TermReading::made_line))]
+fn made_line(alloc: Global, term: u64, text: &[u8]) -> Result<TermLine, LineFault>
+    ensures line { Reads result (made_line term (words_of text.now)) }
+    ensures memory { result ≡ Err LineFault.Memory → begins_with_a_list (words_of text.now) ≡ true }
+{
+    let mut words = Words::of(text);
+    let Some(word) = words.next() else {
         return Err(LineFault::Missing);
+    };
+    match keyword_of(word) {
+        Some(TermKeyword::Trigger) => trigger(term, &mut words),
+        Some(TermKeyword::Configure) => configure(term, &mut words),
+        // The words of a script's line are read from the first one on.
+        _ => script(alloc, term, &mut Words::of(text)),
     }
-    line_of(alloc, words)
 }
 
 #[tactic(auto, unfolding(crate::specs::TermReading::in_row))]
@@ -65,8 +103,7 @@ fn in_row(alloc: Global, words: &mut Words<'_>) -> Result<TermLine, LineFault>
     ensures memory { result ≡ Err LineFault.Memory → in_takes_memory words.old ≡ true }
 {
     let term = words.number()?;
-    let line = some_line(alloc, words)?;
-    Ok(in_term(term, line))
+    made_line(alloc, term, words.rest())
 }
 
 /// The line of this kind, from the words after the first.
@@ -84,5 +121,7 @@ pub(crate) fn row(
         TermKeyword::Reserve => reserve(words),
         TermKeyword::Forfeit => forfeit(alloc, words),
         TermKeyword::In => in_row(alloc, words),
+        TermKeyword::Trigger => trigger(0, words),
+        TermKeyword::Configure => configure(0, words),
     }
 }

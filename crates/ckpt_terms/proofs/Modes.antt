@@ -4,7 +4,7 @@ use Rattle.std.specs.Prelude.{count_by, Option, Some, None}
 use Rattle.std.proofs.lemmas.Bool.{false≢true, cond_both}
 use Rattle.ckpt_ids.specs.declared.subtask.SubtaskId.{SubtaskId}
 use Rattle.ckpt_ids.specs.declared.call.Call.{Call}
-use Rattle.ckpt_ids.specs.declared.call.Call.TheVariants.{Tick, Savepoint, Ack, Decline, Dispose, Restore, Cancel, Take, Deleted, Undeleted, Show, Count}
+use Rattle.ckpt_ids.specs.declared.call.Call.TheVariants.{Tick, Savepoint, Ack, Decline, Dispose, Restore, Cancel, Take, Deleted, Undeleted, Show, Count, Trigger, Configure}
 use Rattle.ckpt_ids.specs.declared.call.Target.{Target}
 use Rattle.ckpt_ids.specs.Records.{Record, acknowledged, missing}
 use Rattle.ckpt_ids.specs.Ascending.{ascending}
@@ -14,7 +14,7 @@ use Rattle.ckpt_rules.specs.declared.hold.Hold.TheVariants.{Interval, AtOnce, Pa
 use Rattle.ckpt_model.specs.State.{State, is_checkpoint, is_expired, drop}
 use Rattle.ckpt_model.specs.Refusals.{is_cancelled, moment_of, pending_of}
 use Rattle.ckpt_model.specs.Steps.{Stepped, with_records, replaced, superseded, dropped_by, pending_checkpoints, failures_with, fails_the_job, triggered, failed_over, start_or_hold, after_expiry}
-use Rattle.ckpt_model.specs.Steps.{tick, completed_with, acknowledged_in, ack, decline, decline_pending, dropping, dispose, restore, restarted, cancel, take_files, show, effect, at_moment, step}
+use Rattle.ckpt_model.specs.Steps.{tick, completed_with, acknowledged_in, ack, decline, decline_pending, dropping, dispose, restore, restarted, cancel, take_files, with_config, configure, show, effect, at_moment, step}
 use Rattle.ckpt_model.proofs.Answering.StepCases.{step_by}
 use Rattle.ckpt_terms.specs.Fencing.{ends_the_term, is_accepted}
 
@@ -80,7 +80,7 @@ show_goes_on m o e = e
 -- the mode after a call that is accepted
 effect_goes_on : (m : State) (call : Call) → is_cancelled (effect (at_moment m (moment_of call)) call).0.mode ≡ true
     → (is_cancelled m.mode ≡ true) ⊎ ((is_accepted (effect (at_moment m (moment_of call)) call).1 && ends_the_term call) ≡ true)
-unfolding effect triggered dispose dropping drop take_files cancel
+unfolding effect triggered dispose dropping drop take_files with_config configure cancel
 effect_goes_on m (Tick now) e = inl (tick_goes_on (record m { latest = max now m.latest }) e)
 effect_goes_on m (Savepoint now) e = inl e
 effect_goes_on m (Ack now id subtask fresh reused) e = inl (ack_goes_on (record m { latest = max now m.latest }) (pending_of m.records id) subtask fresh reused e)
@@ -93,6 +93,8 @@ effect_goes_on m (Deleted file) e = inl e
 effect_goes_on m (Undeleted file) e = inl e
 effect_goes_on m (Show id) e = inl e
 effect_goes_on m (Count file) e = inl e
+effect_goes_on m (Trigger now) e = inl (start_goes_on (record m { latest = max now m.latest }) 0 Go e)
+effect_goes_on m (Configure now config) e = inl e
 
 -- a job that has ended for good after a call had ended before it, or the call ended it
 pub cancelled_by : (m : State) (call : Call) → is_cancelled (step m call).0.mode ≡ true → (is_cancelled m.mode ≡ true) ⊎ ((is_accepted (step m call).1 && ends_the_term call) ≡ true)

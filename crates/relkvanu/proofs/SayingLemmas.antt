@@ -1,8 +1,10 @@
 -- The fields and the lists of what is asked for give it, and the line that is written for it asks for it.
-use Rattle.std.proofs.Common.{◌≡◌, ℕ, true, false, List, [], ◌∷◌, Ok, refl, sym, ap, ◌∙◌}
-use Rattle.std.specs.Prelude.{◌==◌, Option, Some, None, Result}
+use Rattle.std.proofs.Common.{◌≡◌, ℕ, Bool, true, false, List, [], ◌∷◌, Ok, refl, sym, ap, ◌∙◌}
+use Rattle.std.specs.Prelude.{◌==◌, nat_le, Option, Some, None, Result}
 use Rattle.std.proofs.lemmas.Bool.{cond-false}
+use Rattle.std.specs.Int.{from_bool}
 use Rattle.ckpt_ids.specs.Ascending.{IsAscending, ascending}
+use Rattle.ckpt_ids.specs.Configuration.{Configuration, IsWithinLimits}
 use Rattle.ckpt_ids.specs.Shapes.{IsShape, is_shape}
 use Rattle.ckpt_ids.specs.declared.call.Call.{Call}
 use Rattle.ckpt_ids.specs.declared.call.Call.TheVariants as call
@@ -10,7 +12,7 @@ use Rattle.ckpt_ids.specs.declared.call.Target.{Target}
 use Rattle.ckpt_ids.specs.declared.call.Target.TheVariants as target
 use Rattle.ckpt_ids.specs.declared.subtask.SubtaskId.{SubtaskId}
 use Rattle.ckpt_ids.proofs.AscendingLemmas.{ascending_already}
-use Rattle.ckpt_ids.proofs.LimitLemmas.{shape_holds}
+use Rattle.ckpt_ids.proofs.LimitLemmas.{limits_hold, shape_holds}
 use Rattle.ckpt_lines.specs.Reading.{is_new_shape}
 use Rattle.ckpt_lines.specs.CallTexts.{parallelisms}
 use Rattle.ckpt_terms.specs.declared.call.FencedCall.TheVariants.{Reserve, Forfeit, Make}
@@ -21,8 +23,8 @@ use Rattle.relkvanu.specs.declared.writing.CallFields.{CallFields}
 use Rattle.relkvanu.specs.Asking.{asked_by, said}
 use Rattle.relkvanu.specs.Calls.{shape_of, target_of}
 use Rattle.relkvanu.specs.Saying.{CallHasLists, HasLists, call_fields, call_first, call_has_no_fields, call_second, fields_of, first_of}
-use Rattle.relkvanu.specs.Saying.{has_no_fields, second_of, target_number}
-use Rattle.relkvanu.specs.Writing.{ReadsBack, SaysBack, call_given, given, line_of_asked}
+use Rattle.relkvanu.specs.Saying.{has_no_fields, second_of, settings_of, target_number}
+use Rattle.relkvanu.specs.Writing.{ReadsBack, SaysBack, call_given, configuration_in, configuring, given, line_of_asked}
 
 ack_given : (term now id : ℕ) (s : SubtaskId) (fresh reused : List ℕ) → IsAscending fresh → IsAscending reused
     → call_given (call_fields term (call.Ack now id s fresh reused)) fresh reused ≡ Ok (call.Ack now id s fresh reused)
@@ -63,7 +65,23 @@ new_shape_given term now (target.Savepoint id) shape named is =
     let whole = shape_holds shape is in
     restore_given term now (target.Savepoint id) (Some shape) (is_new shape whole) (shape_back shape whole) (target_back (target.Savepoint id) named)
 
--- every call of a script
+one_keep : (keep : Bool) → (from_bool keep == 1) ≡ keep
+one_keep true = refl
+one_keep false = refl
+
+few_keep : (keep : Bool) → nat_le (from_bool keep) 1 ≡ true
+few_keep true = refl
+few_keep false = refl
+
+configuration_back : (c : Configuration) → IsWithinLimits c → configuration_in (settings_of c) ≡ Some c
+configuration_back c is = rw (few_keep c.keep_on_cancel, one_keep c.keep_on_cancel, limits_hold c is) refl
+
+configure_given : (term now : ℕ) (c : Configuration) → IsWithinLimits c
+    → call_given (call_fields term (call.Configure now c)) (settings_of c) [] ≡ Ok (call.Configure now c)
+unfolding call_given
+configure_given term now c is = ap (configuring now) (configuration_back c is)
+
+-- every call that needs no names
 call_back : (term : ℕ) (c : Call) → CallHasLists c → call_has_no_fields c ≡ false → call_given (call_fields term c) (call_first c) (call_second c) ≡ Ok c
 unfolding call_given
 call_back term (call.Tick now) lists named = refl
@@ -79,8 +97,10 @@ call_back term (call.Deleted file) lists named = refl
 call_back term (call.Undeleted file) lists named = refl
 call_back term (call.Show id) lists named = refl
 call_back term (call.Count file) lists named = refl
+call_back term (call.Trigger now) lists named = refl
+call_back term (call.Configure now config) lists named = configure_given term now config lists
 
--- its kind is none of those that scripts do not have
+-- its kind is none of those that need names
 abbrev IsOfScript : CallFields → Type 0
 IsOfScript c = (c.kind == 13 ≡ false) × (c.kind == 14 ≡ false) × (c.kind == 15 ≡ false)
 
@@ -97,6 +117,8 @@ of_script term (call.Deleted file) = (refl, refl, refl)
 of_script term (call.Undeleted file) = (refl, refl, refl)
 of_script term (call.Show id) = (refl, refl, refl)
 of_script term (call.Count file) = (refl, refl, refl)
+of_script term (call.Trigger now) = (refl, refl, refl)
+of_script term (call.Configure now config) = (refl, refl, refl)
 
 term_of_fields : (term : ℕ) (c : Call) → (call_fields term c).term ≡ term
 term_of_fields term (call.Tick now) = refl
@@ -111,6 +133,8 @@ term_of_fields term (call.Deleted file) = refl
 term_of_fields term (call.Undeleted file) = refl
 term_of_fields term (call.Show id) = refl
 term_of_fields term (call.Count file) = refl
+term_of_fields term (call.Trigger now) = refl
+term_of_fields term (call.Configure now config) = refl
 
 made_back : (term : ℕ) (c : Call) → CallHasLists c → call_has_no_fields c ≡ false
     → given (call_fields term c) (call_first c) (call_second c) ≡ Ok (ask.Call (Make term c))

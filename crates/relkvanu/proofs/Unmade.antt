@@ -5,7 +5,7 @@ use Rattle.std.proofs.lemmas.Bool.{cond_both}
 use Rattle.std.proofs.lemmas.Bool.Decides.{eqb_tells}
 use Rattle.ckpt_ids.specs.declared.subtask.SubtaskId.{SubtaskId}
 use Rattle.ckpt_ids.specs.declared.call.Call.{Call}
-use Rattle.ckpt_ids.specs.declared.call.Call.TheVariants.{Tick, Savepoint, Ack, Decline, Dispose, Restore, Cancel, Take, Deleted, Undeleted, Show, Count}
+use Rattle.ckpt_ids.specs.declared.call.Call.TheVariants.{Tick, Savepoint, Ack, Decline, Dispose, Restore, Cancel, Take, Deleted, Undeleted, Show, Count, Trigger, Configure}
 use Rattle.ckpt_ids.specs.declared.call.Target.{Target}
 use Rattle.ckpt_ids.specs.declared.reply.Choice.{Choice}
 use Rattle.ckpt_ids.specs.declared.reply.Choice.TheVariants as choice
@@ -18,7 +18,7 @@ use Rattle.ckpt_model.specs.State.{State, choice_of, drop, is_checkpoint, is_exp
 use Rattle.ckpt_model.specs.Refusals.{moment_of, pending_of}
 use Rattle.ckpt_model.specs.Steps.{Stepped, with_records, with_base, replaced, dropped_by, rolled_back, pending_checkpoints, failures_with, fails_the_job}
 use Rattle.ckpt_model.specs.Steps.{start_or_hold, after_expiry, failed_over, tick, completed_with, acknowledged_in, ack, decline, decline_pending, dropping, dispose}
-use Rattle.ckpt_model.specs.Steps.{restore, restarted, cancel, take_files, show, effect, at_moment, step}
+use Rattle.ckpt_model.specs.Steps.{restore, restarted, cancel, configure, take_files, show, effect, at_moment, step}
 use Rattle.ckpt_model.proofs.Answering.StepCases.{step_by}
 use Rattle.ckpt_terms.specs.declared.call.FencedCall.{FencedCall}
 use Rattle.ckpt_terms.specs.declared.call.FencedCall.TheVariants.{Reserve, Forfeit, Make}
@@ -104,7 +104,7 @@ show_ends m None = inl (refl, refl)
 show_ends m (Some r) = inr (refl, refl)
 
 effect_ends : (m : State) (call : Call) → Ends m (effect (at_moment m (moment_of call)) call)
-unfolding effect dispose dropping take_files cancel
+unfolding effect dispose dropping take_files cancel configure
 effect_ends m (Tick now) = inr (tick_replies (record m { latest = max now m.latest }))
 effect_ends m (Savepoint now) = inr (refl, refl)
 effect_ends m (Ack now id subtask fresh reused) = inr (ack_replies (record m { latest = max now m.latest }) (pending_of m.records id) subtask fresh reused)
@@ -117,6 +117,8 @@ effect_ends m (Deleted file) = inr (refl, refl)
 effect_ends m (Undeleted file) = inr (refl, refl)
 effect_ends m (Show id) = show_ends m (record_of m id)
 effect_ends m (Count file) = inr (refl, refl)
+effect_ends m (Trigger now) = inr (start_replies (record m { latest = max now m.latest }) 0 Go)
+effect_ends m (Configure now config) = inr (refl, refl)
 
 step_ends : (m : State) (call : Call) → Ends m (step m call)
 step_ends m call = step_by m call (λ (x : Stepped). Ends m x) (λ why _. inl (refl, refl)) (λ _. effect_ends m call)
@@ -151,6 +153,8 @@ call_leaves m places (Deleted file) = step_leaves m (Deleted file)
 call_leaves m places (Undeleted file) = step_leaves m (Undeleted file)
 call_leaves m places (Show id) = λ _. refl
 call_leaves m places (Count file) = step_leaves m (Count file)
+call_leaves m places (Trigger now) = step_leaves m (Trigger now)
+call_leaves m places (Configure now config) = step_leaves m (Configure now config)
 
 -- the coordinator is as it was, unless the call was made
 abbrev Leaves : Machine → Machine × Answer → Type 0

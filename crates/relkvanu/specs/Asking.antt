@@ -10,7 +10,7 @@ use Rattle.ckpt_term_lines.specs.TermReading.{term_reading}
 use Rattle.relkvanu.specs.declared.answer.Answer.{Answer}
 use Rattle.relkvanu.specs.declared.asked.Asked.{Asked}
 use Rattle.relkvanu.specs.declared.asked.Asked.TheVariants.{Fence, Call}
-use Rattle.relkvanu.specs.Told.{answer, bad_argument, bad_shape, done, out_of_memory}
+use Rattle.relkvanu.specs.Told.{answer, bad_argument, bad_config, bad_shape, done, out_of_memory}
 
 -- a line that makes no call, and why
 abbrev pub bad_line : ℕ → Answer
@@ -38,6 +38,7 @@ abbrev pub asked_by : TermLine → Result Asked Answer
 asked_by (line.Fence first) = Ok (Fence first)
 asked_by (line.Call call) = Ok (Call call)
 asked_by (line.Other other) = Err (other_told other)
+asked_by line.BadConfig = Err (bad_argument bad_config)
 asked_by line.NoCall = Err no_call
 
 abbrev pub line_said : Result TermLine LineFault → Result Asked Answer

@@ -55,6 +55,7 @@ takes_no_memory (call.Cancel now) = true
 takes_no_memory (call.Deleted file) = true
 takes_no_memory (call.Undeleted file) = true
 takes_no_memory (call.Count file) = true
+takes_no_memory (call.Configure now config) = true
 takes_no_memory call = false
 
 -- only the other calls may run out of memory

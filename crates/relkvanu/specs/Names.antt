@@ -5,7 +5,7 @@ abbrev pub names : List (List ℕ)
 names =
     [] ∷ codes "MomentTooLarge" ∷ codes "NotRunning" ∷ codes "TooManyFiles" ∷ codes "RepeatedFile" ∷ codes "UnknownCheckpoint"
     ∷ codes "UnknownSubtask" ∷ codes "AlreadyAcknowledged" ∷ codes "NameTaken" ∷ codes "FileGone" ∷ codes "NoSuchSavepoint" ∷ codes "InUse"
-    ∷ codes "TooManySavepoints" ∷ codes "NotTaken" ∷ codes "NoSuchRecord" ∷ codes "IdsUsedUp" ∷ []
+    ∷ codes "TooManySavepoints" ∷ codes "NotTaken" ∷ codes "NoSuchRecord" ∷ codes "IdsUsedUp" ∷ codes "AtOnce" ∷ []
 
 -- empty if no refusal has the number
 abbrev pub refusal_name : ℕ → List ℕ

@@ -1,6 +1,8 @@
 -- The call that a line says, told to a C program: its fields and its two lists.
-use Rattle.std.specs.Prelude.{◌≡◌, ℕ, ⊤, Bool, false, ◌||◌, ◌==◌, nat_lt, if◌then◌else◌, List, [], length, take, Some, Result, Ok, Err}
+use Rattle.std.specs.Prelude.{◌≡◌, ℕ, ⊤, Bool, false, ◌||◌, ◌==◌, nat_lt, if◌then◌else◌, List, [], ◌∷◌, length, take, Some, Result, Ok, Err}
+use Rattle.std.specs.Int.{from_bool}
 use Rattle.ckpt_ids.specs.Ascending.{IsAscending}
+use Rattle.ckpt_ids.specs.Configuration.{Configuration, IsWithinLimits}
 use Rattle.ckpt_ids.specs.Shapes.{IsShape}
 use Rattle.ckpt_ids.specs.declared.call.Call.{Call}
 use Rattle.ckpt_ids.specs.declared.call.Call.TheVariants as call
@@ -44,6 +46,8 @@ call_fields term (call.Deleted file) = fields_with 9 no_subtask 0 file term
 call_fields term (call.Undeleted file) = fields_with 10 no_subtask 0 file term
 call_fields term (call.Show id) = fields_with 11 no_subtask 0 id term
 call_fields term (call.Count file) = fields_with 12 no_subtask 0 file term
+call_fields term (call.Trigger now) = fields_with 16 no_subtask now 0 term
+call_fields term (call.Configure now config) = fields_with 17 no_subtask now 0 term
 
 -- the fields of what is asked for
 abbrev pub fields_of : Asked → CallFields
@@ -52,10 +56,15 @@ fields_of (ask.Call (Reserve term count)) = fields_with 14 no_subtask 0 count te
 fields_of (ask.Call (Forfeit term names)) = fields_with 15 no_subtask 0 0 term
 fields_of (ask.Call (Make term call)) = call_fields term call
 
--- the fresh files of an acknowledgement, or the new shape of a restore
+-- the settings in the order of `relkvanu_settings`, of which the last is 0 or 1
+abbrev pub settings_of : Configuration → List ℕ
+settings_of c = c.interval ∷ c.pause ∷ c.at_once ∷ c.timeout ∷ c.tolerable ∷ c.retained ∷ from_bool c.keep_on_cancel ∷ []
+
+-- the fresh files of an acknowledgement, the new shape of a restore, or the new settings
 abbrev pub call_first : Call → List ℕ
 call_first (call.Ack now id s fresh reused) = fresh
 call_first (call.Restore now t shape) = parallelisms shape
+call_first (call.Configure now config) = settings_of config
 call_first call = []
 
 -- or the names that are given up
@@ -73,10 +82,11 @@ abbrev pub second_of : Asked → List ℕ
 second_of (ask.Call (Make term call)) = call_second call
 second_of asked = []
 
--- what the types of the lists keep: the files ascend, and a shape is within its limits
+-- what the types of the lists keep: the files ascend, and a shape and settings are within their limits
 abbrev pub CallHasLists : Call → Type 0
 CallHasLists (call.Ack now id s fresh reused) = IsAscending fresh × IsAscending reused
 CallHasLists (call.Restore now t (Some shape)) = IsShape shape
+CallHasLists (call.Configure now config) = IsWithinLimits config
 CallHasLists call = ⊤
 
 abbrev pub HasLists : Asked → Type 0

@@ -92,6 +92,7 @@ reply_told (reply.Deleted file) = done 19 file 0
 reply_told (reply.Undeleted file) = done 20 file 0
 reply_told (reply.Shown metadata) = done 21 0 0
 reply_told (reply.Counted file uses) = done 22 file uses
+reply_told (reply.Configured dropped released) = done 61 dropped released
 
 abbrev pub refusal_told : Refusal → Answer
 refusal_told refusal.MomentTooLarge = refused 1 0
@@ -109,6 +110,7 @@ refusal_told refusal.TooManySavepoints = refused 12 0
 refusal_told refusal.NotTaken = refused 13 0
 refusal_told refusal.NoSuchRecord = refused 14 0
 refusal_told refusal.IdsUsedUp = refused 15 0
+refusal_told refusal.AtOnce = refused 16 0
 
 -- the answer of a coordinator
 abbrev pub answer_told : ids.Answer → Answer

@@ -1,6 +1,7 @@
 -- The lines that are written for a C program: the line of a call, and the lines of an opening.
-use Rattle.std.specs.Prelude.{◌≡◌, ◌≢◌, ℕ, ◌==◌, nat_lt, if◌then◌else◌, List, [], ◌∷◌, ◌++◌, get_or, length, Option, Some, None, Result, Ok, Err}
+use Rattle.std.specs.Prelude.{◌≡◌, ◌≢◌, ℕ, ◌==◌, ◌&&◌, nat_le, nat_lt, if◌then◌else◌, List, [], ◌∷◌, ◌++◌, get_or, length, Option, Some, None, Result, Ok, Err}
 use Rattle.ckpt_ids.specs.Ascending.{ascending}
+use Rattle.ckpt_ids.specs.Configuration.{Configuration, configured, is_within_limits}
 use Rattle.ckpt_ids.specs.declared.call.Call.{Call}
 use Rattle.ckpt_ids.specs.declared.call.Call.TheVariants as call
 use Rattle.ckpt_ids.specs.declared.subtask.SubtaskId.{SubtaskId}
@@ -21,7 +22,7 @@ use Rattle.relkvanu.specs.declared.writing.CallFields.{CallFields}
 use Rattle.relkvanu.specs.Asking.{bad_line, said}
 use Rattle.relkvanu.specs.Calls.{ack_of, restore_of}
 use Rattle.relkvanu.specs.Opening.{bad_opening}
-use Rattle.relkvanu.specs.Told.{bad_argument, bad_shape, done, no_memory, too_short}
+use Rattle.relkvanu.specs.Told.{bad_argument, bad_config, bad_shape, done, no_memory, too_short}
 
 -- a kind that no call has
 abbrev pub bad_kind : ℕ
@@ -33,12 +34,24 @@ subtask_in c = record { vertex = c.vertex; index = c.index }
 abbrev pub restore_in : CallFields → List ℕ → Result Call ℕ
 restore_in c shape = if is_new_shape shape then Ok (restore_of c.now c.number shape) else Err bad_shape
 
--- the call of each kind that scripts have, from 1 on
+-- the settings of seven numbers in the order of `relkvanu_settings`, of which the last is 0 or 1
+abbrev pub configuration_in : List ℕ → Option Configuration
+configuration_in (interval ∷ pause ∷ at_once ∷ timeout ∷ tolerable ∷ retained ∷ keep ∷ []) =
+    let config : Configuration = configured interval pause at_once timeout tolerable retained (keep == 1) in
+    if nat_le keep 1 && is_within_limits config then Some config else None
+configuration_in list = None
+
+abbrev pub configuring : ℕ → Option Configuration → Result Call ℕ
+configuring now (Some config) = Ok (call.Configure now config)
+configuring now None = Err bad_config
+
+-- the call of each kind, from 1 on, but for the three that need a term or names
 abbrev pub kinds : CallFields → List ℕ → List ℕ → List (Result Call ℕ)
 kinds c first second =
     Err bad_kind ∷ Ok (call.Tick c.now) ∷ Ok (call.Savepoint c.now) ∷ Ok (ack_of c.now c.number (subtask_in c) first second)
     ∷ Ok (call.Decline c.now c.number (subtask_in c)) ∷ Ok (call.Dispose c.number) ∷ restore_in c first ∷ Ok (call.Cancel c.now)
-    ∷ Ok (call.Take c.number) ∷ Ok (call.Deleted c.number) ∷ Ok (call.Undeleted c.number) ∷ Ok (call.Show c.number) ∷ Ok (call.Count c.number) ∷ []
+    ∷ Ok (call.Take c.number) ∷ Ok (call.Deleted c.number) ∷ Ok (call.Undeleted c.number) ∷ Ok (call.Show c.number) ∷ Ok (call.Count c.number)
+    ∷ Err bad_kind ∷ Err bad_kind ∷ Err bad_kind ∷ Ok (call.Trigger c.now) ∷ configuring c.now (configuration_in first) ∷ []
 
 -- the call of the fields and the two lists, or which argument is bad
 unfoldable pub call_given : CallFields → List ℕ → List ℕ → Result Call ℕ

@@ -146,6 +146,7 @@ impl Answer {
             Refusal::NotTaken => refused(13, 0),
             Refusal::NoSuchRecord => refused(14, 0),
             Refusal::IdsUsedUp => refused(15, 0),
+            Refusal::AtOnce => refused(16, 0),
         }
     }
 
@@ -175,6 +176,9 @@ impl Answer {
             Reply::Undeleted(file) => Answer::done(20, file.0, 0),
             Reply::Shown(_) => Answer::done(21, 0, 0),
             Reply::Counted(file, uses) => Answer::done(22, file.0, u64::from(*uses)),
+            Reply::Configured { dropped, released } => {
+                Answer::done(61, u64::from(*dropped), *released)
+            }
         }
     }
 }

@@ -10,6 +10,7 @@ ghost use Rattle.relkvanu.specs.Told.{no_memory};
 
 use crate::answer::Answer;
 use crate::calls::BAD_SHAPE;
+use crate::opening::BAD_CONFIG;
 use ckpt_ids::Call;
 use ckpt_lines::{Line, LineFault, usual_call};
 use ckpt_term_lines::{TermLine, parse_term_line};
@@ -77,6 +78,7 @@ fn asked_by(line: TermLine) -> Result<Asked, Answer>
         TermLine::Call(call) => Ok(Asked::Call(call)),
         TermLine::Other(Line::Skip) => Err(Answer::done(SKIPPED, 0, 0)),
         TermLine::Other(Line::BadShape) => Err(Answer::bad_argument(BAD_SHAPE)),
+        TermLine::BadConfig => Err(Answer::bad_argument(BAD_CONFIG)),
         TermLine::Other(_) | TermLine::NoCall => Err(Answer::bad_line(FAULT_NO_CALL)),
     }
 }

@@ -3,6 +3,7 @@
 ghost use Rattle.std.specs.Prelude.{◌≡◌, ◌≢◌, ◌↔◌, true, [], None, Some, Err, IfOk};
 ghost use Rattle.ckpt_ids.specs.Ascending.{ascending};
 ghost use Rattle.ckpt_model.specs.Memory.{may_want_memory};
+ghost use Rattle.ckpt_model.specs.State.{State};
 ghost use Rattle.ckpt_terms.specs.Machines.{core_in, is_free, names_in, passes};
 ghost use Rattle.relkvanu.specs.Calls.{HasNoNumbers, IsAnswered, IsAnsweredPlainly, IsBadShape, IsRefusedAs, IsStepTold, StaysAsItWas, StaysClosed};
 ghost use Rattle.relkvanu.specs.Calls.{WantsMemory, ack_of, restore_of, takes_no_memory, target_of, subtask_at};
@@ -40,6 +41,20 @@ pub(crate) fn call(alloc: Global, handle: &mut Handle, call: &Call) -> Answer
         return Answer::closed();
     };
     let answer = answer(&mut machine, call);
+    handle.put(alloc, machine);
+    answer
+}
+
+/// Answers an open handle so, and changes nothing. A closed one says that it is closed.
+pub(crate) fn refuse(alloc: Global, handle: &mut Handle, answer: Answer) -> Answer
+    ensures closed { StaysClosed handle.old.value handle.new.value result }
+    ensures open { (m : State) → handle.old.value ≡ Some m → result ≡ answer }
+    ensures value { handle.new.value ≡ handle.old.value }
+    ensures names { handle.new.names ≡ handle.old.names }
+{
+    let Some(machine) = handle.take(alloc) else {
+        return Answer::closed();
+    };
     handle.put(alloc, machine);
     answer
 }

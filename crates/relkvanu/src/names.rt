@@ -38,6 +38,7 @@ fn name(what: u32) -> &'static str
         13 => "NotTaken",
         14 => "NoSuchRecord",
         15 => "IdsUsedUp",
+        16 => "AtOnce",
         _ => "",
     }
 }

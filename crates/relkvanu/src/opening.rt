@@ -19,7 +19,7 @@ use std::alloc::Global;
 
 pub(crate) const ALREADY_OPEN: u32 = 1;
 
-const BAD_CONFIG: u32 = 2;
+pub(crate) const BAD_CONFIG: u32 = 2;
 
 pub(crate) const BAD_MOMENT: u32 = 4;
 

@@ -1,14 +1,17 @@
 //! The calls that have no list and no buffer.
 
-ghost use Rattle.std.specs.Prelude.{◌≡◌, ◌≢◌};
+ghost use Rattle.std.specs.Prelude.{◌≡◌, ◌≢◌, true, false};
+ghost use Rattle.ckpt_ids.specs.Configuration.{is_within_limits};
 ghost use Rattle.ckpt_ids.specs.declared.call.Call.TheVariants as call;
-ghost use Rattle.relkvanu.specs.Calls.{HasNoNumbers, IsAnswered, IsMade, IsMadePlainly, StaysAsItWas, StaysClosed, WantsMemory, subtask_at};
+ghost use Rattle.relkvanu.specs.Calls.{HasNoNumbers, IsAnswered, IsMade, IsMadePlainly, IsRefusedAs, StaysAsItWas, StaysClosed, WantsMemory, subtask_at};
 ghost use Rattle.relkvanu.specs.Fenced.{IsHandled, call_step};
-ghost use Rattle.relkvanu.specs.Told.{no_memory};
+ghost use Rattle.relkvanu.specs.Opening.{configuration_of};
+ghost use Rattle.relkvanu.specs.Told.{bad_config, no_memory};
 
 use crate::answer::Answer;
 use crate::calls;
 use crate::handle::Handle;
+use crate::opening::{Settings, config_of};
 use ckpt_ids::{Call, CheckpointId, FileId, SubtaskId};
 use std::alloc::Global;
 
@@ -23,6 +26,19 @@ pub extern "C" fn relkvanu_tick(alloc: Global, handle: &mut Handle, now: u64) ->
     ensures names { handle.new.names ≡ handle.old.names }
 {
     calls::call(alloc, handle, &Call::Tick { now })
+}
+
+/// Triggers a checkpoint now, whatever the interval and the pause. Nothing expires in it.
+#[unsafe(no_mangle)]
+pub extern "C" fn relkvanu_trigger(alloc: Global, handle: &mut Handle, now: u64) -> Answer
+    ensures closed { StaysClosed handle.old.value handle.new.value result }
+    ensures answered { IsAnswered handle.old.value handle.new.value (call.Trigger now) result }
+    ensures memory { WantsMemory handle.old.value (call.Trigger now) result }
+    ensures numbers { HasNoNumbers result }
+    ensures unchanged { StaysAsItWas handle.old.value handle.new.value result }
+    ensures names { handle.new.names ≡ handle.old.names }
+{
+    calls::call(alloc, handle, &Call::Trigger { now })
 }
 
 /// Triggers a savepoint.
@@ -120,4 +136,27 @@ pub extern "C" fn relkvanu_count(alloc: Global, handle: &mut Handle, file: u64) 
     ensures names { handle.new.names ≡ handle.old.names }
 {
     calls::call(alloc, handle, &Call::Count { file: FileId(file) })
+}
+
+/// The job has these settings from the moment `now` on, in milliseconds.
+///
+/// Settings outside their limits are a bad argument, before any refusal. Done checkpoints above the
+/// new number retained are dropped at once.
+#[unsafe(no_mangle)]
+pub extern "C" fn relkvanu_configure(
+    alloc: Global,
+    handle: &mut Handle,
+    now: u64,
+    settings: &Settings,
+) -> Answer
+    ensures closed { StaysClosed handle.old.value handle.new.value result }
+    ensures bad_config { is_within_limits (configuration_of settings.now) ≡ false → IsRefusedAs handle.old.value handle.new.value bad_config result }
+    ensures answered { is_within_limits (configuration_of settings.now) ≡ true → IsMade handle.old.value handle.new.value (call.Configure now (configuration_of settings.now)) result }
+    ensures memory { result.code ≢ no_memory }
+    ensures names { handle.new.names ≡ handle.old.names }
+{
+    match config_of(settings) {
+        Ok(config) => calls::call(alloc, handle, &Call::Configure { now, config }),
+        Err(answer) => calls::refuse(alloc, handle, answer),
+    }
 }

@@ -7,7 +7,7 @@ ghost use Rattle.relkvanu.specs.Calls.{HasNoNumbers};
 ghost use Rattle.relkvanu.specs.Asking.{said};
 ghost use Rattle.relkvanu.specs.Saying.{BringsCallList, BringsFields, CallHasLists, GivesBack, HasLists, asked_told, call_fields, call_first};
 ghost use Rattle.relkvanu.specs.Saying.{call_has_no_fields, call_second, fields_of, fields_with, first_of, has_no_fields, lists_told, meant_told};
-ghost use Rattle.relkvanu.specs.Saying.{says_call, second_of, target_number};
+ghost use Rattle.relkvanu.specs.Saying.{says_call, second_of, settings_of, target_number};
 ghost use Rattle.relkvanu.specs.Told.{no_memory};
 ghost use Rattle.relkvanu.specs.Writing.{given};
 
@@ -16,11 +16,11 @@ use crate::asked::{Asked, said};
 use crate::buffers::write_files;
 use crate::lines::LINE_CALL;
 use crate::writing::{
-    CALL_ACK, CALL_CANCEL, CALL_COUNT, CALL_DECLINE, CALL_DELETED, CALL_DISPOSE, CALL_FENCE,
-    CALL_FORFEIT, CALL_RESERVE, CALL_RESTORE, CALL_SAVEPOINT, CALL_SHOW, CALL_TAKE, CALL_TICK,
-    CALL_UNDELETED, CallFields,
+    CALL_ACK, CALL_CANCEL, CALL_CONFIGURE, CALL_COUNT, CALL_DECLINE, CALL_DELETED, CALL_DISPOSE,
+    CALL_FENCE, CALL_FORFEIT, CALL_RESERVE, CALL_RESTORE, CALL_SAVEPOINT, CALL_SHOW, CALL_TAKE,
+    CALL_TICK, CALL_TRIGGER, CALL_UNDELETED, CallFields,
 };
-use ckpt_ids::{Call, FileId, Refusal, SubtaskId, Target};
+use ckpt_ids::{Call, Config, FileId, Refusal, SubtaskId, Target};
 use ckpt_terms::FencedCall;
 use std::alloc::Global;
 
@@ -31,12 +31,14 @@ const NO_SUBTASK: SubtaskId = SubtaskId {
 
 /// Writes the call that a line says: its fields, and its lists to the start of `first` and `second`.
 ///
-/// `first` gets the fresh files of an ack in ascending order, the new shape of a restore, or the names
-/// of a forfeit in ascending order. `second` gets the reused files of an ack in ascending order. The
+/// `first` gets the fresh files of an ack in ascending order, the new shape of a restore, the names of a
+/// forfeit in ascending order, or the seven settings of a configure in the order of
+/// [`Settings`](crate::opening::Settings), of which the last is 0 or 1. `second` gets the reused files of an ack in ascending order. The
 /// term of a call that has none is 0, and so are fields that the kind does not use. If a
 /// buffer has too few places, the answer says how many places each needs. A restore to savepoint 0
 /// is refused, since no savepoint has this number. A line that says no call, or a restore in a bad
-/// shape, has the answer that `relkvanu_line` gives for it. Takes memory for the lists of a
+/// shape or with settings
+/// outside their limits, has the answer that `relkvanu_line` gives for it. Takes memory for the lists of a
 /// line.
 #[tactic(auto, unfolding(crate::specs::Saying::meant_told))]
 #[unsafe(no_mangle)]
@@ -144,6 +146,10 @@ fn recall_call_lists(call: &Call)
             target: _,
             shape: Some(shape),
         } => shape.recall(),
+        // The contract of this read says that the settings are within their limits.
+        Call::Configure { now: _, config } => {
+            let _ = config.interval();
+        }
         _ => (),
     }
 }
@@ -190,6 +196,8 @@ fn call_fields(term: u64, call: &Call) -> CallFields
         Call::Undeleted { file } => fields_with(CALL_UNDELETED, none, 0, file.0, term),
         Call::Show { id } => fields_with(CALL_SHOW, none, 0, id.0, term),
         Call::Count { file } => fields_with(CALL_COUNT, none, 0, file.0, term),
+        Call::Trigger { now } => fields_with(CALL_TRIGGER, none, *now, 0, term),
+        Call::Configure { now, config: _ } => fields_with(CALL_CONFIGURE, none, *now, 0, term),
     }
 }
 
@@ -251,6 +259,7 @@ fn write_call_lists(call: &Call, first: &mut [u64], second: &mut [u64]) -> Answe
             target: _,
             shape: Some(shape),
         } => write_shape(shape.as_slice(), first),
+        Call::Configure { now: _, config } => write_settings(config, first),
         _ => Answer::done(LINE_CALL, 0, 0),
     }
 }
@@ -285,6 +294,29 @@ fn write_shape(shape: &[u32], first: &mut [u64]) -> Answer
     }
     write_parallelisms(shape, first);
     Answer::done(LINE_CALL, shape.len() as u64, 0)
+}
+
+/// Writes settings in the order of [`Settings`](crate::opening::Settings), of which the last is 0 or
+/// 1.
+fn write_settings(config: &Config, first: &mut [u64]) -> Answer
+    ensures told { result ≡ lists_told (settings_of config.now) [] (length first.old) 0 }
+    ensures first { result.what ≡ says_call → StandsInFront (settings_of config.now) first.old first.new }
+    ensures kept { result.what ≢ says_call → first.new ≡ first.old }
+{
+    let settings = [
+        config.interval(),
+        config.pause(),
+        u64::from(config.at_once()),
+        config.timeout(),
+        u64::from(config.tolerable()),
+        u64::from(config.retained()),
+        u64::from(config.keep_on_cancel()),
+    ];
+    if first.len() < settings.len() {
+        return Answer::too_short_for(settings.len() as u64, 0);
+    }
+    first[..settings.len()].copy_from_slice(&settings);
+    Answer::done(LINE_CALL, settings.len() as u64, 0)
 }
 
 /// Writes parallelisms to the start of a buffer.

@@ -9,13 +9,13 @@ ghost use Rattle.relkvanu.specs.Buffers.{StandsInFront};
 ghost use Rattle.relkvanu.specs.Calls.{HasNoNumbers, IsWhyNoCall};
 ghost use Rattle.relkvanu.specs.Opening.{IsWhyNot, OpeningWantsMemory, bad_opening, configuration_of, opening_of};
 ghost use Rattle.relkvanu.specs.Told.{no_memory};
-ghost use Rattle.relkvanu.specs.Writing.{IsWhyNotGiven, OpeningReadsBack, ReadsBack, SaysBack, asked_text, call_given, call_line_text, call_line_told};
+ghost use Rattle.relkvanu.specs.Writing.{IsWhyNotGiven, OpeningReadsBack, ReadsBack, SaysBack, asked_text, call_given, call_line_text, call_line_told, configuration_in};
 ghost use Rattle.relkvanu.specs.Writing.{given, line_of_asked, opening_text, opening_told, text_told};
 
 use crate::answer::Answer;
 use crate::asked::{Asked, FAULT_TOO_LONG};
 use crate::calls::{BAD_SHAPE, ack_of, files_of, restore_of};
-use crate::opening::{BAD_MOMENT, Settings, config_of, job_of};
+use crate::opening::{BAD_CONFIG, BAD_MOMENT, Settings, config_of, job_of};
 use ckpt_ids::{Call, CheckpointId, Config, FileId, MOMENTS_END, Shape, ShapeFault, SubtaskId};
 use ckpt_lines::{LONGEST_LINE, config_line, job_line, start_line};
 use ckpt_term_lines::{fence_line, term_line};
@@ -52,6 +52,10 @@ pub(crate) const CALL_RESERVE: u32 = 14;
 
 pub(crate) const CALL_FORFEIT: u32 = 15;
 
+pub(crate) const CALL_TRIGGER: u32 = 16;
+
+pub(crate) const CALL_CONFIGURE: u32 = 17;
+
 const BAD_KIND: u32 = 6;
 
 const WRITTEN: u32 = 44;
@@ -60,8 +64,8 @@ const WRITTEN: u32 = 44;
 #[repr(C)]
 #[derive(Clone, Copy, Debug, PartialEq, Eq)]
 pub struct CallFields {
-    /// 1 to 15: tick, savepoint, ack, decline, dispose, restore, cancel, take, deleted, undeleted, show,
-    /// count, fence, reserve, forfeit.
+    /// 1 to 17: tick, savepoint, ack, decline, dispose, restore, cancel, take, deleted, undeleted, show,
+    /// count, fence, reserve, forfeit, trigger, configure.
     pub kind: u32,
     /// The vertex of the subtask of an ack or a decline.
     pub vertex: u16,
@@ -80,8 +84,9 @@ pub struct CallFields {
 /// enough.
 ///
 /// `first` and `second` are the fresh and the reused files of an ack, in any order. For a restore
-/// `first` is the new shape, or empty. For a forfeit it is the names, in any order. A call with a
-/// term other than 0 is written after `in` and the term. The answer is a fault if the line would be
+/// `first` is the new shape, or empty. For a forfeit it is the names, in any order. For a configure it
+/// is the seven settings in the order of [`Settings`], of which the last is 0 or 1. A call with a term
+/// other than 0 is written after `in` and the term. The answer is a fault if the line would be
 /// too long. Takes memory.
 #[unsafe(no_mangle)]
 pub extern "C" fn relkvanu_call_line(
@@ -154,7 +159,35 @@ pub(crate) fn asked_of(
     }
 }
 
-/// The call of a kind that scripts have, or the answer if the fields and the lists give none.
+/// The settings of seven numbers in the order of [`Settings`], of which the last is 0 or 1. `None` if
+/// they are no settings.
+fn configuration_in(list: &[u64]) -> Option<Config>
+    ensures { result ≡ configuration_in list.now }
+{
+    match list {
+        [
+            interval,
+            pause,
+            at_once,
+            timeout,
+            tolerable,
+            retained,
+            keep,
+        ] if *keep <= 1 => Config::new(
+            *interval,
+            *pause,
+            *at_once,
+            *timeout,
+            *tolerable,
+            *retained,
+            *keep == 1,
+        )
+        .ok(),
+        _ => None,
+    }
+}
+
+/// The call of a kind that needs no names, or the answer if the fields and the lists give none.
 #[tactic(auto, unfolding(crate::specs::Writing::call_given))]
 fn call_of(
     alloc: Global,
@@ -196,6 +229,11 @@ fn call_of(
         CALL_UNDELETED => Ok(Call::Undeleted { file }),
         CALL_SHOW => Ok(Call::Show { id }),
         CALL_COUNT => Ok(Call::Count { file }),
+        CALL_TRIGGER => Ok(Call::Trigger { now }),
+        CALL_CONFIGURE => match configuration_in(first) {
+            Some(config) => Ok(Call::Configure { now, config }),
+            None => Err(Answer::bad_argument(BAD_CONFIG)),
+        },
         _ => Err(Answer::bad_argument(BAD_KIND)),
     }
 }

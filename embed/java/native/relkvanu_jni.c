@@ -52,6 +52,11 @@ JNIEXPORT void JNICALL Java_relkvanu_Native_tick(JNIEnv *env, jclass of, jlong h
     answer_out(env, out, relkvanu_tick((relkvanu *)(uintptr_t)handle, (uint64_t)now));
 }
 
+JNIEXPORT void JNICALL Java_relkvanu_Native_trigger(JNIEnv *env, jclass of, jlong handle, jlong now, jlongArray out) {
+    (void)of;
+    answer_out(env, out, relkvanu_trigger((relkvanu *)(uintptr_t)handle, (uint64_t)now));
+}
+
 JNIEXPORT void JNICALL Java_relkvanu_Native_savepoint(JNIEnv *env, jclass of, jlong handle, jlong now, jlongArray out) {
     (void)of;
     answer_out(env, out, relkvanu_savepoint((relkvanu *)(uintptr_t)handle, (uint64_t)now));
@@ -94,6 +99,12 @@ JNIEXPORT void JNICALL Java_relkvanu_Native_restore(JNIEnv *env, jclass of, jlon
 JNIEXPORT void JNICALL Java_relkvanu_Native_cancel(JNIEnv *env, jclass of, jlong handle, jlong now, jlongArray out) {
     (void)of;
     answer_out(env, out, relkvanu_cancel((relkvanu *)(uintptr_t)handle, (uint64_t)now));
+}
+
+JNIEXPORT void JNICALL Java_relkvanu_Native_configure(JNIEnv *env, jclass of, jlong handle, jlong now, jlongArray settings, jlongArray out) {
+    (void)of;
+    relkvanu_settings in_settings = settings_in(env, settings);
+    answer_out(env, out, relkvanu_configure((relkvanu *)(uintptr_t)handle, (uint64_t)now, &in_settings));
 }
 
 JNIEXPORT void JNICALL Java_relkvanu_Native_take(JNIEnv *env, jclass of, jlong handle, jlongArray files, jlongArray out) {

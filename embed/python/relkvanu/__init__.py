@@ -13,9 +13,9 @@ from relkvanu.reads import Chosen, FileCounts, Garbage, Kind, Live, Mode, Runnin
 from relkvanu.replies import Forfeited, Named, Reply, Reserved, Shown, Taken
 # embed/bindings makes the import of replies
 from relkvanu.replies import (
-    AckCompleted, AckLate, AckPending, Cancelled, Counted, DeclineAborted, DeclineFailed, DeclineLate, Deleted, Disposed, Failed,
-    HeldAtOnce, HeldInterval, HeldPause, RestoredCheckpoint, RestoredFresh, RestoredSavepoint, SavepointTriggered, Triggered,
-    Undeleted,
+    AckCompleted, AckLate, AckPending, Cancelled, Configured, Counted, DeclineAborted, DeclineFailed, DeclineLate, Deleted,
+    Disposed, Failed, HeldAtOnce, HeldInterval, HeldPause, RestoredCheckpoint, RestoredFresh, RestoredSavepoint,
+    SavepointTriggered, Triggered, Undeleted,
 )
 # embed/bindings: end
 
@@ -43,8 +43,8 @@ __all__ = [
 ]
 # embed/bindings makes the names of replies
 __all__ += [
-    "AckCompleted", "AckLate", "AckPending", "Cancelled", "Counted", "DeclineAborted", "DeclineFailed", "DeclineLate", "Deleted",
-    "Disposed", "Failed", "HeldAtOnce", "HeldInterval", "HeldPause", "RestoredCheckpoint", "RestoredFresh", "RestoredSavepoint",
-    "SavepointTriggered", "Triggered", "Undeleted",
+    "AckCompleted", "AckLate", "AckPending", "Cancelled", "Configured", "Counted", "DeclineAborted", "DeclineFailed",
+    "DeclineLate", "Deleted", "Disposed", "Failed", "HeldAtOnce", "HeldInterval", "HeldPause", "RestoredCheckpoint",
+    "RestoredFresh", "RestoredSavepoint", "SavepointTriggered", "Triggered", "Undeleted",
 ]
 # embed/bindings: end

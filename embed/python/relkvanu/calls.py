@@ -5,8 +5,10 @@ from dataclasses import dataclass
 from typing import Callable, Dict, Optional, Tuple, Union
 
 from relkvanu import header
-from relkvanu.coordinator import U64, Unknown, _done, _shared, _text
-from relkvanu.lines import _line, ack_line, decline_line, fence_line, forfeit_line, reserve_line, restore_line, take_line
+from relkvanu.coordinator import U64, Settings, Unknown, _done, _shared, _text
+from relkvanu.lines import (
+    _line, ack_line, configure_line, decline_line, fence_line, forfeit_line, reserve_line, restore_line, settings_of, take_line,
+)
 
 
 # embed/bindings makes the kinds
@@ -28,6 +30,8 @@ class CallKind(enum.IntEnum):
     FENCE = header.CALL_FENCE
     RESERVE = header.CALL_RESERVE
     FORFEIT = header.CALL_FORFEIT
+    TRIGGER = header.CALL_TRIGGER
+    CONFIGURE = header.CALL_CONFIGURE
 # embed/bindings: end
 
 
@@ -93,6 +97,15 @@ class Count:
 
     def line(self) -> str:
         return _line(CallKind.COUNT, number=self.file, term=self.term)
+
+
+@dataclass(frozen=True)
+class Trigger:
+    now: int
+    term: int = 0
+
+    def line(self) -> str:
+        return _line(CallKind.TRIGGER, now=self.now, term=self.term)
 # embed/bindings: end
 
 
@@ -135,6 +148,16 @@ class Restore:
 
     def line(self) -> str:
         return restore_line(self.now, self.savepoint, self.shape, self.term)
+
+
+@dataclass(frozen=True)
+class Configure:
+    now: int
+    settings: Settings
+    term: int = 0
+
+    def line(self) -> str:
+        return configure_line(self.now, self.settings, self.term)
 
 
 @dataclass(frozen=True)
@@ -186,12 +209,14 @@ class Forfeit:
 # embed/bindings makes what a call is
 Call = Union[
     Tick, Savepoint, Ack, Decline, Dispose, Restore, Cancel, Take, Deleted, Undeleted, Show, Count, Fence, Reserve, Forfeit,
+    Trigger, Configure,
 ]
 
 OF_A_MOMENT: Dict[int, Callable[[int, int], Call]] = {
     CallKind.TICK: Tick,
     CallKind.SAVEPOINT: Savepoint,
     CallKind.CANCEL: Cancel,
+    CallKind.TRIGGER: Trigger,
 }
 OF_A_NUMBER: Dict[int, Callable[[int, int], Call]] = {
     CallKind.DISPOSE: Dispose,
@@ -206,7 +231,7 @@ OF_A_NUMBER.update({CallKind.TAKE: Take, CallKind.SHOW: Show})
 def line_call(line: bytes) -> Optional[Call]:
     """The call that a line says: the bytes before its newline. None for a line without words and a comment.
 
-    Raises BadLine for a line that makes no call, BadArgument for a restore in a bad shape, and Refused for a restore to savepoint 0,
+    Raises BadLine for a line that makes no call, BadArgument for a restore in a bad shape and for bad settings, and Refused for a restore to savepoint 0,
     which no savepoint has."""
     text, call = _text(line), header.relkvanu_call()
     fresh = reused = 0
@@ -234,6 +259,8 @@ def _call(it: header.relkvanu_call, first: Tuple[int, ...], second: Tuple[int, .
         return Decline(it.now, it.number, it.vertex, it.index, it.term)
     if it.kind == CallKind.RESTORE:
         return Restore(it.now, it.number or None, first or None, it.term)
+    if it.kind == CallKind.CONFIGURE:
+        return Configure(it.now, settings_of(first), it.term)
     if it.kind == CallKind.FENCE:
         return Fence(it.number)
     if it.kind == CallKind.RESERVE:

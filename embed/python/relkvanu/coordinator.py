@@ -431,6 +431,11 @@ class Coordinator:
     def undeleted(self, file: int) -> Reply:
         """A fetched file could not be deleted: it waits again, behind all others."""
         return self._replied("undeleted", _u64(file))
+
+    def trigger(self, now: int) -> Reply:
+        """Triggers a checkpoint now, whatever the interval and the pause. Nothing expires: make a tick first if records may be
+        too old. The interval counts from it, as after a tick that triggers."""
+        return self._timed("trigger", now)
     # embed/bindings: end
 
     def ack(self, now: int, id: int, vertex: int, index: int, fresh: Sequence[int], reused: Sequence[int] = ()) -> Reply:
@@ -497,6 +502,11 @@ class Coordinator:
         if shape is not None and len(shape) == 0:
             raise BadArgument("BadShape")
         return self._timed("restore", now, _u64(savepoint or 0), _words(shape or ()), len(shape or ()))
+
+    def configure(self, now: int, settings: Settings) -> Reply:
+        """The job has these settings from now on. Done checkpoints above the new number retained are dropped at once. Settings
+        outside their limits are a BadArgument, before any refusal."""
+        return self._timed("configure", now, ctypes.byref(_settings(settings)))
 
     def take(self, most: int) -> Taken:
         """Fetches at most `most` files that wait for deletion. Report each by deleted() or undeleted(). A repeated

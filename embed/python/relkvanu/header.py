@@ -37,6 +37,7 @@ DELETED = 19
 UNDELETED = 20
 SHOWN = 21
 COUNTED = 22
+CONFIGURED = 61
 MODE_RUNNING = 23
 MODE_FAILED = 24
 MODE_CANCELLED = 25
@@ -90,6 +91,7 @@ TOO_MANY_SAVEPOINTS = 12
 NOT_TAKEN = 13
 NO_SUCH_RECORD = 14
 IDS_USED_UP = 15
+AT_ONCE = 16
 OLD_TERM = 1
 ENDED = 2
 BAD_COUNT = 3
@@ -129,6 +131,8 @@ CALL_COUNT = 12
 CALL_FENCE = 13
 CALL_RESERVE = 14
 CALL_FORFEIT = 15
+CALL_TRIGGER = 16
+CALL_CONFIGURE = 17
 ANSWER_TEXT = 128
 
 
@@ -195,12 +199,14 @@ FUNCTIONS: Dict[str, Tuple[Any, List[Any]]] = {
     "relkvanu_open": (relkvanu_answer, [POINTER(relkvanu), POINTER(relkvanu_settings), POINTER(c_uint64), c_size_t, c_uint64, c_uint64, c_uint64, c_uint64]),
     "relkvanu_close": (None, [POINTER(relkvanu)]),
     "relkvanu_tick": (relkvanu_answer, [POINTER(relkvanu), c_uint64]),
+    "relkvanu_trigger": (relkvanu_answer, [POINTER(relkvanu), c_uint64]),
     "relkvanu_savepoint": (relkvanu_answer, [POINTER(relkvanu), c_uint64]),
     "relkvanu_ack": (relkvanu_answer, [POINTER(relkvanu), c_uint64, c_uint64, c_uint16, c_uint16, POINTER(c_uint64), c_size_t, POINTER(c_uint64), c_size_t]),
     "relkvanu_decline": (relkvanu_answer, [POINTER(relkvanu), c_uint64, c_uint64, c_uint16, c_uint16]),
     "relkvanu_dispose": (relkvanu_answer, [POINTER(relkvanu), c_uint64]),
     "relkvanu_restore": (relkvanu_answer, [POINTER(relkvanu), c_uint64, c_uint64, POINTER(c_uint64), c_size_t]),
     "relkvanu_cancel": (relkvanu_answer, [POINTER(relkvanu), c_uint64]),
+    "relkvanu_configure": (relkvanu_answer, [POINTER(relkvanu), c_uint64, POINTER(relkvanu_settings)]),
     "relkvanu_take": (relkvanu_answer, [POINTER(relkvanu), POINTER(c_uint64), c_size_t]),
     "relkvanu_deleted": (relkvanu_answer, [POINTER(relkvanu), c_uint64]),
     "relkvanu_undeleted": (relkvanu_answer, [POINTER(relkvanu), c_uint64]),

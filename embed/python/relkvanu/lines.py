@@ -53,8 +53,7 @@ def line_says(line: bytes) -> Line:
         places = answer.a
     of = numbers[: _done(answer).a]
     if answer.what == header.LINE_CONFIG:
-        interval, pause, at_once, timeout, tolerable, retained, keep = of
-        return Settings(interval, pause, at_once, timeout, tolerable, retained, bool(keep))
+        return settings_of(of)
     if answer.what == header.LINE_JOB:
         return Job(tuple(of))
     if answer.what == header.LINE_START:
@@ -64,6 +63,19 @@ def line_says(line: bytes) -> Line:
     if answer.what not in (header.LINE_SKIP, header.LINE_CALL):
         raise Unknown(answer.code, answer.what)
     return Skip() if answer.what == header.LINE_SKIP else Call()
+
+
+def settings_of(numbers: Sequence[int]) -> Settings:
+    """The settings of seven numbers, in the order of their fields; the last is 0 or 1."""
+    *values, keep = numbers
+    return Settings(*values, keep_on_cancel=bool(keep))
+
+
+def _numbers(settings: Settings) -> Tuple[int, ...]:
+    return (
+        settings.interval, settings.pause, settings.at_once, settings.timeout, settings.tolerable, settings.retained,
+        int(settings.keep_on_cancel),
+    )
 
 
 def opening_lines(settings: Settings, shape: Sequence[int], now: int) -> str:
@@ -110,6 +122,10 @@ def deleted_line(file: int, term: int = 0) -> str:
 
 def undeleted_line(file: int, term: int = 0) -> str:
     return _line(header.CALL_UNDELETED, number=file, term=term)
+
+
+def trigger_line(now: int, term: int = 0) -> str:
+    return _line(header.CALL_TRIGGER, now, term=term)
 # embed/bindings: end
 
 
@@ -127,6 +143,10 @@ def restore_line(now: int, savepoint: Optional[int] = None, shape: Optional[Sequ
     if shape is not None and len(shape) == 0:
         raise BadArgument("BadShape")
     return _line(header.CALL_RESTORE, now, savepoint or 0, first=shape or (), term=term)
+
+
+def configure_line(now: int, settings: Settings, term: int = 0) -> str:
+    return _line(header.CALL_CONFIGURE, now, first=_numbers(settings), term=term)
 
 
 def take_line(most: int, term: int = 0) -> str:

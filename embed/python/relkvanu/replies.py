@@ -237,6 +237,17 @@ class Counted(Reply):
     uses: int
 
 
+@dataclass(frozen=True)
+class Configured(Reply):
+    """The job has the new settings.
+
+    checkpoints: checkpoints dropped; released: files released.
+    """
+
+    checkpoints: int
+    released: int
+
+
 # How a reply is made of the two numbers of an answer, by its number.
 MADE: Dict[int, Callable[[int, int], Reply]] = {
     header.TICK_TRIGGERED: Triggered,
@@ -259,6 +270,7 @@ MADE: Dict[int, Callable[[int, int], Reply]] = {
     header.DELETED: lambda a, b: Deleted(a),
     header.UNDELETED: lambda a, b: Undeleted(a),
     header.COUNTED: Counted,
+    header.CONFIGURED: Configured,
 }
 # embed/bindings: end
 

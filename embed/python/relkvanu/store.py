@@ -110,6 +110,10 @@ class Call:
     @classmethod
     def undeleted(cls, file: int) -> "Call":
         return cls(header.CALL_UNDELETED, number=file)
+
+    @classmethod
+    def trigger(cls, now: Optional[int] = None) -> "Call":
+        return cls(header.CALL_TRIGGER, now)
     # embed/bindings: end
 
     @classmethod
@@ -523,6 +527,11 @@ class Store:
     def cancel(self, now: Optional[int] = None) -> Made:
         """The job ends for good."""
         return self.call(Call.cancel(now))
+
+    def trigger(self, now: Optional[int] = None) -> Made:
+        """Triggers a checkpoint now, whatever the interval and the pause. Nothing expires: make a tick first if records may be
+        too old. The interval counts from it, as after a tick that triggers."""
+        return self.call(Call.trigger(now))
     # embed/bindings: end
 
     def ack(self, id: int, vertex: int, index: int, fresh: Sequence[int], reused: Sequence[int] = (), now: Optional[int] = None) -> Made:

@@ -4,7 +4,7 @@ import threading
 import unittest
 
 from relkvanu import (
-    AckPending, BadArgument, Closed, Coordinator, Refused, RestoredCheckpoint, Settings, Shown, Triggered, calls,
+    AckPending, BadArgument, Closed, Configured, Coordinator, Refused, RestoredCheckpoint, Settings, Shown, Taken, Triggered, calls,
 )
 
 SETTINGS = Settings(interval=1000)
@@ -49,6 +49,67 @@ class OtherSettings(unittest.TestCase):
         with self.assertRaises(BadArgument) as raised:
             self.reopened(retained=1)
         self.assertEqual(raised.exception.name, "BadImage")
+
+
+class SettingsOfALiveJob(unittest.TestCase):
+    """Checkpoints now, and other settings, as docs/RULES.md says."""
+
+    def job_of_three(self):
+        """Three completed checkpoints are retained, each with a file of its own."""
+        job = Coordinator(Settings(interval=1000, retained=3), [1], 0)
+        for id in (1, 2, 3):
+            job.tick(1000 * id)
+            job.ack(1000 * id, id, 0, 0, [10 + id])
+        return job
+
+    def refused(self, name, call):
+        with self.assertRaises(Refused) as raised:
+            call()
+        self.assertEqual(raised.exception.name, name)
+
+    def test_a_smaller_number_retained_deletes_at_once(self):
+        with self.job_of_three() as job:
+            self.assertEqual(job.configure(3000, Settings(interval=500)), Configured(2, 2))
+            self.assertEqual(job.take(9), Taken((11, 12)))
+            self.assertEqual(job.due(), 3500)  # it was due at 4000
+            self.assertEqual(job.configure(3000, Settings(interval=9000, retained=3)), Configured(0, 0))
+            self.assertEqual(job.due(), 3500)  # no later than before
+
+    def test_a_checkpoint_now(self):
+        with self.job_of_three() as job:
+            self.assertEqual(job.trigger(3100), Triggered(0, 4))
+            self.assertEqual(job.due(), 4100)
+            self.refused("AtOnce", lambda: job.trigger(3200))
+            job.configure(3200, Settings(interval=1000, at_once=2))
+            self.assertEqual(job.trigger(3200), Triggered(0, 5))
+            self.refused("AtOnce", lambda: job.configure(3300, SETTINGS))
+            job.cancel(3300)
+            self.refused("NotRunning", lambda: job.trigger(3300))
+            self.refused("NotRunning", lambda: job.configure(3300, SETTINGS))
+
+    def test_settings_outside_their_limits(self):
+        with self.job_of_three() as job:
+            before = job.save()
+            with self.assertRaises(BadArgument) as raised:
+                job.configure(3000, Settings(interval=9))
+            self.assertEqual(raised.exception.name, "BadConfig")
+            with self.assertRaises(BadArgument) as raised:
+                job.line(b"configure 3000 9 0 1 600000 0 1 keep")
+            self.assertEqual(raised.exception.name, "BadConfig")
+            self.assertEqual(job.save(), before)
+
+    def test_lines(self):
+        settings = Settings(interval=2000, pause=5, at_once=3, timeout=70, tolerable=4, retained=2, keep_on_cancel=True)
+        for call, line in [
+            (calls.Trigger(7), "trigger 7"),
+            (calls.Trigger(7, 3), "in 3 trigger 7"),
+            (calls.Configure(8, settings), "configure 8 2000 5 3 70 4 2 keep"),
+            (calls.Configure(8, SETTINGS, 3), "in 3 configure 8 1000 0 1 600000 0 1 delete"),
+        ]:
+            self.assertEqual(call.line(), line)
+            self.assertEqual(calls.line_call(line.encode()), call)
+        with self.job_of_three() as job:
+            self.assertEqual(job.line(b"configure 3000 500 0 1 600000 0 1 delete"), Configured(2, 2))
 
 
 class Moments(unittest.TestCase):

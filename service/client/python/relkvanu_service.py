@@ -31,7 +31,7 @@ __all__ = [
 ]
 # embed/bindings makes the names of calls of one number
 __all__ += [
-    "savepoint", "dispose", "cancel", "deleted", "undeleted",
+    "savepoint", "dispose", "cancel", "deleted", "undeleted", "trigger",
 ]
 # embed/bindings: end
 
@@ -154,6 +154,12 @@ def deleted(file):
 def undeleted(file):
     """A fetched file could not be deleted: it waits again."""
     return {"call": "undeleted", "file": str(file)}
+
+
+def trigger():
+    """Triggers a checkpoint now, whatever the interval and the pause. Nothing expires: make a tick first if records may be too
+    old. The interval counts from it, as after a tick that triggers."""
+    return {"call": "trigger"}
 # embed/bindings: end
 
 

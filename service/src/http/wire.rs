@@ -12,7 +12,7 @@ const MOST_VERTICES: usize = 1 << 16;
 pub const NO_NAME: &str = "is no name: 1 to 64 of a-z, A-Z, 0-9, '-', '_' and '.', and a letter or digit first";
 // embed/bindings makes the names of calls
 const CALLS: &str =
-    "ack, decline, tick, savepoint, dispose, restore, cancel, take, deleted, undeleted, reserve and forfeit";
+    "ack, decline, tick, savepoint, dispose, restore, cancel, take, deleted, undeleted, reserve, forfeit and trigger";
 // embed/bindings: end
 /// How many names a task reserves at once, and gives up.
 const MOST_RESERVED: u64 = 65_536;
@@ -198,6 +198,7 @@ fn call(mut members: Members, term: u64) -> Checked<Call> {
         "cancel" => Call::Cancel,
         "deleted" => Call::Deleted { file: members.file()? },
         "undeleted" => Call::Undeleted { file: members.file()? },
+        "trigger" => Call::Trigger,
         // embed/bindings: end
         "ack" => ack(&mut members, term)?,
         "decline" => Call::Decline { term: members.term(term)?, id: members.id()?, subtask: members.subtask()? },

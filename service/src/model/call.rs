@@ -76,6 +76,7 @@ pub enum Call {
     Undeleted {
         file: u64,
     },
+    Trigger,
     // embed/bindings: end
     /// `bytes` are those of each fresh file, or none. The log's line does not have them.
     Ack {
@@ -125,6 +126,7 @@ impl Call {
             Call::Cancel => "cancel",
             Call::Deleted { .. } => "deleted",
             Call::Undeleted { .. } => "undeleted",
+            Call::Trigger => "trigger",
             // embed/bindings: end
             Call::Ack { .. } => "ack",
             Call::Decline { .. } => "decline",

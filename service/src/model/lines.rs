@@ -25,6 +25,7 @@ impl Call {
             Call::Cancel => C::Cancel { now },
             Call::Deleted { file } => C::Deleted { file: *file },
             Call::Undeleted { file } => C::Undeleted { file: *file },
+            Call::Trigger => C::Trigger { now },
             // embed/bindings: end
             Call::Ack { term: 0, id, subtask, fresh, reused, .. } => {
                 C::Ack { now, id: *id, subtask: subtask.into(), fresh, reused }
@@ -85,6 +86,7 @@ fn changing(said: relkvanu::Call<'_>) -> Option<(u64, Call)> {
         C::Cancel { now } => (now, Call::Cancel),
         C::Deleted { file } => (0, Call::Deleted { file }),
         C::Undeleted { file } => (0, Call::Undeleted { file }),
+        C::Trigger { now } => (now, Call::Trigger),
         // embed/bindings: end
         C::Ack { now, id, subtask, fresh, reused } => (now, ack(0, id, subtask, fresh, reused)),
         C::AckIn { term, now, id, subtask, fresh, reused } => (now, ack(term, id, subtask, fresh, reused)),
@@ -98,7 +100,8 @@ fn changing(said: relkvanu::Call<'_>) -> Option<(u64, Call)> {
         C::Fence { first_name } => (0, Call::Fence { first_name }),
         C::Reserve { term, count } => (0, Call::Reserve { term, count }),
         C::Forfeit { term, names } => (0, Call::Forfeit { term, names: names.to_vec() }),
-        C::Show { .. } | C::Count { .. } => return None,
+        // The service takes no new settings, so no log of its jobs has the last.
+        C::Show { .. } | C::Count { .. } | C::Configure { .. } => return None,
     })
 }
 

@@ -67,7 +67,7 @@ stored_metadata p id r metadata order none there is = grind (arith, common_steps
 -- a show is refused exactly if there is no such record
 refusal_show : (m : State) (id : ℕ) → refusal m (call.Show id) ≡ no_record (record_of m id)
 unfolding refusal
-refusal_show m id = sym (row_last (no_record (record_of m id)) (None ∷ []) (no_record (record_of m id)) refl refl)
+refusal_show m id = sym (row_last (no_record (record_of m id)) (None ∷ None ∷ []) (no_record (record_of m id)) refl refl)
 
 pub show_live : (m : State) (id : ℕ) → IsSome (record_of m id) → refusal m (call.Show id) ≡ None
 show_live m id live = grind (arith, common_steps, refusal_show)

@@ -2,7 +2,8 @@
 use Rattle.ckpt_core.proofs.Names.{Refusal, NameTaken, FileGone, IsIn, IsInOrder, LiesAt, Record, uses, is_present, IsPending, find-none, IsStored, has_id, has_savepoint, id_of, find-place, Parts}
 use Rattle.ckpt_core.proofs.Names.{is_checkpoint, first_some, is_foreign, is_repeat, is_done_savepoint, savepoints, named, pending_of, where_pending, id_before, with_pins, grouped, AreSound, AreTied}
 use Rattle.ckpt_core.proofs.Names.{◌≡◌, ℕ, ◌+◌, false, not, eqb, List, [], ◌∷◌, length, sym, ◌∙◌, Option, Some, None, count_by, find, slice_get, IfNone, IfSome, list_any, option_map, SubtaskId}
-use Rattle.ckpt_core.proofs.Records.{GroupLookups.savepoints-groups, GroupLookups.done_savepoint-groups, Grouped.AreApart, Grouped.apart-from_in_order, Lookups.pending_of-groups}
+use Rattle.ckpt_core.proofs.Names.{pending_checkpoints}
+use Rattle.ckpt_core.proofs.Records.{GroupLookups.pending_checkpoints-groups, GroupLookups.savepoints-groups, GroupLookups.done_savepoint-groups, Grouped.AreApart, Grouped.apart-from_in_order, Lookups.pending_of-groups}
 use Rattle.ckpt_core.proofs.{Ending.Drops.groups_of, Names.IsPlaceOf, Names.records_in, Names.state_of, Names.is_known_in, Names.common_steps, Names.arith}
 use Rattle.ckpt_model.specs.State.{is_known}
 use Rattle.ckpt_outbox.specs.Queues as queues
@@ -35,6 +36,10 @@ pub savepoints-parts : (p : Parts) → ((r : Record) → IsIn r p.pending → Is
     p.store.savepoints
 unfolding state_of
 savepoints-parts p pending stored = grind (arith, common_steps, groups_of, savepoints-groups)
+
+pub pending_checkpoints-parts : (p : Parts) → ((r : Record) → IsIn r p.pending → IsPending r) → IsStored p.store → pending_checkpoints (state_of p) ≡ count_by is_checkpoint p.pending
+unfolding state_of
+pending_checkpoints-parts p pending stored = pending_checkpoints-groups p.registry p.pending p.store.checkpoints p.store.savepoints (groups_of p pending stored)
 
 -- the rows on the part of a subtask, before rows that do not hold
 abbrev rows_of : Option Record → SubtaskId → Option Refusal → Option Refusal → List (Option Refusal) → List (Option Refusal)

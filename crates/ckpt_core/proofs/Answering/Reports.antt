@@ -8,7 +8,7 @@ use Rattle.ckpt_ids.specs.declared.reply.Answer.TheVariants as answers
 
 -- the row on the file alone
 abbrev taken_row : Bool → Option Refusal
-taken_row taken = first_some (refuse_if (not taken) NotTaken ∷ None ∷ None ∷ [])
+taken_row taken = first_some (refuse_if (not taken) NotTaken ∷ None ∷ None ∷ None ∷ [])
 
 pub refusal_deleted : (m : State) (file : ℕ) (taken : Bool) → list_any (λ f. eqb f file) m.taken ≡ taken → refusal m (Deleted file) ≡ (if taken then None else Some NotTaken)
 unfolding refusal
@@ -24,7 +24,7 @@ refusal_undeleted m file taken e = refusal_deleted m file taken e
 
 -- by whether it is a done savepoint, and whether it is the base
 abbrev pub disposal_rows : Bool → Bool → Option Refusal
-disposal_rows done in_use = first_some (refuse_if (not done) NoSuchSavepoint ∷ refuse_if in_use InUse ∷ None ∷ None ∷ None ∷ None ∷ [])
+disposal_rows done in_use = first_some (refuse_if (not done) NoSuchSavepoint ∷ refuse_if in_use InUse ∷ None ∷ None ∷ None ∷ None ∷ None ∷ [])
 
 pub refusal_dispose : (m : State) (id : ℕ) (done in_use : Bool) → is_done_savepoint m id ≡ done → is_number m.base id ≡ in_use → refusal m (Dispose id) ≡ disposal_rows done in_use
 unfolding refusal

@@ -56,6 +56,18 @@ pub started_state : (p q : Parts) (k : Moments) (moment : ℕ) → state_of q �
 unfolding state_of triggered
 started_state p q k moment after m e = grind (arith, common_steps)
 
+-- a trigger whatever the interval and the pause
+pub trigger_answers : (p q : Parts) (now moment id : ℕ) (c k : Moments) → IsAccepted p (call.Trigger now) → c ≡ record p.clock { latest = max now p.clock.latest } →
+    state_of q ≡ triggered (state_of (record p { clock = c })) kind.Checkpoint → id ≡ p.next → moment ≡ max 0 q.clock.latest → k ≡ record q.clock { due = moment + gap q.opened.config } → AreTied q →
+    q.ended.items ≡ [] → Answers p (record q { clock = k }) (call.Trigger now) (reply.Ticked 0 (ends.Triggered id))
+unfolding state_of effect start_or_hold triggered
+trigger_answers p q now moment id c k accepted seen after new m e tied none = record {
+  step_is = step_accepted (state_of p) (call.Trigger now) accepted ∙ (let seen_by : q.clock.latest ≡ c.latest = ap (λ (s : State). s.latest) after in
+      let after_see = started_state (record p { clock = c }) q k moment after (m ∙ ap (max 0) seen_by) e in grind (arith, common_steps, seen_state p now c seen, stepped));
+  tied = tied_clock q k tied;
+  none_ended = none;
+}
+
 pub starts_now : (p q : Parts) (k : Moments) (pending moment id : ℕ) → held_at (state_of p) pending ≡ hold.Go → state_of q ≡ triggered (state_of p) kind.Checkpoint → id ≡ p.next →
     moment ≡ max 0 p.clock.latest → k ≡ record q.clock { due = moment + gap q.opened.config } → Starts (state_of p) pending (state_of (record q { clock = k })) (ends.Triggered id)
 unfolding state_of start_or_hold

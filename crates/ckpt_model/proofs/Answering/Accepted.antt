@@ -1,8 +1,8 @@
 -- What is known of a call that is not refused: no row of the table of refusals holds.
 use Rattle.ckpt_model.proofs.Names.{◌≡◌, ℕ, ◌+◌, ◌<◌, ◌≤◌, ◌^◌, Bool, true, false, not, ltb, leb, eqb, List, ◌∷◌, ◌++◌, length, find, Option, Some, None, list_any, both_ways, not-false, leb-false}
-use Rattle.ckpt_model.proofs.Names.{ltb-false, SubtaskId, Target, Tick, Savepoint, Ack, Decline, Dispose, Restore, Cancel, Deleted, Undeleted, Refusal, MomentTooLarge, TooManyFiles, RepeatedFile}
+use Rattle.ckpt_model.proofs.Names.{ltb-false, SubtaskId, Target, Tick, Savepoint, Ack, Decline, Dispose, Restore, Cancel, Deleted, Undeleted, Trigger, Configure, Refusal, MomentTooLarge, TooManyFiles, RepeatedFile}
 use Rattle.ckpt_model.proofs.Names.{NameTaken, FileGone, Record, uses, is_present, has_acknowledged, is_subtask, Mode, Running, State, is_known, refusal, refuse_if, first_some, is_running}
-use Rattle.ckpt_model.proofs.Names.{has_repeats, pending_of, is_done_savepoint, savepoints, was_not_given, is_foreign, is_repeat, named, where_pending, is_number, common_steps, arith}
+use Rattle.ckpt_model.proofs.Names.{has_repeats, pending_of, is_done_savepoint, savepoints, was_not_given, is_foreign, is_repeat, named, where_pending, is_number, Configuration, limit, pending_checkpoints, common_steps, arith}
 use Rattle.ckpt_ids.specs.declared.call.Target.TheVariants as target
 
 -- there is none
@@ -52,6 +52,16 @@ accepted_tick m now h = grind (arith, common_steps)
 pub accepted_savepoint : (m : State) (now : ℕ) → refusal m (Savepoint now) ≡ None → IsAcceptedTrigger m now × (savepoints m < 1000)
 unfolding refusal
 accepted_savepoint m now h = grind (arith, common_steps)
+
+-- of a Trigger: the same, and one more may be pending
+pub accepted_trigger : (m : State) (now : ℕ) → refusal m (Trigger now) ≡ None → IsAcceptedTrigger m now × (pending_checkpoints m < limit m.opening.config)
+unfolding refusal
+accepted_trigger m now h = grind (arith, common_steps)
+
+-- of a Configure: the moment is one, and no more are pending than may be from now on
+pub accepted_configure : (m : State) (now : ℕ) (config : Configuration) → refusal m (Configure now config) ≡ None → (now < 2 ^ 62) × (pending_checkpoints m ≤ limit config)
+unfolding refusal
+accepted_configure m now config h = grind (arith, common_steps)
 
 -- an accepted acknowledgement
 pub record IsAcceptedAck (m : State) (now id : ℕ) (subtask : SubtaskId) (fresh reused : List ℕ) : Type 0 where

@@ -1,5 +1,5 @@
 -- The acknowledgements of a live record are exactly the accepted ones of its number.
-use Rattle.ckpt_model.proofs.Names.{◌≡◌, ℕ, ◌<◌, ◌≤◌, List, [], ◌∷◌, ◌++◌, refl, sym, ap, ◌∙◌, inl, inr, arith, Option, eq-eqb, ne_eqb, append-nil, append_assoc, SubtaskId, Acked, Call, Ack, IsIn}
+use Rattle.ckpt_model.proofs.Names.{◌≡◌, ℕ, ◌<◌, ◌≤◌, List, [], ◌∷◌, ◌++◌, refl, sym, ap, ◌∙◌, inl, inr, ⊎_elim, arith, Option, eq-eqb, ne_eqb, append-nil, append_assoc, SubtaskId, Acked, Call, Ack, IsIn}
 use Rattle.ckpt_model.proofs.Names.{in_order, acknowledges_before, put_ack, ascending, Record, IsIn-in_order, State, Opening, opened, step, replay, IsSound, CanOpen, AreCalls, along, accepted_by}
 use Rattle.ckpt_model.proofs.Names.{Acknowledgements, common_steps}
 use Rattle.ckpt_model.proofs.Records.{new_subtask}
@@ -70,7 +70,8 @@ taken_accepted m now id subtask fresh reused so_far s i a =
 
 -- each call
 step_accepts : (m : State) (call : Call) (so_far : ℕ → List Acked) → IsSound m → AreAccepted m so_far → AreAccepted (step m call).0 (and_then so_far m call)
-step_accepts m (Ack now id subtask fresh reused) so_far s a = grind (arith, common_steps, passed_accepted, step_is, taken_accepted)
+step_accepts m (Ack now id subtask fresh reused) so_far s a =
+    ⊎_elim (λ i. passed_accepted m now id subtask fresh reused so_far i a) (λ i. taken_accepted m now id subtask fresh reused so_far s i a) ((step_is m (Ack now id subtask fresh reused)).records s)
 step_accepts m call so_far s a = grind (arith, common_steps, moved_accepted, step_is)
 
 -- each list of calls

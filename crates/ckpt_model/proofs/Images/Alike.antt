@@ -1,6 +1,6 @@
 -- No answer depends on the order in which files were fetched.
 use Rattle.ckpt_model.proofs.Names.{◌≡◌, ℕ, ◌+◌, max, Bool, true, false, not, ◌&&◌, ◌||◌, cond, ltb, eqb, List, [], ◌∷◌, ◌++◌, take, refl, sym, ap, subst, ◌∙◌, count_by, Option, Some, None, list_any}
-use Rattle.ckpt_model.proofs.Names.{cases_Bool, both_ways, SubtaskId, Kind, Target, Call, Tick, Savepoint, Ack, Decline, Dispose, Restore, Cancel, Take, Deleted, Undeleted, Show, Count, Choice, Done}
+use Rattle.ckpt_model.proofs.Names.{cases_Bool, both_ways, SubtaskId, Kind, Target, Call, Trigger, Configure, configure, with_config, Go, Tick, Savepoint, Ack, Decline, Dispose, Restore, Cancel, Take, Deleted, Undeleted, Show, Count, Choice, Done}
 use Rattle.ckpt_model.proofs.Names.{Refusal, ascending, times, IsIn, Record, missing, uses, is_present, IsAscending-ascending, same_from_times, times-ascending, times-append, times-filter}
 use Rattle.ckpt_model.proofs.Names.{IsIn-append_left, IsIn-append_right, IsIn-append_cases, IsIn-in_order, IsIn-from_in_order, filter-same, list_any-from_IsIn, IsIn-from_list_any, Hold, hold, State}
 use Rattle.ckpt_model.proofs.Names.{is_checkpoint, is_known, in_outbox, is_expired, drop, choice_of, chosen, files_of, pins_now, refusal, moment_of, pending_of, Stepped, with_records, dropped_by}
@@ -144,7 +144,7 @@ ack_both m t u (Some r) subtask fresh reused e = grind (arith, common_steps, ack
 
 -- what an accepted call does, at its moment
 effect_both : (m : State) (t u : List ℕ) (call : Call) → Same t u → Both (effect (at_moment (with_taken m t) (moment_of call)) call) (effect (at_moment (with_taken m u) (moment_of call)) call)
-unfolding effect dispose dropping cancel take_files drop
+unfolding effect dispose dropping cancel take_files configure with_config drop
 effect_both m t u (Tick now) e = let n : State = record m { latest = max now m.latest } in both_framed t u (tick (with_taken n t)) (tick (with_taken n u)) (tick n) e (tick_frame n t) (tick_frame n u)
 effect_both m t u (Savepoint now) e =
     let n : State = record m { latest = max now m.latest } in
@@ -166,6 +166,10 @@ effect_both m t u (Deleted file) e = (ap (λ xs. record m { taken = xs }) (same-
 effect_both m t u (Undeleted file) e = (ap (λ xs. record m { waiting = m.waiting ++ file ∷ []; taken = xs }) (same-without file t u e), refl)
 effect_both m t u (Show id) e = (ap (with_taken m) e, refl)
 effect_both m t u (Count file) e = (ap (with_taken m) e, refl)
+effect_both m t u (Trigger now) e =
+    let n : State = record m { latest = max now m.latest } in
+    both_framed t u (start_or_hold (with_taken n t) 0 Go) (start_or_hold (with_taken n u) 0 Go) (start_or_hold n 0 Go) e (start_frame n t 0 Go) (start_frame n u 0 Go)
+effect_both m t u (Configure now c) e = let n : State = record m { latest = max now m.latest } in both_framed t u (configure (with_taken n t) c) (configure (with_taken n u) c) (configure n c) e refl refl
 
 -- a call that is refused leaves both as they are
 unless_both : (m : State) (t u : List ℕ) (call : Call) (o : Option Refusal) → Same t u → Both (unless_refused (with_taken m t) call o) (unless_refused (with_taken m u) call o)

@@ -1,6 +1,6 @@
 -- A done checkpoint stays, unchanged, through every call that may not drop it.
 use Rattle.ckpt_model.proofs.Names.{◌≡◌, ℕ, ◌<◌, ◌≤◌, Bool, true, false, not, ◌&&◌, leb, ltb, eqb, List, [], ◌∷◌, refl, ap, max, ◌+◌, arith, count_by, Option, Some, None, cases_Bool, both_ways}
-use Rattle.ckpt_model.proofs.Names.{not-true, and_parts, leb-false, lt-ltb, ltb-true, eqb-true, cond_both, SubtaskId, Call, Tick, Savepoint, Ack, Decline, Dispose, Restore, Cancel, IsIn, IsInOrder}
+use Rattle.ckpt_model.proofs.Names.{not-true, and_parts, leb-false, lt-ltb, ltb-true, eqb-true, cond_both, SubtaskId, Call, Trigger, Configure, with_config, configure, is_surplus, Tick, Savepoint, Ack, Decline, Dispose, Restore, Cancel, IsIn, IsInOrder}
 use Rattle.ckpt_model.proofs.Names.{IsInOrder-map, IsIn-map, IsIn-append_left, IsIn-from_list_any, Record, missing, Hold, Go, State, is_checkpoint, is_done_checkpoint, is_pending, is_expired, drop}
 use Rattle.ckpt_model.proofs.Names.{kept, unpinned, refusal, pending_of, Stepped, triggered, failed_over, start_or_hold, after_expiry, tick, ack, acknowledged_in, completed_with, cleared}
 use Rattle.ckpt_model.proofs.Names.{superseded, replaced, with_records, decline, decline_pending, dropping, dispose, restore, restarted, cancel, cancelled, failures_with, fails_the_job, take_files}
@@ -143,7 +143,7 @@ dispose_keeps m id r s d there =
 
 -- through each call
 stays : (m : State) (call : Call) (r : Record) → IsSound m → IsDoneCheckpoint r m.records → may_drop r.id m call ≡ false → IsIn r (step m call).0.records
-unfolding effect restore restarted cancel take_files triggered
+unfolding effect restore restarted cancel take_files triggered configure with_config
 stays m (Tick now) r s d e = step_by m (Tick now) (λ x. IsIn r x.0.records) (λ _ _. d.there) (λ _. tick_keeps (record m { latest = max now m.latest }) r d.there d.done)
 stays m (Savepoint now) r s d e = step_by m (Savepoint now) (λ x. IsIn r x.0.records) (λ _ _. d.there) (λ _. IsIn-append_left r m.records _ d.there)
 stays m (Ack now id subtask fresh reused) r s d e =
@@ -161,6 +161,10 @@ stays m (Restore now (target.Savepoint id) shape) r s d e =
 stays m (Cancel now) r s d e =
     step_by m (Cancel now) (λ x. (is_accepted x.1 && not m.opening.config.keep_on_cancel) ≡ false → IsIn r x.0.records) (λ _ _ _. d.there)
     (λ _ keeps. drop_keeps (record m { latest = max now m.latest }) (cancelled (record m { latest = max now m.latest })) r d.there (grind (arith, common_steps))) e
+stays m (Trigger now) r s d e = step_by m (Trigger now) (λ x. IsIn r x.0.records) (λ _ _. d.there) (λ _. start_keeps (record m { latest = max now m.latest }) 0 Go r d.there)
+stays m (Configure now c) r s d e =
+    step_by m (Configure now c) (λ x. (is_accepted x.1 && leb c.retained (newer_than r.id m)) ≡ false → IsIn r x.0.records) (λ _ _ _. d.there)
+    (λ _ few. let n : State = with_config (record m { latest = max now m.latest }) c in drop_keeps n (is_surplus n) r d.there (grind (arith, common_steps))) e
 stays m call r s d e = step_by m call (λ x. IsIn r x.0.records) (λ _ _. d.there) (λ _. d.there)
 
 -- the law, of one call

@@ -4,7 +4,7 @@ use Rattle.ckpt_model.proofs.Names.{list_any-from_IsIn, Record, State, is_done_c
 use Rattle.ckpt_model.proofs.Histories.Choice.{last_is_done}
 
 -- a list with no last done checkpoint has none
-last_is_none : (rs : List Record) (r : Record) → last_checkpoint rs ≡ None → IsIn r rs → is_done_checkpoint r ≡ false
+pub last_is_none : (rs : List Record) (r : Record) → last_checkpoint rs ≡ None → IsIn r rs → is_done_checkpoint r ≡ false
 last_is_none [] r e h = absurd h
 last_is_none (x ∷ rs) r e h = grind (arith, common_steps, last_is_none rs r, cases_Bool)
 

@@ -130,7 +130,7 @@ later_first : (p : Record → Bool) (r : Record) (rs : List Record) → ComesBef
 later_first p r rs c = grind (arith, common_steps, ComesBefore-at, and_right, and_true, count_by-same, count_by_no, le-ltb)
 
 -- one that comes after the first has as many after it without the first
-later_rest : (p : Record → Bool) (x r : Record) (rs : List Record) → x.id ≤ r.id → later p r (x ∷ rs) ≡ later p r rs
+pub later_rest : (p : Record → Bool) (x r : Record) (rs : List Record) → x.id ≤ r.id → later p r (x ∷ rs) ≡ later p r rs
 later_rest p x r rs h = grind (arith, common_steps)
 
 -- of those that pass, the ones with fewer than n later ones are n at most

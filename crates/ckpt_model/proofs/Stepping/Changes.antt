@@ -1,6 +1,6 @@
 -- What any call changes; and what one that is no acknowledgement changes: nothing, the outbox, or records, by a drop with new settings or by a trigger.
 use Rattle.ckpt_model.proofs.Names.{◌≡◌, ◌≢◌, ℕ, ◌+◌, ◌≤◌, Bool, true, false, not, List, [], ◌∷◌, ◌++◌, length, refl, sym, subst, ◌⊎◌, ⊎_elim, Option, Some, None, list_any, not_from_false, SubtaskId}
-use Rattle.ckpt_model.proofs.Names.{Kind, Call, Ack, Refusal, Answer, Refused, IsIn, ascending, Record, IsShape, Mode, Running, State, is_checkpoint, is_pending, drop, pins_now, Stepped, triggered}
+use Rattle.ckpt_model.proofs.Names.{Configuration, Configure, Kind, Call, Ack, Refusal, Answer, Refused, IsIn, ascending, Record, IsShape, Mode, Running, State, is_checkpoint, is_pending, drop, pins_now, Stepped, triggered}
 use Rattle.ckpt_model.proofs.Names.{IsSound, IsCall, given_as, is_ack_taken, common_steps, arith}
 use Rattle.std.specs.Prelude as prelude
 use Rattle.ckpt_model.proofs.Records.{sound_from, outbox_of, filtered_records}
@@ -36,9 +36,16 @@ abbrev pub ChangesRecords : State → Call → Stepped → Type 0
 ChangesRecords m (Ack now id subtask fresh reused) x = IsPassedOver m x ⊎ IsTakenBy m id subtask fresh reused x
 ChangesRecords m call x = IsMoved m (disposed_by call x.1) (x.0).records
 
+-- this is the configuration that the call gives
+abbrev pub IsConfigured : Call → Configuration → Type 0
+IsConfigured (Configure now its) config = config ≡ its
+IsConfigured call config = ⊥
+
 -- what any call changes, whatever its answer
 pub record IsStep (m : State) (call : Call) (x : Stepped) : Type 0 where
-  pub opening : (x.0).opening ≡ m.opening
+  -- the opening stays, but for the configuration
+  pub opening : record (x.0).opening { config = m.opening.config } ≡ m.opening
+  pub config : ((x.0).opening.config ≡ m.opening.config) ⊎ IsConfigured call (x.0).opening.config
   pub gives : Gives m x.0 (given_as x.1)
   pub sound : IsCall call → IsSound m → IsSound x.0
   pub records : IsSound m → ChangesRecords m call x
@@ -46,7 +53,8 @@ pub record IsStep (m : State) (call : Call) (x : Stepped) : Type 0 where
 
 -- what a call changes that is no acknowledgement and takes no file out of the outbox
 pub record IsPlain (m : State) (call : Call) (n : State) (given : List ℕ) : Type 0 where
-  pub opening : n.opening ≡ m.opening
+  pub opening : record n.opening { config = m.opening.config } ≡ m.opening
+  pub config : (n.opening.config ≡ m.opening.config) ⊎ IsConfigured call n.opening.config
   pub gives : Gives m n given
   pub sound : IsCall call → IsSound m → IsSound n
   pub moves : IsSound m → IsMoved m (disposed_of call) n.records

@@ -3,7 +3,7 @@ use Rattle.ckpt_model.proofs.Names.{◌≡◌, ℕ, ◌+◌, ◌<◌, ◌≤◌,
 use Rattle.ckpt_model.proofs.Names.{unwrap_or, filter, cases_Bool, both_ways, not-true, and_parts, cond_both, eqb-true, ltb-false, SubtaskId, Target, Call, Tick, Savepoint, Ack, Decline, Dispose}
 use Rattle.ckpt_model.proofs.Names.{Restore, Cancel, Take, Deleted, Undeleted, Show, Count, Answer, Done, IsIn, Record, hold, gap, Hold, Go, Running, Failed, Cancelled, State, is_checkpoint}
 use Rattle.ckpt_model.proofs.Names.{is_pending, is_expired, is_known, record_of, drop, pins_now, refusal, moment_of, pending_of, is_done_savepoint, is_number, savepoints, Stepped, pending_checkpoints}
-use Rattle.ckpt_model.proofs.Names.{dropped_by, triggered, failed_over, start_or_hold, after_expiry, tick, ack, failures_with, fails_the_job, decline, decline_pending, dropping, dispose, restore}
+use Rattle.ckpt_model.proofs.Names.{Opening, Configuration, Trigger, Configure, limit, is_surplus, with_config, configure, dropped_by, triggered, failed_over, start_or_hold, after_expiry, tick, ack, failures_with, fails_the_job, decline, decline_pending, dropping, dispose, restore}
 use Rattle.ckpt_model.proofs.Names.{restarted, rolled_back, cancel, cancelled, take_files, without, show, effect, at_moment, step, IsSound, given_as, is_ack_taken, registered_as, common_steps}
 use Rattle.std.specs.Prelude as prelude
 use Rattle.ckpt_ids.specs.declared.numbers.Kind.TheVariants as kind
@@ -11,13 +11,13 @@ use Rattle.ckpt_ids.specs.declared.call.Target.TheVariants as target
 use Rattle.ckpt_ids.specs.declared.reply.Reply.TheVariants as reply
 use Rattle.ckpt_model.proofs.Records.{IsIn-from_find, same_record, distinct-from_test}
 use Rattle.ckpt_model.proofs.Answering.Accepted.{IsAcceptedAck, accepted_tick, accepted_savepoint, accepted_ack, accepted_decline, accepted_dispose, accepted_restore, accepted_restore_savepoint}
-use Rattle.ckpt_model.proofs.Answering.Accepted.{accepted_cancel, accepted_deleted, accepted_undeleted}
+use Rattle.ckpt_model.proofs.Answering.Accepted.{accepted_cancel, accepted_deleted, accepted_undeleted, accepted_trigger, accepted_configure}
 use Rattle.ckpt_model.proofs.Answering.StepCases.{step_by}
 use Rattle.ckpt_model.proofs.Soundness.{moment_is_sound, checkpoint_is_sound, savepoint_is_sound, fewer-from_go, few_failures, expired_is_pending, with_ack, acking, acking_at, late_is_sound}
-use Rattle.ckpt_model.proofs.Soundness.{take_is_sound, deleted_is_sound, undeleted_is_sound}
+use Rattle.ckpt_model.proofs.Soundness.{take_is_sound, deleted_is_sound, undeleted_is_sound, configured_is_sound}
 use Rattle.ckpt_model.proofs.Records.Pins.{pins_stay}
-use Rattle.ckpt_model.proofs.Histories.Moves.{unmoved}
-use Rattle.ckpt_model.proofs.Histories.Spreads.{late_spreads}
+use Rattle.ckpt_model.proofs.Histories.Moves.{unmoved, dropped_moves}
+use Rattle.ckpt_model.proofs.Histories.Spreads.{late_spreads, drop_spreads}
 use Rattle.ckpt_model.proofs.Stepping.Changes.{IsStep, IsPlain, settings, plain_step, plain_at, unchanged, refusal_step, outbox_step, dropped_is, triggered_is}
 use Rattle.ckpt_model.proofs.Stepping.Files.{spread_settled, take_settled, deleted_settled, undeleted_settled}
 use Rattle.ckpt_model.proofs.Stepping.Acknowledged.{acknowledged_is_taken, acked_is}
@@ -54,6 +54,26 @@ tick_is m call running room =
     (λ e. start_is m k call (dropped_by m expired) _ refl
     (dropped_is m call (record (settings m) { failures = m.failures + late }) expired (grind (arith, common_steps, keeps, few_failures) steps 1000000)) refl
     (λ s. pins_stay m k (λ r. not (expired r)) s refl refl (λ r _ done. ap not (keeps r done))) running room)
+
+-- a trigger whatever the interval and the pause
+trigger_is : (m : State) (call : Call) → m.mode ≡ Running → m.next < 2 ^ 62 → pending_checkpoints m < limit m.opening.config → IsPlain m call (start_or_hold m 0 Go).0 (given_as (start_or_hold m 0 Go).1)
+unfolding start_or_hold
+trigger_is m call running room fewer =
+    triggered_is m m call kind.Checkpoint (m.latest + gap m.opening.config) (unchanged m call) refl (λ _. refl) (λ s. checkpoint_is_sound m _ s running room fewer)
+
+-- a new configuration
+configure_is : (m : State) (now : ℕ) (c : Configuration) → pending_checkpoints m ≤ limit c → IsPlain m (Configure now c) (configure m c).0 (given_as (configure m c).1)
+unfolding configure with_config drop
+configure_is m now c few =
+    let n : State = with_config m c in
+    record {
+      opening = refl;
+      config = inr refl;
+      gives = inl (refl, refl);
+      sound = λ within s. configured_is_sound m c within few s;
+      moves = λ _. dropped_moves m (is_surplus n) None (λ r h done savepoint. inl (grind (arith, common_steps)));
+      spreads = drop_spreads n (is_surplus n);
+    }
 
 -- a savepoint's trigger
 savepoint_is : (m : State) (call : Call) → m.mode ≡ Running → m.next < 2 ^ 62 → savepoints m < 1000 → IsPlain m call (triggered m kind.Savepoint) (m.next ∷ [])
@@ -121,6 +141,7 @@ ack_is : (m : State) (now id : ℕ) (subtask : SubtaskId) (fresh reused : List �
 unfolding ack
 ack_is m now id subtask fresh reused None a e = record {
   opening = refl;
+  config = inl refl;
   gives = inl (refl, refl);
   sound = λ _ s. late_is_sound (record m { latest = max now m.latest }) subtask fresh reused (moment_is_sound m now s a.moment) (distinct-from_test (fresh ++ reused) a.once);
   records = λ _. inl (record { records = refl; not_taken = refl });
@@ -134,7 +155,8 @@ ack_is m now id subtask fresh reused (Some q) a e =
     let is_taken : is_ack_taken x.1 ≡ true = acknowledged_is_taken n (with_ack q subtask fresh reused) in
     let its : q.id ≡ id = eqb-true q.id id (and_parts (is_pending q) (eqb q.id id) (IsIn-from_find (λ r. is_pending r && eqb r.id id) q m.records e).1).1 in
     record {
-      opening = i.opening;
+      opening = ap (λ (o : Opening). record o { config = m.opening.config }) i.opening;
+      config = inl (ap (λ (o : Opening). o.config) i.opening);
       gives = inl (i.gives_none, i.next);
       sound = λ _ s. i.sound (moment_is_sound m now s a.moment);
       records = λ s. inr (record { q = q; its_id = its; acking = k; taken = i.taken (moment_is_sound m now s a.moment); is_taken = is_taken });
@@ -171,6 +193,10 @@ effect_is m (Undeleted file) e =
     outbox_step m (Undeleted file) (m.waiting ++ file ∷ []) (without file m.taken) (Done (reply.Undeleted file)) refl (unmoved m None)
     (λ s. undeleted_is_sound m file s (accepted_undeleted m file e)) (λ s. undeleted_settled m file s (accepted_undeleted m file e))
 effect_is m (Show id) e = show_is m id (record_of m id)
+effect_is m (Trigger now) e = let a = accepted_trigger m now e in
+    plain_step _ (plain_at (λ s. moment_is_sound m now s (a.0).moment) (trigger_is (record m { latest = max now m.latest }) (Trigger now) (a.0).running (a.0).room a.1)) (λ i. i) refl refl refl
+effect_is m (Configure now c) e = let a = accepted_configure m now c e in
+    plain_step _ (plain_at (λ s. moment_is_sound m now s a.0) (configure_is (record m { latest = max now m.latest }) now c a.1)) (λ i. i) refl refl refl
 effect_is m (Count file) e = plain_step _ (unchanged m (Count file)) (λ i. i) refl refl refl
 
 -- each call

@@ -74,6 +74,7 @@ final class Answers {
             case Header.DELETED -> new Reply.Deleted(a);
             case Header.UNDELETED -> new Reply.Undeleted(a);
             case Header.COUNTED -> new Reply.Counted(a, b);
+            case Header.CONFIGURED -> new Reply.Configured(a, b);
             // embed/bindings: end
             case Header.RESERVED -> new Reply.Reserved(a, b);
             case Header.FORFEITED -> new Reply.Forfeited();

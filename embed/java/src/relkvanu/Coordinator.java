@@ -227,6 +227,17 @@ public final class Coordinator extends Reads implements AutoCloseable, Outbox {
     public Reply.Undeleted undeleted(long file) {
         return (Reply.Undeleted) replied((at, out) -> Native.undeleted(at, file, out));
     }
+
+    /**
+     * Triggers a checkpoint now, whatever the interval and the pause. Nothing expires: make a tick first if records may be too old. The
+     * interval counts from it, as after a tick that triggers.
+     *
+     * @param now the moment
+     * @return what happened
+     */
+    public Reply.Tick trigger(long now) {
+        return (Reply.Tick) timed(now, (at, out) -> Native.trigger(at, now, out));
+    }
     // embed/bindings: end
 
     /**

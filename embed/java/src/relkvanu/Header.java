@@ -69,6 +69,8 @@ final class Header {
     static final int SHOWN = 21;
     /** a: file, b: uses. The uses by live records */
     static final int COUNTED = 22;
+    /** a: checkpoints dropped, b: files released. The job has the new settings */
+    static final int CONFIGURED = 61;
     /** the job takes checkpoints */
     static final int MODE_RUNNING = 23;
     /** too many checkpoints failed in a row: restore the job */
@@ -171,6 +173,8 @@ final class Header {
     static final int NO_SUCH_RECORD = 14;
     /** no number is left for another record */
     static final int IDS_USED_UP = 15;
+    /** as many checkpoints are pending as may be, or more than the new settings allow */
+    static final int AT_ONCE = 16;
     /** the term of the task has ended, or has not begun */
     static final int OLD_TERM = 1;
     /** the job was cancelled, and no task runs */
@@ -237,6 +241,8 @@ final class Header {
     static final int CALL_RESERVE = 14;
     /** relkvanu_forfeit */
     static final int CALL_FORFEIT = 15;
+    static final int CALL_TRIGGER = 16;
+    static final int CALL_CONFIGURE = 17;
     /** no text of an answer has more bytes */
     static final int ANSWER_TEXT = 128;
 }

@@ -140,6 +140,15 @@ public final class Lines {
     public static String count(long file) {
         return line(Header.CALL_COUNT, 0, file);
     }
+
+    /**
+     * {@return the line of a trigger}
+     *
+     * @param now the moment
+     */
+    public static String trigger(long now) {
+        return line(Header.CALL_TRIGGER, now, 0);
+    }
     // embed/bindings: end
 
     /**

@@ -30,6 +30,8 @@ final class Native {
 
     static native void tick(long handle, long now, long[] out);
 
+    static native void trigger(long handle, long now, long[] out);
+
     static native void savepoint(long handle, long now, long[] out);
 
     static native void ack(long handle, long now, long id, int vertex, int index, long[] fresh, long[] reused, long[] out);
@@ -41,6 +43,8 @@ final class Native {
     static native void restore(long handle, long now, long savepoint, long[] shape, long[] out);
 
     static native void cancel(long handle, long now, long[] out);
+
+    static native void configure(long handle, long now, long[] settings, long[] out);
 
     static native void take(long handle, long[] files, long[] out);
 

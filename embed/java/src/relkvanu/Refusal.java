@@ -31,7 +31,9 @@ public enum Refusal {
     /** No live record has the number. */
     NO_SUCH_RECORD(Header.NO_SUCH_RECORD),
     /** No number is left for another record. */
-    IDS_USED_UP(Header.IDS_USED_UP);
+    IDS_USED_UP(Header.IDS_USED_UP),
+    /** As many checkpoints are pending as may be, or more than the new settings allow. */
+    AT_ONCE(Header.AT_ONCE);
 
     private static final Refusal[] ALL = values();
     private final int what;

@@ -270,5 +270,13 @@ public sealed interface Reply {
             return "Counted[file=" + FileNumbers.toString(file) + ", uses=" + uses + "]";
         }
     }
+
+    /**
+     * The job has the new settings.
+     *
+     * @param checkpoints checkpoints dropped
+     * @param released files released
+     */
+    record Configured(long checkpoints, long released) implements Reply {}
     // embed/bindings: end
 }

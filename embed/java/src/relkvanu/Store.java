@@ -256,6 +256,16 @@ public final class Store implements AutoCloseable {
     public Reply.Cancelled cancel() {
         return (Reply.Cancelled) call(StoreCall.cancel()).reply();
     }
+
+    /**
+     * Triggers a checkpoint now, whatever the interval and the pause. Nothing expires: make a tick first if records may be too old. The
+     * interval counts from it, as after a tick that triggers.
+     *
+     * @return what happened
+     */
+    public Reply.Tick trigger() {
+        return (Reply.Tick) call(StoreCall.trigger()).reply();
+    }
     // embed/bindings: end
 
     /**

@@ -90,6 +90,13 @@ public final class StoreCall {
     public static StoreCall undeleted(long file) {
         return of(Header.CALL_UNDELETED, file);
     }
+
+    /**
+     * {@return a trigger}
+     */
+    public static StoreCall trigger() {
+        return of(Header.CALL_TRIGGER, 0);
+    }
     // embed/bindings: end
 
     /**

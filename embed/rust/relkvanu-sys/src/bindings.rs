@@ -66,6 +66,8 @@ pub const RELKVANU_UNDELETED: u32 = 20;
 pub const RELKVANU_SHOWN: u32 = 21;
 /// a: file, b: uses. The uses by live records
 pub const RELKVANU_COUNTED: u32 = 22;
+/// a: checkpoints dropped, b: files released. The job has the new settings
+pub const RELKVANU_CONFIGURED: u32 = 61;
 /// the job takes checkpoints
 pub const RELKVANU_MODE_RUNNING: u32 = 23;
 /// too many checkpoints failed in a row: restore the job
@@ -168,6 +170,8 @@ pub const RELKVANU_NOT_TAKEN: u32 = 13;
 pub const RELKVANU_NO_SUCH_RECORD: u32 = 14;
 /// no number is left for another record
 pub const RELKVANU_IDS_USED_UP: u32 = 15;
+/// as many checkpoints are pending as may be, or more than the new settings allow
+pub const RELKVANU_AT_ONCE: u32 = 16;
 /// the term of the task has ended, or has not begun
 pub const RELKVANU_OLD_TERM: u32 = 1;
 /// the job was cancelled, and no task runs
@@ -234,6 +238,8 @@ pub const RELKVANU_CALL_FENCE: u32 = 13;
 pub const RELKVANU_CALL_RESERVE: u32 = 14;
 /// relkvanu_forfeit
 pub const RELKVANU_CALL_FORFEIT: u32 = 15;
+pub const RELKVANU_CALL_TRIGGER: u32 = 16;
+pub const RELKVANU_CALL_CONFIGURE: u32 = 17;
 /// no text of an answer has more bytes
 pub const RELKVANU_ANSWER_TEXT: u32 = 128;
 
@@ -316,6 +322,9 @@ extern "C" {
     /// Time has passed: records that are too old expire, and a checkpoint is triggered if one is due. RELKVANU_TICK_TRIGGERED to RELKVANU_TICK_FAILED. Refused: RELKVANU_MOMENT_TOO_LARGE, RELKVANU_NOT_RUNNING, RELKVANU_IDS_USED_UP. Takes memory only if it triggers.
     pub fn relkvanu_tick(handle: *mut relkvanu, now: u64) -> relkvanu_answer;
 
+    /// Triggers a checkpoint now, whatever the interval and the pause. Nothing expires: make a tick first if records may be too old. The interval counts from it, as after a tick that triggers. RELKVANU_TICK_TRIGGERED with a 0. Refused: RELKVANU_MOMENT_TOO_LARGE, RELKVANU_NOT_RUNNING, RELKVANU_IDS_USED_UP, RELKVANU_AT_ONCE. Takes memory.
+    pub fn relkvanu_trigger(handle: *mut relkvanu, now: u64) -> relkvanu_answer;
+
     /// Triggers a savepoint. At most 1000 savepoints are pending or done. RELKVANU_SAVEPOINT_TRIGGERED. Refused: RELKVANU_MOMENT_TOO_LARGE, RELKVANU_NOT_RUNNING, RELKVANU_TOO_MANY_SAVEPOINTS, RELKVANU_IDS_USED_UP. Takes memory.
     pub fn relkvanu_savepoint(handle: *mut relkvanu, now: u64) -> relkvanu_answer;
 
@@ -355,6 +364,13 @@ extern "C" {
 
     /// The job ends for good. RELKVANU_CANCELLED. Refused: RELKVANU_MOMENT_TOO_LARGE, RELKVANU_NOT_RUNNING (cancelled). Takes no memory.
     pub fn relkvanu_cancel(handle: *mut relkvanu, now: u64) -> relkvanu_answer;
+
+    /// The job has these settings from now on, until the next call of this kind. A job that has failed may have others too. It deletes: done checkpoints above the new number retained, the oldest first, are dropped at once, and their files wait for deletion. The next checkpoint is due when it was, and at the latest one new interval from now. Nothing expires before the next tick, and the failures in a row count on, as many as are tolerated now. RELKVANU_CONFIGURED. RELKVANU_BAD_ARGUMENT with RELKVANU_BAD_CONFIG is checked first. Refused: RELKVANU_MOMENT_TOO_LARGE, RELKVANU_NOT_RUNNING (cancelled), RELKVANU_AT_ONCE. Takes no memory.
+    pub fn relkvanu_configure(
+        handle: *mut relkvanu,
+        now: u64,
+        settings: *const relkvanu_settings,
+    ) -> relkvanu_answer;
 
     /// Fetches at most files_len files that wait for deletion, the longest waiting first, and writes them to the start of files. Report each one by relkvanu_deleted or relkvanu_undeleted. RELKVANU_TAKEN; a is 0 if no file waits. Never refused. Takes memory: after RELKVANU_NO_MEMORY the files still wait, and the buffer has not changed.
     pub fn relkvanu_take(
@@ -423,7 +439,7 @@ extern "C" {
         files_len: usize,
     ) -> relkvanu_answer;
 
-    /// Returns the kind of the line, RELKVANU_LINE_SKIP to RELKVANU_LINE_ALL. If the line makes no call, writes its numbers to the start of numbers, in the line's order; keep is 1 and delete is 0. Checks no number against the limits of a job. RELKVANU_TOO_SHORT, and a is how many places it needs; or RELKVANU_BAD_LINE with the fault. Neither changes the buffer. A restore line with a bad shape is RELKVANU_LINE_CALL, and so is each line with fence, reserve, forfeit or in: relkvanu_line says what is wrong with it. Takes memory only for the lists of an ack, job, restore or forfeit line.
+    /// Returns the kind of the line, RELKVANU_LINE_SKIP to RELKVANU_LINE_ALL. If the line makes no call, writes its numbers to the start of numbers, in the line's order; keep is 1 and delete is 0. Checks no number against the limits of a job. RELKVANU_TOO_SHORT, and a is how many places it needs; or RELKVANU_BAD_LINE with the fault. Neither changes the buffer. A restore line with a bad shape is RELKVANU_LINE_CALL, and so is each line with fence, reserve, forfeit, in, trigger or configure: relkvanu_line says what is wrong with it. Takes memory only for the lists of an ack, job, restore or forfeit line.
     pub fn relkvanu_line_says(
         line: *const u8,
         line_len: usize,
@@ -431,7 +447,7 @@ extern "C" {
         numbers_len: usize,
     ) -> relkvanu_answer;
 
-    /// Writes the call that a line says: its kind, numbers and term to call, and its lists to the start of first and second. For an ack these are the fresh and the reused files, each in ascending order. For a restore, first is the new shape, or empty. For a forfeit, first is the names, in ascending order. It is the inverse of relkvanu_call_line: that function writes a line that says this call. RELKVANU_LINE_CALL, and a and b are how many items first and second have; RELKVANU_TOO_SHORT, and a and b are how many places they need. A line that says no call, or a restore line with a bad shape, has the answer of relkvanu_line: RELKVANU_SKIPPED, RELKVANU_BAD_LINE or RELKVANU_BAD_ARGUMENT. A restore line with the savepoint 0 is RELKVANU_REFUSED with RELKVANU_NO_SUCH_SAVEPOINT, since 0 stands for the latest record in a relkvanu_call. Only RELKVANU_LINE_CALL changes call and the buffers. Takes memory only for the lists of an ack, job, restore or forfeit line.
+    /// Writes the call that a line says: its kind, numbers and term to call, and its lists to the start of first and second. For an ack these are the fresh and the reused files, each in ascending order. For a restore, first is the new shape, or empty. For a forfeit, first is the names, in ascending order. For a configure, first is the seven numbers of relkvanu_settings, in its order; keep_on_cancel is 0 or 1. It is the inverse of relkvanu_call_line: that function writes a line that says this call. RELKVANU_LINE_CALL, and a and b are how many items first and second have; RELKVANU_TOO_SHORT, and a and b are how many places they need. A line that says no call, a restore line with a bad shape, or a configure line with bad settings, has the answer of relkvanu_line: RELKVANU_SKIPPED, RELKVANU_BAD_LINE or RELKVANU_BAD_ARGUMENT. A restore line with the savepoint 0 is RELKVANU_REFUSED with RELKVANU_NO_SUCH_SAVEPOINT, since 0 stands for the latest record in a relkvanu_call. Only RELKVANU_LINE_CALL changes call and the buffers. Takes memory only for the lists of an ack, job, restore or forfeit line.
     pub fn relkvanu_line_call(
         line: *const u8,
         line_len: usize,
@@ -442,7 +458,7 @@ extern "C" {
         second_len: usize,
     ) -> relkvanu_answer;
 
-    /// Writes the line of a call, without a newline and without a zero at its end. relkvanu_line reads it as that call. For an ack, first and second are the fresh and the reused files, in any order. For a restore, first is the new shape, or empty. For a forfeit, first is the names, in any order. A call with a term other than 0 is written after in and the term. RELKVANU_WRITTEN; RELKVANU_TOO_SHORT, and a is how many bytes it needs; RELKVANU_BAD_ARGUMENT with RELKVANU_BAD_KIND or RELKVANU_BAD_SHAPE; RELKVANU_BAD_LINE with RELKVANU_FAULT_TOO_LONG if the line would be too long. No line is cut. Only RELKVANU_WRITTEN changes the buffer. Takes memory.
+    /// Writes the line of a call, without a newline and without a zero at its end. relkvanu_line reads it as that call. For an ack, first and second are the fresh and the reused files, in any order. For a restore, first is the new shape, or empty. For a forfeit, first is the names, in any order. For a configure, first is the seven numbers of relkvanu_settings, in its order; keep_on_cancel is 0 or 1. A call with a term other than 0 is written after in and the term. RELKVANU_WRITTEN; RELKVANU_TOO_SHORT, and a is how many bytes it needs; RELKVANU_BAD_ARGUMENT with RELKVANU_BAD_KIND, RELKVANU_BAD_SHAPE or RELKVANU_BAD_CONFIG; RELKVANU_BAD_LINE with RELKVANU_FAULT_TOO_LONG if the line would be too long. No line is cut. Only RELKVANU_WRITTEN changes the buffer. Takes memory.
     pub fn relkvanu_call_line(
         call: *const relkvanu_call,
         first: *const u64,
@@ -453,7 +469,7 @@ extern "C" {
         line_len: usize,
     ) -> relkvanu_answer;
 
-    /// Makes a call and writes its line: what relkvanu_call_line and then relkvanu_line do, in one call and without reading the line. It is for programs that log each call which was made. call, first and second are those of relkvanu_call_line. The line has no newline and no zero at its end. A take writes the files that it fetches to the start of files. The first of these that applies: RELKVANU_CLOSED; RELKVANU_BAD_ARGUMENT with RELKVANU_BAD_KIND or RELKVANU_BAD_SHAPE; RELKVANU_BAD_LINE with RELKVANU_FAULT_TOO_LONG if the line would be too long; RELKVANU_TOO_SHORT with a 0, and b is how many bytes line needs; what relkvanu_line returns for the line. So RELKVANU_TOO_SHORT with b 0 is that of a take, and a is how many places files needs, or of a show, which returns what relkvanu_show returns with an empty buffer. Only an answer with RELKVANU_DONE changes the handle, files, line or made. Takes memory for the line, and as relkvanu_line does.
+    /// Makes a call and writes its line: what relkvanu_call_line and then relkvanu_line do, in one call and without reading the line. It is for programs that log each call which was made. call, first and second are those of relkvanu_call_line. The line has no newline and no zero at its end. A take writes the files that it fetches to the start of files. The first of these that applies: RELKVANU_CLOSED; RELKVANU_BAD_ARGUMENT with RELKVANU_BAD_KIND, RELKVANU_BAD_SHAPE or RELKVANU_BAD_CONFIG; RELKVANU_BAD_LINE with RELKVANU_FAULT_TOO_LONG if the line would be too long; RELKVANU_TOO_SHORT with a 0, and b is how many bytes line needs; what relkvanu_line returns for the line. So RELKVANU_TOO_SHORT with b 0 is that of a take, and a is how many places files needs, or of a show, which returns what relkvanu_show returns with an empty buffer. Only an answer with RELKVANU_DONE changes the handle, files, line or made. Takes memory for the line, and as relkvanu_line does.
     pub fn relkvanu_make(
         handle: *mut relkvanu,
         call: *const relkvanu_call,

@@ -199,6 +199,8 @@ pub enum Answer {
     Undeleted(u64),
     /// The uses by live records.
     Counted { file: u64, uses: u64 },
+    /// The job has the new settings.
+    Configured { checkpoints: u64, released: u64 },
     /// The names are given up.
     Forfeited,
     /// The job has names, and its first term runs.
@@ -248,6 +250,10 @@ pub(crate) fn answer(told: sys::relkvanu_answer) -> Result<Answer, Fault> {
         sys::RELKVANU_DELETED => Answer::Deleted(a),
         sys::RELKVANU_UNDELETED => Answer::Undeleted(a),
         sys::RELKVANU_COUNTED => Answer::Counted { file: a, uses: b },
+        sys::RELKVANU_CONFIGURED => Answer::Configured {
+            checkpoints: a,
+            released: b,
+        },
         sys::RELKVANU_FORFEITED => Answer::Forfeited,
         sys::RELKVANU_NAMED => Answer::Named,
         sys::RELKVANU_RESERVED => Answer::Reserved(a),
@@ -293,6 +299,10 @@ pub(crate) fn numbers_of(answer: &Answer) -> (u32, u64, u64) {
         Answer::Deleted(a) => (sys::RELKVANU_DELETED, a, 0),
         Answer::Undeleted(a) => (sys::RELKVANU_UNDELETED, a, 0),
         Answer::Counted { file: a, uses: b } => (sys::RELKVANU_COUNTED, a, b),
+        Answer::Configured {
+            checkpoints: a,
+            released: b,
+        } => (sys::RELKVANU_CONFIGURED, a, b),
         Answer::Forfeited => (sys::RELKVANU_FORFEITED, 0, 0),
         Answer::Named => (sys::RELKVANU_NAMED, 0, 0),
         Answer::Reserved(a) => (sys::RELKVANU_RESERVED, a, 0),
@@ -304,7 +314,7 @@ pub(crate) fn numbers_of(answer: &Answer) -> (u32, u64, u64) {
 }
 
 /// The text of each answer in scripts (`docs/SCRIPT.md`) and logs (`docs/LOGS.md`), in which {a} and {b} stand for its numbers.
-pub(crate) const TEXTS: [(u32, &str); 23] = [
+pub(crate) const TEXTS: [(u32, &str); 24] = [
     (
         sys::RELKVANU_TICK_TRIGGERED,
         "tick expired {a} triggered {b}",
@@ -340,6 +350,7 @@ pub(crate) const TEXTS: [(u32, &str); 23] = [
     (sys::RELKVANU_DELETED, "deleted {a}"),
     (sys::RELKVANU_UNDELETED, "undeleted {a}"),
     (sys::RELKVANU_COUNTED, "count {a} {b}"),
+    (sys::RELKVANU_CONFIGURED, "configured {a} {b}"),
     (sys::RELKVANU_FORFEITED, "forfeited"),
     (sys::RELKVANU_NAMED, "term 1"),
     (sys::RELKVANU_RESERVED, "reserved {a}"),

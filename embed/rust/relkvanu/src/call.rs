@@ -27,6 +27,8 @@ pub(crate) enum CallKind {
     Reserve,
     /// Relkvanu_forfeit.
     Forfeit,
+    Trigger,
+    Configure,
     /// A number that this crate does not know: the library is of another version.
     Unknown(u32),
 }
@@ -49,6 +51,8 @@ impl CallKind {
             sys::RELKVANU_CALL_FENCE => CallKind::Fence,
             sys::RELKVANU_CALL_RESERVE => CallKind::Reserve,
             sys::RELKVANU_CALL_FORFEIT => CallKind::Forfeit,
+            sys::RELKVANU_CALL_TRIGGER => CallKind::Trigger,
+            sys::RELKVANU_CALL_CONFIGURE => CallKind::Configure,
             other => CallKind::Unknown(other),
         }
     }
@@ -71,6 +75,8 @@ impl CallKind {
             CallKind::Fence => sys::RELKVANU_CALL_FENCE,
             CallKind::Reserve => sys::RELKVANU_CALL_RESERVE,
             CallKind::Forfeit => sys::RELKVANU_CALL_FORFEIT,
+            CallKind::Trigger => sys::RELKVANU_CALL_TRIGGER,
+            CallKind::Configure => sys::RELKVANU_CALL_CONFIGURE,
             CallKind::Unknown(what) => *what,
         }
     }
@@ -106,6 +112,9 @@ pub enum Call<'a> {
     Fence {
         first_name: u64,
     },
+    Trigger {
+        now: u64,
+    },
     // embed/bindings: end
     Ack {
         now: u64,
@@ -123,6 +132,11 @@ pub enum Call<'a> {
         now: u64,
         savepoint: Option<NonZeroU64>,
         shape: Option<&'a [u64]>,
+    },
+    /// The settings as [`Settings::numbers`](crate::Settings::numbers) gives them.
+    Configure {
+        now: u64,
+        settings: &'a [u64],
     },
     Take {
         most: u64,
@@ -160,9 +174,10 @@ pub enum Call<'a> {
 
 impl<'a> Call<'a> {
     /// The call that a line says: the bytes before its newline. `None` for a line without words and a comment. The
-    /// lists are for its files, names or shape.
+    /// lists are for its files, names, shape or settings.
     ///
-    /// A line that makes no call is a [`Fault::BadLine`], and a restore in a bad shape a [`Fault::BadShape`]. A restore
+    /// A line that makes no call is a [`Fault::BadLine`], a restore in a bad shape a [`Fault::BadShape`], and bad settings
+    /// are a [`Fault::BadConfig`]. A restore
     /// to savepoint 0 is refused with [`Refusal::NoSuchSavepoint`](crate::Refusal::NoSuchSavepoint), since no savepoint has this number.
     /// A term before a call that has no use for one, as in `in 3 tick 5`, is [`LineFault::NoCall`]: no `Call` says it.
     pub fn of(
@@ -245,6 +260,7 @@ impl<'a> Call<'a> {
             CallKind::Undeleted => Call::Undeleted { file: number },
             CallKind::Count => Call::Count { file: number },
             CallKind::Fence => Call::Fence { first_name: number },
+            CallKind::Trigger => Call::Trigger { now },
             // embed/bindings: end
             CallKind::Ack => Call::Ack {
                 now,
@@ -262,6 +278,10 @@ impl<'a> Call<'a> {
                 now,
                 savepoint: NonZeroU64::new(number),
                 shape: (!first.is_empty()).then_some(first),
+            },
+            CallKind::Configure => Call::Configure {
+                now,
+                settings: first,
             },
             CallKind::Take => Call::Take { most: number },
             CallKind::Show => Call::Show { id: number },
@@ -311,6 +331,7 @@ impl<'a> Call<'a> {
             Call::Ack { fresh, reused, .. } | Call::AckIn { fresh, reused, .. } => (fresh, reused),
             Call::Restore { shape, .. } => (shape.unwrap_or(&[]), &[]),
             Call::Forfeit { names, .. } => (names, &[]),
+            Call::Configure { settings, .. } => (settings, &[]),
             _ => (&[], &[]),
         }
     }
@@ -340,6 +361,7 @@ impl<'a> Call<'a> {
             Call::Undeleted { file } => of(CallKind::Undeleted, 0, file),
             Call::Count { file } => of(CallKind::Count, 0, file),
             Call::Fence { first_name } => of(CallKind::Fence, 0, first_name),
+            Call::Trigger { now } => of(CallKind::Trigger, now, 0),
             // embed/bindings: end
             Call::Ack {
                 now, id, subtask, ..
@@ -348,6 +370,7 @@ impl<'a> Call<'a> {
             Call::Restore { now, savepoint, .. } => {
                 of(CallKind::Restore, now, savepoint.map_or(0, NonZeroU64::get))
             }
+            Call::Configure { now, .. } => of(CallKind::Configure, now, 0),
             Call::Take { most } => of(CallKind::Take, 0, most),
             Call::Show { id } => of(CallKind::Show, 0, id),
             Call::Reserve { term, count } => in_term(term, of(CallKind::Reserve, 0, count)),

@@ -27,6 +27,37 @@ pub struct Settings {
     pub keep_on_cancel: bool,
 }
 
+impl Settings {
+    /// The seven values in the order of the fields; the last is 0 or 1.
+    pub fn numbers(&self) -> [u64; 7] {
+        [
+            self.interval,
+            self.pause,
+            self.at_once,
+            self.timeout,
+            self.tolerable,
+            self.retained,
+            u64::from(self.keep_on_cancel),
+        ]
+    }
+
+    /// The settings of such numbers. `None` if they are not seven, or the last is above 1.
+    pub fn of_numbers(numbers: &[u64]) -> Option<Settings> {
+        let &[interval, pause, at_once, timeout, tolerable, retained, keep] = numbers else {
+            return None;
+        };
+        (keep <= 1).then_some(Settings {
+            interval,
+            pause,
+            at_once,
+            timeout,
+            tolerable,
+            retained,
+            keep_on_cancel: keep == 1,
+        })
+    }
+}
+
 impl From<&Settings> for sys::relkvanu_settings {
     fn from(settings: &Settings) -> Self {
         sys::relkvanu_settings {
@@ -261,6 +292,14 @@ impl Coordinator {
         // SAFETY: as in `tick`.
         called(unsafe { sys::relkvanu_undeleted(self.handle(), file) })
     }
+
+    /// Triggers a checkpoint now, whatever the interval and the pause. Nothing expires: make a tick first if records may be too
+    /// old. The interval counts from it, as after a tick that triggers.
+    pub fn trigger(&mut self, now: u64) -> Called {
+        self.check_moment(now)?;
+        // SAFETY: as in `tick`.
+        called(unsafe { sys::relkvanu_trigger(self.handle(), now) })
+    }
     // embed/bindings: end
 
     /// The acknowledgement of a subtask, which is a vertex and an index. It wrote the fresh files, and names the reused
@@ -325,6 +364,14 @@ impl Coordinator {
                 shape.len(),
             )
         })
+    }
+
+    /// The job has these settings from now on. Done checkpoints above the new number retained are dropped at once. Settings
+    /// outside their limits are reported before any refusal.
+    pub fn configure(&mut self, now: u64, settings: &Settings) -> Called {
+        self.check_moment(now)?;
+        // SAFETY: as in `tick`; the settings outlive the call, which does not keep them.
+        called(unsafe { sys::relkvanu_configure(self.handle(), now, &settings.into()) })
     }
 
     /// Fetches files that wait for deletion, at most as many as the buffer has places, and returns those that it wrote

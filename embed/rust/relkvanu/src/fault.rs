@@ -40,6 +40,8 @@ pub enum Refusal {
     NoSuchRecord,
     /// No number is left for another record.
     IdsUsedUp,
+    /// As many checkpoints are pending as may be, or more than the new settings allow.
+    AtOnce,
     /// A number that this crate does not know: the library is of another version.
     Unknown(u32),
 }
@@ -62,6 +64,7 @@ impl Refusal {
             sys::RELKVANU_NOT_TAKEN => Refusal::NotTaken,
             sys::RELKVANU_NO_SUCH_RECORD => Refusal::NoSuchRecord,
             sys::RELKVANU_IDS_USED_UP => Refusal::IdsUsedUp,
+            sys::RELKVANU_AT_ONCE => Refusal::AtOnce,
             other => Refusal::Unknown(other),
         }
     }
@@ -84,6 +87,7 @@ impl Refusal {
             Refusal::NotTaken => sys::RELKVANU_NOT_TAKEN,
             Refusal::NoSuchRecord => sys::RELKVANU_NO_SUCH_RECORD,
             Refusal::IdsUsedUp => sys::RELKVANU_IDS_USED_UP,
+            Refusal::AtOnce => sys::RELKVANU_AT_ONCE,
             Refusal::Unknown(what) => *what,
         }
     }
@@ -98,7 +102,7 @@ impl Refusal {
 
     /// Each, with this file if it names one.
     #[allow(dead_code)]
-    pub(crate) fn all(file: u64) -> [Refusal; 15] {
+    pub(crate) fn all(file: u64) -> [Refusal; 16] {
         [
             Refusal::MomentTooLarge,
             Refusal::NotRunning,
@@ -115,6 +119,7 @@ impl Refusal {
             Refusal::NotTaken,
             Refusal::NoSuchRecord,
             Refusal::IdsUsedUp,
+            Refusal::AtOnce,
         ]
     }
 }

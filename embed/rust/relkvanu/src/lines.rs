@@ -134,18 +134,9 @@ impl Line {
             (sys::RELKVANU_LINE_CALL, _) => Line::Call,
             (sys::RELKVANU_LINE_JOB, _) => Line::Job(numbers),
             (sys::RELKVANU_LINE_START, [now]) => Line::Start(*now),
-            (
-                sys::RELKVANU_LINE_CONFIG,
-                [interval, pause, at_once, timeout, tolerable, retained, keep],
-            ) => Line::Config(Settings {
-                interval: *interval,
-                pause: *pause,
-                at_once: *at_once,
-                timeout: *timeout,
-                tolerable: *tolerable,
-                retained: *retained,
-                keep_on_cancel: *keep != 0,
-            }),
+            (sys::RELKVANU_LINE_CONFIG, of) => {
+                Line::Config(Settings::of_numbers(of).ok_or_else(|| Fault::unknown(says))?)
+            }
             (sys::RELKVANU_LINE_ALL, [now, id, threads, first]) => Line::All {
                 now: *now,
                 id: *id,

@@ -151,6 +151,10 @@ impl SharedCoordinator {
     pub fn undeleted(&self, file: u64) -> Called {
         self.quietly(|it| it.undeleted(file))
     }
+
+    pub fn trigger(&self, now: u64) -> Called {
+        self.with(|it| it.trigger(now))
+    }
     // embed/bindings: end
 
     /// [`Coordinator::ack`] says who may then delete the files.
@@ -218,6 +222,10 @@ impl SharedCoordinator {
         shape: Option<&[u64]>,
     ) -> Called {
         self.with(|it| it.restore(now, savepoint, shape))
+    }
+
+    pub fn configure(&self, now: u64, settings: &Settings) -> Called {
+        self.with(|it| it.configure(now, settings))
     }
 
     pub fn take<'a>(&self, files: &'a mut [u64]) -> Result<&'a [u64], Fault> {

@@ -20,6 +20,7 @@ pub enum Call {
     Undeleted {
         file: u64,
     },
+    Trigger,
     // embed/bindings: end
     Ack {
         id: u64,
@@ -80,6 +81,7 @@ impl Call {
             Call::Cancel => json!({"call": "cancel"}),
             Call::Deleted { file } => json!({"call": "deleted", "file": file.to_string()}),
             Call::Undeleted { file } => json!({"call": "undeleted", "file": file.to_string()}),
+            Call::Trigger => json!({"call": "trigger"}),
             // embed/bindings: end
             Call::Ack { id, subtask: of, fresh, reused } => {
                 json!({"call": "ack", "id": id, "subtask": subtask(of), "fresh": texts(fresh), "reused": texts(reused)})

@@ -1,5 +1,5 @@
 -- The calls that always take memory may take it.
-use Rattle.ckpt_core.proofs.{Some, refl, rules, subst, Ack, Savepoint, Restore, Take, IsPlaceIn, wants_here, Names.effect, Names.restore, Names.state_of, Names.take_files}
+use Rattle.ckpt_core.proofs.{Some, refl, rules, subst, Ack, Savepoint, Restore, Take, Trigger, IsPlaceIn, wants_here, Names.effect, Names.restore, Names.state_of, Names.start_or_hold, Names.take_files}
 use Rattle.ckpt_core.proofs.parts.Parts.answer.Goals as goal
 
 pub ack_late-requires-clause-ended : goal.ack_late-requires-clause-ended
@@ -19,3 +19,7 @@ returns-in-Restore-default-default-Some-clause-memory c =
 pub returns-in-Take-clause-memory : goal.returns-in-Take-clause-memory
 unfolding effect take_files
 returns-in-Take-clause-memory c = wants_here c.take.result (state_of c.args.self.now) c.args.call.now (Take c.in-Take.most) c.in-Take.is c.requires.accepted refl
+
+pub returns-in-Trigger-clause-memory : goal.returns-in-Trigger-clause-memory
+unfolding effect start_or_hold
+returns-in-Trigger-clause-memory c = wants_here c.trigger_now.result (state_of c.args.self.now) c.args.call.now (Trigger c.in-Trigger.now) c.in-Trigger.is c.requires.accepted refl

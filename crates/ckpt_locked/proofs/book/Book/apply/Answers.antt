@@ -18,33 +18,33 @@ refused c =
 pub invariant_of-self-in-Ok : goal.invariant_of-self-in-Ok
 invariant_of-self-in-Ok c =
     let e = c.push_reserved.ensures in
-    kept_entered _ _ _ _ _ _ _ c.args.seat c.args.call _ _ c.self.view_is c.in-Ok.ensures.done c.make_room.ensures.items e.items (e.keep ∙ c.make_room.ensures.keep) c.self.invariant
+    kept_entered _ _ _ _ _ _ _ _ c.args.seat c.args.call _ _ c.self.view_is c.in-Ok.ensures.done c.make_room.ensures.items e.items (e.keep ∙ c.make_room.ensures.keep) c.self.invariant
     c.apply.ensures.shape
 
 pub invariant_of-self-in-Err-Refused : goal.invariant_of-self-in-Err-Refused
 invariant_of-self-in-Err-Refused c =
     let e = c.push_reserved-in-Err-Refused.ensures in
-    kept_entered _ _ _ _ _ _ _ c.args.seat c.args.call _ _ c.self.view_is (refused c) c.make_room.ensures.items e.items (e.keep ∙ c.make_room.ensures.keep) c.self.invariant c.apply.ensures.shape
+    kept_entered _ _ _ _ _ _ _ _ c.args.seat c.args.call _ _ c.self.view_is (refused c) c.make_room.ensures.items e.items (e.keep ∙ c.make_room.ensures.keep) c.self.invariant c.apply.ensures.shape
 
 pub returns-in-Ok-clause-entered : goal.returns-in-Ok-clause-entered
 returns-in-Ok-clause-entered c =
     let e = c.push_reserved.ensures in
-    history_entered _ _ _ _ _ _ _ c.args.seat c.args.call _ _ c.self.view_is c.in-Ok.ensures.done c.make_room.ensures.items e.items (e.keep ∙ c.make_room.ensures.keep)
+    history_entered _ _ _ _ _ _ _ _ c.args.seat c.args.call _ _ c.self.view_is c.in-Ok.ensures.done c.make_room.ensures.items e.items (e.keep ∙ c.make_room.ensures.keep)
 
 pub returns-in-Err-Refused-clause-entered : goal.returns-in-Err-Refused-clause-entered
 returns-in-Err-Refused-clause-entered c =
     let e = c.push_reserved-in-Err-Refused.ensures in
-    history_entered _ _ _ _ _ _ _ c.args.seat c.args.call _ _ c.self.view_is (refused c) c.make_room.ensures.items e.items (e.keep ∙ c.make_room.ensures.keep)
+    history_entered _ _ _ _ _ _ _ _ c.args.seat c.args.call _ _ c.self.view_is (refused c) c.make_room.ensures.items e.items (e.keep ∙ c.make_room.ensures.keep)
 
 pub returns-in-Ok-clause-answer : goal.returns-in-Ok-clause-answer
 returns-in-Ok-clause-answer c =
     let e = c.push_reserved.ensures in
-    answer_is _ _ _ _ _ _ _ c.args.seat c.args.call _ _ c.self.view_is c.in-Ok.ensures.done c.make_room.ensures.items e.items (e.keep ∙ c.make_room.ensures.keep) c.self.invariant
+    answer_is _ _ _ _ _ _ _ _ c.args.seat c.args.call _ _ c.self.view_is c.in-Ok.ensures.done c.make_room.ensures.items e.items (e.keep ∙ c.make_room.ensures.keep) c.self.invariant
 
 pub returns-in-Err-Refused-clause-answer : goal.returns-in-Err-Refused-clause-answer
 returns-in-Err-Refused-clause-answer c =
     let e = c.push_reserved-in-Err-Refused.ensures in
-    answer_is _ _ _ _ _ _ _ c.args.seat c.args.call _ _ c.self.view_is (refused c) c.make_room.ensures.items e.items (e.keep ∙ c.make_room.ensures.keep) c.self.invariant
+    answer_is _ _ _ _ _ _ _ _ c.args.seat c.args.call _ _ c.self.view_is (refused c) c.make_room.ensures.items e.items (e.keep ∙ c.make_room.ensures.keep) c.self.invariant
 
 pub returns-in-Ok-clause-count : goal.returns-in-Ok-clause-count
 returns-in-Ok-clause-count c file e = returns-in-Ok-clause-answer c ∙ ap (answer_to c.args.self.now) e ∙ count_answer c.args.self.now file
