@@ -687,6 +687,71 @@ class Store:
     def put_from(self, file: int, source: Any) -> None:
         """As put(), of what an open binary file (or anything with read()) gives from its position on. What read() raises is raised, and then there is
         no file."""
+        thrown: List[BaseException] = []
+
+        def read(_: Any, to: int, room: int) -> int:
+            try:
+                some = source.read(room)
+                ctypes.memmove(to, bytes(some), len(some))
+                return len(some)
+            except BaseException as why:
+                thrown.append(why)
+                return -1
+
+        try:
+            self._made(_library.relkvanu_store_put_from, _u64(file), store_header.relkvanu_store_source(read), None)
+        except StoreError:
+            if thrown:
+                raise thrown[0]
+            raise
+
+    def put_link(self, file: int, path: Path) -> None:
+        """As put(), of a file that exists, on the same file system, which gets the number as a second name: nobody writes it afterwards. Raises
+        StoreError("NotPut") with the `errno` EXDEV if it is on another file system: put_from() copies it."""
+        self._made(_library.relkvanu_store_put_link, _u64(file), AT_FDCWD, _bytes(path))
+
+    def sweep(self) -> int:
+        """A sweep: deletes the files of the storage folder that unknown() returns, and syncs it. Returns how many could not be deleted.
+        In a job with names it runs at any time, also beside tasks, and counts()["unissued"] are the files that it left since their names were not
+        given out. In one without it is for a recovery, each restore and a cancelled job, after all tasks have ended: raises
+        StoreError("NotNow") as unknown(). Raises StoreError "Storage" if the folder is gone or another's, and "NotDone" if it could not be read or
+        synced now: sweep again later."""
+        left = ctypes.c_size_t()
+        self._made(_library.relkvanu_store_sweep, ctypes.byref(left))
+        return left.value
+
+    def backup(self, path: Path) -> None:
+        """Makes a backup of the job in a new file, while other threads call. It is whole and durable when this returns. Raises StoreError "Present",
+        "NotNow" (another backup writes it) or "NotPut" (a full disk, say): then there is none, and the store goes on.
+
+        A BACKUP LACKS THE CALLS SINCE IT WAS MADE. Store(.., backup=True) opens it, once, after all processes and tasks of the job have ended, and then
+        the engine restores a record whose files are all there: docs/DURABLE.md, A backup. Without that it raises StoreError("Storage")."""
+        message, name = ctypes.create_string_buffer(512), _bytes(path)
+
+        def work(store: ctypes.c_void_p) -> Tuple[int, int]:
+            return _library.relkvanu_store_backup(store, name, message, len(message)), ctypes.get_errno()
+
+        status, number = self._waits(work)
+        if status == store_header.NO_MEMORY:
+            raise OutOfMemory
+        if status != store_header.OK:
+            raise StoreError(store_header.STATUSES[status], message.value.decode(errors="replace"), _closes(status), number)
+
+    def job(self) -> Tuple[Settings, Tuple[int, ...]]:
+        """The settings that the job was made with, and its shape now: for after an opening whose report says `settings_differ`. Makes an image."""
+        settings, shape, length = header.relkvanu_settings(), (U64 * 256)(), ctypes.c_size_t(256)
+        self._made(_library.relkvanu_store_job, ctypes.byref(settings), shape, ctypes.byref(length))
+        return Settings(**{name: getattr(settings, name) for name, *_ in settings._fields_}), tuple(shape[: length.value])
+
+    def folder(self) -> Optional[int]:
+        """The descriptor of the storage folder, for os.unlink(.., dir_fd=..), which reaches no folder that is mounted over it."""
+        folder: int = self._at_once(_library.relkvanu_store_folder)
+        return None if folder < 0 else folder
+
+    def discard(self, delete: Optional[Callable[[int], bool]] = None, batch: int = 0) -> None:
+        """A discarder in a thread of the engine: runs until stop() or close(). delete(file) says whether the file is not there any more, also
+        if it was not there before; an OSError says that it is. What else it raises ends the discarder, which raises it too, once the files before it
+        are reported. Without it the files of the storage folder are deleted. Never gives up."""
         def delete_each(files: List[int], is_gone: Any) -> None:
             for place, file in enumerate(files):
                 with contextlib.suppress(OSError):
