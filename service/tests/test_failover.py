@@ -40,7 +40,7 @@ def gone():
 def test_a_machine_that_is_gone():
     """Python, the engine in Rust, and `discard`: each gets to the second address."""
     if not os.path.exists(ENGINE):
-        raise Skipped(f"{ENGINE} is not built")
+        raise Skipped("the client in Rust", f"{ENGINE} is not built")
     with served(names=True) as server, gone() as first:
         os.mkdir(f"{server.folder}/files")
         Service(server.url).open("files", SETTINGS, [1])
@@ -202,7 +202,7 @@ def with_tls(server, certificate):
 
 def test_https():
     if not os.path.exists(ENGINE):
-        raise Skipped(f"{ENGINE} is not built")
+        raise Skipped("the client in Rust", f"{ENGINE} is not built")
     with served(names=True) as server:
         path = f"{server.folder}/certificate"
         words = ["openssl", "req", "-x509", "-newkey", "ec", "-pkeyopt", "ec_paramgen_curve:prime256v1", "-nodes", "-days", "2", "-subj", "/CN=localhost"]
