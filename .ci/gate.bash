@@ -335,10 +335,13 @@ look_at_machine() {
     fi
 }
 
-# share: the milliseconds of a processor that each process had in the last second, if as many wanted one as the machine's load says: 1000 on a
-# machine that has enough.
-share() {
-    awk -v has="$processors" '{ each = $1 / has; printf "%d", 1000 / (each > 1 ? each : 1) }' /proc/loadavg
+# Sets `step` to the milliseconds of a processor that each process had in the last two seconds, if as many wanted one as the machine's load says:
+# 2000 on a machine that has enough.
+read_step() {
+    local load most=$((100 * processors))
+    read -r load _ < /proc/loadavg
+    load=$((10#${load/./}))
+    step=$((load > most ? 2000 * most / load : 2000))
 }
 
 # end_late_parts CLOCK: ends each part whose time is over. `seen` has when each was first seen.
@@ -359,11 +362,12 @@ end_late_parts() {
 # watch: looks at the machine, and ends the part, or the whole, whose time is over. Its clock goes slower on a machine with more work than
 # processors, so that the limits of a busy one are longer. It goes on until the gate ends it, so that no other process has its number.
 watch() {
-    local clock=0 least_disk=1000 least_memory=1000
+    local clock=0 ticks=0 step least_disk=1000 least_memory=1000
     local -A seen=()
-    while sleep 1 && [ -d "$work" ]; do
-        clock=$((clock + $(share)))
-        look_at_machine
+    while sleep 2 && [ -d "$work" ]; do
+        read_step
+        clock=$((clock + step))
+        [ $((ticks++ % 3)) -ne 0 ] || look_at_machine
         end_late_parts "$clock"
         if [ "$clock" -ge $((1000 * MOST_OF_ALL)) ]; then
             : > "$work/is over"

@@ -230,7 +230,7 @@ def small_disk(at, size):
     os.mkdir(path)
     words = ["mount", "-t", "tmpfs", "-o", f"size={size}", "tmpfs", path]
     if os.geteuid() != 0 or subprocess.run(words, stderr=subprocess.DEVNULL, check=False).returncode:
-        raise Skipped("a small file system can't be mounted here")
+        raise Skipped("root", "a small file system can't be mounted here")
     try:
         yield path
     finally:
@@ -330,7 +330,7 @@ def check_log(state, shape, log):
     has_names = any(entry["line"].startswith("fence ") for entry in log)
     oracle = LOG_ORACLE if has_names else ORACLE
     if not os.path.exists(oracle):
-        raise Skipped(f"{oracle} is not built")
+        raise Skipped(os.path.basename(oracle), "it is not built")
     told = subprocess.run([oracle], input=script(state, shape, log), stdout=subprocess.PIPE, text=True, check=False)
     assert told.returncode == 0, f"the oracle ended with {told.returncode}"
     lines = [line for line in told.stdout.splitlines() if not begins_term(line)]

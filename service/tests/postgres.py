@@ -21,7 +21,7 @@ class Postgres:
     def __init__(self, at, *options, environment=None, syncs=False):
         found = sorted(glob.glob("/usr/lib/postgresql/*/bin/pg_ctl"))
         if not found:
-            raise Skipped("PostgreSQL is not here")
+            raise Skipped("PostgreSQL", "it is not here")
         self.bin, self.port = os.path.dirname(found[-1]), free_port()
         self.data = f"{at}/data"
         os.chmod(at, 0o755)

@@ -32,7 +32,11 @@ MODULES = [
 
 
 class Skipped(Exception):
-    """A test that can't be run here, and why."""
+    """A test that can't be run here: the tool that it needs, and why."""
+
+    def __init__(self, tool, why):
+        super().__init__(tool, why)
+        self.tool, self.why = tool, why
 
 
 def tests(name, words):
@@ -77,7 +81,7 @@ def run_module(name, words):
             print(f"ok   {title} ({time.monotonic() - started:.1f} s, {processor_seconds() - before:.1f} of a processor): {told}")
         except Skipped as why:
             skipped += 1
-            print(f"skipped: {title}: {why}")
+            print(f"skipped: {why.tool}: {title}: {why.why}")
         except Exception:
             failed += 1
             print(f"FAIL {title}\n{traceback.format_exc()}")

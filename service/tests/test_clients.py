@@ -26,7 +26,7 @@ def test_answers_fit_the_description():
     try:
         import jsonschema
     except ImportError:
-        raise Skipped("python3-jsonschema is not here") from None
+        raise Skipped("python3-jsonschema", "it is not here") from None
     with open(f"{SERVICE}/web/openapi.json", encoding="utf-8") as it:
         described = as_json_schema(json.load(it))
 
@@ -143,7 +143,7 @@ def test_the_client_in_python():
 
 def test_the_client_in_rust():
     if not os.path.exists(ENGINE):
-        raise Skipped(f"{ENGINE} is not built")
+        raise Skipped("the client in Rust", f"{ENGINE} is not built")
     with served(names=True) as server:
         run = subprocess.Popen([ENGINE, server.url, "rust", "20"], stdout=subprocess.PIPE, stderr=subprocess.STDOUT, text=True)
         until(lambda: (server.get("/v1/jobs/rust")[2] or {}).get("seq", 0) > 40)

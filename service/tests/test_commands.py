@@ -305,7 +305,7 @@ def test_completions_and_the_manual_page():
     for shell in ("zsh", "fish"):
         assert "savepoint" in ran("completions", shell)
     if not shutil.which("mandoc"):
-        raise Skipped("mandoc is not here")
+        raise Skipped("mandoc", "it is not here")
     pages = sorted(glob.glob(f"{SERVICE}/deploy/man/*.1"))
     told = subprocess.run(["mandoc", "-T", "lint", "-W", "warning", *pages], stdout=subprocess.PIPE, text=True, check=False)
     assert told.returncode == 0, told.stdout

@@ -38,7 +38,7 @@ def in_use(job):
 
 def test_an_engine_whose_coordinator_is_killed():
     if subprocess.run(["/usr/bin/python3", "-c", "import distributed"], stderr=subprocess.DEVNULL, check=False).returncode:
-        raise Skipped("python3-distributed is not here")
+        raise Skipped("python3-distributed", "it is not here")
     with folder() as at:
         storage, answered = f"{at}/storage", f"{at}/answered"
         os.mkdir(storage)

@@ -270,7 +270,7 @@ def test_a_disk_that_goes():
     """Its mount is taken away lazily, while somebody holds it open: the discarder deletes there, and not in the mount point."""
     with a_job() as (server, job, folder):
         if os.geteuid() != 0 or subprocess.run(["mount", "-t", "tmpfs", "-o", "size=1m", "tmpfs", folder], stderr=subprocess.DEVNULL, check=False).returncode:
-            raise Skipped("a file system can't be mounted here")
+            raise Skipped("root", "a file system can't be mounted here")
         try:
             with at_work(server, folder) as run:
                 files_of(job, folder, 100, 2)
@@ -301,7 +301,7 @@ def test_it_syncs_the_folder_before_it_reports():
         try:
             run = discard(server, folder, "--once", before=strace)
         except FileNotFoundError:
-            raise Skipped("strace is not here") from None
+            raise Skipped("strace", "it is not here") from None
         ended(run, 0, "deleted=20")
         with open(trace, encoding="utf-8", errors="replace") as it:
             lines = it.read().splitlines()

@@ -14,7 +14,7 @@ CALLS = "trace=unlinkat,fsync,fdatasync"
 def traced(trace):
     """The words before a command whose calls are written to a file."""
     if not shutil.which("strace"):
-        raise Skipped("strace is not here")
+        raise Skipped("strace", "it is not here")
     return ["strace", "-f", "-y", "-o", trace, "-e", CALLS]
 
 

@@ -35,7 +35,7 @@ def text_of(path):
 
 def test_the_end_of_a_job_and_a_move():
     if os.geteuid() != 0 or not shutil.which("systemd-nspawn"):
-        raise Skipped("systemd can't be booted here without root and systemd-container")
+        raise Skipped("root and systemd-nspawn", "systemd can't be booted here")
     with folder() as at:
         shutil.copy(f"{SERVICE}/client/python/relkvanu_service.py", at)
         for name, text in [("try.service", BOOT.replace("/under_systemd.py", "/end_under_systemd.py")), ("commands", json.dumps(commands() | blocks()))]:
@@ -43,7 +43,7 @@ def test_the_end_of_a_job_and_a_move():
                 it.write(text)
         boot = booted(at)
         if not os.path.exists(f"{at}/errors"):
-            raise Skipped(f"systemd does not boot here: {boot.stdout[-300:]!r}")
+            raise Skipped("a booting systemd", f"it does not boot here: {boot.stdout[-300:]!r}")
         errors = text_of(f"{at}/errors")
         assert not errors, errors[-3000:]
         told = json.loads(text_of(f"{at}/told"))

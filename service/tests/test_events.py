@@ -177,7 +177,7 @@ def test_after_a_restored_dump_of_postgres():
 
 def test_an_engine_in_rust_over_a_restored_backup():
     if not os.path.exists(ENGINE):
-        raise Skipped(f"{ENGINE} is not built")
+        raise Skipped("the client in Rust", f"{ENGINE} is not built")
     with served(names=True) as server:
         run = subprocess.Popen([ENGINE, server.url, "rust", "100000"], stdout=subprocess.PIPE, stderr=subprocess.STDOUT, text=True)
         job, copy = Service(server.url).job("rust"), Copy(server, None)
@@ -201,7 +201,7 @@ def restores_of(job):
 def test_an_engine_in_rust_hears_of_others():
     """Somebody restores its job, and later cancels it."""
     if not os.path.exists(ENGINE):
-        raise Skipped(f"{ENGINE} is not built")
+        raise Skipped("the client in Rust", f"{ENGINE} is not built")
     with served(names=True) as server:
         run = subprocess.Popen([ENGINE, server.url, "rust", "100000"], stdout=subprocess.PIPE, stderr=subprocess.STDOUT, text=True)
         job = Service(server.url).job("rust")
@@ -220,7 +220,7 @@ def test_an_engine_in_rust_hears_of_others():
 def test_the_dask_engine_over_a_cut():
     """Its driver is suspended while its job fails over and the log is cut behind that. It restores the job, and completes checkpoints."""
     if subprocess.run(["/usr/bin/python3", "-c", "import distributed"], stderr=subprocess.DEVNULL, check=False).returncode:
-        raise Skipped("python3-distributed is not here")
+        raise Skipped("python3-distributed", "it is not here")
     with served(args=CUTTING) as server:
         # for longer than this may take on a busy machine
         words = [f"{TOP}/embed/dask/run", "3000", "--service", server.url, "--storage", f"{server.folder}/storage"]

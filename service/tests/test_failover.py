@@ -40,7 +40,7 @@ def gone():
 def test_a_machine_that_is_gone():
     """Python, the engine in Rust, and `discard`: each gets to the second address."""
     if not os.path.exists(ENGINE):
-        raise Skipped(f"{ENGINE} is not built")
+        raise Skipped("the client in Rust", f"{ENGINE} is not built")
     with served(names=True) as server, gone() as first:
         os.mkdir(f"{server.folder}/files")
         Service(server.url).open("files", SETTINGS, [1])
@@ -208,7 +208,7 @@ def a_certificate(path):
 
 def test_https():
     if not os.path.exists(ENGINE):
-        raise Skipped(f"{ENGINE} is not built")
+        raise Skipped("the client in Rust", f"{ENGINE} is not built")
     with served(names=True) as server:
         path, renewed = (a_certificate(f"{server.folder}/{name}") for name in ("certificate", "renewed"))
         url, context = with_tls(server, path)

@@ -10,7 +10,7 @@ from run import Skipped
 
 def test_load_by_wrk():
     if not shutil.which("wrk"):
-        raise Skipped("wrk is not here")
+        raise Skipped("wrk", "it is not here")
     with served() as server:
         over, errors = threading.Event(), []
 

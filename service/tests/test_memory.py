@@ -21,7 +21,7 @@ def test_no_memory_in_calls_of_a_job_with_names():
 
 def hungry(has_names):
     if not (shutil.which("cc") and shutil.which("nm")):
-        raise Skipped("no C compiler is here")
+        raise Skipped("cc", "no C compiler is here")
     with folder() as at:
         subprocess.run(["cc", "-O2", "-Wall", "-Wextra", "-Werror", "-shared", "-fPIC", "-o", f"{at}/hungry.so", f"{HERE}/hungry.c"], check=True)
         names = subprocess.run(["nm", PROGRAM], stdout=subprocess.PIPE, text=True, check=True).stdout.splitlines()

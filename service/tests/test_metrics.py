@@ -12,7 +12,7 @@ DEPLOY = f"{SERVICE}/deploy"
 
 def needed(program):
     if not shutil.which(program):
-        raise Skipped(f"{program} is not here")
+        raise Skipped(program, "it is not here")
 
 
 def scraped(server):
@@ -105,6 +105,6 @@ def test_the_unit_is_hardened():
     told = subprocess.run(["systemd-analyze", "security", "--offline=true", f"{DEPLOY}/relkvanu.service"], text=True, stdout=subprocess.PIPE, stderr=subprocess.STDOUT, check=False)
     found = re.search(r"Overall exposure level for relkvanu.service: ([0-9.]+)", told.stdout)
     if not found:
-        raise Skipped(f"systemd-analyze does not run here: {told.stdout.strip().splitlines()[-1:]}")
+        raise Skipped("a running systemd-analyze", f"it does not run here: {told.stdout.strip().splitlines()[-1:]}")
     assert float(found.group(1)) < 3, found.group(0)
     return f"exposure {found.group(1)}"

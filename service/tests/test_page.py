@@ -177,9 +177,9 @@ def started(width, height):
     try:
         import selenium  # noqa: F401
     except ImportError:
-        raise Skipped("python3-selenium is not here") from None
+        raise Skipped("python3-selenium", "it is not here") from None
     if not (shutil.which("chromium") and shutil.which("chromedriver")):
-        raise Skipped("chromium is not here")
+        raise Skipped("chromium", "it is not here")
     return browser(width, height)
 
 

@@ -367,7 +367,7 @@ def content(path):
 def test_the_page_copies_state_files_and_brings_them_back():
     """To a folder in place of a machine: a file of two savepoints takes room once. What comes back replaces nothing, and a file that differs is told."""
     if not shutil.which("rsync") or not shutil.which("curl"):
-        raise Skipped("rsync or curl is not here")
+        raise Skipped("rsync or curl", "one of them is not here")
     with served() as server:
         at, files = server.folder, f"{server.folder}/files"
         os.mkdir(files)

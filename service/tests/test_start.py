@@ -148,7 +148,7 @@ def test_a_backup_of_a_service_that_runs():
         driven(server, 30)
         copy = f"{at}/copy.db"
         if not shutil.which("sqlite3"):
-            raise Skipped("sqlite3 is not here")
+            raise Skipped("sqlite3", "it is not here")
         over = threading.Event()
         driving = threading.Thread(target=lambda: [driven(server, 5) for _ in iter(over.is_set, True)])
         driving.start()

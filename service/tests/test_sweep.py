@@ -298,13 +298,13 @@ def test_the_unit():
         run.communicate(timeout=COMMAND)
         assert told.startswith("deleted s-1 5\nlisted=1 garbage=1 bytes=5 deleted=1 failed=0 unissued=0"), told
     if not shutil.which("systemd-analyze"):
-        raise Skipped("systemd-analyze is not here")
+        raise Skipped("systemd-analyze", "it is not here")
     with folder() as at:
         shutil.copy(unit, f"{at}/relkvanu-sweep@orders.service")
         words = ["systemd-analyze", "security", "--offline=true", f"{at}/relkvanu-sweep@orders.service"]
         told = subprocess.run(words, text=True, stdout=subprocess.PIPE, stderr=subprocess.STDOUT, check=False).stdout
     found = re.search(r"Overall exposure level for relkvanu-sweep@orders.service: ([0-9.]+)", told)
     if not found:
-        raise Skipped(f"systemd-analyze does not run here: {told.strip().splitlines()[-1:]}")
+        raise Skipped("a running systemd-analyze", f"it does not run here: {told.strip().splitlines()[-1:]}")
     assert float(found[1]) < 3, found[0]
     return f"it sweeps each {every}, exposure {found[1]}"

@@ -58,14 +58,14 @@ def booted(at):
 
 def test_under_systemd():
     if os.geteuid() != 0 or not shutil.which("systemd-nspawn"):
-        raise Skipped("systemd can't be booted here without root and systemd-container")
+        raise Skipped("root and systemd-nspawn", "systemd can't be booted here")
     with folder() as at:
         for name, text in [("try.service", BOOT), ("commands", json.dumps(commands()))]:
             with open(f"{at}/{name}", "w", encoding="utf-8") as it:
                 it.write(text)
         boot = booted(at)
         if not os.path.exists(f"{at}/errors"):
-            raise Skipped(f"systemd does not boot here: {boot.stdout[-300:]!r}")
+            raise Skipped("a booting systemd", f"it does not boot here: {boot.stdout[-300:]!r}")
         with open(f"{at}/errors", encoding="utf-8") as it:
             errors = it.read()
         assert not errors, errors[-3000:]
