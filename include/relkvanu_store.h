@@ -401,7 +401,7 @@ void relkvanu_store_stop(relkvanu_store *store);
  * out each name up to the greatest that options.storage has a file of, and is refused (RELKVANU_STORE_STORAGE) if that is 2^24 or more above
  * the names of the backup; without options.storage the engine reserves so many before its restore. Then the engine restores a record whose
  * files are all there, and sweeps. Read docs/DURABLE.md, A backup, first: its steps prepare the file over a folder of its own, so that nothing has
- * changed if no record is whole, and they have no such limit. */
+ * changed if no record is whole, and their limit is 2^32. */
 int relkvanu_store_backup(relkvanu_store *store, const char *path, char *message, size_t message_len);
 
 /* Counts since the opening. */

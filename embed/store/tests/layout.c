@@ -20,7 +20,8 @@ static void print_structs(void) {
     STRUCT(call), FIELD(call, call), FIELD(call, first), FIELD(call, first_len), FIELD(call, second), FIELD(call, second_len),
         FIELD(call, files);
     FIELD(call, files_len), FIELD(call, reserved), FIELD(call, answer), FIELD(call, choice), FIELD(call, place), FIELD(call, term);
-    STRUCT(measures), FIELD(measures, wal_bytes), FIELD(measures, log_rows), FIELD(measures, last_commit), FIELD(measures, failed_deletions);
+    STRUCT(measures), FIELD(measures, wal_bytes), FIELD(measures, log_rows), FIELD(measures, last_commit),
+        FIELD(measures, failed_deletions);
     STRUCT(completion), FIELD(completion, token), FIELD(completion, status);
     STRUCT(counts), FIELD(counts, commits), FIELD(counts, calls), FIELD(counts, largest), FIELD(counts, images),
         FIELD(counts, failed_images);

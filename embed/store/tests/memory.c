@@ -6,6 +6,7 @@
 #include "../../c/refusing_heap.h"
 
 #include <errno.h>
+#include <pthread.h>
 #include <stdarg.h>
 #include <sys/stat.h>
 #include <unistd.h>
@@ -298,6 +299,33 @@ static void images_wait(enum kind kind) {
     relkvanu_store_close(store);
 }
 
+static void *discards(void *store) {
+    int status = relkvanu_store_discard(store, 50, deletes, store);
+    CHECK(status == RELKVANU_STORE_STOPPED, "status %d", status);
+    return store;
+}
+
+/* A discarder that gets no memory tries again and again, and hears a stop. */
+static void stops_without_memory(void) {
+    relkvanu_store *store;
+    relkvanu_store_report report;
+    pthread_t discarder;
+    relkvanu_store_options options = job_options(RELKVANU_STORE_CREATE, 10);
+    remove_job();
+    options.storage = storage;
+    CHECK(relkvanu_store_open(&store, path, &options, &report) == RELKVANU_STORE_OK, "%s", report.message);
+    set_refused(OWN, 1, true);
+    bool was_own = is_own;
+    is_own = false; /* the thread itself needs some */
+    CHECK(pthread_create(&discarder, NULL, discards, store) == 0, "a thread");
+    is_own = was_own;
+    usleep(50000);
+    relkvanu_store_stop(store);
+    CHECK(pthread_join(discarder, NULL) == 0, "it goes on");
+    set_none();
+    relkvanu_store_close(store);
+}
+
 static bool no_page(void *with, const relkvanu_storage_file *files, size_t len) {
     (void)with;
     return files != NULL && len != 0;
@@ -421,7 +449,7 @@ static void ticks_pause(void) {
 }
 
 int main(int argc, char **argv) {
-    unsigned passed = 6;
+    unsigned passed = 7;
     CHECK(argc == 2, "memory FOLDER");
     snprintf(path, sizeof path, "%s/x.db", argv[1]);
     snprintf(storage, sizeof storage, "%s/storage", argv[1]);
@@ -447,6 +475,7 @@ int main(int argc, char **argv) {
     folder_waits(argv[1]);
     forfeits_in_parts();
     ticks_pause();
+    stops_without_memory();
     printf("%u passed, 0 failed\n", passed);
     return 0;
 }

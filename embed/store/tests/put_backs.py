@@ -118,6 +118,20 @@ def far_above_the_names(it):
     assert not far.exists()
 
 
+def a_stray_file(it):
+    """A file whose name is a number, but none of the job's. The names up to it would be given out for ever."""
+    folder, copy = it.job_behind()
+    stray = folder / "state" / "20261128093000"
+    stray.write_text("a report")
+    before = contents(folder)
+    told = it.run("put_back.py", folder, copy)
+    assert told.returncode != 0 and f"state/{stray.name}" in told.stdout and "The job is as it was" in told.stdout, told.stdout
+    assert contents(folder) == before, sorted(contents(folder))
+    stray.rename(folder / "set-aside")
+    assert it.puts_back(folder, copy) == 20
+    recovers(folder, it.engine, 40)
+
+
 def without_a_savepoint(it):
     folder, copy = it.folder(), it.work / "without.db"
     recovers(folder, it.engine, 20)
@@ -215,7 +229,7 @@ def at_each_end(it):
         shutil.rmtree(started)
 
 
-TESTS = (with_a_savepoint, from_an_older_savepoint, far_above_the_names, without_a_savepoint, no_backup, back_again, while_an_engine_runs,
+TESTS = (with_a_savepoint, from_an_older_savepoint, far_above_the_names, a_stray_file, without_a_savepoint, no_backup, back_again, while_an_engine_runs,
          a_forgotten_engine, at_each_end)
 
 

@@ -10,7 +10,9 @@ import resource
 import subprocess
 import tempfile
 import threading
+import time
 import unittest
+from unittest import mock
 
 from relkvanu import (
     AckCompleted, AckPending, BadArgument, Chosen, Closed, Fenced, Forfeited, Kind, Mode, Named, OutOfRange, Refused, Reserved,
@@ -243,6 +245,68 @@ class Files(Folder):
         job.close()
         discarder.join()
 
+    def test_files_are_put_from_elsewhere(self):
+        job = self.open(plain=False, storage=self.storage)
+        made = self.folder / "made"
+        made.write_bytes(b"state" * 200_000)
+        with made.open("rb") as source:
+            source.seek(5)
+            job.put_from(1, source)
+            source.seek(0)
+            self.raises("Present", job.put_from, 1, source)
+        self.assertEqual((self.storage / "1").read_bytes(), b"state" * 199_999)
+        job.put_link(2, made)
+        self.assertTrue(os.path.samefile(made, self.storage / "2"))
+        self.assertIn("a file of this number", self.raises("Present", job.put_link, 2, made))
+        with self.assertRaises(StoreError) as caught:
+            job.put_link(3, self.folder / "nothing")
+        self.assertEqual((caught.exception.name, caught.exception.errno), ("NotPut", errno.ENOENT))
+
+        class Broken:
+            def read(self, room):
+                raise ZeroDivisionError(room)
+        with self.assertRaises(ZeroDivisionError):
+            job.put_from(3, Broken())
+        self.assertEqual(sorted(os.listdir(self.storage)), [".relkvanu-job", "1", "2"])
+        job.close()
+
+    def test_errors_of_the_system(self):
+        """Without a free descriptor the storage is not gone, and there is memory."""
+        job = self.open(plain=False, storage=self.storage)
+        limits = resource.getrlimit(resource.RLIMIT_NOFILE)
+        lowest = os.dup(0)
+        os.close(lowest)
+        resource.setrlimit(resource.RLIMIT_NOFILE, (lowest, limits[1]))
+        try:
+            told = {}
+            for name, call in (("put", lambda: job.put(1, b"")), ("sweep", job.sweep), ("open", lambda: Store(self.path, SETTINGS, [2]))):
+                with self.assertRaises(StoreError) as caught:
+                    call()
+                told[name] = caught.exception.name, caught.exception.errno
+        finally:
+            resource.setrlimit(resource.RLIMIT_NOFILE, limits)
+        self.assertEqual(told, {"put": ("NotPut", errno.EMFILE), "sweep": ("NotDone", errno.EMFILE), "open": ("Failed", errno.EMFILE)})
+        job.put(1, b"")
+        self.assertEqual(job.sweep(), 0)
+        job.close()
+        with self.assertRaises(BadArgument):
+            Store(f"{self.path}\0", SETTINGS, [2])
+
+    def test_what_is_measured(self):
+        with self.open() as job:
+            self.assertEqual(job.measures()["last_commit"], 0)
+            job.savepoint()
+            found = job.measures()
+            self.assertEqual((found["log_rows"], found["failed_deletions"]), (1, 0))
+            self.assertGreater(found["wal_bytes"], 4096)
+            self.assertLess(abs(found["last_commit"] / 1000 - time.time()), 3600)
+            self.assertEqual(job.job(), (SETTINGS, (2,)))
+        with Store(self.path, Settings(interval=99), [7]) as job:
+            self.assertTrue(job.report.settings_differ)
+            self.assertEqual(job.job(), (SETTINGS, (2,)))
+            job.restore(shape=[3, 4])
+            self.assertEqual(job.job(), (SETTINGS, (3, 4)))
+
 
 class Limits(Folder):
     def test_each_setting_and_the_shape(self):
@@ -322,6 +386,80 @@ class Threads(Folder):
         job.close()
         timer.join()
         self.assertIn(ends, (["Stopped"], ["Closed"]))
+
+    def test_a_close_beside_threads(self):
+        """Threads that were told to stop are within the store until they have asked what it says: each is slow there."""
+        fault = Store._fault
+
+        def slow(*words):
+            time.sleep(0.05)
+            return fault(*words)
+        for work in (lambda job: job.await_tick(60_000), lambda job: job.put(1, b""), lambda job: job.discard(), lambda job: job.reserve(1, 1)):
+            job = self.open(plain=False, storage=self.storage)
+            ends = []
+
+            def runs():
+                try:
+                    while True:
+                        work(job)
+                except (StoreError, Fenced) as why:
+                    ends.append(why.name)
+            with mock.patch.object(Store, "_fault", slow):
+                threads = [threading.Thread(target=runs) for _ in range(4)]
+                for it in threads:
+                    it.start()
+                while not job._used and not ends:
+                    time.sleep(0.001)
+                job.close()
+                for it in threads:
+                    it.join()
+            self.assertFalse(job._used)
+            self.assertEqual(len(ends), 4)
+
+    def test_a_call_in_a_read(self):
+        """A call of the thread that reads would wait for itself."""
+        with self.open(plain=False) as job:
+            with job.read() as reads:
+                for call in (lambda: job.reserve(1, 1), job.term, lambda: job.await_tick(0), lambda: job.read().__enter__(), job.sweep):
+                    self.raises("InRead", call)
+                self.assertEqual(job.now(), job.now())
+                token = job.submit([Call.reserve(1, 5)])
+                self.assertEqual(reads.term().next_name, 1)
+            while not (found := job.completed()):
+                pass
+            self.assertEqual([it for it, _ in found], [token])
+            self.assertEqual(job.reserve(1, 1), range(6, 7))
+            with job.read():
+                job.close()  # ends the read too
+        self.raises("Closed", job.now)
+
+    def test_a_read_ends_once(self):
+        """Also if its end is interrupted before the first step of it, when nobody has it any more."""
+        with self.open() as job:
+            reading = job.read()
+            reading.__enter__()
+            del reading
+            job.savepoint()
+            with job.read():
+                pass
+            self.assertFalse(job._used)
+
+    def test_what_a_function_raises(self):
+        """It ends the discarder, once the files before it are reported, and the others wait again."""
+        job = self.open(storage=self.storage)
+        self.complete(job, 1)
+        self.complete(job, 11)  # 1 and 2 wait
+
+        def delete(file):
+            if file == 2:
+                raise ZeroDivisionError
+            return True
+        with self.assertRaises(ZeroDivisionError):
+            job.discard(delete)
+        with job.read() as reads:
+            self.assertEqual((reads.file_counts().waiting, reads.file_counts().taken, reads.waiting_file(0)), (1, 0, 2))
+        self.assertEqual(job.measures()["failed_deletions"], 1)
+        job.close()
 
     def test_an_event_loop(self):
         async def run(job):
