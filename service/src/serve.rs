@@ -63,7 +63,7 @@ fn serve(mut config: Config) -> Result<(), Stop> {
     drop(starting);
     let owners = member.as_ref().map(|member| Arc::new(Owners::new(member.name())));
     let (shared, messages) = Shared::new(&config)?;
-    shared.metrics.upkeep.tokens(keys.tokens().as_deref());
+    keys.tell(&shared.metrics);
     let app = shared.app(&config, keys, owners.clone())?;
     let historian = shared.historian(&config)?;
     let thread = member.zip(owners).map(|(member, owners)| shared.sharer(&config, member, owners)).transpose()?;

@@ -15,6 +15,7 @@ from test_bytes import filled
 SETTINGS = {"interval": 1 << 40}
 TICK = {"calls": [{"call": "tick"}]}
 TOKENS = {"a": "a" * 20, "b": "b" * 20}
+READER = "r" * 20
 MIB = 1 << 20
 
 
@@ -22,6 +23,7 @@ def two_teams(at, limits):
     """A service with a token for each of two jobs."""
     with open(f"{at}/token", "w", encoding="utf-8") as it:
         it.writelines(f"write {token} jobs={job} name=team-{job}\n" for job, token in TOKENS.items())
+        it.write(f"read {READER}\n")
     server = Server(at, args=[*configured(at, f"[limits]\n{limits}"), "--token-file", f"{at}/token"]).start()
     for job, token in TOKENS.items():
         assert server.request("POST", "/v1/jobs", {**JOB, "name": job}, token)[0] == 201
@@ -47,7 +49,7 @@ def test_announced_bodies_take_no_room():
     with folder() as at:
         server = two_teams(at, f"body_bytes = {MIB}\nall_bodies_bytes = {4 * MIB}")
         slow = [begun(server, "a", MIB, 1) for _ in range(20)]
-        until(lambda: "relkvanu_http_connections 20" in server.get("/healthz")[2] or True)
+        until(lambda: "relkvanu_http_connections 21" in server.get("/metrics", READER)[2])
         told = [server.request("POST", f"/v1/jobs/{job}/calls", TICK, token)[0] for job, token in TOKENS.items() for _ in range(20)]
         for it in slow:
             it.close()
@@ -95,21 +97,23 @@ def test_bodies_without_a_length_take_room_too():
     with folder() as at:
         server = Server(at, args=configured(at, f"[limits]\nbody_bytes = {MIB}\nall_bodies_bytes = {MIB}\n")).start()
         Service(server.url).open("a", SETTINGS, [1])
-        first = http.client.HTTPConnection("127.0.0.1", server.port, timeout=COMMAND)
-        first.putrequest("POST", "/v1/jobs/a/calls")
-        first.putheader("Content-Type", "application/json")
-        first.putheader("Transfer-Encoding", "chunked")
-        first.endheaders()
         part = b" " * 700_000
-        first.send(b"%x\r\n%s\r\n" % (len(part), part))
 
-        def second():
-            it = http.client.HTTPConnection("127.0.0.1", server.port, timeout=COMMAND)
-            it.request("POST", "/v1/jobs/a/calls", iter([part]), {"Content-Type": "application/json"}, encode_chunked=True)
-            return it.getresponse().status
+        def statuses():
+            """Of a body beside one that has come in part, if that was read by then."""
+            first, second = (http.client.HTTPConnection("127.0.0.1", server.port, timeout=COMMAND) for _ in range(2))
+            first.putrequest("POST", "/v1/jobs/a/calls")
+            first.putheader("Content-Type", "application/json")
+            first.putheader("Transfer-Encoding", "chunked")
+            first.endheaders()
+            first.send(b"%x\r\n%s\r\n" % (len(part), part))
+            time.sleep(0.2)
+            second.request("POST", "/v1/jobs/a/calls", iter([part]), {"Content-Type": "application/json"}, encode_chunked=True)
+            status = second.getresponse().status
+            first.close()
+            return status
 
-        # until the first one has come it is 400: spaces are no calls
-        until(lambda: second() == 503)
+        until(lambda: statuses() == 503)
         server.kill()
         return "503 beside a body that takes most of the room"
 

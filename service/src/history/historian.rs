@@ -245,12 +245,26 @@ impl Historian {
     fn sample(&self, tables: &Tables, samples: &mut Samples) -> Result<(), Error> {
         if samples.is_due() {
             match self.all_jobs() {
-                Some(jobs) => samples.add(tables, &jobs)?,
+                Some(jobs) => {
+                    samples.add(tables, &jobs)?;
+                    self.tell_oldest_files(tables, &jobs)?;
+                }
                 None => return Ok(()),
             }
         }
         if samples.has_old() {
             self.metrics.upkeep.samples_behind(samples.forget(tables)?);
+        }
+        Ok(())
+    }
+
+    /// Tells the metrics for how long the oldest files wait for deletion, or have been taken for it.
+    fn tell_oldest_files(&self, tables: &Tables, jobs: &[JobState]) -> Result<(), Error> {
+        for job in jobs {
+            let age = |at: Option<u64>| at.map_or(Duration::ZERO, |at| Duration::from_millis(job.now.saturating_sub(at)));
+            let none = job.files.waiting + job.files.taken == 0;
+            let (waiting, taken) = if none { (None, None) } else { tables.oldest_files(job.opening.number)? };
+            self.metrics.upkeep.oldest_files(&job.opening.name, age(waiting), age(taken));
         }
         Ok(())
     }
@@ -285,7 +299,7 @@ impl Historian {
             match told {
                 Ok(room) => {
                     self.metrics.upkeep.stored(of, room.bytes);
-                    room.free.into_iter().for_each(|free| self.metrics.upkeep.free(of, free));
+                    room.disk.into_iter().for_each(|disk| self.metrics.upkeep.disk(of, disk));
                 }
                 Err(why) => log::warn(&format!("the size of the {of}: {why}")),
             }

@@ -259,6 +259,19 @@ impl Tables {
         Ok(found.flatten().map(unsigned))
     }
 
+    /// When the oldest file that waits for deletion was released, and when the oldest one was taken that is not reported.
+    pub fn oldest_files(&self, job: i64) -> rusqlite::Result<(Option<u64>, Option<u64>)> {
+        let moment = |oldest: &str| -> rusqlite::Result<Option<u64>> {
+            let sql = format!("select at from place where job = ?1 and seq = ({oldest})");
+            let found: Option<i64> = self.0.prepare_cached(&sql)?.query_row([job], |row| row.get(0)).optional()?;
+            Ok(found.map(unsigned))
+        };
+        Ok((
+            moment("select min(released) from queue where job = ?1 and released > 0")?,
+            moment("select min(taken) from file where job = ?1 and taken is not null and deleted is null")?,
+        ))
+    }
+
     pub fn runs(&self, job: i64) -> rusqlite::Result<Vec<Run>> {
         let mut query = self.0.prepare("select place, released, files from queue where job = ? order by place")?;
         let rows = query.query_map([job], |row| {

@@ -35,6 +35,12 @@ impl Keys {
         self.tls.as_ref()
     }
 
+    /// Tells the metrics when the tokens and the certificate end.
+    pub fn tell(&self, metrics: &Metrics) {
+        metrics.upkeep.tokens(self.tokens().as_deref());
+        metrics.upkeep.certificate(self.tls.as_ref().and_then(Tls::until));
+    }
+
     /// Changes each time the tokens are read, so that what lasts long can end.
     pub fn generation(&self) -> u64 {
         self.read.load(Ordering::SeqCst)
@@ -46,14 +52,17 @@ impl Keys {
             Some(Ok(tokens)) => {
                 *self.tokens.write().unwrap_or_else(PoisonError::into_inner) = Some(Arc::new(tokens));
                 self.read.fetch_add(1, Ordering::SeqCst);
-                metrics.upkeep.tokens(self.tokens().as_deref());
+                self.tell(metrics);
                 log::info("the tokens are read again");
             }
             Some(Err(why)) => log::error(&format!("the tokens stay as they were: {why}")),
             None => log::info("there is no file of tokens to be read again"),
         }
         match self.tls.as_ref().map(Tls::read_again) {
-            Some(Ok(())) => log::info("the certificate is read again"),
+            Some(Ok(())) => {
+                self.tell(metrics);
+                log::info("the certificate is read again");
+            }
             Some(Err(why)) => log::error(&format!("the certificate stays as it was: {why}")),
             None => {}
         }

@@ -1,9 +1,12 @@
 //! TLS of the service's own: its certificate and key, which can be read again while it serves.
 use native_tls::{Identity, Protocol, TlsAcceptor};
+use openssl::asn1::Asn1Time;
+use openssl::x509::X509;
 use std::fs;
 use std::io;
 use std::path::{Path, PathBuf};
 use std::sync::{PoisonError, RwLock};
+use std::time::{Duration, SystemTime, UNIX_EPOCH};
 use thiserror::Error;
 
 /// Why the certificate or the key can't be used. Another start over the same files ends in the same way.
@@ -24,31 +27,66 @@ pub struct TlsFiles {
 
 pub struct Tls {
     files: TlsFiles,
-    acceptor: RwLock<tokio_native_tls::TlsAcceptor>,
+    read: RwLock<Read>,
+}
+
+/// What was read from the files.
+struct Read {
+    acceptor: tokio_native_tls::TlsAcceptor,
+    /// When the certificate ends, or the first one of its chain.
+    until: Option<SystemTime>,
 }
 
 impl Tls {
     pub fn read(files: TlsFiles) -> Result<Tls, NoTls> {
-        let acceptor = RwLock::new(acceptor(&files)?);
-        Ok(Tls { files, acceptor })
+        let read = RwLock::new(read(&files)?);
+        Ok(Tls { files, read })
     }
 
     /// Reads the files again. If they can't be used, the ones before go on.
     pub fn read_again(&self) -> Result<(), NoTls> {
-        *self.acceptor.write().unwrap_or_else(PoisonError::into_inner) = acceptor(&self.files)?;
+        *self.read.write().unwrap_or_else(PoisonError::into_inner) = read(&self.files)?;
         Ok(())
     }
 
     pub fn acceptor(&self) -> tokio_native_tls::TlsAcceptor {
-        self.acceptor.read().unwrap_or_else(PoisonError::into_inner).clone()
+        self.read.read().unwrap_or_else(PoisonError::into_inner).acceptor.clone()
+    }
+
+    /// When the certificate ends.
+    pub fn until(&self) -> Option<SystemTime> {
+        self.read.read().unwrap_or_else(PoisonError::into_inner).until
     }
 }
 
-fn acceptor(files: &TlsFiles) -> Result<tokio_native_tls::TlsAcceptor, NoTls> {
+fn read(files: &TlsFiles) -> Result<Read, NoTls> {
     let read = |path: &Path| fs::read(path).map_err(|why| NoTls::Unread { path: path.to_path_buf(), why });
     let (certificate, key) = (read(&files.certificate)?, read(&files.key)?);
     let built = Identity::from_pkcs8(&certificate, &key)
         .and_then(|identity| TlsAcceptor::builder(identity).min_protocol_version(Some(Protocol::Tlsv12)).build());
+    let until = first_end(&certificate);
     let TlsFiles { certificate, key } = files.clone();
-    built.map(Into::into).map_err(|why| NoTls::Bad { certificate, key, why })
+    let acceptor = built.map(Into::into).map_err(|why| NoTls::Bad { certificate, key, why })?;
+    Ok(Read { acceptor, until })
+}
+
+/// When the first one ends of the certificates of a text in PEM; `None` if that can't be read.
+fn first_end(pem: &[u8]) -> Option<SystemTime> {
+    let epoch = Asn1Time::from_unix(0).ok()?;
+    let end = |certificate: &X509| {
+        let since = epoch.diff(certificate.not_after()).ok()?;
+        let (days, seconds) = (u64::try_from(since.days).ok()?, u64::try_from(since.secs).ok()?);
+        Some(UNIX_EPOCH + Duration::from_secs(days * 86_400 + seconds))
+    };
+    X509::stack_from_pem(pem).ok()?.iter().map(end).min().flatten()
+}
+
+#[cfg(test)]
+mod tests {
+    use super::*;
+
+    #[test]
+    fn what_is_no_certificate_has_no_end() {
+        assert_eq!((first_end(b""), first_end(b"no PEM")), (None, None));
+    }
 }

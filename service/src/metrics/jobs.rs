@@ -9,6 +9,8 @@ pub struct Gauges {
     interval: GaugeVec,
     timeout: GaugeVec,
     completed: GaugeVec,
+    restored: GaugeVec,
+    served: GaugeVec,
     opened: GaugeVec,
     files: IntGaugeVec,
     pending: IntGaugeVec,
@@ -32,6 +34,14 @@ impl Gauges {
             completed: seconds(
                 "relkvanu_last_completed_timestamp_seconds",
                 "When the last checkpoint completed, in Unix time; before the first, when the job was opened.",
+            )?,
+            restored: seconds(
+                "relkvanu_last_restored_timestamp_seconds",
+                "When the job was restored last, in Unix time; before that, and after a start over a later image, when the job was opened.",
+            )?,
+            served: seconds(
+                "relkvanu_served_since_timestamp_seconds",
+                "Since when this process serves the job, in Unix time: its start, a take-over, or the opening of the job.",
             )?,
             opened: seconds("relkvanu_job_opened_timestamp_seconds", "When the job was opened, in Unix time.")?,
             files: gauge(
@@ -84,9 +94,9 @@ impl Gauges {
     }
 
     /// Those of seconds.
-    fn moments(&self) -> [&GaugeVec; 5] {
-        let Gauges { interval, timeout, completed, opened, image_at, .. } = self;
-        [interval, timeout, completed, opened, image_at]
+    fn moments(&self) -> [&GaugeVec; 7] {
+        let Gauges { interval, timeout, completed, restored, served, opened, image_at, .. } = self;
+        [interval, timeout, completed, restored, served, opened, image_at]
     }
 
     /// Those of whole numbers.
@@ -126,6 +136,7 @@ impl Gauges {
         set_seconds(&self.interval, name, settings.interval.max(settings.pause));
         set_seconds(&self.timeout, name, settings.timeout);
         set_seconds(&self.completed, name, job.last_completed.unwrap_or(job.opening.started));
+        set_seconds(&self.restored, name, job.last_restored.unwrap_or(job.opening.started));
         set_seconds(&self.opened, name, job.opening.started);
         for (state, number) in STATES.into_iter().zip([job.files.in_use, job.files.waiting, job.files.taken]) {
             set(&self.files, &[name, state], number);
@@ -138,6 +149,11 @@ impl Gauges {
             set(&self.next_name, &[name], now.next_name);
         }
         self.set_log(job, name);
+    }
+
+    /// Since when this process serves a job.
+    pub fn served(&self, job: &str, since: u64) {
+        set_seconds(&self.served, job, since);
     }
 
     /// How far the history is in a job's log.

@@ -7,7 +7,7 @@ mod upkeep;
 
 use crate::history::Search;
 use crate::model::Outcome;
-use crate::writer::JobState;
+use crate::writer::{JobState, Served};
 use jobs::Gauges;
 use process::Process;
 use prometheus::core::{Collector, MetricVec, MetricVecBuilder};
@@ -223,29 +223,30 @@ impl Metrics {
         self.leader.set(i64::from(leads));
     }
 
-    /// All metrics as text, with the gauges of these jobs. `lags` tells which jobs this process has now, each with how far its history is behind.
+    /// All metrics as text, with the gauges of these jobs. `served` tells which jobs this process has now.
     pub fn text(
         &self,
         jobs: &[JobState],
-        lags: impl FnOnce() -> Vec<(String, Duration)>,
+        served: impl FnOnce() -> Vec<Served>,
     ) -> Result<Vec<u8>, prometheus::Error> {
-        self.set(jobs, lags);
+        self.set(jobs, served);
         self.families.text()
     }
 
     /// A job that has gone since it was read has been forgotten, or will be: it gets no values, which would stay.
-    fn set(&self, jobs: &[JobState], lags: impl FnOnce() -> Vec<(String, Duration)>) {
+    fn set(&self, jobs: &[JobState], served: impl FnOnce() -> Vec<Served>) {
         let _held = self.values();
-        let lags = lags();
-        let there: HashSet<&str> = lags.iter().map(|(job, _)| job.as_str()).collect();
+        let served = served();
+        let there: HashSet<&str> = served.iter().map(|it| it.job.as_str()).collect();
         for job in jobs.iter().filter(|job| there.contains(job.opening.name.as_str())) {
             self.gauges.set(job);
             self.sizes.job(&job.opening.name, &job.bytes);
             // it is there, and 0 at first
             self.images_fail.with_label_values(&[job.opening.name.as_str()]);
         }
-        for (job, lag) in &lags {
+        for Served { job, since, lag } in &served {
             self.upkeep.history_lag(job, *lag);
+            self.gauges.served(job, *since);
         }
     }
 

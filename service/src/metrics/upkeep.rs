@@ -1,6 +1,7 @@
 //! Metrics of what the service does beside its calls: the history, deletions, and the room that it takes.
-use super::{forget, Families};
+use super::{forget, Families, STATES};
 use crate::auth::{Access, Tokens};
+use crate::store::Disk;
 use prometheus::{Gauge, GaugeVec, IntGauge, IntGaugeVec, Opts};
 use std::time::{Duration, SystemTime, UNIX_EPOCH};
 
@@ -11,7 +12,10 @@ pub struct Upkeep {
     samples_behind: Gauge,
     bytes: IntGaugeVec,
     free: IntGaugeVec,
+    disk: IntGaugeVec,
     token_until: GaugeVec,
+    certificate_until: Gauge,
+    oldest_file: GaugeVec,
 }
 
 impl Upkeep {
@@ -31,6 +35,18 @@ impl Upkeep {
             )?,
             bytes: sized("relkvanu_stored_bytes", "How large the database and the history are.")?,
             free: sized("relkvanu_disk_free_bytes", "How much room the disks of these files have left.")?,
+            disk: sized("relkvanu_disk_size_bytes", "How large the disks of these files are.")?,
+            certificate_until: Gauge::new(
+                "relkvanu_certificate_until_timestamp_seconds",
+                "When the certificate ends, or the first one of its chain, in Unix time; +Inf without TLS.",
+            )?,
+            oldest_file: GaugeVec::new(
+                Opts::new(
+                    "relkvanu_oldest_file_age_seconds",
+                    "For how long the oldest state file that waits for deletion, or was taken for it, has done so; 0 if there is none.",
+                ),
+                &["job_name", "state"],
+            )?,
             token_until: GaugeVec::new(
                 Opts::new(
                     "relkvanu_token_until_timestamp_seconds",
@@ -43,9 +59,10 @@ impl Upkeep {
 
     pub fn register(&self, all: &mut Families) -> Result<(), prometheus::Error> {
         all.add(&self.history_up)?;
-        [&self.history_lag, &self.token_until].into_iter().try_for_each(|it| all.add(it))?;
+        [&self.history_lag, &self.token_until, &self.oldest_file].into_iter().try_for_each(|it| all.add(it))?;
+        all.add(&self.certificate_until)?;
         [&self.keys_behind, &self.samples_behind].into_iter().try_for_each(|it| all.add(it))?;
-        [&self.bytes, &self.free].into_iter().try_for_each(|it| all.add(it))
+        [&self.bytes, &self.free, &self.disk].into_iter().try_for_each(|it| all.add(it))
     }
 
     pub fn history_up(&self, is_up: bool) {
@@ -59,11 +76,11 @@ impl Upkeep {
     /// A job was deleted, or given up.
     pub fn forget(&self, job: &str) {
         forget(&self.history_lag, job, &[]);
+        forget(&self.oldest_file, job, &[&STATES]);
     }
 
     /// When the last token for each access ends, if it does.
     pub fn tokens(&self, tokens: Option<&Tokens>) {
-        let since = |until: SystemTime| until.duration_since(UNIX_EPOCH).unwrap_or(Duration::ZERO).as_secs_f64();
         for (word, access) in [("read", Access::Read), ("write", Access::Write)] {
             let until = tokens.and_then(|tokens| tokens.until(access));
             self.token_until.with_label_values(&[word]).set(until.map_or(f64::INFINITY, since));
@@ -83,10 +100,28 @@ impl Upkeep {
         set(&self.bytes, of, bytes);
     }
 
-    /// How much room its disk has left.
-    pub fn free(&self, of: &str, bytes: u64) {
-        set(&self.free, of, bytes);
+    /// How large its disk is, and how much room that has left.
+    pub fn disk(&self, of: &str, Disk { size, free }: Disk) {
+        set(&self.disk, of, size);
+        set(&self.free, of, free);
     }
+
+    /// For how long the oldest file of a job has waited for deletion, and for how long the oldest one has been taken for it.
+    pub fn oldest_files(&self, job: &str, waiting: Duration, taken: Duration) {
+        for (state, age) in [("waiting", waiting), ("taken", taken)] {
+            self.oldest_file.with_label_values(&[job, state]).set(age.as_secs_f64());
+        }
+    }
+
+    /// When the certificate ends; `None` without TLS.
+    pub fn certificate(&self, until: Option<SystemTime>) {
+        self.certificate_until.set(until.map_or(f64::INFINITY, since));
+    }
+}
+
+/// A moment in Unix time.
+fn since(until: SystemTime) -> f64 {
+    until.duration_since(UNIX_EPOCH).unwrap_or(Duration::ZERO).as_secs_f64()
 }
 
 fn set(gauge: &IntGaugeVec, of: &str, value: u64) {

@@ -69,6 +69,8 @@ pub struct Job {
     pub at: u64,
     /// When the last checkpoint completed.
     pub last_completed: Option<u64>,
+    /// When it was restored last, of the calls that this process knows: those after an image.
+    pub last_restored: Option<u64>,
     /// The last call that is an event for engines.
     pub last_event: u64,
     /// What a restore would have begun from.
@@ -89,14 +91,15 @@ impl Job {
         let engine = Lendable::of(Engine::open(&opening.settings, &opening.shape, opening.started)?);
         let (shape, at, kept) = (opening.shape.clone(), opening.started, Kept::default());
         let (live, sizes) = (Live::new(), Sizes::default());
-        let (seq, last_completed, last_event, ahead, is_deleted) = (0, None, 0, 0, false);
+        let (seq, last_event, ahead, is_deleted) = (0, 0, 0, false);
         let bases = Bases::from(seq, Choice::Fresh);
         Ok(Job {
             opening,
             shape,
             seq,
             at,
-            last_completed,
+            last_completed: None,
+            last_restored: None,
             last_event,
             bases,
             kept,
@@ -262,8 +265,11 @@ impl Job {
         if matches!(reply, Reply::Answered(Answer::AckCompleted { .. })) && is_checkpoint {
             self.last_completed = Some(now);
         }
-        if let Call::Restore { shape: Some(shape), .. } = call {
-            self.shape.clone_from(shape);
+        if let Call::Restore { shape, .. } = call {
+            self.last_restored = Some(now);
+            if let Some(shape) = shape {
+                self.shape.clone_from(shape);
+            }
         }
         if reply.is_event() {
             self.last_event = self.seq;

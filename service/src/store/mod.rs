@@ -34,6 +34,7 @@ pub use pg_target::{Found, Target};
 pub use reader::Reader;
 pub use room::room_of;
 pub use rows::{Committed, GoneJob, Group, Keyed, Lead, SavedImage, Store};
+pub use rows::Disk;
 #[cfg(test)]
 pub use rows::{Room, EVENT};
 pub use tables::{are_alike, bytes_of, Cells, Table, TABLES};

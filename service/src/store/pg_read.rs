@@ -168,7 +168,7 @@ impl Reader for PgReader {
 
     fn room(&mut self) -> Result<Room, DbError> {
         let bytes = self.one("select pg_database_size(current_database())", &[])?;
-        Ok(Room { bytes: bytes.ok_or(DbError::Odd("the database does not tell its size"))?, free: None })
+        Ok(Room { bytes: bytes.ok_or(DbError::Odd("the database does not tell its size"))?, disk: None })
     }
 
     fn first(&mut self, job: i64) -> Result<Option<u64>, DbError> {

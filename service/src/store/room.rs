@@ -1,5 +1,5 @@
 //! How much room an SQLite file takes, and its disk has.
-use super::rows::Room;
+use super::rows::{Disk, Room};
 use std::ffi::{CString, OsString};
 use std::io::{Error, ErrorKind, Result};
 use std::mem::MaybeUninit;
@@ -17,11 +17,11 @@ pub fn room_of(path: &Path) -> Result<Room> {
         Err(error) if error.kind() == ErrorKind::NotFound => 0,
         told => told?,
     };
-    Ok(Room { bytes: length("")? + log, free: Some(free(path)?) })
+    Ok(Room { bytes: length("")? + log, disk: Some(disk(path)?) })
 }
 
-/// How many bytes a user without privileges may still write to the disk of a file.
-fn free(path: &Path) -> Result<u64> {
+/// The disk of a file, and how many bytes a user without privileges may still write to it.
+fn disk(path: &Path) -> Result<Disk> {
     let path = CString::new(path.as_os_str().as_bytes())?;
     let mut told = MaybeUninit::<libc::statvfs>::uninit();
     // SAFETY: `path` ends with a zero byte, and `told` has room for what the call writes.
@@ -30,5 +30,5 @@ fn free(path: &Path) -> Result<u64> {
     }
     // SAFETY: the call was successful, so it has written all of it.
     let told = unsafe { told.assume_init() };
-    Ok(told.f_bavail * told.f_frsize)
+    Ok(Disk { size: told.f_blocks * told.f_frsize, free: told.f_bavail * told.f_frsize })
 }

@@ -206,11 +206,18 @@ pub fn image_columns(joined: Option<&str>) -> String {
     format!("job, seq, at, digest, shape, completed, event, {text}")
 }
 
-/// How many bytes something takes, and how many its disk has left, if that can be known here.
+/// How many bytes something takes, and what its disk has, if that can be known here.
 #[derive(Clone, Copy, Debug, PartialEq, Eq)]
 pub struct Room {
     pub bytes: u64,
-    pub free: Option<u64>,
+    pub disk: Option<Disk>,
+}
+
+/// How many bytes a disk has in all, and how many of them are left.
+#[derive(Clone, Copy, Debug, PartialEq, Eq)]
+pub struct Disk {
+    pub size: u64,
+    pub free: u64,
 }
 
 /// The text of these parts of a summary, if they are all of them.

@@ -1,7 +1,7 @@
 //! The board: what the threads know of each other.
 use super::lag::Lag;
 use super::lease::Lease;
-use crate::model::{shard_of, Answer, Bases, Choice, Held, Job, Moment, Outcome, Reply, Shards, SHARDS};
+use crate::model::{shard_of, wall, Answer, Bases, Choice, Held, Job, Moment, Outcome, Reply, Shards, SHARDS};
 use serde_json::Value;
 use std::collections::HashMap;
 use std::fmt::Write;
@@ -29,8 +29,18 @@ pub struct Board {
     jobs: RwLock<HashMap<String, Watched>>,
 }
 
+/// A job that this process serves.
+pub struct Served {
+    pub job: String,
+    /// The moment since which it does, by this machine's clock.
+    pub since: u64,
+    /// For how long the history has not read what was committed.
+    pub lag: Duration,
+}
+
 struct Watched {
     number: i64,
+    since: u64,
     /// How many calls were committed.
     length: AtomicU64,
     /// The first call that the log has.
@@ -201,6 +211,7 @@ impl Board {
         }
         let watched = Watched {
             number: job.opening.number,
+            since: wall(),
             length: AtomicU64::new(job.seq),
             first: AtomicU64::new(job.kept.first()),
             read: AtomicU64::new(0),
@@ -246,9 +257,14 @@ impl Board {
         }
     }
 
-    /// For how long the history has not read what was committed of each job.
-    pub fn lags(&self) -> Vec<(String, Duration)> {
-        self.read().iter().map(|(job, watched)| (job.clone(), watched.lag.time())).collect()
+    /// The jobs that this process serves.
+    pub fn served(&self) -> Vec<Served> {
+        let served = |(job, watched): (&String, &Watched)| Served {
+            job: job.clone(),
+            since: watched.since,
+            lag: watched.lag.time(),
+        };
+        self.read().iter().map(served).collect()
     }
 
     /// How far the history has read a job's log.

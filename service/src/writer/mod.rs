@@ -20,7 +20,7 @@ mod round;
 mod state;
 mod timer;
 
-pub use board::Board;
+pub use board::{Board, Served};
 pub use delete::Delete;
 pub use imager::Imager;
 pub use jobs::Jobs;

@@ -18,6 +18,7 @@ pub struct JobState {
     /// The bytes of the files of which these are known.
     pub bytes: Bytes,
     pub last_completed: Option<u64>,
+    pub last_restored: Option<u64>,
     pub last_event: u64,
     /// The first call that the log has, and the last image.
     pub first: u64,
@@ -99,6 +100,7 @@ pub fn state(job: &mut Job, now: u64) -> JobState {
         files,
         bytes: job.sizes.sum(),
         last_completed: job.last_completed,
+        last_restored: job.last_restored,
         last_event: job.last_event,
         first: job.kept.first(),
         image: job.kept.last(),
@@ -112,6 +114,7 @@ pub fn state(job: &mut Job, now: u64) -> JobState {
 #[cfg(test)]
 mod tests {
     use super::*;
+    use super::super::Served;
     use crate::metrics::Metrics;
     use crate::model::parse_config;
     use std::time::Duration;
@@ -123,7 +126,8 @@ mod tests {
         let mut job = Job::open(opening).map_err(|_| "a job")?;
         let (read, metrics) = ([state(&mut job, 5)], Metrics::new()?);
         let has_it = |text: Vec<u8>| String::from_utf8_lossy(&text).contains("orders");
-        assert!(has_it(metrics.text(&read, || vec![("orders".to_string(), Duration::ZERO)])?));
+        let served = Served { job: "orders".to_string(), since: 7, lag: Duration::ZERO };
+        assert!(has_it(metrics.text(&read, || vec![served])?));
         metrics.forget("orders");
         assert!(!has_it(metrics.text(&read, Vec::new)?));
         Ok(())
