@@ -16,7 +16,8 @@ from typing import Any, Dict
 HERE = pathlib.Path(__file__).resolve().parent
 LIBRARY = "librelkvanu.so.0"
 STORE = "librelkvanu-store.so.0"
-EXTRAS = {"dask": ("boto3", "cloudpickle", "dask", "distributed", "streamz==0.6.4", "xxhash")}  # relkvanu[dask]: docs/DASK.md
+# What relkvanu[dask] installs (docs/DASK.md): the versions of Debian 12, over which it is tested.
+EXTRAS = {"dask": ("boto3", "distributed==2022.12.1", "numpy<2", "pandas<2", "streamz==0.6.4", "xxhash")}
 SCRIPTS = "[console_scripts]\nrelkvanu-conform = relkvanu.conform:main\n"
 
 
