@@ -11,6 +11,7 @@ import subprocess
 import sys
 import tempfile
 import time
+from typing import NamedTuple, Sequence
 
 HERE = pathlib.Path(__file__).resolve().parent
 VICTIMS = [it.split("+") for it in "driver driver worker-0 worker-1 scheduler scheduler worker-0+worker-1 driver+worker-0 scheduler+driver".split()]
@@ -26,24 +27,33 @@ def free_port():
         return it.getsockname()[1]
 
 
+class Machine(NamedTuple):
+    """An address, and what a command on it begins with."""
+
+    address: str = "127.0.0.1"
+    enter: Sequence[str] = ()
+
+
 class Cluster:
     """A scheduler and workers as processes, whose output is in files of a folder."""
 
-    def __init__(self, folder, workers=2):
-        self.folder, self.address = folder, f"tcp://127.0.0.1:{free_port()}"
+    def __init__(self, folder, here=Machine(), there=Machine(), workers=2):
+        self.folder, self.here, self.there, self.address = folder, here, there, f"tcp://{here.address}:{free_port()}"
         self.processes, self.count = {}, 0
         for name in ("scheduler", *(f"worker-{it}" for it in range(workers))):
             self.start(name)
 
     def start(self, name):
-        words = ["-m", "distributed.cli.dask_scheduler", "--host", "127.0.0.1", "--port", self.address.rpartition(":")[2], "--no-dashboard"]
-        if name != "scheduler":
-            words = ["-m", "distributed.cli.dask_worker", self.address, "--no-nanny", "--no-dashboard", "--nthreads", "1", "--host", "127.0.0.1",
-                     "--memory-limit", "0", "--local-directory", str(self.folder), "--death-timeout", str(PATIENCE)]
+        """Workers need no library."""
+        machine, words = self.there, ["-m", "distributed.cli.dask_worker", self.address, "--no-nanny", "--no-dashboard", "--nthreads", "1",
+                                      "--memory-limit", "0", "--local-directory", str(self.folder), "--death-timeout", str(PATIENCE)]
+        if name == "scheduler":
+            machine, words = self.here, ["-m", "distributed.cli.dask_scheduler", "--port", self.address.rpartition(":")[2], "--no-dashboard"]
         self.count += 1
         with open(self.folder / f"{name}.{self.count}.log", "wb") as log:
-            environment = {**os.environ, "RELKVANU_LIB": "/nowhere"}  # these need no library
-            self.processes[name] = subprocess.Popen([sys.executable, "-W", "ignore", *words], stdout=log, stderr=log, env=environment)
+            self.processes[name] = subprocess.Popen(
+                [*machine.enter, sys.executable, "-W", "ignore", *words, "--host", machine.address], stdout=log, stderr=log,
+                env={**os.environ, "RELKVANU_LIB": "/nowhere"})
 
     def revive(self):
         for name, process in list(self.processes.items()):
@@ -62,12 +72,13 @@ class Cluster:
 class Job:
     """The drivers of a job, one at a time."""
 
-    def __init__(self, name, folder, url, scheduler):
-        self.name, self.folder, self.url, self.scheduler, self.count, self.process = name, folder, url, scheduler, 0, None
+    def __init__(self, name, folder, url, cluster):
+        self.name, self.folder, self.url, self.cluster, self.count, self.process = name, folder, url, cluster, 0, None
 
     def command(self, size):
         is_new = [] if (self.folder / "job.db").exists() else ["new"]
-        return [sys.executable, "-W", "ignore", str(HERE / f"{self.name}.py"), str(self.folder), self.url, size, self.scheduler, *is_new]
+        return [*self.cluster.here.enter, sys.executable, "-W", "ignore", str(HERE / f"{self.name}.py"), str(self.folder), self.url, size,
+                self.cluster.address, *is_new]
 
     def start(self, size):
         """Starts a driver if none runs. Raises if the last one has come to an end by itself."""
@@ -79,13 +90,13 @@ class Job:
         with open(self.folder / f"driver-{self.count}.log", "wb") as log:
             self.process = subprocess.Popen(self.command(size), stdout=log, stderr=log, env={**os.environ, "PACE": PACE})
 
-    def takes_a_record(self, cluster):
+    def takes_a_record(self):
         """Waits until it has taken one from now on, or has ended."""
         log = self.folder / f"driver-{self.count}.log"
         before, end = len(log.read_text()), time.monotonic() + PATIENCE
         while self.process.poll() is None and "record " not in log.read_text()[before:]:
             assert time.monotonic() < end, log.read_text()[-2000:]
-            cluster.revive()
+            self.cluster.revive()
             time.sleep(0.1)
 
     def kill(self):
@@ -96,35 +107,35 @@ class Job:
     def told(self):
         return [(self.folder / f"driver-{it}.log").read_text() for it in range(1, self.count + 1)]
 
-    def last(self, size, cluster):
+    def last(self, size):
         """The driver that comes to its end. A worker ends by itself some time after its scheduler."""
         log = self.folder / "driver-last.log"
         with open(log, "wb") as to:
             self.process = subprocess.Popen(self.command(size), stdout=to, stderr=to)
         end = time.monotonic() + PATIENCE
         while self.process.poll() is None and time.monotonic() < end:
-            cluster.revive()
+            self.cluster.revive()
             with contextlib.suppress(subprocess.TimeoutExpired):
                 self.process.wait(0.5)
         assert self.process.returncode == 0, log.read_text()[-2000:]
         return log.read_text()
 
 
-def kill_some(cluster, job, chance, kills, size):
+def kill_some(job, chance, kills, size):
     """Until each kind was killed often enough. Returns how often."""
     killed = {"driver": 0, "worker": 0, "scheduler": 0}
     while min(killed.values()) < kills:
-        cluster.revive()
+        job.cluster.revive()
         job.start(size)
         if chance.random() < 0.7:
-            job.takes_a_record(cluster)
+            job.takes_a_record()
         time.sleep(chance.uniform(0, SPAN))
         for it in chance.choice(VICTIMS):
-            job.kill() if it == "driver" else cluster.kill(it)
+            job.kill() if it == "driver" else job.cluster.kill(it)
             killed[it.partition("-")[0]] += 1
         time.sleep(chance.uniform(0, 1))
     job.kill()
-    cluster.revive()
+    job.cluster.revive()
     return killed
 
 
@@ -136,23 +147,23 @@ def text_of(folder, chance, lines):
     return path
 
 
-def run_words(cluster, job, chance, kills):
+def run_words(job, chance, kills):
     text = text_of(job.folder, chance, 700 * kills + 1000)
-    told = f"{job_of(cluster, job, chance, kills, str(text))}"
-    check_words(job.folder, text, job.last(str(text), cluster))
+    told = f"{job_of(job, chance, kills, str(text))}"
+    check_words(job.folder, text, job.last(str(text)))
     return told
 
 
-def run_blocks(cluster, job, chance, kills):
-    told = job_of(cluster, job, chance, kills, str(1 << 30))
+def run_blocks(job, chance, kills):
+    told = job_of(job, chance, kills, str(1 << 30))
     done = [int(it) for log in job.told() for it in re.findall(r"^step (\d+): record ", log, re.M)]
     size = str(max(done, default=0) + LAST)
-    assert f"exact {size}" in job.last(size, cluster)
+    assert f"exact {size}" in job.last(size)
     return f"{told}; exact after {size} steps"
 
 
-def job_of(cluster, job, chance, kills, size):
-    killed = kill_some(cluster, job, chance, kills, size)
+def job_of(job, chance, kills, size):
+    killed = kill_some(job, chance, kills, size)
     backs = sum(it.count("back to the last checkpoint") for it in job.told())
     return f"killed {killed}; {job.count} drivers, which went back {backs} times besides"
 
@@ -211,9 +222,9 @@ def main(name, kills, seed, folder, url="", database=""):
         os.mkdir(url)
     with postgres(database == "--postgres"):
         cluster = Cluster(folder)
-        job = Job(name, folder, url, cluster.address)
+        job = Job(name, folder, url, cluster)
         try:
-            told = {"words": run_words, "blocks": run_blocks}[name](cluster, job, chance, int(kills))
+            told = {"words": run_words, "blocks": run_blocks}[name](job, chance, int(kills))
         finally:
             job.kill()
             cluster.stop()

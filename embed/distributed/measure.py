@@ -1,4 +1,5 @@
-"""measure.py SCHEDULER FOLDER [URL]: how long a checkpoint takes, beside the same bytes written by a task for each block without a coordinator."""
+"""measure.py SCHEDULER FOLDER [URL]: how long a checkpoint takes, beside the same bytes that a task for each block puts into the same storage without a
+coordinator, in one run. BLOCKS, SIZE (numbers of 8 bytes in a block) and TIMES choose how much."""
 import itertools
 import os
 import pathlib
@@ -13,7 +14,8 @@ from distributed import Client, futures_of, wait
 from relkvanu.dask import Checkpoints, Place
 from relkvanu.parts import digest_of, opened
 
-BLOCKS, SIZE, TIMES = int(os.environ.get("BLOCKS", "32")), int(os.environ.get("SIZE", "500000")), int(os.environ.get("TIMES", "5"))
+BLOCKS, SIZE, TIMES = int(os.environ.get("BLOCKS", "16")), int(os.environ.get("SIZE", "500000")), int(os.environ.get("TIMES", "9"))
+BARE = 1 << 60  # the names of the bare puts
 
 
 def plain(path, block, sync):
@@ -28,8 +30,57 @@ def put_bytes(place, name, block):
     opened(place).put(name, pickle.dumps(block, 5))
 
 
-def hashed(block):
+def digest_block(block):
     return digest_of(pickle.dumps(block, 5))
+
+
+class Measured:
+    """A job whose array has changed in some share, and the ways to write it."""
+
+    def __init__(self, client, folder, place, checkpoints):
+        self.client, self.folder, self.place, self.checkpoints, self.names = client, folder, place, checkpoints, itertools.count(BARE)
+        self.now = da.random.random((BLOCKS * SIZE,), chunks=SIZE).persist()
+        wait(self.now)
+
+    def changed(self, share):
+        parts = [self.now.blocks[it] + 1 if it < BLOCKS * share else self.now.blocks[it] + 0 for it in range(BLOCKS)]
+        self.now = da.concatenate(parts).persist()
+        wait(self.now)
+
+    def each(self, func, *words):
+        wait(self.client.map(func, *words, pure=False))
+
+    def clean(self):
+        """What was put bare goes."""
+        storage = opened(self.place)
+        for page in storage.pages():
+            storage.delete([it for it in page if it >= BARE])
+
+    def ways(self):
+        blocks = lambda: futures_of(self.now)  # noqa: E731
+        paths = [f"{self.folder}/plain/{it}" for it in range(BLOCKS)]
+        return {
+            "pickle and put, bare": (lambda: self.changed(1), lambda: self.each(put_bytes, [self.place] * BLOCKS, [next(self.names) for _ in paths], blocks())),
+            "save, all changed": (lambda: self.changed(1), lambda: self.checkpoints.save(0, x=self.now)[1:]),
+            "save, a quarter changed": (lambda: self.changed(0.25), lambda: self.checkpoints.save(0, x=self.now)[1:]),
+            "save, none changed": (lambda: self.changed(0), lambda: self.checkpoints.save(0, x=self.now)[1:]),
+            "load, and read all": (lambda: None, lambda: wait(self.checkpoints.load()[1]["x"].persist()) and None),
+            "pickle to files, synced": (lambda: None, lambda: self.each(plain, paths, blocks(), [True] * BLOCKS)),
+            "pickle to files, not synced": (lambda: None, lambda: self.each(plain, paths, blocks(), [False] * BLOCKS)),
+            "pickle and checksum alone": (lambda: None, lambda: self.each(digest_block, blocks())),
+        }
+
+
+def measured(it):
+    spent = {name: [] for name in it.ways()}
+    for _ in range(TIMES):
+        for name, (before, work) in it.ways().items():
+            before()
+            begin = time.monotonic()
+            told = work()
+            spent[name].append((time.monotonic() - begin, told))
+            it.clean()
+    return spent
 
 
 def main(scheduler, folder, url=""):
@@ -38,52 +89,14 @@ def main(scheduler, folder, url=""):
         it.mkdir()
     print(f"{BLOCKS} blocks of {SIZE * 8 / 1e6:.1f} MB; each way {TIMES} times, in turn")
     place = Place(url or str(folder / "state"), "measure", os.environ.get("S3_ENDPOINT"), os.environ.get("S3_REGION"))
-    now = [da.random.random((BLOCKS * SIZE,), chunks=SIZE).persist()]
-    with Checkpoints(client, f"{folder}/job", place, create=True) as checkpoints:
+    with Checkpoints(client, place, folder / "job.db", create=True) as checkpoints:
         checkpoints.load()
-        saved = checkpoints.save(0, x=now[0])
-
-        def changed(share):
-            parts = [now[0].blocks[it] + 1 if it < BLOCKS * share else now[0].blocks[it] for it in range(BLOCKS)]
-            now[0] = da.concatenate(parts).persist()
-            wait(now[0])
-
-        def save():
-            nonlocal saved
-            saved = checkpoints.save(0, x=now[0])
-            return saved[1:]
-
-        def pickled(sync):
-            wait(client.map(plain, [f"{folder}/plain/{it}" for it in range(BLOCKS)], futures_of(now[0]), sync=sync, pure=False))
-
-        def put():
-            wait(client.map(put_bytes, [place] * BLOCKS, [1 << 60 | next(names) for _ in range(BLOCKS)], futures_of(now[0]), pure=False))
-
-        names = itertools.count()
-        ways = {
-            "save, all changed": (lambda: changed(1), save),
-            "save, a quarter changed": (lambda: changed(0.25), save),
-            "save, none changed, other keys": (lambda: changed(0), save),
-            "save, none changed, the same keys": (lambda: None, save),
-            "load, and read all": (lambda: None, lambda: wait(checkpoints.load()[1]["x"].persist()) and None),
-            "pickle to files, not synced": (lambda: None, lambda: pickled(False)),
-            "pickle to files, synced": (lambda: None, lambda: pickled(True)),
-            "pickle and put into the place": (lambda: None, put),
-            "pickle and checksum alone": (lambda: None, lambda: wait(client.map(hashed, futures_of(now[0]), pure=False)) and None),
-            "to_npy_stack (not synced)": (lambda: None, lambda: da.to_npy_stack(str(folder / "npy"), now[0])),
-        }
-        spent = {name: [] for name in ways}
-        for _ in range(TIMES):
-            for name, (before, work) in ways.items():
-                before()
-                begin = time.monotonic()
-                told = work()
-                spent[name].append((time.monotonic() - begin, told))
-        for name, it in spent.items():
-            times = sorted(seconds for seconds, _ in it)
-            print(f"{name:36} median {statistics.median(times):7.3f} s   of {times[0]:.3f} to {times[-1]:.3f}   {it[-1][1] or ''}", flush=True)
-        for page in checkpoints._records.storage.pages():
-            checkpoints._records.storage.delete([it for it in page if it >= 1 << 60])
+        spent = measured(Measured(client, folder, place, checkpoints))
+    bare = statistics.median(seconds for seconds, _ in spent["pickle and put, bare"])
+    for name, it in spent.items():
+        times = sorted(seconds for seconds, _ in it)
+        middle = statistics.median(times)
+        print(f"{name:28} {middle:7.3f} s of {times[0]:.3f} to {times[-1]:.3f}, {middle / bare:.2f} of the bare puts  {it[-1][1] or ''}", flush=True)
 
 
 if __name__ == "__main__":

@@ -225,9 +225,9 @@ class Collections(Base):
             checkpoints.save(1, x=self.client.submit(add, 1, 2))
             checkpoints.load()  # its names are those of an earlier term now
             late = max(self.files()) + 1
-            (names,) = [checkpoints._records._reserve(1)]
+            names = checkpoints._records._taken_names(1)
             checkpoints._records.storage.put(names[0], b"late")
-            checkpoints._records._give_up(0, names)
+            checkpoints._records._give_up(None, names)
             self.assertGreaterEqual(names[0], late)
             wait_until(lambda: names[0] not in self.files())
             self.assertEqual(len(self.files()), 2)

@@ -16,6 +16,8 @@ from typing import Any, Dict
 HERE = pathlib.Path(__file__).resolve().parent
 LIBRARY = "librelkvanu.so.0"
 STORE = "librelkvanu-store.so.0"
+# What relkvanu[dask] installs (docs/DASK.md): the versions of Debian 12, over which it is tested.
+EXTRAS = {"dask": ("boto3", "distributed==2022.12.1", "numpy<2", "pandas<2", "streamz==0.6.4", "xxhash")}
 SCRIPTS = "[console_scripts]\nrelkvanu-conform = relkvanu.conform:main\n"
 
 
@@ -45,6 +47,8 @@ def contents() -> Dict[str, bytes]:
     info = f"relkvanu-{version()}.dist-info"
     told = f"Metadata-Version: 2.1\nName: relkvanu\nVersion: {version()}\nRequires-Python: >=3.8\n"
     told += "Summary: The checkpoint coordinator of a stream processor\n"
+    told += "".join(f"Provides-Extra: {extra}\n" + "".join(f'Requires-Dist: {it}; extra == "{extra}"\n' for it in needed)
+                    for extra, needed in EXTRAS.items())
     files[f"{info}/METADATA"] = told.encode()
     files[f"{info}/entry_points.txt"] = SCRIPTS.encode()
     files[f"{info}/WHEEL"] = f"Wheel-Version: 1.0\nGenerator: relkvanu\nRoot-Is-Purelib: false\nTag: {tag}\n".encode()

@@ -21,8 +21,10 @@ from relkvanu.replies import AckCompleted, Taken, Triggered
 from relkvanu.store import Call, Made, Step, Store, StoreError
 from relkvanu.sweep import Swept, sweep
 
-SUBTASKS = 16  # each names at most MOST_FILES files
+SUBTASKS = 16  # the first one names the list of the record, and each other one at most MOST_FILES parts
 MOST_FILES = 4096
+AHEAD = 8  # records for which names are reserved
+MOST_PARTS = (SUBTASKS - 1) * MOST_FILES
 MOST_NAMES = 1 << 16  # that one call reserves
 MOST_DELETED = 1000  # in one request
 SWEEP_EVERY = 3600.0  # seconds
@@ -101,6 +103,7 @@ class Records:
         self._term = self._job.report.term
         self._whole = Step.RESTORE not in self._job.report.steps
         self._last = Record(0, None, {})
+        self._names: List[int] = []  # that are reserved, and that no put was given
         self._ends = threading.Event()
         self._threads = [threading.Thread(target=it, daemon=True) for it in (self._discard, self._sweep_by_itself)]
         for it in self._threads:
@@ -121,7 +124,7 @@ class Records:
 
     def restore(self) -> Optional[Record]:
         """Goes back to the last complete record, or returns None if there is none. All files are looked for before anything is deleted."""
-        self._whole = False
+        self._whole, self._names = False, []
         self._term = self._job.restore().term
         found = self._look()
         self._last = found or Record(0, None, {})
@@ -145,11 +148,13 @@ class Records:
             raise Failed("restore() first")
         self._whole = False
         with losses():
-            id, plans = self._trigger(), self._plans(parts)
-            names: List[int] = []
+            plans = self._plans(parts)
+            names = self._taken_names(len(plans) + 1)
+            id = None
             try:
-                names += self._reserve(len(plans) + 1)
-                done = self._written(plans, names)
+                puts = self._put(plans, names)
+                id = self._trigger()  # while workers write
+                done = self._written(plans, names, puts)
                 record = Record(id, meta, self._listed(meta, done, names[-1]))
                 self._acknowledge(id, done, names)
             except BaseException:
@@ -158,6 +163,7 @@ class Records:
         self._last, self._whole = record, True
         fresh = set(names)
         wrote = {it.file: it.size for _, it in done if it.file in fresh}
+        self._names += sorted(fresh - set(wrote) - {names[-1]})
         return Saved(id, len(wrote), sum(it.file not in fresh for _, it in done), sum(wrote.values()))
 
     def sweep(self) -> Swept:
@@ -187,29 +193,32 @@ class Records:
         for name, values in parts.items():
             last = self._last.parts.get(name, [])
             found += [_Plan(name, value, last[index] if index < len(last) else None) for index, value in enumerate(values)]
-        if len(found) >= SUBTASKS * MOST_FILES:
-            raise Failed(f"a record has at most {SUBTASKS * MOST_FILES - 1} parts")
+        if len(found) > MOST_PARTS:
+            raise Failed(f"a record has at most {MOST_PARTS} parts")
         return found
 
-    def _reserve(self, count: int) -> List[int]:
-        names: List[int] = []
-        while len(names) < count:
-            names += self._job.reserve(self._term, min(count - len(names), MOST_NAMES))
+    def _taken_names(self, count: int) -> List[int]:
+        """Names that no put was given before. They are reserved ahead, so that most records need no commit for it."""
+        while len(self._names) < count:
+            self._names += self._job.reserve(self._term, min(AHEAD * count, MOST_NAMES))
+        names, self._names = self._names[:count], self._names[count:]
         return names
 
-    def _written(self, plans: Sequence[_Plan], names: Sequence[int]) -> List[Tuple[_Plan, Part]]:
-        """Each part with its file. A future that is in two places is written once."""
+    def _put(self, plans: Sequence[_Plan], names: Sequence[int]) -> Dict[str, Future]:
+        """Lets workers write the parts that are futures. One that is in two places is written once."""
         puts: Dict[str, Future] = {}
         for plan, name in zip(plans, names):
             if isinstance(plan.value, Future) and plan.value.key not in puts:
-                puts[plan.value.key] = self._put(plan, name)
+                assert self._client is not None
+                puts[plan.value.key] = self._client.submit(
+                    put_part, self._place, name, plan.value, plan.before, self._dumps, pure=False, retries=0)
+        return puts
+
+    def _written(self, plans: Sequence[_Plan], names: Sequence[int], puts: Dict[str, Future]) -> List[Tuple[_Plan, Part]]:
+        """Each part with its file."""
         told = dict(zip(puts, self._awaited(list(puts.values()))))
         return [(plan, told[plan.value.key] if isinstance(plan.value, Future) else
                  put_part(self._place, name, plan.value, plan.before, self._dumps)) for plan, name in zip(plans, names)]
-
-    def _put(self, plan: _Plan, name: int) -> Future:
-        assert self._client is not None
-        return self._client.submit(put_part, self._place, name, plan.value, plan.before, self._dumps, pure=False, retries=0)
 
     def _awaited(self, puts: List[Future]) -> List[Part]:
         """What workers say that they have written. If one fails, the others need not go on."""
@@ -228,7 +237,7 @@ class Records:
             raise
 
     def _listed(self, meta: Any, done: Sequence[Tuple[_Plan, Part]], name: int) -> Dict[str, List[Part]]:
-        """Writes what the files of the record are, into that with the greatest name."""
+        """Writes what the files of the record are, into one more file."""
         parts: Dict[str, List[Part]] = {}
         for plan, part in done:
             parts.setdefault(plan.name, []).append(part)
@@ -237,36 +246,35 @@ class Records:
         return parts
 
     def _acknowledge(self, id: int, done: Sequence[Tuple[_Plan, Part]], names: Sequence[int]) -> None:
-        """One commit: all subtasks acknowledge, and the names that were not needed are given up."""
-        used = sorted({part.file for _, part in done} | {names[-1]})
-        fresh, spare = set(names), sorted(set(names) - set(used))
-        calls = [Call.forfeit(self._term, spare)] if spare else []
-        for index in range(SUBTASKS):
-            some = used[index * MOST_FILES:(index + 1) * MOST_FILES]
+        """One commit, in which all subtasks acknowledge."""
+        used, fresh = sorted({part.file for _, part in done}), set(names)
+        calls = [Call.ack(id, 0, 0, [names[-1]], term=self._term)]
+        for index in range(1, SUBTASKS):
+            some = used[(index - 1) * MOST_FILES:index * MOST_FILES]
             calls.append(Call.ack(id, 0, index, [it for it in some if it in fresh], [it for it in some if it not in fresh], term=self._term))
         last = self._job.calls(calls)[-1]
         if not isinstance(last, Made) or not isinstance(last.reply, AckCompleted):
             raise Failed(f"record {id} was not completed: {last!r}")
 
-    def _give_up(self, id: int, names: Sequence[int]) -> None:
-        """The record is declined, and nobody acknowledges these names any more."""
+    def _give_up(self, id: Optional[int], names: Sequence[int]) -> None:
+        """The record is declined, if it was triggered, and nobody acknowledges these names any more."""
         with contextlib.suppress(Error):
-            self._job.calls([*([Call.forfeit(self._term, names)] if names else []), Call.decline(id, 0, 0, term=self._term)])
+            self._job.calls([Call.forfeit(self._term, names), *([] if id is None else [Call.decline(id, 0, 0, term=self._term)])])
 
     def _look(self) -> Optional[Record]:
         """The last complete record. Raises PartError if one of its files is not there."""
         with self._job.read() as reads:
             choice = reads.choice()
-            files = [] if choice is None else [it for index in range(SUBTASKS) for it in reads.files_of(choice.id, 0, index) or ()]
+            files: List[Sequence[int]] = [] if choice is None else [reads.files_of(choice.id, 0, index) or () for index in range(SUBTASKS)]
         if choice is None:
             return None
-        there = {file for page in self.storage.pages() for file in page}
-        lost = set(files) - there
+        lost = {it for some in files for it in some} - {it for page in self.storage.pages() for it in page}
         if lost:
             raise PartError(f"record {choice.id} lacks {len(lost)} of its files, such as {min(lost)}")
-        head, _, body = self.storage.get(max(files)).partition(b"\n")
+        name = files[0][0]
+        head, _, body = self.storage.get(name).partition(b"\n")
         if head != HEAD + digest_of(body).encode():
-            raise PartError(f"file {max(files)}, the list of record {choice.id}, is damaged")
+            raise PartError(f"file {name}, the list of record {choice.id}, is damaged")
         meta, parts = pickle.loads(body)
         return Record(choice.id, meta, {name: [Part(*it) for it in some] for name, some in parts.items()})
 

@@ -504,6 +504,32 @@ class Threads(Folder):
         self.assertTrue((self.storage / "12").exists())
         job.close()
 
+    def test_a_discarder_of_lists(self):
+        """What waits is deleted by one call. An OSError says that all may be there, and an answer which ones."""
+        job, tries, left = self.open(), [], [OSError(), {2}, {}]
+
+        def delete(files):
+            tries.append(files)
+            told = left.pop(0)
+            if isinstance(told, OSError):
+                raise told
+            return told
+        self.complete(job, 1)
+        self.complete(job, 11)
+        discarder = threading.Thread(target=job.discard_lists, args=(delete,))
+        discarder.start()
+        while left or self.counts(job) != (2, 0, 0):
+            pass
+        job.stop()
+        discarder.join()
+        self.assertEqual([sorted(it) for it in tries], [[1, 2], [1, 2], [2]])
+        job.close()
+
+    def counts(self, job):
+        with job.read() as reads:
+            counts = reads.file_counts()
+            return counts.in_use, counts.waiting, counts.taken
+
 
 class Header(unittest.TestCase):
     def test_layout(self):
