@@ -1,3 +1,4 @@
 -- The lemmas that the proofs use.
 pub mod Counting
 pub mod Publishing
+pub mod Timely

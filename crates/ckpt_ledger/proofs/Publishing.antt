@@ -5,8 +5,9 @@ use Rattle.ckpt_align.specs.Alignment.{Alignment, opened}
 use Rattle.ckpt_align.specs.Histories.{Action, after, cut_by, elements, sent_by}
 use Rattle.ckpt_once.specs.Jobs.{History, Job, States}
 use Rattle.ckpt_once.specs.Sinks.{Sink, Transaction, above, contents, published, sealed, sealed_at, still_open, up_to}
-use Rattle.ckpt_ledger.specs.Ledgers.{Acts, CutsAbove, Entry, Held, IsTimely, Moment, Told, Writes, acts, after_entries, all_published, completed, entries, nothing, told_of}
+use Rattle.ckpt_ledger.specs.Ledgers.{Acts, Entry, Held, Moment, Told, Writes, acts, after_entries, all_published, completed, entries, nothing, told_of}
 use Rattle.ckpt_ledger.specs.Laws.{Holds, PublishesAsSink}
+use Rattle.ckpt_ledger.proofs.Timely.{CutsAbove, IsTimely, timely}
 
 -- the first of these, if there is one, was sealed by a later record
 abbrev AreLater : ℕ → List Transaction → Type 0
@@ -93,7 +94,7 @@ published_by o a (Told n ∷ moments) t h =
 pub publishes_as_sink : (job : Job) (from : States) (h : History) (sink : Sink) (moments : List Moment) → PublishesAsSink job from h sink moments
 publishes_as_sink job from h sink moments is =
     let a : Alignment = opened (job.inputs sink.task) in
-    published_by sink.output a moments is.1 nothing ∙ ap (λ (xs : List Action). published (completed moments) (sealed sink.output a [] xs)) is.0
+    published_by sink.output a moments (timely (job.inputs sink.task) [] moments is.1) nothing ∙ ap (λ (xs : List Action). published (completed moments) (sealed sink.output a [] xs)) is.0
 
 is_cons : (n : ℕ) (ns : List ℕ) → (n ∷ ns) ≡ [] → ⊥
 is_cons n ns e = grind (arith, common_steps)

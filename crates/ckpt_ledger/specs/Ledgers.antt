@@ -1,7 +1,7 @@
 -- What a sink holds back, and what it publishes.
-use Rattle.std.specs.Prelude.{◌≡◌, ℕ, ◌<◌, List, [], ◌∷◌, ◌++◌, map, Option, Some, None}
-use Rattle.ckpt_align.specs.Alignment.{Alignment}
-use Rattle.ckpt_align.specs.Histories.{Action, after, cut_by, elements, sent_by}
+use Rattle.std.specs.Prelude.{◌≡◌, ℕ, true, List, [], ◌∷◌, ◌++◌, map, Option, Some, None}
+use Rattle.ckpt_align.specs.Alignment.{Alignment, opened}
+use Rattle.ckpt_align.specs.Histories.{Action, after, cut_by, elements, has_cut, sent_by}
 use Rattle.ckpt_once.specs.Sinks.{Transaction, above, contents, up_to}
 
 pub record Held : Type 0 where
@@ -63,14 +63,8 @@ entries o a [] = []
 entries o a (Acts action ∷ moments) = told_of (cut_by a action) (elements (sent_by o a action)) ++ entries o (after a action) moments
 entries o a (Told n ∷ moments) = Completes n ∷ entries o a moments
 
--- each record that is cut from here on is greater
-abbrev pub CutsAbove : ℕ → Alignment → List Moment → Type 0
-CutsAbove n a [] = Unit {0}
-CutsAbove n a (Acts action ∷ moments) = ((m : ℕ) → cut_by a action ≡ Some m → n < m) × CutsAbove n (after a action) moments
-CutsAbove n a (Told m ∷ moments) = CutsAbove n a moments
-
--- A completed record was cut by each task, and records are cut in rising order. So the sink cuts only greater ones afterwards.
-abbrev pub IsTimely : Alignment → List Moment → Type 0
-IsTimely a [] = Unit {0}
-IsTimely a (Acts action ∷ moments) = IsTimely (after a action) moments
-IsTimely a (Told n ∷ moments) = CutsAbove n a moments × IsTimely a moments
+-- The sink is told of completed records that its task has cut. A record is completed only once each task has acknowledged it.
+abbrev pub HaveBeenCut : ℕ → List Action → List Moment → Type 0
+HaveBeenCut inputs done [] = Unit {0}
+HaveBeenCut inputs done (Acts action ∷ moments) = HaveBeenCut inputs (done ++ action ∷ []) moments
+HaveBeenCut inputs done (Told n ∷ moments) = (has_cut n (opened inputs) done ≡ true) × HaveBeenCut inputs done moments

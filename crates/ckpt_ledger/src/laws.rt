@@ -7,8 +7,8 @@ ghost use Rattle.ckpt_ledger.specs.Ledgers.{Moment};
 ghost use Rattle.ckpt_once.specs.Jobs.{History, Job, States};
 ghost use Rattle.ckpt_once.specs.Sinks.{Sink};
 
-/// A ledger that is told each write and each cut of a sink's task, and each completed record before
-/// the sink cuts a later one, publishes what the sink of the laws publishes.
+/// A ledger that is told each write and each cut of a sink's task, and of completed records that it has
+/// cut, publishes what the sink of the laws publishes.
 pub fn publishes()
     ensures { (job : Job) (from : States) (h : History) (sink : Sink) (moments : List Moment) → PublishesAsSink job from h sink moments }
 {}

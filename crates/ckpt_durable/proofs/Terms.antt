@@ -1,0 +1,97 @@
+-- Terms that were told.
+use Rattle.std.proofs.Common.{◌≡◌, ℕ, ◌+◌, ◌<◌, ◌≤◌, Bool, true, false, ◌&&◌, if◌then◌else◌, List, [], ◌∷◌, ◌++◌, refl, sym, ap, ◌∙◌, subst, ⊎_elim, arith}
+use Rattle.std.proofs.lemmas.Bool.{both_ways}
+use Rattle.ckpt_ids.specs.declared.reply.Answer.{Answer}
+use Rattle.ckpt_model.specs.Steps.{step}
+use Rattle.ckpt_terms.specs.declared.call.FencedAnswer.{FencedAnswer}
+use Rattle.ckpt_terms.specs.declared.call.FencedAnswer.TheVariants as answer
+use Rattle.ckpt_terms.specs.declared.call.FencedCall.{FencedCall}
+use Rattle.ckpt_terms.specs.declared.call.FencedCall.TheVariants.{Reserve, Forfeit, Make}
+use Rattle.ckpt_terms.specs.Fencing.{Fenced, FencedStepped, ends_the_term, fenced_step, has_ended, is_accepted, made}
+use Rattle.ckpt_terms.proofs.Stepping.{fenced_step_by}
+use Rattle.ckpt_durable.specs.Crashes.{BeginsTermsOnce, Event, IsWithin, along, world}
+use Rattle.ckpt_durable.proofs.Lists.{within_later}
+use Rattle.ckpt_durable.proofs.Worlds.{durable}
+
+rise_if : (b : Bool) (t : ℕ) → t ≤ (if b then t + 1 else t)
+rise_if true t = omega arith
+rise_if false t = omega arith
+
+made_terms : (m : Fenced) (call : FencedCall) → m.term ≤ (made m call).0.term
+made_terms m (Reserve term count) = omega arith
+made_terms m (Forfeit term names) = omega arith
+made_terms m (Make term its) = rise_if (is_accepted (step m.core its).1 && ends_the_term its) m.term
+
+terms_rise : (m : Fenced) (call : FencedCall) → m.term ≤ (fenced_step m call).0.term
+terms_rise m call = fenced_step_by m call (λ (x : FencedStepped). m.term ≤ x.0.term) (λ _. omega arith) (λ _. made_terms m call)
+
+abbrev has_term : FencedAnswer → Bool
+has_term (answer.Made after its) = true
+has_term (answer.Fenced why) = false
+has_term (answer.Forfeited) = false
+has_term (answer.Reserved first) = false
+
+abbrev term_in : FencedAnswer → ℕ
+term_in (answer.Made after its) = after
+term_in (answer.Fenced why) = 0
+term_in (answer.Forfeited) = 0
+term_in (answer.Reserved first) = 0
+
+-- what an answer with a term says of the step
+abbrev Tells : Fenced → FencedCall → FencedStepped → Type 0
+Tells m call x = has_term x.1 ≡ true → (x.0.term ≡ term_in x.1) × (has_ended call x.1 ≡ true → x.0.term ≡ m.term + 1)
+
+tells : (m : Fenced) (call : FencedCall) → Tells m call (fenced_step m call)
+tells m (Reserve term count) = fenced_step_by m (Reserve term count) (Tells m (Reserve term count)) (λ why e. absurd (both_ways true (sym e) refl)) (λ _ e. absurd (both_ways true (sym e) refl))
+tells m (Forfeit term names) = fenced_step_by m (Forfeit term names) (Tells m (Forfeit term names)) (λ why e. absurd (both_ways true (sym e) refl)) (λ _ e. absurd (both_ways true (sym e) refl))
+tells m (Make term its) =
+    fenced_step_by m (Make term its) (Tells m (Make term its)) (λ why e. absurd (both_ways true (sym e) refl))
+    (λ _ _. (refl, λ h. ap (λ (b : Bool). if b then m.term + 1 else m.term) h))
+
+tells_at : (m : Fenced) (call late : FencedCall) (next : ℕ) (more : Answer) → ◌≡◌ {A = FencedCall × FencedAnswer} (late, answer.Made next more) (call, (fenced_step m call).1)
+    → ((fenced_step m call).0.term ≡ next) × (has_ended late (answer.Made next more) ≡ true → next ≡ m.term + 1)
+tells_at m call late next more e =
+    let is : late ≡ call = ap (λ (x : FencedCall × FencedAnswer). x.0) e in
+    let its : answer.Made next more ≡ (fenced_step m call).1 = ap (λ (x : FencedCall × FencedAnswer). x.1) e in
+    let t = tells m call (ap has_term (sym its)) in
+    let first : (fenced_step m call).0.term ≡ next = t.0 ∙ ap term_in (sym its) in
+    (first, λ h. sym first ∙ t.1 (ap (λ (x : FencedCall × FencedAnswer). has_ended x.0 x.1) (sym e) ∙ h))
+
+told_behind : (m : Fenced) (calls : List FencedCall) (late : FencedCall) (next : ℕ) (more : Answer) (zs : List (FencedCall × FencedAnswer))
+    → IsWithin ((late, answer.Made next more) ∷ zs) (along m calls) → (m.term ≤ next) × (has_ended late (answer.Made next more) ≡ true → m.term < next)
+told_behind m [] late next more zs h = absurd h
+told_behind m (call ∷ calls) late next more zs h =
+    let k : Fenced = (fenced_step m call).0 in
+    let n : ℕ = k.term in
+    let a : m.term ≤ n = terms_rise m call in
+    ⊎_elim
+    (λ (i : (◌≡◌ {A = FencedCall × FencedAnswer} (late, answer.Made next more) (call, (fenced_step m call).1)) × IsWithin zs (along k calls)).
+    let t = tells_at m call late next more i.0 in
+    let e : n ≡ next = t.0 in
+    (omega arith, λ h. let d : next ≡ m.term + 1 = t.1 h in omega arith))
+    (λ (i : IsWithin ((late, answer.Made next more) ∷ zs) (along k calls)).
+    let t = told_behind k calls late next more zs i in
+    let b : n ≤ next = t.0 in
+    (omega arith, λ h. let d : n < next = t.1 h in omega arith))
+    h
+
+told_once : (m : Fenced) (calls : List FencedCall) (ys zs : List (FencedCall × FencedAnswer)) (call late : FencedCall) (term next : ℕ) (its more : Answer)
+    → IsWithin ((call, answer.Made term its) ∷ (ys ++ (late, answer.Made next more) ∷ zs)) (along m calls) → (term ≤ next) × (has_ended late (answer.Made next more) ≡ true → term < next)
+told_once m [] ys zs call late term next its more h = absurd h
+told_once m (first ∷ calls) ys zs call late term next its more h =
+    let us : List (FencedCall × FencedAnswer) = ys ++ (late, answer.Made next more) ∷ zs in
+    let k : Fenced = (fenced_step m first).0 in
+    ⊎_elim
+    (λ (i : (◌≡◌ {A = FencedCall × FencedAnswer} (call, answer.Made term its) (first, (fenced_step m first).1)) × IsWithin us (along k calls)).
+    let e : k.term ≡ term = (tells_at m first call term its i.0).0 in
+    let b = told_behind k calls late next more zs (within_later ys ((late, answer.Made next more) ∷ zs) (along k calls) i.1) in
+    (subst (λ (t : ℕ). t ≤ next) e b.0, λ h. subst (λ (t : ℕ). t < next) e (b.1 h)))
+    (λ (i : IsWithin ((call, answer.Made term its) ∷ us) (along k calls)). told_once k calls ys zs call late term next its more i)
+    h
+
+pub begins_terms_once : (m : Fenced) (events : List Event) → BeginsTermsOnce m events
+begins_terms_once m events xs ys zs call late term next its more e =
+    let there : List (FencedCall × FencedAnswer) = along m (world m events).life.kept in
+    let one : List (FencedCall × FencedAnswer) = (call, answer.Made term its) ∷ (ys ++ (late, answer.Made next more) ∷ zs) in
+    told_once m (world m events).life.kept ys zs call late term next its more
+    (within_later xs one there (subst (λ (t : List (FencedCall × FencedAnswer)). IsWithin t there) e (durable m events).told))

@@ -1,0 +1,7 @@
+-- The loop invariant of `replay`.
+use Rattle.std.proofs.Common.{◌≡◌, take}
+use Rattle.ckpt_terms.specs.Fencing.{fenced_replay}
+use Rattle.ckpt_durable.proofs.durable.replay.Given as goal
+
+abbrev pub invariant-loop-call : goal.invariant-loop-call
+invariant-loop-call l = l.terms ≡ fenced_replay l.fn.terms (take l.call-index l.calls)

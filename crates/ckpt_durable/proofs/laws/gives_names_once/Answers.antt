@@ -1,0 +1,6 @@
+-- Answers the goals of `gives_names_once`.
+use Rattle.ckpt_durable.proofs.Names.{gives_names_once}
+use Rattle.ckpt_durable.proofs.laws.gives_names_once.Goals as goal
+
+pub returns : goal.returns
+returns c = gives_names_once

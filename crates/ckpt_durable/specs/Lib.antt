@@ -1,0 +1,4 @@
+-- The definitions that contracts cite.
+pub mod Crashes
+pub mod Operations
+pub mod WorkedExamples

@@ -1,0 +1,65 @@
+-- A sink that is told of records that it has cut cuts only greater ones afterwards.
+use Rattle.std.proofs.Common.{◌≡◌, ℕ, ◌<◌, Bool, true, false, if◌then◌else◌, List, [], ◌∷◌, ◌++◌, Option, Some, None, refl, sym, ap, ◌∙◌, subst, append_assoc, arith}
+use Rattle.std.proofs.lemmas.Bool.{both_ways}
+use Rattle.std.proofs.lemmas.Grind.{common_steps}
+use Rattle.ckpt_align.specs.Alignment.{Alignment, opened}
+use Rattle.ckpt_align.specs.Histories.{Action, Reads, GivesUp, Sends, Ends, after, cut_by, has_cut, is_number, replay}
+use Rattle.ckpt_align.proofs.GoingOn.{cuts_rise}
+use Rattle.ckpt_once.proofs.ActionLemmas.{replay-append}
+use Rattle.ckpt_ledger.specs.Ledgers.{Acts, HaveBeenCut, Moment, Told}
+
+-- each record that is cut from here on is greater
+abbrev pub CutsAbove : ℕ → Alignment → List Moment → Type 0
+CutsAbove n a [] = Unit {0}
+CutsAbove n a (Acts action ∷ moments) = ((m : ℕ) → cut_by a action ≡ Some m → n < m) × CutsAbove n (after a action) moments
+CutsAbove n a (Told m ∷ moments) = CutsAbove n a moments
+
+-- and so after each completed record
+abbrev pub IsTimely : Alignment → List Moment → Type 0
+IsTimely a [] = Unit {0}
+IsTimely a (Acts action ∷ moments) = IsTimely (after a action) moments
+IsTimely a (Told n ∷ moments) = CutsAbove n a moments × IsTimely a moments
+
+-- where a record was cut
+abbrev Found : ℕ → Alignment → List Action → Type 0
+Found n a xs = (front : List Action) × (x : Action) × (back : List Action) × (xs ≡ front ++ x ∷ back) × (cut_by (replay a front) x ≡ Some n)
+
+is_cut : (n : ℕ) (o : Option ℕ) → is_number n o ≡ true → o ≡ Some n
+is_cut n None e = grind (arith, common_steps)
+is_cut n (Some m) e = grind (arith, common_steps)
+
+found_by : (n : ℕ) (a : Alignment) (y : Action) (ys : List Action) (is : Bool) → is_number n (cut_by a y) ≡ is → (if is then true else has_cut n (after a y) ys) ≡ true
+    → (has_cut n (after a y) ys ≡ true → Found n (after a y) ys) → Found n a (y ∷ ys)
+found_by n a y ys true e h rest = ([], y, ys, refl, is_cut n (cut_by a y) e)
+found_by n a y ys false e h rest = let f : Found n (after a y) ys = rest h in (y ∷ f.0, f.1, f.2, ap (λ (zs : List Action). y ∷ zs) f.3, f.4)
+
+found : (n : ℕ) (a : Alignment) (xs : List Action) → has_cut n a xs ≡ true → Found n a xs
+found n a [] h = absurd (both_ways true (sym h) refl)
+found n a (Ends ∷ ys) h = absurd (both_ways true (sym h) refl)
+found n a (Reads i item ∷ ys) h = let y : Action = Reads i item in found_by n a y ys (is_number n (cut_by a y)) refl h (found n (after a y) ys)
+found n a (GivesUp id ∷ ys) h = let y : Action = GivesUp id in found_by n a y ys (is_number n (cut_by a y)) refl h (found n (after a y) ys)
+found n a (Sends o x ∷ ys) h = let y : Action = Sends o x in found_by n a y ys (is_number n (cut_by a y)) refl h (found n (after a y) ys)
+
+cuts_above : (inputs : ℕ) (front : List Action) (x : Action) (back : List Action) (n : ℕ) → cut_by (replay (opened inputs) front) x ≡ Some n → (moments : List Moment)
+    → CutsAbove n (replay (opened inputs) (front ++ x ∷ back)) moments
+cuts_above inputs front x back n e [] = tt
+cuts_above inputs front x back n e (Acts y ∷ moments) =
+    let a : Alignment = opened inputs in
+    let done : List Action = front ++ x ∷ back in
+    let same : replay a (front ++ x ∷ (back ++ y ∷ [])) ≡ after (replay a done) y =
+    ap (replay a) (sym (append_assoc front (x ∷ back) (y ∷ []))) ∙ replay-append a done (y ∷ []) in (
+      λ m f. cuts_rise inputs front x back y n m e f,
+      subst (λ (k : Alignment). CutsAbove n k moments) same (cuts_above inputs front x (back ++ y ∷ []) n e moments),
+    )
+cuts_above inputs front x back n e (Told m ∷ moments) = cuts_above inputs front x back n e moments
+
+pub timely : (inputs : ℕ) (done : List Action) (moments : List Moment) → HaveBeenCut inputs done moments → IsTimely (replay (opened inputs) done) moments
+timely inputs done [] h = tt
+timely inputs done (Acts x ∷ moments) h =
+    subst (λ (k : Alignment). IsTimely k moments) (replay-append (opened inputs) done (x ∷ [])) (timely inputs (done ++ x ∷ []) moments h)
+timely inputs done (Told n ∷ moments) h =
+    let a : Alignment = opened inputs in
+    let f : Found n a done = found n a done h.0 in (
+      subst (λ (xs : List Action). CutsAbove n (replay a xs) moments) (sym f.3) (cuts_above inputs f.0 f.1 f.2 n f.4 moments),
+      timely inputs done moments h.1,
+    )
