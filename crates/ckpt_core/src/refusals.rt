@@ -12,8 +12,8 @@ ghost use Rattle.ckpt_model.specs.Refusals.{named, pending_checkpoints, pending_
 
 use crate::parts::Parts;
 use ckpt_ids::{
-    Call, CheckpointId, Config, FileId, Files, MOMENTS_END, MOST_FILES, MOST_SAVEPOINTS, NUMBERS_END,
-    Refusal, SubtaskId, Target,
+    Call, CheckpointId, Config, FileId, Files, MOMENTS_END, MOST_FILES, MOST_SAVEPOINTS,
+    NUMBERS_END, Refusal, SubtaskId, Target,
 };
 use ckpt_model::Mode;
 use ckpt_pending::Pending;

@@ -1,7 +1,7 @@
 -- What a line of a log says whose job gives out names: one of six kinds of line, or a line of a script.
 use Rattle.std.specs.Prelude.{◌≡◌, ℕ, Bool, true, false, not, ◌&&◌, List, [], ◌∷◌, if◌then◌else◌, Option, Some, None, Result, Ok, Err}
 use Rattle.std.specs.Str.Lines.{strip_carriage_return}
-use Rattle.ckpt_ids.specs.declared.call.Call.TheVariants as made
+use Rattle.ckpt_ids.specs.declared.call.Call.TheVariants as calls
 use Rattle.ckpt_ids.specs.Ascending.{ascending}
 use Rattle.ckpt_ids.specs.Configuration.{Configuration, is_within_limits}
 use Rattle.ckpt_ids.specs.ConfigurationValues.{configured_by}
@@ -57,11 +57,11 @@ without_term line = Other line
 unfoldable pub trigger_row : ℕ → List (List ℕ) → Result TermLine LineFault
 trigger_row term words = do
   now ← only_number words
-  Ok (Call (call.Make term (made.Trigger now)))
+  Ok (Call (call.Make term (calls.Trigger now)))
 
 -- settings outside their limits make no call
 abbrev pub configuring : ℕ → ℕ → Configuration → TermLine
-configuring term now config = if is_within_limits config then Call (call.Make term (made.Configure now config)) else BadConfig
+configuring term now config = if is_within_limits config then Call (call.Make term (calls.Configure now config)) else BadConfig
 
 -- other settings, with this term
 unfoldable pub configure_row : ℕ → List (List ℕ) → Result TermLine LineFault

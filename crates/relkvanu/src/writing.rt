@@ -165,15 +165,7 @@ fn configuration_in(list: &[u64]) -> Option<Config>
     ensures { result ≡ configuration_in list.now }
 {
     match list {
-        [
-            interval,
-            pause,
-            at_once,
-            timeout,
-            tolerable,
-            retained,
-            keep,
-        ] if *keep <= 1 => Config::new(
+        [interval, pause, at_once, timeout, tolerable, retained, keep] if *keep <= 1 => Config::new(
             *interval,
             *pause,
             *at_once,

@@ -6,7 +6,6 @@ use Rattle.ckpt_core.proofs.Names.{pending_checkpoints}
 use Rattle.ckpt_core.proofs.Records.{GroupLookups.pending_checkpoints-groups, GroupLookups.savepoints-groups, GroupLookups.done_savepoint-groups, Grouped.AreApart, Grouped.apart-from_in_order, Lookups.pending_of-groups}
 use Rattle.ckpt_core.proofs.{Ending.Drops.groups_of, Names.IsPlaceOf, Names.records_in, Names.state_of, Names.is_known_in, Names.common_steps, Names.arith}
 use Rattle.ckpt_model.specs.State.{is_known}
-use Rattle.ckpt_outbox.specs.Queues as queues
 
 apart_of : (p : Parts) → AreSound p → AreApart (grouped p.registry p.pending p.store.checkpoints p.store.savepoints)
 unfolding state_of

@@ -2,7 +2,6 @@
 use Rattle.ckpt_core.proofs.Names.{◌≡◌, ℕ, Bool, true, false, not, eqb, [], ◌∷◌, refl, ap, ◌∙◌, Option, Some, None, Result, Ok, Err, if◌then◌else◌, IfErr, list_any, Call, Deleted, Dispose, Undeleted}
 use Rattle.ckpt_core.proofs.Names.{Reply, Done, Refusal, InUse, NoSuchSavepoint, NotTaken, CoreFault, Memory, Refused, first_some, is_done_savepoint, is_number, refuse_if, refusal, State, step}
 use Rattle.ckpt_core.proofs.Names.{step_refused, common_steps, arith}
-use Rattle.ckpt_ids.specs.declared.reply.Answer.TheVariants as answers
 
 -- the rows of a report
 

@@ -26,7 +26,7 @@ past_where n y row x e = ap (λ b. is_noted (number_in (cond b (Some y.id) None)
 none_past : (n : ℕ) (row : List Record) (x : Record) → ltb n (length row) ≡ false → is_past n row x ≡ false
 none_past n row x e = ap (λ b. is_noted (number_in (cond b (lowest row) None)) x) e
 
-rises : (y x : Record) (row : List Record) → ComesBefore id_before y row → IsIn x row → y.id < x.id
+pub rises : (y x : Record) (row : List Record) → ComesBefore id_before y row → IsIn x row → y.id < x.id
 rises y x row c h = ltb-true y.id x.id (ComesBefore-at id_before y x row c h)
 
 module _ (n : ℕ) (y : Record) (row : List Record) (order : AreRising (y ∷ row)) (e : ltb n (length (y ∷ row)) ≡ true) where

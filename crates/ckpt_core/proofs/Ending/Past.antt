@@ -1,11 +1,11 @@
 -- The completed checkpoints past a number retained are the oldest ones.
-use Rattle.ckpt_core.proofs.Names.{◌≡◌, ℕ, suc, ◌+◌, ◌-◌, ◌<◌, ◌≤◌, Bool, true, false, not, ◌&&◌, ◌||◌, cond, ltb, leb, eqb, List, [], ◌∷◌, ◌++◌, map, length, refl, sym, ap, subst, ◌∙◌, inl, inr, ⊎_elim}
-use Rattle.ckpt_core.proofs.Names.{arith, take, filter, count_by, vec_capacity, Vec, Global, cases_Bool, ltb-true, ltb-false, lt-ltb, le-ltb, le-leb, lt-leb, eq-eqb, ne_eqb, or_left, and_from, and_right}
-use Rattle.ckpt_core.proofs.Names.{not_from_true, false_from_ne_true, length-map, length-filter, length-filter_both, filter-all, filter-same, take-append-drop, IsIn, Record, released, without, is_pending}
-use Rattle.ckpt_core.proofs.Names.{IsIn-append_left, IsIn-append_right, IsIn-append_cases, IsIn-map, IsIn-from_map, IsIn-from_in_order, AreRising, IsStored, Parts, AreTied, Drops, with_pins, grouped, is_noted}
-use Rattle.ckpt_core.proofs.Names.{records_in, state_of, id_before, IsSound, State, is_checkpoint, is_done_checkpoint, is_checkpoint-kind, is_savepoint-kind, dropped_by, count_by_no, count_by-none, count_by-all, count_by-same}
+use Rattle.ckpt_core.proofs.Names.{◌≡◌, ℕ, zero, suc, ◌+◌, ◌-◌, ◌<◌, ◌≤◌, Bool, true, false, not, ◌&&◌, ◌||◌, cond, ltb, leb, eqb, List, [], ◌∷◌, ◌++◌, map, length, refl, sym, ap, subst, ◌∙◌, inl, inr, ⊎_elim}
+use Rattle.ckpt_core.proofs.Names.{arith, take, count_by, vec_capacity, cases_Bool, ltb-true, ltb-false, lt-ltb, le-ltb, le-leb, lt-leb, eq-eqb, ne_eqb, or_left, and_from, and_right}
+use Rattle.ckpt_core.proofs.Names.{false_from_ne_true, length-filter, length-filter_both, filter-all, filter-same, take-append-drop, IsIn, Record, released, without}
+use Rattle.ckpt_core.proofs.Names.{IsIn-append_left, IsIn-append_cases, IsIn-map, IsIn-from_map, IsIn-from_in_order, AreRising, IsStored, Parts, AreTied, Drops, with_pins, grouped, is_noted}
+use Rattle.ckpt_core.proofs.Names.{records_in, state_of, id_before, IsSound, is_checkpoint, is_done_checkpoint, is_checkpoint-kind, is_savepoint-kind, dropped_by, count_by_no, count_by-none, count_by-all, count_by-same}
 use Rattle.std.specs.Prelude as prelude
-use Rattle.std.proofs.lemmas.List.{length-drop}
+use Rattle.std.proofs.lemmas.List.{append_assoc, append_cancel_right, length-append, length-drop, map-append}
 use Rattle.ckpt_core.specs.Inside.Settings.{past, oldest, newest, without_oldest}
 use Rattle.ckpt_core.proofs.Completing.Lists.{fewer, later_in, rises}
 use Rattle.ckpt_core.proofs.Ending.Drops.{apart_in, drops_from, drops_same, IsIn-from_noted, left, numbers, staying, stays}
@@ -34,6 +34,33 @@ old_number n row = omega (arith, ap length (take-append-drop (length row - n) ro
 
 pub new_number : (n : ℕ) (row : List Record) → length (newest n row) ≤ n
 new_number n row = omega (arith, length-drop (length row - n) row)
+
+drop_one : (k : ℕ) (xs : List Record) → prelude.drop 1 (prelude.drop k xs) ≡ prelude.drop (k + 1) xs
+drop_one zero xs = refl
+drop_one (suc k) [] = let e : suc k + 1 ≡ suc (k + 1) = omega arith in rw e refl
+drop_one (suc k) (x ∷ xs) = let e : suc k + 1 ≡ suc (k + 1) = omega arith in rw e (drop_one k xs)
+
+-- of the newest ones, all but the first
+pub newest_more : (now after row : List Record) → after ≡ prelude.drop 1 now → now ≡ newest (length now) row → 0 < length now → after ≡ newest (length after) row
+newest_more now after row one rest some =
+    let short : length now ≡ length row - (length row - length now) = ap length rest ∙ length-drop (length row - length now) row in
+    let less : length after ≡ length now - 1 = ap length one ∙ length-drop 1 now in
+    let more : length row - length now + 1 ≡ length row - length after = omega arith in
+    one ∙ ap (prelude.drop 1) rest ∙ drop_one (length row - length now) row ∙ ap (λ k. prelude.drop k row) more
+
+pub fewer_more : (n : ℕ) (now after row : List Record) → after ≡ prelude.drop 1 now → n < length now → length row - length after ≤ length row - n
+fewer_more n now after row one many = omega (arith, ap length one, length-drop 1 now)
+
+-- what is noted when as many are left as are retained
+pub noted_oldest : (n : ℕ) (now row : List Record) (noted was : List ℕ) → noted ++ numbers now ≡ was ++ numbers row → now ≡ newest (length now) row →
+    length row - length now ≤ length row - n → length now ≤ n → noted ≡ was ++ numbers (oldest n row)
+noted_oldest n now row noted was items rest enough few =
+    let same : length row - length now ≡ length row - n = omega arith in
+    let is : now ≡ newest n row = rest ∙ ap (λ k. prelude.drop k row) same in
+    let split : numbers row ≡ numbers (oldest n row) ++ numbers now =
+    sym (ap numbers (take-append-drop (length row - n) row)) ∙ map-append (λ (r : Record). r.id) (oldest n row) (newest n row) ∙ ap (λ rs. numbers (oldest n row) ++ numbers rs) (sym is) in
+    append_cancel_right noted (was ++ numbers (oldest n row)) (numbers now)
+    (items ∙ ap (λ ids. was ++ ids) split ∙ sym (append_assoc was (numbers (oldest n row)) (numbers now)))
 
 -- an old one has as many later ones as are retained
 noted_is_past : (n : ℕ) (row : List Record) (x : Record) → AreRising row → IsIn x row → is_noted (numbers (oldest n row)) x ≡ leb n (later_in row x)
@@ -73,7 +100,7 @@ count_noted n row order = let ids : List ℕ = numbers (oldest n row) in
 
 -- the parts
 
-module _ {p : Parts} (n : ℕ) (sound : IsSound (state_of p)) (g : AreGroups p.pending p.store.checkpoints p.store.savepoints) (stored : IsStored p.store) where
+module _ (p : Parts) (n : ℕ) (sound : IsSound (state_of p)) (g : AreGroups p.pending p.store.checkpoints p.store.savepoints) (stored : IsStored p.store) where
   abbrev row : List Record
   row = p.store.checkpoints
 
@@ -125,8 +152,14 @@ module _ {p : Parts} (n : ℕ) (sound : IsSound (state_of p)) (g : AreGroups p.p
   unfolding state_of
   past_counted = let all : count_by (past n (state_of p)) (records_in p) ≡ count_by (is_noted gone) (records_in p) =
       count_by-same (past n (state_of p)) (is_noted gone) (records_in p) (λ r h. sym (noted_are_past r h)) in
-      omega (arith, all, count_by-records_of (is_noted gone) p.registry p.pending p.store.checkpoints p.store.savepoints (λ r. refl), count_by-none (is_noted gone) p.pending pending_not_noted,
-      count_by-none (is_noted gone) p.store.savepoints savepoint_not_old, count_noted n row stored.checkpoints_rise)
+      omega (
+        arith,
+        all,
+        count_by-records_of (is_noted gone) p.registry p.pending p.store.checkpoints p.store.savepoints (λ r. refl),
+        count_by-none (is_noted gone) p.pending pending_not_noted,
+        count_by-none (is_noted gone) p.store.savepoints savepoint_not_old,
+        count_noted n row stored.checkpoints_rise,
+      )
 
   pub past_dropped : (a q : Parts) (k : ℕ) → AreTied p → a ≡ without_oldest p n a → a.ended.items ≡ gone → q ≡ handed a q.ended → q.ended.items ≡ [] →
       vec_capacity q.ended ≡ vec_capacity p.ended → k ≡ length (released a.registry (without a.ended.items a.registry)) → Drops p q (past n (state_of p)) k

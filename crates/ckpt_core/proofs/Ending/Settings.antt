@@ -1,6 +1,6 @@
 -- The parts after another configuration was given.
 use Rattle.ckpt_core.proofs.Names.{◌≡◌, ℕ, ◌+◌, max, length, sym, ap, subst, ◌∙◌, refl, FailureCount, Moments, gap, Stored, Parts, Answers, Drops, IsAccepted, Configuration, Done, State, drop, released_by, dropped_by}
-use Rattle.ckpt_core.proofs.Names.{Stepped, effect, configure, with_config, state_of, AreTied, step_accepted, common_steps, arith}
+use Rattle.ckpt_core.proofs.Names.{Stepped, effect, configure, with_config, state_of, step_accepted}
 use Rattle.std.specs.Prelude.{min, None}
 use Rattle.ckpt_ids.specs.declared.call.Call.TheVariants as call
 use Rattle.ckpt_ids.specs.declared.reply.Reply.TheVariants as reply

@@ -1,5 +1,5 @@
 -- The numbers that are noted are those of the oldest checkpoints, and no other record has one of them.
-use Rattle.ckpt_core.proofs.{◌+◌, ◌-◌, ◌++◌, length, ap, ◌∙◌, sym, arith, length-map, Record, numbers, groups_of, none_known, room_to_note}
+use Rattle.ckpt_core.proofs.{◌++◌, List, length, ap, ◌∙◌, arith, length-map, Parts, Record, numbers, groups_of, none_known, room_to_note}
 use Rattle.ckpt_core.specs.Inside.Settings.{oldest}
 use Rattle.ckpt_core.proofs.Ending.Counts.{few_done}
 use Rattle.ckpt_core.proofs.Ending.Past.{old_number, new_number, past_counted, past_dropped}
@@ -25,9 +25,10 @@ returns c =
     let groups = groups_of p c.recall_groups.ensures.pending c.recall_groups.ensures.stored in
     let old : List Record = oldest n p.store.checkpoints in
     let noted = c.note_and_pop_past.ensures.noted ∙ ap (λ ids. ids ++ numbers old) c.requires.sound.none_ended in
+    let left = ap (λ (w : Parts). length w.store.checkpoints) c.hand_out.ensures.parts ∙ ap (λ (w : Parts). length w.store.checkpoints) c.note_and_pop_past.ensures.parts in
     record {
-      drops = past_dropped n c.requires.sound.sound groups c.recall_groups.ensures.stored c.note_and_pop_past.new.self c.hand_out.new.self c.hand_out.result c.requires.sound.tied
+      drops = past_dropped p n c.requires.sound.sound groups c.recall_groups.ensures.stored c.note_and_pop_past.new.self c.hand_out.new.self c.hand_out.result c.requires.sound.tied
           c.note_and_pop_past.ensures.parts noted c.hand_out.ensures.parts c.hand_out.ensures.cleared (c.hand_out.ensures.capacity ∙ c.note_and_pop_past.ensures.capacity) c.hand_out.ensures.count;
-      dropped = omega (arith, past_counted n c.requires.sound.sound groups c.recall_groups.ensures.stored, ap length noted, length-map old (λ (r : Record). r.id), old_number n p.store.checkpoints);
-      few = omega (arith, new_number n p.store.checkpoints);
+      dropped = omega (arith, past_counted p n c.requires.sound.sound groups c.recall_groups.ensures.stored, ap length noted, length-map old (λ (r : Record). r.id), old_number n p.store.checkpoints);
+      few = omega (arith, left, new_number n p.store.checkpoints);
     }
