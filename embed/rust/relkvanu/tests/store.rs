@@ -281,15 +281,22 @@ fn a_discarder() {
     let tries = AtomicU64::new(0);
     thread::scope(|scope| {
         let discarder = scope.spawn(|| {
-            let mut gone = BTreeSet::new();
-            let ended = store.discard(4, |file| {
-                assert!(
-                    file != 2 || tries.fetch_add(1, Ordering::Relaxed) >= 2,
-                    "not yet"
-                );
-                gone.insert(file)
-            });
-            (ended, gone)
+            let (mut gone, mut panics) = (BTreeSet::new(), 0);
+            loop {
+                let discards = std::panic::AssertUnwindSafe(|| {
+                    store.discard(4, |file| {
+                        assert!(
+                            file != 2 || tries.fetch_add(1, Ordering::Relaxed) >= 2,
+                            "not yet"
+                        );
+                        gone.insert(file)
+                    })
+                });
+                match std::panic::catch_unwind(discards) {
+                    Ok(ended) => return (ended, gone, panics),
+                    Err(_) => panics += 1,
+                }
+            }
         });
         complete(&store, 1);
         complete(&store, 11);
@@ -300,9 +307,9 @@ fn a_discarder() {
             thread::sleep(Duration::from_millis(5));
         }
         store.stop();
-        let (ended, gone) = discarder.join().unwrap();
+        let (ended, gone, panics) = discarder.join().unwrap();
         assert_eq!(ended, Ok(()));
-        assert_eq!(gone, BTreeSet::from([1, 2]));
+        assert_eq!((gone, panics), (BTreeSet::from([1, 2]), 2));
         assert_eq!(tries.load(Ordering::Relaxed), 3);
     });
     assert!(store.await_tick(1000).is_err());

@@ -21,13 +21,16 @@ use std::fmt;
 use std::ops::Range;
 use std::os::fd::{BorrowedFd, RawFd};
 use std::os::unix::ffi::OsStrExt;
-use std::panic::{catch_unwind, AssertUnwindSafe};
+use std::panic::{catch_unwind, resume_unwind, AssertUnwindSafe};
 use std::path::Path;
 use std::ptr::{self, NonNull};
 use std::sync::Mutex;
 
 /// The moment of a call that the store shall choose: that of its clock, which never jumps.
 pub const NOW: u64 = sys::store::RELKVANU_STORE_NOW;
+
+/// What a closure panicked with.
+type Panic = Box<dyn std::any::Any + Send>;
 
 /// What a submit became: the outcomes of its calls, or why they were not committed.
 pub type Completion = (u64, Result<Vec<Result<Made, Fault>>, StoreError>);
@@ -385,38 +388,50 @@ impl Store {
     }
 
     /// A discarder in a thread of the engine, until [`stop`](Self::stop): `gone(file)` says whether the file is not there any more, also if it
-    /// was not there before. A file for which it panics is tried again. Never gives up. `Ok` after a stop.
-    pub fn discard<F: FnMut(u64) -> bool>(
-        &self,
-        batch: usize,
-        mut gone: F,
-    ) -> Result<(), StoreError> {
+    /// was not there before. Never gives up. `Ok` after a stop. If it panics, so does this, once the files before are reported: the file waits again.
+    pub fn discard<F: FnMut(u64) -> bool>(&self, batch: usize, gone: F) -> Result<(), StoreError> {
         unsafe extern "C" fn delete<F: FnMut(u64) -> bool>(
             with: *mut c_void,
             files: *const u64,
             len: usize,
             is_gone: *mut u8,
-        ) {
+        ) -> bool {
+            // SAFETY: `with` is the closure with its place for a panic.
+            let (gone, panicked) = unsafe { &mut *with.cast::<(F, Option<Panic>)>() };
             for place in 0..len {
-                // SAFETY: `with` is the closure, and the lists have so many elements.
-                let (gone, file) = unsafe { (&mut *with.cast::<F>(), *files.add(place)) };
-                let is = catch_unwind(AssertUnwindSafe(|| gone(file))).unwrap_or(false);
-                // SAFETY: as above.
-                unsafe { *is_gone.add(place) = u8::from(is) };
+                // SAFETY: the list has so many elements.
+                let file = unsafe { *files.add(place) };
+                match catch_unwind(AssertUnwindSafe(|| gone(file))) {
+                    // SAFETY: as above.
+                    Ok(is) => unsafe { *is_gone.add(place) = u8::from(is) },
+                    Err(panic) => *panicked = Some(panic),
+                }
+                if panicked.is_some() {
+                    return false;
+                }
             }
+            true
         }
-        // SAFETY: the closure outlives the call, which calls it in this thread alone.
-        let status = unsafe {
-            sys::store::relkvanu_store_discard(
-                self.at(),
-                batch,
-                delete::<F>,
-                (&mut gone as *mut F).cast(),
-            )
-        };
-        match status {
-            sys::store::RELKVANU_STORE_STOPPED => Ok(()),
-            other => self.check(other),
+        let mut with = (gone, None::<Panic>);
+        loop {
+            // SAFETY: the closure outlives the call, which calls it in this thread alone.
+            let status = unsafe {
+                sys::store::relkvanu_store_discard_for(
+                    self.at(),
+                    batch,
+                    u64::MAX,
+                    delete::<F>,
+                    (&mut with as *mut (F, Option<Panic>)).cast(),
+                )
+            };
+            if let Some(panic) = with.1.take() {
+                resume_unwind(panic);
+            }
+            match status {
+                sys::store::RELKVANU_STORE_STOPPED => return Ok(()),
+                sys::store::RELKVANU_STORE_NO_MEMORY | sys::store::RELKVANU_STORE_TIMED_OUT => {}
+                other => return self.check(other),
+            }
         }
     }
 
