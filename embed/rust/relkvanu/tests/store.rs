@@ -3,7 +3,7 @@
 mod common;
 
 use common::{new_job, triggered, Place, SETTINGS};
-use relkvanu::store::{CallError, Options, Outcome, Step, Store, StoreErrorKind, NOW};
+use relkvanu::store::{CallError, Options, Outcome, Step, Store, StoreError, StoreErrorKind, NOW};
 use relkvanu::{Answer, Call, Choice, Fault, Fenced, Mode, Refusal, Settings};
 use std::collections::BTreeSet;
 use std::fs;
@@ -164,6 +164,26 @@ fn a_read_that_panics() {
     assert!(read.is_err());
     complete(&store, 11);
     assert_eq!(store.read(|job| job.file_counts().waiting).unwrap(), 2);
+}
+
+#[test]
+fn a_call_in_a_read() {
+    let folder = Place::new("in-read");
+    let store = plain(&folder);
+    complete(&store, 1);
+    let in_read = |told: Result<(), StoreError>| {
+        assert_eq!(told.unwrap_err().kind, StoreErrorKind::InRead);
+    };
+    store
+        .read(|_| {
+            in_read(store.calls(&[Call::Tick { now: NOW }]).map(drop));
+            in_read(store.read(|_| ()));
+            in_read(store.sweep().map(drop));
+            in_read(store.discard(1, |_| true));
+            assert!(store.now() > 0 && store.next_tick().is_ok());
+        })
+        .unwrap();
+    complete(&store, 11);
 }
 
 fn fenced<T: std::fmt::Debug>(told: Result<T, CallError>, why: Fenced) {
