@@ -142,18 +142,26 @@ static void submits(const std::string &path) {
     CHECK(list[19].answer.what == RELKVANU_SAVEPOINT_TRIGGERED && list[19].place == 20);
 }
 
+/* What the function throws ends the discarder, which throws it; the file waits again. */
 static void discarder(const std::string &path) {
     ckpt::Store job = opened(path + "4", RELKVANU_STORE_CREATE);
     std::set<std::uint64_t> gone;
-    int failures = 0;
+    int failures = 0, thrown = 0;
     std::error_code ended;
+    auto discards = [&](std::uint64_t file) {
+        if (file == 2 && failures++ < 2) {
+            throw std::runtime_error("not yet");
+        }
+        return gone.insert(file).second;
+    };
     std::thread thread([&] {
-        ended = job.discard([&](std::uint64_t file) {
-            if (file == 2 && failures++ < 2) {
-                throw std::runtime_error("not yet");
+        while (!ended) {
+            try {
+                ended = job.discard(discards);
+            } catch (const std::runtime_error &) {
+                thrown++;
             }
-            return gone.insert(file).second;
-        });
+        }
     });
     complete(job, 1);
     complete(job, 11);
@@ -164,7 +172,7 @@ static void discarder(const std::string &path) {
     } while (counts.waiting + counts.taken != 0);
     job.stop();
     thread.join();
-    CHECK(ended == ckpt::store_error::stopped && failures == 3 && gone == (std::set<std::uint64_t>{1, 2}));
+    CHECK(ended == ckpt::store_error::stopped && failures == 3 && thrown == 2 && gone == (std::set<std::uint64_t>{1, 2}));
     CHECK(why(job.await_tick(1000)) == ckpt::store_error::stopped);
 }
 

@@ -106,6 +106,15 @@ public final class Store implements AutoCloseable {
         notifyAll();
     }
 
+    private volatile Thread reader; // that is in read
+
+    /** Refuses a call of the thread that reads: it would wait for itself. */
+    private void outsideRead() {
+        if (reader == Thread.currentThread()) {
+            throw new IllegalStateException("this thread is in read: make the call after it");
+        }
+    }
+
     /** The status of a function while the store is open. */
     private int within(IntSupplier call) {
         enter();
@@ -117,6 +126,7 @@ public final class Store implements AutoCloseable {
     }
 
     private void checked(IntSupplier call) {
+        outsideRead();
         enter();
         try {
             check(call.getAsInt());
@@ -419,18 +429,21 @@ public final class Store implements AutoCloseable {
     }
 
     /**
-     * Reads what is committed. All callers wait meanwhile, so be quick, and make no call of the store. The reads are closed afterwards.
+     * Reads what is committed. All callers wait meanwhile, so be quick, and make no call of the store: one of this thread throws {@code
+     * IllegalStateException}. The reads are closed afterwards.
      *
      * @param look makes the reads
      * @param <T> what it returns
      * @return what look returns
      */
     public <T> T read(Function<StoreReads, T> look) {
+        outsideRead();
         enter();
         try {
             long[] handle = new long[1];
             check(StoreNative.read(address, handle));
             try {
+                reader = Thread.currentThread();
                 StoreReads reads = new StoreReads(handle[0]);
                 try {
                     return look.apply(reads);
@@ -438,6 +451,7 @@ public final class Store implements AutoCloseable {
                     reads.end();
                 }
             } finally {
+                reader = null;
                 StoreNative.readEnd(address);
             }
         } finally {
@@ -467,7 +481,7 @@ public final class Store implements AutoCloseable {
     }
 
     /**
-     * A timer, in a loop of a thread: sleeps until a tick is due, and makes it. Each commit wakes it. After {@link #stop} and {@link #close} it
+     * A timer, in a loop of a thread: sleeps until a tick is due, and makes it. After {@link #stop} and {@link #close} it
      * throws {@code NotStored} with {@code STOPPED}.
      *
      * @param longest the longest sleep
@@ -476,6 +490,7 @@ public final class Store implements AutoCloseable {
     public Optional<StoreOutcome.Made> awaitTick(Duration longest) {
         long[] outcome = new long[StoreNative.OUTCOME];
         long millis = Math.max(longest.toMillis(), 0);
+        outsideRead();
         enter();
         try {
             int status = StoreNative.awaitTick(address, millis, outcome);
@@ -546,6 +561,7 @@ public final class Store implements AutoCloseable {
     public void backup(Path path) {
         byte[] name = bytes(path);
         byte[] message = new byte[StoreNative.MESSAGE];
+        outsideRead();
         int status = within(() -> StoreNative.backup(address, name, message));
         if (status != StoreFault.OK) {
             throw fault(status, text(message));
@@ -557,8 +573,8 @@ public final class Store implements AutoCloseable {
      * names is swept at each restore and whenever the engine likes, also while tasks run: {@link #counts} then tells how many files it left because
      * their names were not given out. One without is swept at each recovery, each restore and after a cancel, when all tasks have ended.
      *
-     * <p>Throws {@code NotStored} with {@code NOT_NOW} as {@link #unknown}; with {@code STORAGE} if the folder lacks its marker, another opening has
-     * it, or it can't be read or synced; with {@code BAD_ARGUMENT} if there is no storage folder.
+     * <p>Throws {@code NotStored} with {@code NOT_NOW} as {@link #unknown}; with {@code STORAGE} if the folder lacks its marker, or another opening has
+     * it; with {@code NOT_DONE} if it can't be read or synced now; with {@code BAD_ARGUMENT} if there is no storage folder.
      *
      * @return how many it could not delete: the next sweep tries them again
      */

@@ -167,6 +167,10 @@ class StoreTest {
         try (Store job = open(creates().withImageCalls(-1))) {
             complete(job, 1);
             byte[] image = job.read(reads -> {
+                for (org.junit.jupiter.api.function.Executable call : List.<org.junit.jupiter.api.function.Executable>of(job::sweep, () -> job.read(StoreReads::mode), () -> job.awaitTick(Duration.ZERO))) {
+                    assertThrows(IllegalStateException.class, call); // it would wait for itself
+                }
+                assertTrue(job.now() >= 0);
                 assertSame(Mode.RUNNING, reads.mode());
                 assertArrayEquals(new long[] {2}, reads.filesOf(1, 0, 1).orElseThrow());
                 assertEquals(2, reads.fileCounts().inUse());

@@ -123,6 +123,13 @@ pub struct relkvanu_store_counts {
 pub type relkvanu_store_delete =
     unsafe extern "C" fn(with: *mut c_void, files: *const u64, files_len: usize, is_gone: *mut u8);
 
+pub type relkvanu_store_delete_some = unsafe extern "C" fn(
+    with: *mut c_void,
+    files: *const u64,
+    files_len: usize,
+    is_gone: *mut u8,
+) -> bool;
+
 extern "C" {
     pub fn relkvanu_store_open(
         store: *mut *mut relkvanu_store,
@@ -174,6 +181,13 @@ extern "C" {
         store: *mut relkvanu_store,
         batch: usize,
         delete_files: relkvanu_store_delete,
+        with: *mut c_void,
+    ) -> c_int;
+    pub fn relkvanu_store_discard_for(
+        store: *mut relkvanu_store,
+        batch: usize,
+        longest: u64,
+        delete_files: relkvanu_store_delete_some,
         with: *mut c_void,
     ) -> c_int;
     pub fn relkvanu_store_put(

@@ -3,7 +3,7 @@
 mod common;
 
 use common::{new_job, triggered, Place, SETTINGS};
-use relkvanu::store::{CallError, Options, Outcome, Step, Store, StoreErrorKind, NOW};
+use relkvanu::store::{CallError, Options, Outcome, Step, Store, StoreError, StoreErrorKind, NOW};
 use relkvanu::{Answer, Call, Choice, Fault, Fenced, Mode, Refusal, Settings};
 use std::collections::BTreeSet;
 use std::fs;
@@ -166,6 +166,26 @@ fn a_read_that_panics() {
     assert_eq!(store.read(|job| job.file_counts().waiting).unwrap(), 2);
 }
 
+#[test]
+fn a_call_in_a_read() {
+    let folder = Place::new("in-read");
+    let store = plain(&folder);
+    complete(&store, 1);
+    let in_read = |told: Result<(), StoreError>| {
+        assert_eq!(told.unwrap_err().kind, StoreErrorKind::InRead);
+    };
+    store
+        .read(|_| {
+            in_read(store.calls(&[Call::Tick { now: NOW }]).map(drop));
+            in_read(store.read(|_| ()));
+            in_read(store.sweep().map(drop));
+            in_read(store.discard(1, |_| true));
+            assert!(store.now() > 0 && store.next_tick().is_ok());
+        })
+        .unwrap();
+    complete(&store, 11);
+}
+
 fn fenced<T: std::fmt::Debug>(told: Result<T, CallError>, why: Fenced) {
     match told {
         Err(CallError::Fault(Fault::Fenced(found))) => assert_eq!(found, why),
@@ -281,15 +301,22 @@ fn a_discarder() {
     let tries = AtomicU64::new(0);
     thread::scope(|scope| {
         let discarder = scope.spawn(|| {
-            let mut gone = BTreeSet::new();
-            let ended = store.discard(4, |file| {
-                assert!(
-                    file != 2 || tries.fetch_add(1, Ordering::Relaxed) >= 2,
-                    "not yet"
-                );
-                gone.insert(file)
-            });
-            (ended, gone)
+            let (mut gone, mut panics) = (BTreeSet::new(), 0);
+            loop {
+                let discards = std::panic::AssertUnwindSafe(|| {
+                    store.discard(4, |file| {
+                        assert!(
+                            file != 2 || tries.fetch_add(1, Ordering::Relaxed) >= 2,
+                            "not yet"
+                        );
+                        gone.insert(file)
+                    })
+                });
+                match std::panic::catch_unwind(discards) {
+                    Ok(ended) => return (ended, gone, panics),
+                    Err(_) => panics += 1,
+                }
+            }
         });
         complete(&store, 1);
         complete(&store, 11);
@@ -300,9 +327,9 @@ fn a_discarder() {
             thread::sleep(Duration::from_millis(5));
         }
         store.stop();
-        let (ended, gone) = discarder.join().unwrap();
+        let (ended, gone, panics) = discarder.join().unwrap();
         assert_eq!(ended, Ok(()));
-        assert_eq!(gone, BTreeSet::from([1, 2]));
+        assert_eq!((gone, panics), (BTreeSet::from([1, 2]), 2));
         assert_eq!(tries.load(Ordering::Relaxed), 3);
     });
     assert!(store.await_tick(1000).is_err());

@@ -30,6 +30,8 @@ pub enum StoreErrorKind {
     OutOfMemory,
     NotRunning,
     NotDone,
+    /// The thread that called is in a read of the store, and would wait for itself.
+    InRead,
 }
 
 impl StoreErrorKind {

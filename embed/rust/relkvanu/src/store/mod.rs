@@ -21,13 +21,17 @@ use std::fmt;
 use std::ops::Range;
 use std::os::fd::{BorrowedFd, RawFd};
 use std::os::unix::ffi::OsStrExt;
-use std::panic::{catch_unwind, AssertUnwindSafe};
+use std::panic::{catch_unwind, resume_unwind, AssertUnwindSafe};
 use std::path::Path;
 use std::ptr::{self, NonNull};
-use std::sync::Mutex;
+use std::sync::{Mutex, MutexGuard, PoisonError};
+use std::thread::{self, ThreadId};
 
 /// The moment of a call that the store shall choose: that of its clock, which never jumps.
 pub const NOW: u64 = sys::store::RELKVANU_STORE_NOW;
+
+/// What a closure panicked with.
+type Panic = Box<dyn std::any::Any + Send>;
 
 /// What a submit became: the outcomes of its calls, or why they were not committed.
 pub type Completion = (u64, Result<Vec<Result<Made, Fault>>, StoreError>);
@@ -43,6 +47,7 @@ pub struct Store {
     store: NonNull<sys::store::relkvanu_store>,
     report: Report,
     submits: Mutex<Submits>,
+    reader: Mutex<Option<ThreadId>>, // who is in a read
 }
 
 #[derive(Default)]
@@ -130,6 +135,7 @@ impl Store {
             store,
             report,
             submits: Mutex::default(),
+            reader: Mutex::default(),
         })
     }
 
@@ -139,6 +145,21 @@ impl Store {
 
     fn at(&self) -> *mut sys::store::relkvanu_store {
         self.store.as_ptr()
+    }
+
+    /// Refuses a call of the thread that reads: it would wait for itself.
+    fn outside(&self) -> Result<(), StoreError> {
+        if *self.reader() != Some(thread::current().id()) {
+            return Ok(());
+        }
+        Err(StoreError {
+            kind: StoreErrorKind::InRead,
+            message: "this thread is in a read: make the call after it".to_owned(),
+        })
+    }
+
+    fn reader(&self) -> MutexGuard<'_, Option<ThreadId>> {
+        self.reader.lock().unwrap_or_else(PoisonError::into_inner)
     }
 
     fn check(&self, status: c_int) -> Result<(), StoreError> {
@@ -163,6 +184,7 @@ impl Store {
     /// Makes 1 to 4096 calls, with no other in between, and returns once they are committed. After one without memory the later ones
     /// are not made.
     pub fn calls(&self, calls: &[Call<'_>]) -> Result<Vec<Result<Made, Fault>>, StoreError> {
+        self.outside()?;
         let mut list = List::of(calls);
         // SAFETY: the calls and all that they point to stay until the call returns.
         let status = unsafe {
@@ -192,6 +214,7 @@ impl Store {
     /// A task of this term gives up names that it will not acknowledge, at most 65536: their files are garbage then. Names that the term does
     /// not hold are passed over.
     pub fn forfeit(&self, term: u64, names: &[u64]) -> Result<(), CallError> {
+        self.outside()?;
         let mut told = sys::relkvanu_answer {
             code: 0,
             what: 0,
@@ -266,11 +289,13 @@ impl Store {
 
     /// Reads of what is committed. All callers wait meanwhile, so be quick, and make no call.
     pub fn read<T>(&self, look: impl FnOnce(&Coordinator) -> T) -> Result<T, StoreError> {
+        self.outside()?;
         let mut handle = ptr::null_mut();
         // SAFETY: the place for the handle is this function's own.
         self.check(unsafe { sys::store::relkvanu_store_read(self.at(), &mut handle) })?;
+        *self.reader() = Some(thread::current().id());
         let reading = Reading {
-            store: self.at(),
+            of: self,
             handle,
             // SAFETY: until the end of the read the handle is this function's alone. Its state moves into the coordinator, and back.
             job: std::mem::ManuallyDrop::new(Coordinator::over(unsafe { handle.read() })),
@@ -295,6 +320,7 @@ impl Store {
     /// A timer in a loop of a thread: sleeps until a tick is due, at most so many milliseconds, and makes it. Otherwise the error is
     /// `TimedOut` (none was due, or the job is not running: read the mode) or `Stopped`.
     pub fn await_tick(&self, longest: u64) -> Result<Made, CallError> {
+        self.outside()?;
         let mut list = List::of(&[Call::Tick { now: NOW }]);
         // SAFETY: the call is this function's own.
         let status = unsafe {
@@ -310,6 +336,7 @@ impl Store {
     /// For a sweep: those of the files that may be deleted. In a job with names these are garbage, at any time. In one without they are those
     /// that the coordinator does not know: `NotNow` if a task may have written a file whose acknowledgement is on its way.
     pub fn unknown(&self, mut files: Vec<u64>) -> Result<Vec<u64>, StoreError> {
+        self.outside()?;
         let mut len = files.len();
         // SAFETY: the vector has as many elements as is said.
         self.check(unsafe {
@@ -343,6 +370,7 @@ impl Store {
     /// Deletes the files of the storage folder that [`unknown`](Self::unknown) returns, and syncs it. Returns how many could not be deleted. In a
     /// job with names it runs at any time; [`counts`](Self::counts) then tells how many files it left since their names were not given out.
     pub fn sweep(&self) -> Result<usize, StoreError> {
+        self.outside()?;
         let mut left = 0;
         // SAFETY: the place is this function's own.
         self.check(unsafe { sys::store::relkvanu_store_sweep(self.at(), &mut left) })?;
@@ -355,6 +383,7 @@ impl Store {
     /// **A backup lacks the calls since it was made.** [`Options::backup`] opens it, once, after all processes and tasks of the job have ended, and
     /// then the engine restores a record whose files are all there: docs/DURABLE.md, A backup. Without that option the opening is refused.
     pub fn backup(&self, path: &Path) -> Result<(), StoreError> {
+        self.outside()?;
         let path = c_path(path)?;
         let mut message = [0; sys::store::RELKVANU_STORE_MESSAGE];
         // SAFETY: the path and the message outlive the call.
@@ -385,43 +414,57 @@ impl Store {
     }
 
     /// A discarder in a thread of the engine, until [`stop`](Self::stop): `gone(file)` says whether the file is not there any more, also if it
-    /// was not there before. A file for which it panics is tried again. Never gives up. `Ok` after a stop.
-    pub fn discard<F: FnMut(u64) -> bool>(
-        &self,
-        batch: usize,
-        mut gone: F,
-    ) -> Result<(), StoreError> {
+    /// was not there before. Never gives up. `Ok` after a stop. If it panics, so does this, once the files before are reported: the file waits again.
+    pub fn discard<F: FnMut(u64) -> bool>(&self, batch: usize, gone: F) -> Result<(), StoreError> {
+        self.outside()?;
         unsafe extern "C" fn delete<F: FnMut(u64) -> bool>(
             with: *mut c_void,
             files: *const u64,
             len: usize,
             is_gone: *mut u8,
-        ) {
+        ) -> bool {
+            // SAFETY: `with` is the closure with its place for a panic.
+            let (gone, panicked) = unsafe { &mut *with.cast::<(F, Option<Panic>)>() };
             for place in 0..len {
-                // SAFETY: `with` is the closure, and the lists have so many elements.
-                let (gone, file) = unsafe { (&mut *with.cast::<F>(), *files.add(place)) };
-                let is = catch_unwind(AssertUnwindSafe(|| gone(file))).unwrap_or(false);
-                // SAFETY: as above.
-                unsafe { *is_gone.add(place) = u8::from(is) };
+                // SAFETY: the list has so many elements.
+                let file = unsafe { *files.add(place) };
+                match catch_unwind(AssertUnwindSafe(|| gone(file))) {
+                    // SAFETY: as above.
+                    Ok(is) => unsafe { *is_gone.add(place) = u8::from(is) },
+                    Err(panic) => *panicked = Some(panic),
+                }
+                if panicked.is_some() {
+                    return false;
+                }
             }
+            true
         }
-        // SAFETY: the closure outlives the call, which calls it in this thread alone.
-        let status = unsafe {
-            sys::store::relkvanu_store_discard(
-                self.at(),
-                batch,
-                delete::<F>,
-                (&mut gone as *mut F).cast(),
-            )
-        };
-        match status {
-            sys::store::RELKVANU_STORE_STOPPED => Ok(()),
-            other => self.check(other),
+        let mut with = (gone, None::<Panic>);
+        loop {
+            // SAFETY: the closure outlives the call, which calls it in this thread alone.
+            let status = unsafe {
+                sys::store::relkvanu_store_discard_for(
+                    self.at(),
+                    batch,
+                    u64::MAX,
+                    delete::<F>,
+                    (&mut with as *mut (F, Option<Panic>)).cast(),
+                )
+            };
+            if let Some(panic) = with.1.take() {
+                resume_unwind(panic);
+            }
+            match status {
+                sys::store::RELKVANU_STORE_STOPPED => return Ok(()),
+                sys::store::RELKVANU_STORE_NO_MEMORY | sys::store::RELKVANU_STORE_TIMED_OUT => {}
+                other => return self.check(other),
+            }
         }
     }
 
     /// A discarder of the storage folder's files, as [`discard`](Self::discard).
     pub fn discard_files(&self, batch: usize) -> Result<(), StoreError> {
+        self.outside()?;
         // SAFETY: the store outlives the call, and the function takes it.
         let status = unsafe {
             sys::store::relkvanu_store_discard(
@@ -440,6 +483,7 @@ impl Store {
     /// A discarder of the files of any storage, as [`discard`](Self::discard): an engine's own, or a [`Folder`](crate::storage::Folder). The error is
     /// `Storage` once the storage is another job's; while it is not there, no file counts as gone.
     pub fn discard_storage(&self, batch: usize, storage: &dyn Storage) -> Result<(), StoreError> {
+        self.outside()?;
         let functions = Functions::of(&storage);
         // SAFETY: the storage outlives the call, which calls its functions in this thread alone.
         let status = unsafe {
@@ -453,6 +497,7 @@ impl Store {
 
     /// A sweep of any storage, as [`sweep`](Self::sweep).
     pub fn sweep_storage(&self, storage: &dyn Storage) -> Result<usize, StoreError> {
+        self.outside()?;
         let (functions, mut left) = (Functions::of(&storage), 0);
         // SAFETY: the storage outlives the call, and the place is this function's own.
         self.check(unsafe {
@@ -477,18 +522,19 @@ impl Store {
 }
 
 /// A read, which ends with its drop, also by a panic: then the state is back in the store's handle.
-struct Reading {
-    store: *mut sys::store::relkvanu_store,
+struct Reading<'a> {
+    of: &'a Store,
     handle: *mut sys::relkvanu,
     job: std::mem::ManuallyDrop<Coordinator>,
 }
 
-impl Drop for Reading {
+impl Drop for Reading<'_> {
     fn drop(&mut self) {
+        *self.of.reader() = None;
         // SAFETY: the handle is the store's own, and nobody else has it before the end of the read.
         unsafe {
             self.handle.write(self.job.taken_back());
-            sys::store::relkvanu_store_read_end(self.store);
+            sys::store::relkvanu_store_read_end(self.of.at());
         }
     }
 }
