@@ -65,6 +65,9 @@ pub struct Serve {
     /// How many bytes the logs of all jobs keep together; 0 sets no such limit [default: 0]
     #[arg(long, value_name = "BYTES")]
     pub keep_bytes: Option<u64>,
+    /// How many records of a job the history keeps once they have ended [default: a tenth of --keep-calls, and at least 1000]
+    #[arg(long, value_name = "RECORDS")]
+    pub keep_records: Option<u64>,
     /// Whether a new job gives out names if its creation does not say [default: true]
     #[arg(long, value_name = "BOOL")]
     pub names: Option<bool>,

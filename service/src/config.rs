@@ -17,6 +17,9 @@ const LISTEN: &str = "127.0.0.1:7780";
 const DATABASE: &str = "relkvanu.db";
 const IMAGE_CALLS: u64 = 10_000;
 const KEEP_CALLS: u64 = 1_000_000;
+/// How many records a job keeps by default: one for so many calls that it keeps, and some in any case.
+const CALLS_OF_RECORD: u64 = 10;
+const LEAST_RECORDS: u64 = 1000;
 
 /// What is wrong with which setting. Another start with the same words ends in the same way.
 #[derive(Debug, Error)]
@@ -58,6 +61,7 @@ struct FileConfig {
     image_calls: Option<u64>,
     keep_calls: Option<u64>,
     keep_bytes: Option<u64>,
+    keep_records: Option<u64>,
     log: Option<LogForm>,
     log_requests: bool,
     tls_certificate: Option<PathBuf>,
@@ -191,6 +195,7 @@ impl Config {
             (_, Some(address)) if spread && !is_address(address) => return Err(BadConfig::Advertised(address.clone())),
             _ => {}
         }
+        let keep_calls = given.keep_calls.or(file.keep_calls).unwrap_or(KEEP_CALLS);
         let config = Config {
             leading: if spread { Leading::Each } else { Leading::One },
             history: given.history.clone().or(file.history).unwrap_or_else(|| database.history(&listen)),
@@ -201,8 +206,10 @@ impl Config {
             names: given.names.or(file.names).unwrap_or(true),
             keeping: Keeping {
                 image_calls: given.image_calls.or(file.image_calls).unwrap_or(IMAGE_CALLS),
-                keep_calls: given.keep_calls.or(file.keep_calls).unwrap_or(KEEP_CALLS),
+                keep_calls,
                 keep_bytes: given.keep_bytes.or(file.keep_bytes).unwrap_or(0),
+                keep_records: (given.keep_records.or(file.keep_records))
+                    .unwrap_or(LEAST_RECORDS.max(keep_calls / CALLS_OF_RECORD)),
             },
             limits: file.limits,
             accept_clock: given.accept_clock,
@@ -232,6 +239,7 @@ impl Config {
             ("image_calls", self.keeping.image_calls, 0, 1_000_000_000),
             ("keep_calls", self.keeping.keep_calls, 0, 1_000_000_000_000),
             ("keep_bytes", self.keeping.keep_bytes, 0, 1 << 50),
+            ("keep_records", self.keeping.keep_records, 1, 1_000_000_000_000),
         ];
         for (name, value, least, most) in numbers {
             if !(least..=most).contains(&value) {

@@ -1,8 +1,9 @@
 //! How this process shares the jobs with others over one database: it takes free shards up to its part, reads their jobs beside the
 //! writer, and gives shards up that others lack.
+use crate::exit;
 use crate::log;
 use crate::metrics::Metrics;
-use crate::model::{Held, Keeping, Shards, SHARDS};
+use crate::model::{Held, Keeping, Moment, Shards, SHARDS};
 use crate::store::{DbError, Member, Members, Reader, Shares};
 use crate::writer::{Adoption, Board, Inbox, Jobs, Message, StartError};
 use std::collections::HashMap;
@@ -104,8 +105,9 @@ pub struct Sharer {
 pub struct State {
     /// Shards whose jobs could not be read, and when.
     bad: Vec<(Held, Instant)>,
-    /// Those that the writer has given up, and that are not free yet.
+    /// Those that the writer has given up, and that are not free yet, and since when.
     to_free: Vec<Held>,
+    given_up: Option<Moment>,
 }
 
 impl Sharer {
@@ -114,6 +116,7 @@ impl Sharer {
         while !self.board.is_stopping() {
             if let Err(why) = self.turn() {
                 log::warn(&format!("the shards stay as they are: {why}"));
+                self.end_with_unfree_shards();
                 if let Err(why) = self.shares.connect_again() {
                     log::warn(&format!("the other processes are not known: {why}"));
                 }
@@ -122,10 +125,25 @@ impl Sharer {
         }
     }
 
+    /// Ends the process if it could not free its shards for the length of its lease, as without a connection of its own: the writer goes on,
+    /// so nobody else would get them. Its end frees them.
+    fn end_with_unfree_shards(&self) {
+        if self.state.given_up.is_some_and(|since| since.elapsed() >= self.shares.lease()) {
+            log::error("the shards that this process gave up can't be made free: it ends, so that others get them");
+            exit::now(exit::START_AGAIN);
+        }
+    }
+
+    fn free(&mut self) -> Result<(), DbError> {
+        self.shares.free(&self.state.to_free)?;
+        self.state.to_free.clear();
+        self.state.given_up = None;
+        Ok(())
+    }
+
     fn turn(&mut self) -> Result<(), DbError> {
         if !self.state.to_free.is_empty() {
-            self.shares.free(&self.state.to_free)?;
-            self.state.to_free.clear();
+            self.free()?;
         }
         let members = self.look()?;
         let Some(part) = part_of(&members.all, self.shares.name()) else {
@@ -169,8 +187,8 @@ impl Sharer {
             return Ok(());
         };
         self.state.to_free = some;
-        self.shares.free(&self.state.to_free)?;
-        self.state.to_free.clear();
+        self.state.given_up = Some(Moment::now());
+        self.free()?;
         self.metrics.forget_all(jobs.iter().map(String::as_str));
         Ok(())
     }

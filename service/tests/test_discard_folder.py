@@ -113,7 +113,7 @@ def test_a_folder_without_the_marker():
             # once it works it has the lock
             files_of(job, folder, 400, 1)
             until(lambda: counts(job) == (0, 0))
-            ended(discard(server, folder), 1, "another discarder")
+            ended(discard(server, folder, "--once"), 1, "another discarder")
         return "refused in 3 folders, and marked by --init"
 
 

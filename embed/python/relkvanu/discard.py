@@ -2,13 +2,15 @@
 with names alone: what it reports wrongly is garbage then, which a sweeper finds. Run one for each job; `relkvanu discard` does the same in a
 folder."""
 import argparse
+import errno
+import posixpath
 import sys
 import time
 from typing import Any, List, Optional
 
 from relkvanu.command import FAILED, LOOK_FIRST, Stop, add_place, place, ran, seconds, service_client, token
 from relkvanu.coordinator import Error
-from relkvanu.others import OthersFiles, check_names, say_names
+from relkvanu.others import BEGUN, OthersFiles, check_names, forget_names, say_names
 from relkvanu.storage import KeepsVersions, Marker, Names, NotThere, OtherJob
 
 MOST = 500  # files of a take
@@ -27,16 +29,21 @@ def parser() -> argparse.ArgumentParser:
         prog="python3 -m relkvanu.discard", description=__doc__, epilog=USAGE, formatter_class=argparse.RawDescriptionHelpFormatter)
     add_place(it)
     it.add_argument("--once", action="store_true", help="end when no file waits")
+    it.add_argument("--allow-absent", action="store_true", help="files that are not there were deleted by others: report them as deleted")
     it.add_argument("--patience", metavar="TIME", type=seconds, default=60.0,
                     help="make a request to the service again for this time, by default 60s")
     return it
 
 
+class NoneThere(NotThere):
+    """All files that are to be deleted are absent."""
+
+
 class Discarder:
     """Deletes the files of a job (relkvanu_service.Job) from a Folder or a Bucket."""
 
-    def __init__(self, job: Any, storage: Any) -> None:
-        self.job, self.storage = job, storage
+    def __init__(self, job: Any, storage: Any, allow_absent: bool = False) -> None:
+        self.job, self.storage, self.allow_absent = job, storage, allow_absent
 
     def left(self) -> List[int]:
         """The files that were taken and never reported, as by a process that ended."""
@@ -54,8 +61,21 @@ class Discarder:
             failed += self._discard_some(files[begin:begin + MOST])
         return failed
 
+    def _begin(self, files: List[int]) -> None:
+        """Writes down which files it deletes now. If it is killed before it reports, the next run finds them absent, and knows why. Raises
+        NoneThere if all files are absent, and no run had begun with them."""
+        begun = posixpath.basename(self.storage.marker.name) + BEGUN
+        if any(self.storage.has(file) for file in files):
+            self.storage.write_beside(begun, f"{' '.join(map(str, files))}\n".encode())
+            return
+        known = (self.storage.read_beside(begun) or b"").decode(errors="replace")
+        if not self.allow_absent and not (known.endswith("\n") and set(map(str, files)) <= set(known.split())):
+            raise NoneThere(errno.ENOENT, f"none of {len(files)} files is there, as {self.storage.names.of(files[0])}: is it the wrong place, prefix or "
+                            "suffix? They stay taken. If they were deleted by others, run it once with --allow-absent", self.storage.job)
+
     def _discard_some(self, files: List[int]) -> int:
         self.storage.check()
+        self._begin(files)
         failed = self.storage.delete(files)
         # a report is refused if another discarder has made it
         self.job.calls([{"call": "undeleted" if file in failed else "deleted", "file": str(file)} for file in files])
@@ -98,9 +118,14 @@ def run_once(given: argparse.Namespace, client: Any) -> int:
         with place(given, Marker(*job.marker())) as storage:
             names = Names(given.prefix, given.suffix)
             check_names(storage, given.job, names)
-            say_names(storage, given.job, names)
+            says_first = say_names(storage, given.job, names)
             check_names(storage, given.job, names)  # another discarder may have begun meanwhile
-            return work(Discarder(job, storage), given.once)
+            try:
+                return work(Discarder(job, storage, given.allow_absent), given.once)
+            except NoneThere:
+                if says_first:
+                    forget_names(storage, given.job)  # the next run may have the right names
+                raise
     except (NotThere, OtherJob, OthersFiles, KeepsVersions) as error:
         raise Stop(LOOK_FIRST, str(error)) from error
     except (client.Failed, Error, OSError) as error:  # those of requests are OSErrors

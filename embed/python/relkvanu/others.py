@@ -85,9 +85,19 @@ def check_names(place: Place, job: str, names: Names) -> None:
                           f"{other}{NAMES}")
 
 
-def say_names(place: Place, job: str, names: Names) -> None:
-    """Writes down how the files of this job are named, for discarders and sweepers of other jobs."""
-    name, mine = MARK + job + NAMES, {"prefix": posixpath.basename(names.prefix), "suffix": names.suffix}
+def say_names(place: Place, job: str, names: Names) -> bool:
+    """Writes down how the files of this job are named, for discarders and sweepers of other jobs. Returns whether that was not known. Raises
+    OthersFiles if they have had other names: then none of them would be found, and another job could take the names that they have."""
+    name, mine = MARK + job + NAMES, Names(posixpath.basename(names.prefix), names.suffix)
     said = said_names(place.read_beside(name))
-    if said is None or (said.prefix, said.suffix) != (mine["prefix"], mine["suffix"]):
-        place.write_beside(name, f"{json.dumps(mine)}\n".encode())
+    if said is None:
+        place.write_beside(name, f"{json.dumps({'prefix': mine.prefix, 'suffix': mine.suffix})}\n".encode())
+    elif (said.prefix, said.suffix) != (mine.prefix, mine.suffix):
+        raise OthersFiles(f"{name} says that the files of this job are named {said.prefix}NUMBER{said.suffix}: is the prefix or the suffix wrong? If "
+                          f"the files have other names now, delete {name}")
+    return said is None
+
+
+def forget_names(place: Place, job: str) -> None:
+    """Forgets how the files of this job are named: no file was there."""
+    place.write_beside(MARK + job + NAMES, b"")

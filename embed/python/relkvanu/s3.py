@@ -105,6 +105,10 @@ class Bucket:
             raise StorageError(errno.ENOENT, "no such object", f"{self.bucket}/{self.names.of(file)}")
         return found
 
+    def has(self, file: int) -> bool:
+        """Whether a file is there. Raises StorageError if that is not known."""
+        return self._is_there(self.names.of(file))
+
     def delete(self, files: Iterable[int]) -> Dict[int, str]:
         """An object counts as deleted if the server says so of its key, and has the marker before and afterwards. An error says nothing of
         what was deleted, nor does a time-out."""

@@ -196,6 +196,18 @@ class Folder:
             raise StorageError(errno.ENOENT, "no such file", f"{self.path}/{self.names.of(file)}")
         return found
 
+    def has(self, file: int) -> bool:
+        """Whether a file is there, or was put in part. One of which that is not known counts as there."""
+        for name in (self.names.of(file), self._part.of(file)):
+            try:
+                os.stat(name, dir_fd=self._folder, follow_symlinks=False)
+            except FileNotFoundError:
+                continue
+            except OSError:
+                pass
+            return True
+        return False
+
     def delete(self, files: Iterable[int]) -> Dict[int, str]:
         failed: Dict[int, str] = {}
         some = list(files)

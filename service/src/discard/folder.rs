@@ -23,6 +23,20 @@ pub enum Stop {
     Never(String),
 }
 
+/// Why a folder is not open.
+#[derive(Debug)]
+pub enum NotOpen {
+    /// Another discarder works in it.
+    Busy,
+    Stop(Stop),
+}
+
+impl From<Stop> for NotOpen {
+    fn from(stop: Stop) -> NotOpen {
+        NotOpen::Stop(stop)
+    }
+}
+
 /// Whose files the folder has.
 pub struct Owner {
     pub job: String,
@@ -112,11 +126,13 @@ pub struct Folder {
     marked: Marked,
     names: Names,
     allow_absent: bool,
+    /// Whether this run wrote down first how the files are named.
+    says_first: bool,
 }
 
 impl Folder {
     /// Opens the folder, and checks its marker. Makes the marker in the first run for a job, or with `--init`.
-    pub fn open(given: &cli::Discard, owner: &Owner) -> Result<Folder, Stop> {
+    pub fn open(given: &cli::Discard, owner: &Owner) -> Result<Folder, NotOpen> {
         let path = given.folder.clone();
         let failed = |error: std::io::Error| Stop::Again(format!("{}: {error}", path.display()));
         let folder = File::open(&path).map_err(failed)?;
@@ -133,9 +149,11 @@ impl Folder {
         check(if is_ours || given.init { Need::Prefix } else { Need::Look })?;
         let marker = match found {
             Ok(marker) if is_ours => marker,
-            Ok(_) if !given.init => return Err(Stop::Never(other_marker(&path, &name))),
-            Err(Errno::NOENT) if !given.init && !owner.is_first => return Err(Stop::Never(no_marker(&path, &name))),
-            Err(error) if error != Errno::NOENT => return Err(failed(error.into())),
+            Ok(_) if !given.init => return Err(Stop::Never(other_marker(&path, &name)).into()),
+            Err(Errno::NOENT) if !given.init && !owner.is_first => {
+                return Err(Stop::Never(no_marker(&path, &name)).into());
+            }
+            Err(error) if error != Errno::NOENT => return Err(failed(error.into()).into()),
             _ => {
                 write_marker(&folder, &name, owner).map_err(failed)?;
                 log::info(&format!("{} is marked as the folder of the job {}", path.display(), owner.job));
@@ -143,14 +161,16 @@ impl Folder {
             }
         };
         lock(&marker, &path)?;
+        others::check_own(&folder, &path, &name, &given.names)?;
         // on a full disk deletions matter most
-        if let Err(error) = others::say(&folder, &name, &given.names) {
+        let says_first = others::say(&folder, &name, &given.names).unwrap_or_else(|error| {
             log::warn(&format!("{}/{name}: how the files are named can't be written: {error}", path.display()));
-        }
+            false
+        });
         // another discarder may have begun meanwhile
         check(Need::Prefix)?;
         let (names, allow_absent) = (given.names.clone(), given.allow_absent);
-        Ok(Folder { marked: Marked { path, folder, name, marker }, names, allow_absent })
+        Ok(Folder { marked: Marked { path, folder, name, marker }, names, allow_absent, says_first })
     }
 
     /// Deletes files, and syncs the folder. Deletes none if all are absent, unless an earlier run began with these, or
@@ -163,6 +183,10 @@ impl Folder {
         if files.iter().any(|file| self.is_there(*file)) {
             self.begin(files);
         } else if !self.allow_absent && !self.has_begun(files) {
+            // the next run may have the right names
+            if self.says_first {
+                let _ = others::forget(&self.marked.folder, &self.marked.name);
+            }
             return Err(Stop::Never(self.all_absent(files)));
         }
         let outcomes = files.iter().map(|file| self.delete_one(*file)).collect();
@@ -261,15 +285,15 @@ fn open_marker(folder: &File, name: &str) -> Result<File, Errno> {
 }
 
 /// Keeps other discarders out of the folder, if its file system has locks.
-fn lock(marker: &File, path: &Path) -> Result<(), Stop> {
+fn lock(marker: &File, path: &Path) -> Result<(), NotOpen> {
     match marker.try_lock() {
         Ok(()) => Ok(()),
-        Err(TryLockError::WouldBlock) => Err(Stop::Again(format!("another discarder works in {}", path.display()))),
+        Err(TryLockError::WouldBlock) => Err(NotOpen::Busy),
         Err(TryLockError::Error(error)) if matches!(error.raw_os_error(), Some(libc::ENOLCK | libc::EOPNOTSUPP)) => {
             log::warn(&format!("{} has no locks: see to it that there is one discarder", path.display()));
             Ok(())
         }
-        Err(TryLockError::Error(error)) => Err(Stop::Again(format!("{}: {error}", path.display()))),
+        Err(TryLockError::Error(error)) => Err(Stop::Again(format!("{}: {error}", path.display())).into()),
     }
 }
 

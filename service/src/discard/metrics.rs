@@ -1,7 +1,7 @@
 //! The discarder's metrics for Prometheus, which `--metrics` serves.
 use super::folder::Outcome;
 use crate::log;
-use prometheus::{Gauge, IntCounter, IntCounterVec, Opts, Registry};
+use prometheus::{Gauge, IntCounter, IntCounterVec, IntGauge, Opts, Registry};
 use relkvanu_client::Error;
 use std::time::{SystemTime, UNIX_EPOCH};
 
@@ -10,6 +10,7 @@ pub struct Metrics {
     files: IntCounterVec,
     lost: IntCounter,
     reported: Gauge,
+    works: IntGauge,
 }
 
 impl Metrics {
@@ -29,6 +30,10 @@ impl Metrics {
                 "relkvanu_discard_report_timestamp_seconds",
                 "When files were reported last.",
             ))?,
+            works: IntGauge::with_opts(of(
+                "relkvanu_discard_works",
+                "1 while this discarder has the folder; 0 while it waits for the service, or for another discarder.",
+            ))?,
         };
         for outcome in [Outcome::Deleted, Outcome::Absent, Outcome::Failed] {
             metrics.files.with_label_values(&[word(outcome)]);
@@ -36,7 +41,13 @@ impl Metrics {
         metrics.registry.register(Box::new(metrics.files.clone()))?;
         metrics.registry.register(Box::new(metrics.lost.clone()))?;
         metrics.registry.register(Box::new(metrics.reported.clone()))?;
+        metrics.registry.register(Box::new(metrics.works.clone()))?;
         Ok(metrics)
+    }
+
+    /// Whether this discarder has the folder.
+    pub fn works(&self, works: bool) {
+        self.works.set(i64::from(works));
     }
 
     /// A try was not answered.

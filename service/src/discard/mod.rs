@@ -10,7 +10,7 @@ use crate::exit::NOT_TO_START;
 use crate::exposed;
 use crate::log;
 use crate::remote;
-use folder::{Folder, Outcome};
+use folder::{Folder, NotOpen, Outcome};
 use metrics::Metrics;
 use relkvanu_client::{new_key, Answer, Call, Error, Job, Service};
 use serde_json::Value;
@@ -28,6 +28,8 @@ const LOOK_EACH: Duration = Duration::from_secs(60);
 /// How long it waits after files that could not be deleted, or an answer that is an error: the first time, and at most.
 const FIRST_PAUSE: Duration = Duration::from_millis(500);
 const LONGEST_PAUSE: Duration = Duration::from_secs(60);
+/// How long it waits at most until it looks again whether another discarder has left the folder.
+const LONGEST_WAIT: Duration = Duration::from_secs(5);
 /// For how long `--once` makes a request again.
 const ONCE_PATIENCE: Duration = Duration::from_secs(60);
 /// How long a new marker waits for the history, which tells whether files were deleted before.
@@ -49,8 +51,12 @@ impl Pause {
     }
 
     async fn rest(&mut self) {
+        self.rest_up_to(LONGEST_PAUSE).await;
+    }
+
+    async fn rest_up_to(&mut self, longest: Duration) {
         tokio::time::sleep(self.0).await;
-        self.0 = (self.0 * 2).min(LONGEST_PAUSE);
+        self.0 = (self.0 * 2).min(longest);
     }
 }
 
@@ -79,9 +85,29 @@ async fn work(given: &cli::Discard) -> Result<(), Stop> {
     let noticed = Arc::clone(&metrics);
     let service = service.within(given.once.then_some(ONCE_PATIENCE)).noticing(move |error| noticed.lost(error));
     let job = service.job(&given.job);
-    let owner = owner(&job, given).await?;
-    let folder = Arc::new(Folder::open(given, &owner)?);
+    let folder = Arc::new(folder(given, &job, &metrics).await?);
     Discarder { job, folder, metrics, once: given.once }.work().await
+}
+
+/// Opens the folder, once no other discarder works in it. Each try reads anew whose files it has: the job may be another one by then.
+/// `--once` does not wait.
+async fn folder(given: &cli::Discard, job: &Job, metrics: &Metrics) -> Result<Folder, Stop> {
+    let (mut pause, mut waits) = (Pause::new(), false);
+    loop {
+        let owner = owner(job, given).await?;
+        let why = format!("another discarder works in {}", given.folder.display());
+        match Folder::open(given, &owner) {
+            Ok(folder) => {
+                metrics.works(true);
+                return Ok(folder);
+            }
+            Err(NotOpen::Stop(stop)) => return Err(stop),
+            Err(NotOpen::Busy) if given.once => return Err(Stop::Again(why)),
+            Err(NotOpen::Busy) if !std::mem::replace(&mut waits, true) => log::warn(&format!("{why}: it waits")),
+            Err(NotOpen::Busy) => {}
+        }
+        pause.rest_up_to(LONGEST_WAIT).await;
+    }
 }
 
 fn service(given: &cli::Discard) -> Result<Service, Stop> {

@@ -2,7 +2,7 @@
 use super::folder::{begins, write_whole, Stop};
 use crate::ask::Names;
 use crate::http::is_name;
-use rustix::fs::Dir;
+use rustix::fs::{unlinkat, AtFlags, Dir};
 use serde_json::{json, Value};
 use std::collections::BTreeSet;
 use std::fs::File;
@@ -63,13 +63,32 @@ pub fn check(folder: &File, path: &Path, own: &str, names: &Names, need: Need) -
     Ok(())
 }
 
-/// Writes down how the files of the job are named, for discarders and sweepers of other jobs.
-pub fn say(folder: &File, own: &str, names: &Names) -> std::io::Result<()> {
-    if names_of(folder, own).is_some_and(|said| said.prefix == names.prefix && said.suffix == names.suffix) {
-        return Ok(());
+/// Refuses other names than those that the job's files have had here: none of its files would be found, and another job could take the
+/// names that they have.
+pub fn check_own(folder: &File, path: &Path, own: &str, names: &Names) -> Result<(), Stop> {
+    match names_of(folder, own) {
+        Some(Names { prefix, suffix }) if prefix != names.prefix || suffix != names.suffix => Err(Stop::Never(format!(
+            "{}/{own}{NAMES} says that the files of this job are named {prefix}NUMBER{suffix}: is --prefix or --suffix wrong? If the \
+             files have other names now, delete {own}{NAMES}",
+            path.display()
+        ))),
+        _ => Ok(()),
+    }
+}
+
+/// Writes down how the files of the job are named, for discarders and sweepers of other jobs. Returns whether that was not known.
+pub fn say(folder: &File, own: &str, names: &Names) -> std::io::Result<bool> {
+    if names_of(folder, own).is_some() {
+        return Ok(false);
     }
     let text = json!({"prefix": names.prefix, "suffix": names.suffix});
-    write_whole(folder, &format!("{own}{NAMES}"), &format!("{text}\n"))
+    write_whole(folder, &format!("{own}{NAMES}"), &format!("{text}\n"))?;
+    Ok(true)
+}
+
+/// Forgets how they are named: no file was there.
+pub fn forget(folder: &File, own: &str) -> std::io::Result<()> {
+    Ok(unlinkat(folder, format!("{own}{NAMES}"), AtFlags::empty())?)
 }
 
 fn names_of(folder: &File, marker: &str) -> Option<Names> {

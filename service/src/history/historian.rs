@@ -208,6 +208,7 @@ impl Historian {
             }
             tables.within(|| Ok(tables.set_saved(&past)?))?;
         }
+        while tables.within(|| Ok(tables.forget_records(follower.job, self.keeping.keep_records)?))? {}
         let parts = Summary::of(tables, follower)?.parts(follower)?;
         let bytes = parts.last().map_or(0, |part| part.whole);
         for part in parts {

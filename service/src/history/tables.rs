@@ -120,6 +120,16 @@ impl Tables {
         Ok(false)
     }
 
+    /// Deletes a piece of the records that ended and whose numbers are not among the last so many. Those that the database does not have
+    /// stay. Returns whether there may be more.
+    pub fn forget_records(&self, job: i64, keep: u64) -> rusqlite::Result<bool> {
+        let old = "select job, id from record where job = ?1 and id <= (select max(id) from record where job = ?1) - ?2
+            and gone is not null and saved = 1 order by id limit ?3";
+        let sql = format!("delete from record where (job, id) in ({old})");
+        let gone = self.0.prepare_cached(&sql)?.execute(params![job, signed(keep), signed(PIECE)])?;
+        Ok(gone as u64 == PIECE)
+    }
+
     /// Forgets the files and live records of a job.
     pub fn forget_live(&self, job: i64) -> rusqlite::Result<()> {
         ["file where", "queue where", "place where", "record where gone is null and"]

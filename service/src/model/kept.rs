@@ -17,6 +17,8 @@ pub struct Keeping {
     pub keep_calls: u64,
     /// Bytes that the logs of all jobs may take; 0: as many as the calls have.
     pub keep_bytes: u64,
+    /// Records of a job that are kept once they have ended: those whose numbers are among the last so many.
+    pub keep_records: u64,
 }
 
 /// An image that the database has.
@@ -191,7 +193,7 @@ fn needless(places: &[u64], cut: u64, keeping: Keeping) -> Vec<u64> {
 mod tests {
     use super::*;
 
-    const KEEPING: Keeping = Keeping { image_calls: 10, keep_calls: 80, keep_bytes: 0 };
+    const KEEPING: Keeping = Keeping { image_calls: 10, keep_calls: 80, keep_bytes: 0, keep_records: 1000 };
 
     fn image(seq: u64, bytes: usize) -> Image {
         let text = "x".repeat(bytes);
@@ -210,7 +212,7 @@ mod tests {
         assert!(!kept.wants_image(19, KEEPING) && kept.wants_image(20, KEEPING));
         kept.add(&image(20, 1500), KEEPING);
         assert!(!kept.wants_image(34, KEEPING) && kept.wants_image(35, KEEPING));
-        assert!(!kept.wants_image(1 << 40, Keeping { image_calls: 0, keep_calls: 0, keep_bytes: 0 }));
+        assert!(!kept.wants_image(1 << 40, Keeping { image_calls: 0, keep_calls: 0, keep_bytes: 0, keep_records: 1000 }));
     }
 
     #[test]
@@ -250,7 +252,7 @@ mod tests {
 
     #[test]
     fn images_and_summaries_between_near_ones_go() {
-        let (mut kept, keeping) = (Kept::default(), Keeping { image_calls: 1, keep_calls: 8000, keep_bytes: 0 });
+        let (mut kept, keeping) = (Kept::default(), Keeping { image_calls: 1, keep_calls: 8000, keep_bytes: 0, keep_records: 1000 });
         for seq in 1..=20_000 {
             kept.add_summary(seq, keeping);
             kept.add(&image(seq, 1), keeping);

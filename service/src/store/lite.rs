@@ -4,7 +4,7 @@ use super::error::{DbError, Failure, Unusable};
 use super::files::{self, Opened};
 use super::lite_write::write;
 use super::moved::{self, MOVED};
-use super::rows::{is_event, steps_after, Committed, Group, Keyed, Lead, Store, Written, MOST_STARTS, OF_JOBS, VERSION};
+use super::rows::{is_event, steps_after, Committed, Group, Keyed, Lead, Store, Written, MOST_STARTS, OF_JOBS, OLD_GONE, VERSION};
 use crate::model::{lengths_text, Held, Shards};
 use rusqlite::config::DbConfig;
 use rusqlite::{ffi, params, Connection, ErrorCode, OptionalExtension};
@@ -172,6 +172,19 @@ impl Store for Lite {
     fn forget_keys(&mut self, before: u64, most: u64) -> Result<u64, DbError> {
         let sql = "delete from request where (job, key) in (select job, key from request where at < ? order by at limit ?)";
         Ok(self.connection.execute(sql, [signed(before), signed(most)])? as u64)
+    }
+
+    fn forget_past(&mut self, job: i64, upto: u64, most: u64) -> Result<(), DbError> {
+        let sql = "delete from past where (job, id) in
+            (select job, id from past where job = ? and id <= ? order by job, id limit ?)";
+        self.connection.execute(sql, [job, signed(upto), signed(most)])?;
+        Ok(())
+    }
+
+    fn forget_gone(&mut self, before: u64) -> Result<(), DbError> {
+        let sql = format!("delete from gone_job where {}", OLD_GONE.replace("$1", "?1"));
+        self.connection.execute(&sql, [signed(before)])?;
+        Ok(())
     }
 
     fn forget_job(&mut self, job: i64) -> Result<bool, DbError> {

@@ -7,7 +7,7 @@ use super::pg_columns::Columns;
 use super::pg_commit::{Statements, CALLS};
 use super::pg_members::{self, Members, Shares, Watch};
 use super::pq::{Connection, Failed, Rows};
-use super::rows::{is_event, steps_after, Committed, Group, Keyed, Lead, Store, Written, OF_JOBS, VERSION};
+use super::rows::{is_event, steps_after, Committed, Group, Keyed, Lead, Store, Written, OF_JOBS, OLD_GONE, VERSION};
 use crate::model::{Held, Moment, Shards};
 use std::collections::BTreeMap;
 use std::ffi::CStr;
@@ -155,6 +155,19 @@ impl Store for Pg {
             (select job, key from request where at < $1::bigint order by at limit $2::bigint) returning 1) select count(*) from gone";
         let rows = self.connection.query(sql, &[&before.to_string(), &most.to_string()])?;
         Ok(cell(&rows, 0).and_then(|count| count.parse().ok()).unwrap_or(0))
+    }
+
+    fn forget_past(&mut self, job: i64, upto: u64, most: u64) -> Result<(), DbError> {
+        let sql = "delete from past where (job, id) in
+            (select job, id from past where job = $1::bigint and id <= $2::bigint order by job, id limit $3::bigint)";
+        self.connection.query(sql, &[&job.to_string(), &upto.to_string(), &most.to_string()])?;
+        Ok(())
+    }
+
+    fn forget_gone(&mut self, before: u64) -> Result<(), DbError> {
+        let sql = format!("delete from gone_job where {}", OLD_GONE.replace("$1", "$1::bigint"));
+        self.connection.query(&sql, &[&before.to_string()])?;
+        Ok(())
     }
 
     fn forget_job(&mut self, job: i64) -> Result<bool, DbError> {

@@ -183,6 +183,10 @@ impl Shares {
         Ok(Shares { url: url.to_string(), name: name.to_string(), lease, connection, watch: Watch::default() })
     }
 
+    pub fn lease(&self) -> Duration {
+        self.lease
+    }
+
     /// This process among the members.
     pub fn name(&self) -> &str {
         &self.name

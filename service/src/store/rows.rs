@@ -109,6 +109,10 @@ pub struct SavedImage {
     pub digest: String,
 }
 
+/// Jobs that were deleted before a moment, but for the last one of each shard. What is left of them is deleted.
+pub const OLD_GONE: &str =
+    "is_empty = 1 and at < $1 and job not in (select max(job) from gone_job group by job & 63)";
+
 /// How many identities the log keeps.
 pub const MOST_STARTS: i64 = 64;
 
@@ -166,6 +170,12 @@ pub trait Store: Send {
 
     /// Deletes keys that are older than the moment `before`, at most `most` of them, and returns how many it deleted.
     fn forget_keys(&mut self, before: u64, most: u64) -> Result<u64, DbError>;
+
+    /// Deletes records of a job that ended and whose numbers are at most `upto`, at most `most` of them.
+    fn forget_past(&mut self, job: i64, upto: u64, most: u64) -> Result<(), DbError>;
+
+    /// Forgets jobs that were deleted before a moment, of which nothing is left. The last of each shard stays: its number is given to no other.
+    fn forget_gone(&mut self, before: u64) -> Result<(), DbError>;
 
     /// Deletes a piece of what is left of a job that was deleted. Returns whether there may be more; if not, the job counts as empty.
     fn forget_job(&mut self, job: i64) -> Result<bool, DbError>;

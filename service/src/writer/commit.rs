@@ -12,6 +12,8 @@ use tokio::sync::oneshot::Sender;
 /// For how long a group is tried again that the database certainly rolled back.
 const RETRY_FOR: Duration = Duration::from_secs(10);
 const RETRY_EACH: Duration = Duration::from_millis(200);
+/// How many old records go at once, beside as many as came. So they go at least as fast as they come.
+const OLD_RECORDS: u64 = 1000;
 
 impl Writer {
     /// Commits a group, or ends the process: what it left uncommitted was never answered.
@@ -99,6 +101,7 @@ impl Writer {
                 let _ = reply.send(false);
                 continue;
             }
+            let old = self.old_records(&one);
             let (job, whole, group) = match one {
                 ForKeeping::Summary { job, part } => {
                     let whole = (part.whole > 0).then_some(part.seq);
@@ -115,6 +118,9 @@ impl Writer {
                 }
                 Err(Failure::Lost(why) | Failure::NameTaken(why)) => lose(&why),
             };
+            if let (true, Some((job, upto, most))) = (is_written, old) {
+                self.store.forget_past(job, upto, most).unwrap_or_else(|why| log::warn(&format!("old records stay: {why}")));
+            }
             if let (true, Some(place), Some(seq)) = (is_written, job, whole) {
                 let job = self.jobs.at(place);
                 let keeping = self.keeper.keeping(job);
@@ -123,6 +129,18 @@ impl Writer {
             }
             let _ = reply.send(is_written);
         }
+    }
+}
+
+impl Writer {
+    /// Which records of a job are old once these are kept: up to which number, and how many of them go at once.
+    fn old_records(&self, given: &ForKeeping) -> Option<(i64, u64, u64)> {
+        let ForKeeping::Past(past) = given else {
+            return None;
+        };
+        let last = past.iter().max_by_key(|record| record.id)?;
+        let upto = last.id.checked_sub(self.keeper.keep_records()).filter(|upto| *upto > 0)?;
+        Some((last.job, upto, OLD_RECORDS + past.len() as u64))
     }
 }
 

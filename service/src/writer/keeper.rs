@@ -57,6 +57,11 @@ impl Keeper {
         Keeper { keeping, attend, failing, last_failure, images, level: u64::MAX, reckoned: None }
     }
 
+    /// How many records of a job are kept once they have ended.
+    pub fn keep_records(&self) -> u64 {
+        self.keeping.keep_records
+    }
+
     /// What is kept of a job: fewer calls if the logs of all jobs take too many bytes.
     pub fn keeping(&self, job: &Job) -> Keeping {
         let calls = self.keeping.keep_calls.min(job.kept.calls_in(self.level));

@@ -10,16 +10,23 @@ const EACH: Duration = Duration::from_millis(20);
 /// From a piece that failed to the next.
 const REST: Duration = Duration::from_secs(60);
 
+/// For how long a deleted job is known of which nothing is left, in milliseconds. By then each standby has read that it was deleted.
+const KNOWN_FOR: u64 = 24 * 3_600_000;
+/// How often such jobs are forgotten.
+const FORGET_EACH: Duration = Duration::from_secs(60);
+
 #[derive(Default)]
 pub struct Leftovers {
     jobs: VecDeque<i64>,
     next: Option<Instant>,
+    /// When deleted jobs were forgotten last.
+    forgot: Option<Instant>,
 }
 
 impl Leftovers {
     /// Those of jobs that an earlier process left.
     pub fn of(jobs: Vec<i64>) -> Leftovers {
-        Leftovers { jobs: jobs.into(), next: None }
+        Leftovers { jobs: jobs.into(), next: None, forgot: None }
     }
 
     /// Those of jobs of other shards.
@@ -42,8 +49,8 @@ impl Leftovers {
         (!self.jobs.is_empty()).then_some(wait)
     }
 
-    /// Deletes a piece if one is due.
-    pub fn work(&mut self, store: &mut dyn Store) {
+    /// Deletes a piece if one is due, at this moment.
+    pub fn work(&mut self, store: &mut dyn Store, now: u64) {
         let Some(job) = self.jobs.front().copied().filter(|_| self.wait() == Some(Duration::ZERO)) else {
             return;
         };
@@ -52,6 +59,7 @@ impl Leftovers {
             Ok(false) => {
                 self.jobs.pop_front();
                 log::info(&format!("job number={job} nothing is left of it"));
+                self.forget_old(store, now);
                 EACH
             }
             Err(why) => {
@@ -60,5 +68,15 @@ impl Leftovers {
             }
         };
         self.next = Some(Instant::now() + rest);
+    }
+
+    fn forget_old(&mut self, store: &mut dyn Store, now: u64) {
+        if self.forgot.is_some_and(|at| at.elapsed() < FORGET_EACH) {
+            return;
+        }
+        self.forgot = Some(Instant::now());
+        if let Err(why) = store.forget_gone(now.saturating_sub(KNOWN_FOR)) {
+            log::warn(&format!("jobs that were deleted stay known: {why}"));
+        }
     }
 }

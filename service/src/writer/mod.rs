@@ -145,7 +145,7 @@ impl Writer {
                 return;
             }
             self.old_keys.work(self.store.as_mut(), &self.metrics, keys, self.clock.now());
-            self.leftovers.work(self.store.as_mut());
+            self.leftovers.work(self.store.as_mut(), self.clock.now());
             self.next = self.keeper.work(&mut self.jobs, &self.board, added);
             if let Some(place) = self.keeper.wanted() {
                 self.lend(place, imager);
