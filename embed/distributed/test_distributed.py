@@ -21,6 +21,7 @@ from relkvanu import daskstream, outputs, records
 from relkvanu.dask import Checkpoints, NotPersisted, Place
 from relkvanu.daskstream import GraphError
 from relkvanu.parts import Failed, PartError, State, part_of, pickled, place_of, take_step
+from relkvanu.records import origin_of
 
 
 def add(total, number):
@@ -168,6 +169,28 @@ class Collections(Base):
                         checkpoints.save(2, x=[lost])
                 self.assertEqual(checkpoints.load()[0], 1)
             self.assertEqual(len(self.files()), 2)
+
+    def test_the_coordinator_is_lost(self):
+        with self.opened() as checkpoints:
+            checkpoints.load()
+            for number in (1, 2):
+                checkpoints.save(number, x=da.arange(4 * number, chunks=4).persist())
+        before = self.files()
+        (self.folder / "job.db").unlink()
+        self.assertRaises(OSError, self.opened)  # the files of a job whose log is missing
+        old, self.state = Place(str(self.state), "job"), self.folder / "other"
+        self.state.mkdir()
+        with self.opened(begin_from=old) as checkpoints:
+            meta, found = checkpoints.load()
+            self.assertEqual((meta, list(found["x"].compute())), (2, list(range(8))))
+            checkpoints.save(3, x=found["x"])
+        with self.opened(begin_from=old) as checkpoints:
+            self.assertEqual(checkpoints.load()[0], 3)
+        self.assertEqual(len(self.files()), 3)
+        self.state = pathlib.Path(old.url)
+        self.assertEqual(self.files(), before)
+        (self.state / str(max(before))).unlink()
+        self.assertRaises(PartError, origin_of, old)
 
     def test_a_wrong_place(self):
         self.assertRaises(Exception, self.opened, create=False)
@@ -427,11 +450,11 @@ class Outputs(Base):
         self.assertEqual([it.read_text() for it in sorted(self.folder.glob("*.jsonl"))], ["[1]\n[2]\n", "[4]\n"])
         self.assertEqual(list(self.folder.glob("*.part")), [])
 
-    def opened(self):
+    def opened(self, **more):
         source, table = streamz.Stream(), self.table()
         kept = source.scatter().accumulate(add, start=0, stream_name="total").gather().map(row).sink(table)
         return source, kept, table, daskstream.Checkpoints(
-            source, self.state, self.folder / "job.db", client=self.client, create=True, outputs=[table])
+            source, self.state, self.folder / "job.db", client=self.client, create=True, outputs=[table], **more)
 
     def test_a_checkpoint_that_is_complete_and_not_published(self):
         source, kept, table, checkpoints = self.opened()
@@ -448,6 +471,30 @@ class Outputs(Base):
             checkpoints.emit(3, 3)
             checkpoints.checkpoint()
             self.assertEqual(self.rows(), [1, 3, 6])
+
+    def test_the_coordinator_is_lost(self):
+        """Also where the last record was not published, and where the driver that lost its place still publishes."""
+        source, kept, table, checkpoints = self.opened()
+        with checkpoints:
+            checkpoints.emit(1, 1)
+            checkpoints.checkpoint()
+            checkpoints.emit(2, 2)
+            with mock.patch.object(table, "publish", side_effect=OSError):
+                self.assertRaises(OSError, checkpoints.checkpoint)
+            identity = checkpoints._records.identity
+        old, self.state = Place(str(self.state), "job"), self.folder / "other"
+        self.state.mkdir()
+        (self.folder / "job.db").unlink()
+        for position in (2, 3):
+            source, kept, table, checkpoints = self.opened(begin_from=old)
+            with checkpoints:
+                self.assertEqual(checkpoints.position, position)
+                if position == 2:
+                    checkpoints.emit(3, 3)
+                    checkpoints.checkpoint()
+                self.assertEqual(self.rows(), [1, 3, 6])
+            self.assertRaises(outputs.OutputError, table.publish, identity, 3, [(9,)], "zombie")
+        self.assertEqual(self.rows(), [1, 3, 6])
 
     def test_rows_after_the_last_checkpoint_are_given_up(self):
         source, kept, table, checkpoints = self.opened()

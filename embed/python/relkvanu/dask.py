@@ -14,7 +14,7 @@ from distributed import Client, Future, wait
 
 from relkvanu.coordinator import Error
 from relkvanu.parts import Failed, PartError, Place
-from relkvanu.records import LOST, Path, Records, Saved, Watch, losses
+from relkvanu.records import LOST, Path, Record, Records, Saved, Watch, losses, origin_of
 
 __all__ = ["Checkpoints", "Failed", "NotPersisted", "PartError", "Place", "Saved"]
 
@@ -79,11 +79,12 @@ class Checkpoints:
     """The checkpoints of a job over Dask. `with Checkpoints(..) as checkpoints:` closes it. One thread at a time may call."""
 
     def __init__(self, client: Client, storage: Union[Path, Place], coordinator: Path, *, create: bool = False, patience: float = 300,
-                 watch: Optional[Watch] = None) -> None:
+                 watch: Optional[Watch] = None, begin_from: Optional[Place] = None) -> None:
         """Recovers the job whose coordinator is this file, on a disk of the driver's machine, or makes one if `create` says so. `storage` has the
         partitions: `s3://bucket/prefix`, a folder that all machines have, or a Place. `patience` is how many seconds a checkpoint may take.
-        `watch` is given the futures of each one's writes, as distributed.progress."""
-        self.client, self._patience = client, patience
+        `watch` is given the futures of each one's writes, as distributed.progress. A new job whose earlier coordinator is lost takes the last
+        checkpoint that is in another place, `begin_from`, as its first."""
+        self.client, self._patience, self._begin_from = client, patience, begin_from
         self._records = Records(client, storage, coordinator, create=create, patience=patience, watch=watch)
 
     def __enter__(self) -> "Checkpoints":
@@ -101,10 +102,13 @@ class Checkpoints:
         with losses():
             self.client.wait_for_workers(1, timeout=self._patience)
             found = self._records.restore()
-            if found is None:
+            if found is not None:
+                return self._loaded(found)
+            if self._begin_from is None:
                 return None
-            meta, shapes = cloudpickle.loads(found.meta)
-            return meta, {name: _collection(shape, self._records.load(found.parts.get(name, []))) for name, shape in shapes.items()}
+            meta, collections = self._loaded(origin_of(self._begin_from).record, self._begin_from)
+            self.save(meta, **collections)
+            return meta, collections
 
     def save(self, meta: Any = None, **collections: Any) -> Saved:
         """Takes a checkpoint of persisted collections, with some words of the caller, such as the number of a step. It is complete when this
@@ -140,6 +144,10 @@ class Checkpoints:
     def counts(self) -> Tuple[int, int]:
         """How many files are in use, and how many wait for deletion."""
         return self._records.counts()
+
+    def _loaded(self, record: Record, place: Optional[Place] = None) -> Tuple[Any, Dict[str, Any]]:
+        meta, shapes = cloudpickle.loads(record.meta)
+        return meta, {name: _collection(shape, self._records.load(record.parts.get(name, []), place)) for name, shape in shapes.items()}
 
     def _saved(self, found: Any) -> Tuple[Any, Dict[str, Any]]:
         meta, collections = found

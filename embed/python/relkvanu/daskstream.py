@@ -21,7 +21,7 @@ from relkvanu import outputs as published
 from relkvanu.parts import (
     Failed, Nothing, Part, PartError, Place, State, dumps_value, fold_all, loads_state, part_of, pickled, result_of, split, take_step, value_of,
 )
-from relkvanu.records import LOST, Path, Record, Records, Saved, Watch, losses
+from relkvanu.records import LOST, Path, Record, Records, Saved, Watch, losses, origin_of
 from relkvanu.streamz import STATELESS, GraphError, _nodes
 from relkvanu.streamz import _stateful as stateful_of_one_process
 
@@ -209,13 +209,16 @@ class Checkpoints:
     """
 
     def __init__(self, sources: Any, storage: Union[Path, Place], coordinator: Path, *, client: Optional[Client] = None, create: bool = False,
-                 every: float = 10, outputs: Sequence[published.Output] = (), patience: float = 300, watch: Optional[Watch] = None) -> None:
+                 every: float = 10, outputs: Sequence[published.Output] = (), patience: float = 300, watch: Optional[Watch] = None,
+                 begin_from: Optional[Place] = None) -> None:
         """Recovers the job whose coordinator is this file, on a disk of this machine, or makes one if `create` says so. `storage` has the states:
         `s3://bucket/prefix`, a folder that all machines have, or a Place. With a client the graph's work is on its cluster. A checkpoint is
         taken `every` so many seconds, if elements come. `outputs` are sinks of the graph that are exactly once. An element and a
-        checkpoint take at most `patience` seconds each. `watch` is given the futures of a checkpoint's writes."""
+        checkpoint take at most `patience` seconds each. `watch` is given the futures of a checkpoint's writes. A new job whose earlier
+        coordinator is lost takes the last checkpoint that is in another place, `begin_from`, as its first: its outputs take no more of that job."""
         self._sources = list(sources) if isinstance(sources, (list, tuple)) else [sources]
-        self._client, self._every, self._patience = client, every, patience
+        self._client, self._every, self._patience, self._begin_from = client, every, patience, begin_from
+        self._origin: Optional[str] = None  # the identity of the job in that place
         self._flight = _Flight()
         self._nodes = self._looked_at(_nodes(self._sources))
         self._outputs = {it.name: it for it in outputs}
@@ -291,9 +294,9 @@ class Checkpoints:
         self._flight.landed(self._patience)
         times.append(time.monotonic())
         packed = {name: published.pack(it) for name, it in self._outputs.items()}
-        saved = self._records.save((self.position, packed), {name: [self._written(it.state)] for name, it in self._nodes.items()})
+        saved = self._records.save((self.position, packed, self._origin), {name: [self._written(it.state)] for name, it in self._nodes.items()})
         times.append(time.monotonic())
-        self._publish(saved.id, packed)
+        self._publish(self._records.identity, saved.id, packed)
         times.append(time.monotonic())
         self.saved, self._due = saved, times[-1] + self._every
         LOG.info("record %d: %d parts, %d bytes; waited %.3f s for elements, wrote for %.3f s, published for %.3f s",
@@ -308,16 +311,33 @@ class Checkpoints:
             with losses():
                 self._client.wait_for_workers(1, timeout=self._patience)
         record = self._records.restore()
-        states = {name: self._loaded(name, record) for name in self._nodes}
+        if record is None and self._begin_from is not None:
+            self._begin()
+        else:
+            self._go_back(record, self._records.identity)
+        for output in self._outputs.values():
+            if self._origin is not None:
+                output.end(self._origin)
+        self._due = time.monotonic() + self._every
+        return self.position
+
+    def _begin(self) -> None:
+        """From the last record of a job whose coordinator is lost, which is the first one of this job from here on."""
+        assert self._begin_from is not None
+        origin = origin_of(self._begin_from)
+        self._go_back(origin.record, origin.identity, self._begin_from)
+        self._origin = origin.identity
+        self.checkpoint()
+
+    def _go_back(self, record: Optional[Record], job: str, place: Optional[Place] = None) -> None:
+        states = {name: self._loaded(name, record, place) for name in self._nodes}
         self._in_place(lambda: self._put_back(states))
         for output in self._outputs.values():
             output.rows = []
-        self.position = None
+        self.position, self._origin = None, None
         if record is not None:
-            self.position, packed = record.meta
-            self._publish(record.id, packed)
-        self._due = time.monotonic() + self._every
-        return self.position
+            self.position, packed, self._origin = record.meta
+            self._publish(job, record.id, packed)
 
     def counts(self) -> Tuple[int, int]:
         """How many files are in use, and how many wait for deletion."""
@@ -338,7 +358,7 @@ class Checkpoints:
     def _written(self, state: Any) -> Any:
         return Nothing.YET if state is streamz.core.no_default else state
 
-    def _loaded(self, name: str, record: Optional[Record]) -> Any:
+    def _loaded(self, name: str, record: Optional[Record], place: Optional[Place]) -> Any:
         """The state of a node: on workers a State or its future, in this process the value."""
         is_on_workers = isinstance(self._nodes[name], streamz.dask.accumulate)
         if record is None:
@@ -346,7 +366,7 @@ class Checkpoints:
         else:
             self._check_names(record)
             part: Part = record.parts[name][0]
-            state = self._records.load([part])[0] if is_on_workers else self._records.value(part)
+            state = self._records.load([part], place)[0] if is_on_workers else self._records.value(part, place)
         if is_on_workers:
             return state
         return streamz.core.no_default if state.value is Nothing.YET else state.value
@@ -355,11 +375,11 @@ class Checkpoints:
         if record.parts.keys() != self._nodes.keys():
             raise GraphError(f"checkpoint {record.id} has the states of {sorted(record.parts)}, and the graph has {sorted(self._nodes)}")
 
-    def _publish(self, record: int, packed: Dict[str, bytes]) -> None:
+    def _publish(self, job: str, record: int, packed: Dict[str, bytes]) -> None:
         """An output that is new, or that is no more, has nothing in this record."""
         for name, output in self._outputs.items():
             if name in packed:
-                published.publish(output, self._records.identity, record, packed[name])
+                published.publish(output, job, record, packed[name])
 
     # The event loop.
 

@@ -12,8 +12,12 @@ from relkvanu.errors import Error
 from relkvanu.parts import digest_of, pickled
 
 
+ENDED = (1 << 63) - 1  # the record of a job whose place another one has taken
+
+
 class OutputError(Error):
-    """The output has another record of this number, or a later one: a backup of the coordinator was restored. Nothing was published."""
+    """The output has another record of this number, or a later one: a backup of the coordinator was restored, or another job has taken the place of
+    this one. Nothing was published."""
 
 
 class Output(Protocol):
@@ -27,6 +31,9 @@ class Output(Protocol):
     def publish(self, job: str, record: int, rows: Sequence[Any], digest: str) -> None:
         """The record is complete. If this raises, the same comes again before any later record. `digest` is a checksum of the rows."""
 
+    def end(self, job: str) -> None:
+        """Another job has taken the place of this one, also if its driver should still run. It may be told so again."""
+
 
 class Rows:
     """Gathers rows until a checkpoint takes them."""
@@ -37,6 +44,9 @@ class Rows:
 
     def __call__(self, row: Any) -> None:
         self.rows.append(row)
+
+    def end(self, job: str) -> None:
+        """Nothing, where nobody can be kept from publishing."""
 
 
 def pack(output: Output) -> bytes:
@@ -74,6 +84,14 @@ class Table(Rows):
                 self._check(at, job, record, digest)
                 return
             at.executemany(self._insert, rows)
+            database.commit()
+
+    def end(self, job: str) -> None:
+        """No record of the job is taken any more."""
+        with contextlib.closing(self._connect()) as database:
+            at = database.cursor()
+            self._ask(at, "INSERT INTO relkvanu_published VALUES (?, ?, 0, '') ON CONFLICT DO NOTHING", self.name, job)
+            self._ask(at, "UPDATE relkvanu_published SET record = ? WHERE output = ? AND job = ?", ENDED, self.name, job)
             database.commit()
 
     def _check(self, at: Any, job: str, record: int, digest: str) -> None:

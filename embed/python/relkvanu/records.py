@@ -44,6 +44,13 @@ class Record(NamedTuple):
     parts: Dict[str, List[Part]]
 
 
+class Origin(NamedTuple):
+    """The last record of a job whose coordinator is lost, and that job's identity."""
+
+    identity: str
+    record: Record
+
+
 class Saved(NamedTuple):
     """A complete record: its number, how many parts were written and named again, and the bytes of those that were written."""
 
@@ -60,6 +67,30 @@ class _Plan:
     name: str
     value: Any
     before: Optional[Part]
+
+
+def _unpacked(data: bytes, what: str) -> Optional[Origin]:
+    """What a list says, or None if the file is none."""
+    head, _, body = data.partition(b"\n")
+    if not head.startswith(HEAD):
+        return None
+    if head != HEAD + digest_of(body).encode():
+        raise PartError(f"{what} is damaged")
+    identity, id, meta, parts = pickle.loads(body)
+    return Origin(identity, Record(id, meta, {name: [Part(*it) for it in some] for name, some in parts.items()}))
+
+
+def origin_of(place: Place) -> Origin:
+    """The last record by the lists in a storage, which nobody changes here. A list has a greater name than all files before it. That
+    of a record whose acknowledgement was lost with the coordinator is as good: its parts were durable before it."""
+    storage = place.open()
+    there = {file for page in storage.pages() for file in page}
+    for file in sorted(there, reverse=True):
+        with contextlib.suppress(PartError):  # a damaged list: the one before
+            found = _unpacked(storage.get(file), f"file {file}")
+            if found is not None and there.issuperset(it.file for some in found.record.parts.values() for it in some):
+                return found
+    raise PartError(f"{place.url} has no record whose files are all there")
 
 
 @contextlib.contextmanager
@@ -132,14 +163,14 @@ class Records:
         self._whole = True
         return found
 
-    def load(self, parts: Sequence[Part]) -> List[Future]:
-        """Futures of parts, which workers read."""
+    def load(self, parts: Sequence[Part], place: Optional[Place] = None) -> List[Future]:
+        """Futures of parts, which workers read, of this job or of one in another place."""
         assert self._client is not None
-        return [self._client.submit(get_part, self._place, it, self._loads, pure=False) for it in parts]
+        return [self._client.submit(get_part, place or self._place, it, self._loads, pure=False) for it in parts]
 
-    def value(self, part: Part) -> Any:
+    def value(self, part: Part, place: Optional[Place] = None) -> Any:
         """A part in the memory of this process."""
-        return get_part(self._place, part, self._loads)
+        return get_part(place or self._place, part, self._loads)
 
     def save(self, meta: Any, parts: Mapping[str, Sequence[Union[Future, Any]]]) -> Saved:
         """Takes a record of these parts: those that are futures are written by workers, others by this process. It is complete when this
@@ -155,7 +186,7 @@ class Records:
                 puts = self._put(plans, names)
                 id = self._trigger()  # while workers write
                 done = self._written(plans, names, puts)
-                record = Record(id, meta, self._listed(meta, done, names[-1]))
+                record = Record(id, meta, self._listed(id, meta, done, names[-1]))
                 self._acknowledge(id, done, names)
             except BaseException:
                 self._give_up(id, names)
@@ -163,7 +194,6 @@ class Records:
         self._last, self._whole = record, True
         fresh = set(names)
         wrote = {it.file: it.size for _, it in done if it.file in fresh}
-        self._names += sorted(fresh - set(wrote) - {names[-1]})
         return Saved(id, len(wrote), sum(it.file not in fresh for _, it in done), sum(wrote.values()))
 
     def sweep(self) -> Swept:
@@ -236,19 +266,21 @@ class Records:
                 self._client.cancel(puts, asynchronous=False)
             raise
 
-    def _listed(self, meta: Any, done: Sequence[Tuple[_Plan, Part]], name: int) -> Dict[str, List[Part]]:
+    def _listed(self, id: int, meta: Any, done: Sequence[Tuple[_Plan, Part]], name: int) -> Dict[str, List[Part]]:
         """Writes what the files of the record are, into one more file."""
         parts: Dict[str, List[Part]] = {}
         for plan, part in done:
             parts.setdefault(plan.name, []).append(part)
-        body = pickled((meta, {name: [tuple(it) for it in some] for name, some in parts.items()}))
+        body = pickled((self.identity, id, meta, {name: [tuple(it) for it in some] for name, some in parts.items()}))
         self.storage.put(name, HEAD + digest_of(body).encode() + b"\n" + body)
         return parts
 
     def _acknowledge(self, id: int, done: Sequence[Tuple[_Plan, Part]], names: Sequence[int]) -> None:
-        """One commit, in which all subtasks acknowledge."""
+        """One commit, in which all subtasks acknowledge. Names of parts that have not changed are given up, so those of lists ascend."""
         used, fresh = sorted({part.file for _, part in done}), set(names)
-        calls = [Call.ack(id, 0, 0, [names[-1]], term=self._term)]
+        spare = sorted(fresh - set(used) - {names[-1]})
+        calls = [Call.forfeit(self._term, spare)] if spare else []
+        calls.append(Call.ack(id, 0, 0, [names[-1]], term=self._term))
         for index in range(1, SUBTASKS):
             some = used[(index - 1) * MOST_FILES:index * MOST_FILES]
             calls.append(Call.ack(id, 0, index, [it for it in some if it in fresh], [it for it in some if it not in fresh], term=self._term))
@@ -271,12 +303,11 @@ class Records:
         lost = {it for some in files for it in some} - {it for page in self.storage.pages() for it in page}
         if lost:
             raise PartError(f"record {choice.id} lacks {len(lost)} of its files, such as {min(lost)}")
-        name = files[0][0]
-        head, _, body = self.storage.get(name).partition(b"\n")
-        if head != HEAD + digest_of(body).encode():
-            raise PartError(f"file {name}, the list of record {choice.id}, is damaged")
-        meta, parts = pickle.loads(body)
-        return Record(choice.id, meta, {name: [Part(*it) for it in some] for name, some in parts.items()})
+        what = f"file {files[0][0]}, the list of record {choice.id},"
+        found = _unpacked(self.storage.get(files[0][0]), what)
+        if found is None or (found.identity, found.record.id) != (self.identity, choice.id):
+            raise PartError(f"{what} is damaged")
+        return found.record
 
     # What is released.
 
