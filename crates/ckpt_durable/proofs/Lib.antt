@@ -1,7 +1,7 @@
 -- The lemmas that the proofs use.
 pub mod Lists
-pub mod Names
+pub mod NamesOnce
 pub mod Operating
 pub mod Reading
-pub mod Terms
+pub mod TermsOnce
 pub mod Worlds

@@ -4,9 +4,11 @@ ghost use Rattle.std.specs.Prelude.{◌≡◌, ◌<◌, ◌≤◌, ◌⊎◌, �
 ghost use Rattle.ckpt_terms.specs.declared.call.FencedCall.{FencedCall};
 
 use ckpt_terms::FencedCall;
+use thiserror::Error;
 
 /// A call could not be appended, or what was appended could not be synced.
-#[derive(Clone, Copy, Debug, PartialEq, Eq)]
+#[derive(Clone, Copy, Debug, PartialEq, Eq, Error)]
+#[error("the journal failed")]
 pub struct JournalFault;
 
 /// What calls are appended to. After a crash it has the calls of `kept`, and of those of `loose` some
