@@ -4,6 +4,7 @@ ghost use Rattle.std.specs.Prelude.{◌≡◌, ◌≢◌};
 ghost use Rattle.ckpt_ids.specs.declared.call.Call.TheVariants as call;
 ghost use Rattle.relkvanu.specs.Calls.{HasNoNumbers, IsAnswered, IsMade, IsMadePlainly, StaysAsItWas, StaysClosed, WantsMemory, subtask_at};
 ghost use Rattle.relkvanu.specs.Fenced.{IsHandled, call_step};
+ghost use Rattle.relkvanu.specs.Past.{GrowsBy, plainly};
 ghost use Rattle.relkvanu.specs.Told.{no_memory};
 
 use crate::answer::Answer;
@@ -21,6 +22,7 @@ pub extern "C" fn relkvanu_tick(alloc: Global, handle: &mut Handle, now: u64) ->
     ensures numbers { HasNoNumbers result }
     ensures unchanged { StaysAsItWas handle.old.value handle.new.value result }
     ensures names { handle.new.names ≡ handle.old.names }
+    ensures past { GrowsBy (plainly (call.Tick now)) handle.old.past handle.new.past result }
 {
     calls::call(alloc, handle, &Call::Tick { now })
 }
@@ -34,6 +36,7 @@ pub extern "C" fn relkvanu_savepoint(alloc: Global, handle: &mut Handle, now: u6
     ensures numbers { HasNoNumbers result }
     ensures unchanged { StaysAsItWas handle.old.value handle.new.value result }
     ensures names { handle.new.names ≡ handle.old.names }
+    ensures past { GrowsBy (plainly (call.Savepoint now)) handle.old.past handle.new.past result }
 {
     calls::call(alloc, handle, &Call::Savepoint { now })
 }
@@ -52,6 +55,7 @@ pub extern "C" fn relkvanu_decline(
     ensures answered { IsMadePlainly handle.old handle.new (call.Decline now id (subtask_at vertex index)) result }
     ensures handled { IsHandled (λ k. call_step k (call.Decline now id (subtask_at vertex index))) handle.old handle.new result }
     ensures memory { result.code ≢ no_memory }
+    ensures past { GrowsBy (plainly (call.Decline now id (subtask_at vertex index))) handle.old.past handle.new.past result }
 {
     let decline = Call::Decline {
         now,
@@ -68,6 +72,7 @@ pub extern "C" fn relkvanu_dispose(alloc: Global, handle: &mut Handle, id: u64) 
     ensures answered { IsMade handle.old.value handle.new.value (call.Dispose id) result }
     ensures memory { result.code ≢ no_memory }
     ensures names { handle.new.names ≡ handle.old.names }
+    ensures past { GrowsBy (plainly (call.Dispose id)) handle.old.past handle.new.past result }
 {
     calls::call(
         alloc,
@@ -85,6 +90,7 @@ pub extern "C" fn relkvanu_cancel(alloc: Global, handle: &mut Handle, now: u64) 
     ensures answered { IsMadePlainly handle.old handle.new (call.Cancel now) result }
     ensures handled { IsHandled (λ k. call_step k (call.Cancel now)) handle.old handle.new result }
     ensures memory { result.code ≢ no_memory }
+    ensures past { GrowsBy (plainly (call.Cancel now)) handle.old.past handle.new.past result }
 {
     calls::call(alloc, handle, &Call::Cancel { now })
 }
@@ -96,6 +102,7 @@ pub extern "C" fn relkvanu_deleted(alloc: Global, handle: &mut Handle, file: u64
     ensures answered { IsMade handle.old.value handle.new.value (call.Deleted file) result }
     ensures memory { result.code ≢ no_memory }
     ensures names { handle.new.names ≡ handle.old.names }
+    ensures past { GrowsBy (plainly (call.Deleted file)) handle.old.past handle.new.past result }
 {
     calls::call(alloc, handle, &Call::Deleted { file: FileId(file) })
 }
@@ -107,6 +114,7 @@ pub extern "C" fn relkvanu_undeleted(alloc: Global, handle: &mut Handle, file: u
     ensures answered { IsMade handle.old.value handle.new.value (call.Undeleted file) result }
     ensures memory { result.code ≢ no_memory }
     ensures names { handle.new.names ≡ handle.old.names }
+    ensures past { GrowsBy (plainly (call.Undeleted file)) handle.old.past handle.new.past result }
 {
     calls::call(alloc, handle, &Call::Undeleted { file: FileId(file) })
 }
@@ -118,6 +126,7 @@ pub extern "C" fn relkvanu_count(alloc: Global, handle: &mut Handle, file: u64) 
     ensures answered { IsMade handle.old.value handle.new.value (call.Count file) result }
     ensures memory { result.code ≢ no_memory }
     ensures names { handle.new.names ≡ handle.old.names }
+    ensures past { GrowsBy (plainly (call.Count file)) handle.old.past handle.new.past result }
 {
     calls::call(alloc, handle, &Call::Count { file: FileId(file) })
 }
