@@ -1,7 +1,16 @@
--- Each line of an opening is no longer than the three together.
-use Rattle.std.proofs.Common.{◌≡◌, ℕ, ◌+◌, ◌≤◌, List, ◌++◌, length, ap, ◌∙◌, subst, arith}
+-- Each line of an opening is no longer than the three together, and an opening without a fault can be opened.
+use Rattle.std.proofs.Common.{◌≡◌, ℕ, ◌+◌, ◌≤◌, Bool, true, false, eqb, ltb, List, ◌++◌, length, ap, ◌∙◌, subst, arith}
+use Rattle.std.specs.Prelude.{◌||◌, if◌then◌else◌, Option, Some, None}
 use Rattle.std.proofs.lemmas.List.{length-append}
-use Rattle.ckpt_model.specs.State.{Opening}
+use Rattle.ckpt_model.specs.declared.faults.OpenFault.{OpenFault}
+use Rattle.ckpt_model.specs.declared.faults.OpenFault.TheVariants.{BadFirst}
+use Rattle.ckpt_model.specs.Laws.{CanOpen}
+use Rattle.ckpt_model.specs.Opening.{open_fault}
+use Rattle.ckpt_model.specs.Soundness.{IsSound}
+use Rattle.ckpt_model.specs.State.{Opening, opened}
+use Rattle.ckpt_model.proofs.Soundness.Opening.{in_bounds}
+use Rattle.ckpt_terms.specs.declared.call.TheConstants.{NAMES_END}
+use Rattle.ckpt_terms.specs.TermsOpening.{terms_fault}
 use Rattle.ckpt_lines.specs.CallTexts.{config_text, job_text, start_text}
 use Rattle.relkvanu.specs.Writing.{newline, opening_text}
 
@@ -25,3 +34,17 @@ pub lines_fit : (o : Opening) (most : ℕ) → length (opening_text o) ≤ most
     → (length (config_text o.config) ≤ most) × (length (job_text o.shape) ≤ most) × (length (start_text o.start) ≤ most)
 unfolding opening_text
 lines_fit o most fit = three_fit (config_text o.config) (job_text o.shape) (start_text o.start) most fit
+
+-- an opening whose arguments are all good
+
+pub can_open : (o : Opening) → IsSound (opened o) → open_fault o.start o.first ≡ None → CanOpen o
+can_open o sound none =
+    let its = in_bounds o.start o.first none in
+    record { config = sound.config; shape = sound.shape; start = its.start; first_from = its.first_from; first_to = its.first_to }
+
+pub can_open_named : (o : Opening) (first_name : ℕ) → IsSound (opened o) → terms_fault o.start o.first first_name ≡ None → CanOpen o
+can_open_named o first_name sound none = can_open o sound (opens_core ((eqb first_name 0) || ltb NAMES_END first_name) (open_fault o.start o.first) none)
+  where
+    opens_core : (b : Bool) (fault : Option OpenFault) → (if b then Some BadFirst else fault) ≡ None → fault ≡ None
+    opens_core true fault none = absurd cc
+    opens_core false fault none = none

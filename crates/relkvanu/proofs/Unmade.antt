@@ -35,7 +35,7 @@ use Rattle.relkvanu.specs.Buffers.{files_in}
 use Rattle.relkvanu.specs.Fenced.{IsTaken, call_step, count_of, fence_told, fenced_told, named_unless, term_step}
 use Rattle.relkvanu.specs.Lines.{asked_step, call_made, core_step, line_call_step, named_step, plain_step}
 use Rattle.relkvanu.specs.Told.{answer_told, no_memory, restore_told, too_short}
-use Rattle.relkvanu.proofs.Given.{whole}
+use Rattle.ckpt_logged.proofs.Shows.{whole}
 
 -- the call was made, and the answer says so
 abbrev IsReply : Stepped → Type 0

@@ -22,9 +22,9 @@ use Rattle.std.specs.contracts.impls.GlobalAllocator.TheImpl.{ghosts}
 use Rattle.std.proofs.GlobalToken.{dealloc_token-Testable}
 use Rattle.std_alloc.specs.Box.Ownership.{box_owns}
 use Rattle.ckpt_model.specs.State.{State}
-use Rattle.ckpt_terms.specs.contracts.machine.Machine as machine
-use Rattle.ckpt_terms.specs.declared.machine.Machine.TheVariants.{Plain, Fenced}
-use Rattle.ckpt_terms.specs.Machines.{Issued, core_in, machine_of, names_in}
+use Rattle.ckpt_terms.specs.Machines.{Issued}
+use Rattle.ckpt_logged.specs.contracts.logged.Logged as logged
+use Rattle.ckpt_logged.specs.Chronicles.{Chronicle}
 use Rattle.relkvanu.specs.Kept.{IsHeld, heap, kept}
 use Rattle.relkvanu.specs.contracts.handle.Handle as handle
 
@@ -32,15 +32,10 @@ abbrev pub word : Val → Val
 word v = vstruct (vcons v vnil)
 
 abbrev pub R : RattleType
-R = machine.the_row
+R = logged.the_row
 
 abbrev pub boxed : Ptr → R.Denot → Fml
 boxed p x = box_owns (ghosts.dealloc_token heap) R p x
-
--- the coordinator of a state and names has them
-held_whole : (m : State) (n : Option Issued) → IsHeld (Some (machine_of m n)) (Some m) n
-held_whole m None = (refl, refl)
-held_whole m (Some n) = (refl, refl)
 
 module _ {M : Type 1} {𝓤 : Ura M} (𝓛 : Logic 𝓤) where
   -- the right to free a block says that its address can be compared with null
@@ -50,33 +45,27 @@ module _ {M : Type 1} {𝓤 : Ura M} (𝓛 : Logic 𝓤) where
       fact_use 𝓤 (Testable p) (via 𝓤 _ (snd∗ 𝓤 (sem 𝓛 (points_to R p x)) (sem 𝓛 token)) (dealloc_token-Testable 𝓛 heap (bare (lone R.mir)) p))
       (guard_i 𝓤 (Testable p) B)
 
-  -- a handle of a coordinator's box owns it
-  pub keeps : (p : Ptr) (k : R.Denot) → ent 𝓤 (sem 𝓛 (boxed p k)) (sem 𝓛 (kept p (Some (core_in k)) (names_in k)))
-  keeps p (Plain m) = id⊢ 𝓤 (sem 𝓛 (boxed p (Plain m)))
-  keeps p (Fenced m) = id⊢ 𝓤 (sem 𝓛 (boxed p (Fenced m)))
-
 module _ {M : Type 1} {𝓤 : Ura M} {𝓛 : Logic 𝓤} {K : Type 0} {Γ : List (Item 𝓤)} {G : Goal 𝓤 𝓛.H} where
   pub handle_out : K → (d : handle.the_row.Denot) (vs : List Val)
-      → (vs ≡ word (ptr_val d.at) ∷ [] → Seq K 𝓛 (‵ (kept d.at d.value d.names) ∷ Γ) G)
+      → (vs ≡ word (ptr_val d.at) ∷ [] → Seq K 𝓛 (‵ (kept d.at d.value d.names d.past) ∷ Γ) G)
       → Seq K 𝓛 (‵ (handle.the_row.own_val d vs) ∷ Γ) G
   handle_out t d vs go =
       fsplit t $ fpick t (λ fields. fsplit t $ feq_l t (λ whole. fsplit t $ feq_l t (λ pointer. drop t $
       go (subst (λ (ps : List Val). vs ≡ vstruct (of_list (ps ++ [])) ∷ []) pointer whole))))
 
-  pub handle_in : K → (p : Ptr) (v : Option State) (n : Option Issued)
-      → Step K 𝓛 (‵ (handle.the_row.own_val (record { at = p; value = v; names = n }) (word (ptr_val p) ∷ [])) ∷ Γ) G (‵ (kept p v n) ∷ Γ) G
-  handle_in t p v n = step (λ s. let w : List Val = word (ptr_val p) ∷ [] in
+  pub handle_in : K → (p : Ptr) (v : Option State) (n : Option Issued) (c : Option Chronicle)
+      → Step K 𝓛 (‵ (handle.the_row.own_val (record { at = p; value = v; names = n; past = c }) (word (ptr_val p) ∷ [])) ∷ Γ) G (‵ (kept p v n c) ∷ Γ) G
+  handle_in t p v n c = step (λ s. let w : List Val = word (ptr_val p) ∷ [] in
       nothing t $ feq_i t (List Val) (ptr_val p ∷ []) (ptr_val p ∷ []) refl $ fjoin t $ feq_i t (List Val) w w refl $ fjoin t $
       fpack t (Valss (RawPtr ∷ [])) (within (shape handle.the_type) (p, tt) w) (ptr_val p ∷ [], tt) $ fjoin t $ s)
 
   -- a handle is closed, or has its box
-  pub either : K → (p : Ptr) (v : Option State) (n : Option Issued)
-      → (p ≡ null_ptr → IsHeld None v n → Seq K 𝓛 Γ G)
-      → ((b o : ℕ) (x : R.Denot) → p ≡ block_ptr b o → IsHeld (Some x) v n → Testable (block_ptr b o) → Seq K 𝓛 (‵ (boxed (block_ptr b o) x) ∷ Γ) G)
-      → Seq K 𝓛 (‵ (kept p v n) ∷ Γ) G
-  either t p None n none one = fpick t (λ is. drop t $ none is.0 (refl, sym is.1))
-  either t p (Some m) n none one =
-      let x : R.Denot = machine_of m n in
+  pub either : K → (p : Ptr) (v : Option State) (n : Option Issued) (c : Option Chronicle)
+      → (p ≡ null_ptr → IsHeld None v n c → Seq K 𝓛 Γ G)
+      → ((b o : ℕ) (x : R.Denot) → p ≡ block_ptr b o → IsHeld (Some x) v n c → Testable (block_ptr b o) → Seq K 𝓛 (‵ (boxed (block_ptr b o) x) ∷ Γ) G)
+      → Seq K 𝓛 (‵ (kept p v n c) ∷ Γ) G
+  either t p v n None none one = fpick t (λ is. drop t $ none is.0 is.1)
+  either t p v n (Some x) none one = fpick t (λ held.
       in_a_block t p (λ q. boxed q x) (fst∗ 𝓤 (never 𝓤) (sem 𝓛 (ghosts.dealloc_token heap (bare (lone R.mir)) null_ptr))) (λ b o is.
       use1 𝓛 (given (Testable (block_ptr b o)) (‵ (boxed (block_ptr b o) x))) (tested 𝓛 (block_ptr b o) x) $
-      learn t (λ u. one b o x is (held_whole m n) u))
+      learn t (λ u. one b o x is held u)))

@@ -9,19 +9,25 @@ use Rattle.std.specs.declared.alloc.Global.{Global}
 use Rattle.std.specs.contracts.impls.GlobalAllocator.TheImpl.{ghosts}
 use Rattle.std_alloc.specs.Box.Ownership.{box_owns}
 use Rattle.ckpt_model.specs.State.{State}
-use Rattle.ckpt_terms.specs.contracts.machine.Machine.{the_row}
-use Rattle.ckpt_terms.specs.declared.machine.Machine.{Machine}
-use Rattle.ckpt_terms.specs.Machines.{Issued, core_in, machine_of, names_in}
+use Rattle.ckpt_terms.specs.Machines.{Issued, core_in, names_in}
+use Rattle.ckpt_logged.specs.contracts.logged.Logged.{the_row}
+use Rattle.ckpt_logged.specs.Chronicles.{Chronicle}
 
 -- the allocator, of which there is only one value
 abbrev pub heap : Global
 heap = record { memory = record { seal = tt } }
 
--- null if there is no state, otherwise the box of the coordinator with this state and these names, with the right to free it
-abbrev pub kept : Ptr → Option State → Option Issued → Fml
-kept p None names = fex ((p ≡ null_ptr) × (names ≡ None)) (λ _. ftrue)
-kept p (Some m) names = box_owns (ghosts.dealloc_token heap) the_row p (machine_of m names)
+abbrev pub state_in : Chronicle → State
+state_in c = core_in c.now
 
--- the coordinator, if there is one, has this state and these names
-abbrev pub IsHeld : Option Machine → Option State → Option Issued → Type 0
-IsHeld held value names = (option_map core_in held ≡ value) × (option_and_then names_in held ≡ names)
+abbrev pub issued_in : Chronicle → Option Issued
+issued_in c = names_in c.now
+
+-- the coordinator, if there is one, has this state, these names and this past
+abbrev pub IsHeld : Option Chronicle → Option State → Option Issued → Option Chronicle → Type 0
+IsHeld held value names past = (option_map state_in held ≡ value) × (option_and_then issued_in held ≡ names) × (held ≡ past)
+
+-- null if there is no past, otherwise the box of the coordinator with this past, with the right to free it
+abbrev pub kept : Ptr → Option State → Option Issued → Option Chronicle → Fml
+kept p value names None = fex ((p ≡ null_ptr) × IsHeld None value names None) (λ _. ftrue)
+kept p value names (Some c) = fex (IsHeld (Some c) value names (Some c)) (λ _. box_owns (ghosts.dealloc_token heap) the_row p c)

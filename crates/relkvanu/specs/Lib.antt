@@ -10,6 +10,7 @@ pub mod Making
 pub mod Names
 pub mod Naming
 pub mod Opening
+pub mod Past
 pub mod Reads
 pub mod Recovery
 pub mod Saying

@@ -9,6 +9,7 @@ ghost use Rattle.ckpt_answers.specs.MetadataTexts.{metadata_bytes};
 ghost use Rattle.relkvanu.specs.Buffers.{BringsFiles, BringsJson, IsShowTold, StandsInFront, files_in, files_of_reply, json_in, json_of_reply};
 ghost use Rattle.relkvanu.specs.Buffers.{json_told, show_reply_told, show_told};
 ghost use Rattle.relkvanu.specs.Calls.{HasNoNumbers, IsAnswered, IsStepTold, StaysAsItWas, StaysClosed, WantsMemory};
+ghost use Rattle.relkvanu.specs.Past.{GrowsBy, IsGrown, plainly};
 ghost use Rattle.relkvanu.specs.Told.{answer_told, no_memory, reply_told};
 ghost use Rattle.ckpt_terms.specs.Machines.{core_in, names_in};
 
@@ -16,7 +17,7 @@ use crate::answer::Answer;
 use crate::handle::Handle;
 use ckpt_answers::metadata_text;
 use ckpt_ids::{Answer as Told, Call, CheckpointId, FileId, Metadata, Reply};
-use ckpt_terms::Machine;
+use ckpt_logged::Logged;
 use std::alloc::Global;
 
 /// Fetches files that wait for deletion, at most as many as the buffer has places, and writes them
@@ -31,6 +32,7 @@ pub extern "C" fn relkvanu_take(alloc: Global, handle: &mut Handle, files: &mut 
     ensures numbers { HasNoNumbers result }
     ensures unchanged { StaysAsItWas handle.old.value handle.new.value result }
     ensures names { handle.new.names ≡ handle.old.names }
+    ensures past { GrowsBy (plainly (call.Take (length files.old))) handle.old.past handle.new.past result }
 {
     let Some(mut machine) = handle.take(alloc) else {
         return Answer::closed();
@@ -59,6 +61,7 @@ pub extern "C" fn relkvanu_show(
     ensures numbers { HasNoNumbers result }
     ensures unchanged { handle.new.value ≡ handle.old.value }
     ensures names { handle.new.names ≡ handle.old.names }
+    ensures past { handle.new.past ≡ handle.old.past }
 {
     let Some(mut machine) = handle.take(alloc) else {
         return Answer::closed();
@@ -71,14 +74,15 @@ pub extern "C" fn relkvanu_show(
 /// Fetches at most `most` files.
 ///
 /// Condition: the buffer has a place for each.
-pub(crate) fn take_from(machine: &mut Machine, most: u64, files: &mut [u64]) -> Answer
-    requires fits { length (files_in (step (core_in machine.old) (call.Take most)).1) ≤ length files.old }
-    ensures answered { IsStepTold (core_in machine.old) (core_in machine.new) (call.Take most) result }
-    ensures front { result.code ≢ no_memory → StandsInFront (files_in (step (core_in machine.old) (call.Take most)).1) files.old files.new }
+pub(crate) fn take_from(machine: &mut Logged, most: u64, files: &mut [u64]) -> Answer
+    requires fits { length (files_in (step (core_in machine.old.now) (call.Take most)).1) ≤ length files.old }
+    ensures answered { IsStepTold (core_in machine.old.now) (core_in machine.new.now) (call.Take most) result }
+    ensures front { result.code ≢ no_memory → StandsInFront (files_in (step (core_in machine.old.now) (call.Take most)).1) files.old files.new }
     ensures kept { result.code ≢ 0 → files.new ≡ files.old }
-    ensures memory { result.code ≡ no_memory → may_want_memory (core_in machine.old) (call.Take most) ≡ true }
+    ensures memory { result.code ≡ no_memory → may_want_memory (core_in machine.old.now) (call.Take most) ≡ true }
     ensures numbers { HasNoNumbers result }
-    ensures names { names_in machine.new ≡ names_in machine.old }
+    ensures names { names_in machine.new.now ≡ names_in machine.old.now }
+    ensures past { IsGrown (plainly (call.Take most)) machine.old machine.new result }
     ensures unchanged { result.code ≡ no_memory → machine.new ≡ machine.old }
 {
     match machine.pass(&Call::Take { most }) {
@@ -131,19 +135,15 @@ pub(crate) fn write_files(list: &[FileId], files: &mut [u64])
     }
 }
 
-pub(crate) fn show_from(alloc: Global, machine: &mut Machine, id: u64, json: &mut [u8]) -> Answer
-    ensures answered { IsShowTold (core_in machine.old) id (length json.old) result }
-    ensures front { BringsJson (core_in machine.old) id json.old json.new result }
+pub(crate) fn show_from(alloc: Global, machine: &mut Logged, id: u64, json: &mut [u8]) -> Answer
+    ensures answered { IsShowTold (core_in machine.old.now) id (length json.old) result }
+    ensures front { BringsJson (core_in machine.old.now) id json.old json.new result }
     ensures kept { result.code ≢ 0 → json.new ≡ json.old }
-    ensures memory { result.code ≡ no_memory → may_want_memory (core_in machine.old) (call.Show id) ≡ true }
+    ensures memory { result.code ≡ no_memory → may_want_memory (core_in machine.old.now) (call.Show id) ≡ true }
     ensures numbers { HasNoNumbers result }
-    ensures core { core_in machine.new ≡ core_in machine.old }
-    ensures names { names_in machine.new ≡ names_in machine.old }
-    ensures unchanged { result.code ≡ no_memory → machine.new ≡ machine.old }
+    ensures unchanged { machine.new ≡ machine.old }
 {
-    match machine.pass(&Call::Show {
-        id: CheckpointId(id),
-    }) {
+    match machine.show(CheckpointId(id)) {
         Ok(answer) => with_json_in(alloc, &answer, json),
         Err(_) => Answer::out_of_memory(),
     }

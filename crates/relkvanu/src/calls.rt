@@ -8,12 +8,13 @@ ghost use Rattle.ckpt_terms.specs.Machines.{core_in, is_free, names_in, passes};
 ghost use Rattle.relkvanu.specs.Calls.{HasNoNumbers, IsAnswered, IsAnsweredPlainly, IsBadShape, IsRefusedAs, IsStepTold, StaysAsItWas, StaysClosed};
 ghost use Rattle.relkvanu.specs.Calls.{WantsMemory, ack_of, restore_of, takes_no_memory, target_of, subtask_at};
 ghost use Rattle.relkvanu.specs.Fenced.{IsHandled, IsTaken, call_step};
+ghost use Rattle.relkvanu.specs.Past.{GrowsBy, IsGrown, plainly};
 ghost use Rattle.relkvanu.specs.Told.{bad_shape, no_memory};
 
 use crate::answer::Answer;
 use crate::handle::Handle;
 use ckpt_ids::{Call, CheckpointId, FileId, Files, Shape, ShapeFault, SubtaskId, Target};
-use ckpt_terms::Machine;
+use ckpt_logged::Logged;
 use std::alloc::{AllocError, Global};
 
 /// The bad argument of a shape outside its limits.
@@ -36,6 +37,7 @@ pub(crate) fn call(alloc: Global, handle: &mut Handle, call: &Call) -> Answer
     ensures unchanged { StaysAsItWas handle.old.value handle.new.value result }
     ensures names { passes handle.old.names call.now ≡ true → handle.new.names ≡ handle.old.names }
     ensures names_unchanged { result.code ≡ no_memory → handle.new.names ≡ handle.old.names }
+    ensures past { GrowsBy (plainly call.now) handle.old.past handle.new.past result }
 {
     let Some(mut machine) = handle.take(alloc) else {
         return Answer::closed();
@@ -51,6 +53,7 @@ pub(crate) fn refuse(alloc: Global, handle: &mut Handle, answer: Answer) -> Answ
     ensures open { (m : State) → handle.old.value ≡ Some m → result ≡ answer }
     ensures value { handle.new.value ≡ handle.old.value }
     ensures names { handle.new.names ≡ handle.old.names }
+    ensures past { handle.new.past ≡ handle.old.past }
 {
     let Some(machine) = handle.take(alloc) else {
         return Answer::closed();
@@ -81,6 +84,7 @@ pub extern "C" fn relkvanu_ack(
     ensures numbers { HasNoNumbers result }
     ensures unchanged { StaysAsItWas handle.old.value handle.new.value result }
     ensures names_unchanged { result.code ≡ no_memory → handle.new.names ≡ handle.old.names }
+    ensures past { GrowsBy (plainly (ack_of now id (subtask_at vertex index) fresh.now reused.now)) handle.old.past handle.new.past result }
 {
     let Some(mut machine) = handle.take(alloc) else {
         return Answer::closed();
@@ -117,6 +121,8 @@ pub extern "C" fn relkvanu_restore(
     ensures unchanged { StaysAsItWas handle.old.value handle.new.value result }
     ensures names_kept { IsBadShape shape.now → handle.new.names ≡ handle.old.names }
     ensures names_unchanged { result.code ≡ no_memory → handle.new.names ≡ handle.old.names }
+    ensures past { (IsBadShape shape.now → ⊥) → GrowsBy (plainly (restore_of now savepoint shape.now)) handle.old.past handle.new.past result }
+    ensures past_kept { IsBadShape shape.now → handle.new.past ≡ handle.old.past }
 {
     let Some(mut machine) = handle.take(alloc) else {
         return Answer::closed();
@@ -131,13 +137,14 @@ pub extern "C" fn relkvanu_restore(
 }
 
 /// Makes a call without a term, and returns its answer.
-pub(crate) fn answer(machine: &mut Machine, call: &Call) -> Answer
-    ensures answered { passes (names_in machine.old) call.now ≡ true → IsStepTold (core_in machine.old) (core_in machine.new) call.now result }
-    ensures handled { IsTaken (λ k. call_step k call.now) machine.old machine.new result }
-    ensures memory { result.code ≡ no_memory → may_want_memory (core_in machine.old) call.now ≡ true }
+pub(crate) fn answer(machine: &mut Logged, call: &Call) -> Answer
+    ensures answered { passes (names_in machine.old.now) call.now ≡ true → IsStepTold (core_in machine.old.now) (core_in machine.new.now) call.now result }
+    ensures handled { IsTaken (λ k. call_step k call.now) machine.old.now machine.new.now result }
+    ensures memory { result.code ≡ no_memory → may_want_memory (core_in machine.old.now) call.now ≡ true }
     ensures never { takes_no_memory call.now ≡ true → result.code ≢ no_memory }
     ensures numbers { HasNoNumbers result }
-    ensures names { passes (names_in machine.old) call.now ≡ true → names_in machine.new ≡ names_in machine.old }
+    ensures names { passes (names_in machine.old.now) call.now ≡ true → names_in machine.new.now ≡ names_in machine.old.now }
+    ensures past { IsGrown (plainly call.now) machine.old machine.new result }
     ensures unchanged { result.code ≡ no_memory → machine.new ≡ machine.old }
 {
     let Ok(answer) = machine.apply(call) else {

@@ -1,17 +1,20 @@
 //! Opens a coordinator with names, gives names to one that has none, and makes the calls of tasks
 //! with their term.
 
-ghost use Rattle.std.specs.Prelude.{◌≡◌, ◌≢◌, true, Some, None, IfOk, IfErr};
+ghost use Rattle.std.specs.Prelude.{◌≡◌, ◌≢◌, true, Some, None, IfOk, IfErr, OnOk};
 ghost use Rattle.ckpt_ids.specs.declared.call.Call.TheVariants as call;
 ghost use Rattle.ckpt_ids.specs.Ascending.{ascending};
+ghost use Rattle.ckpt_model.specs.Laws.{CanOpen};
 ghost use Rattle.ckpt_model.specs.State.{State};
 ghost use Rattle.ckpt_terms.specs.declared.call.FencedCall.TheVariants as fencing;
 ghost use Rattle.ckpt_terms.specs.declared.machine.Machine.TheVariants as machine;
+ghost use Rattle.ckpt_logged.specs.Chronicles.{begun};
+ghost use Rattle.ckpt_terms.specs.Fencing.{fenced};
 ghost use Rattle.ckpt_terms.specs.Machines.{names_in};
-ghost use Rattle.ckpt_terms.specs.Wants.{wants_memory};
-ghost use Rattle.relkvanu.specs.Calls.{HasNoNumbers, StaysAsItWas, StaysClosed, subtask_at};
+ghost use Rattle.relkvanu.specs.Calls.{HasNoNumbers, StaysAsItWas, StaysClosed, ack_of, subtask_at};
 ghost use Rattle.relkvanu.specs.Fenced.{IsHandled, IsTaken, WantsNames, ack_step, count_of, fence_step, term_step, term_told, term_wants};
 ghost use Rattle.relkvanu.specs.Naming.{IsNamedOpening, IsNotOpenedNamed, IsOpenedNamed, IsWhyNotNamed};
+ghost use Rattle.relkvanu.specs.Past.{Begins, GrowsBy, IsGrown, in_layer, with_fence};
 ghost use Rattle.relkvanu.specs.Opening.{OpeningWantsMemory, StaysOpen, opening_of};
 ghost use Rattle.relkvanu.specs.Told.{no_memory};
 
@@ -19,10 +22,12 @@ use crate::answer::Answer;
 use crate::calls::{ack_of, files_of};
 use crate::fenced::{BAD_NAME, NAMED, TERM};
 use crate::handle::Handle;
+use crate::images::boxed;
 use crate::opening::{ALREADY_OPEN, BAD_FIRST, BAD_MOMENT, Settings, config_of, job_of};
 use ckpt_core::OpenFault;
 use ckpt_hash::Secret;
 use ckpt_ids::{Call, CheckpointId, SubtaskId};
+use ckpt_logged::Logged;
 use ckpt_terms::call::NAMES_END;
 use ckpt_terms::{FencedCall, Machine, Terms};
 use std::alloc::Global;
@@ -52,6 +57,7 @@ pub extern "C" fn relkvanu_open_fenced(
     ensures numbers { HasNoNumbers result }
     ensures unchanged { StaysAsItWas handle.old.value handle.new.value result }
     ensures names { result.code ≢ 0 → handle.new.names ≡ handle.old.names }
+    ensures past { Begins (opening_of settings.now shape.now now first) (machine.Fenced (fenced (opening_of settings.now shape.now now first) first_name)) handle.old.past handle.new.past result }
 {
     if let Some(machine) = handle.take(alloc) {
         handle.put(alloc, machine);
@@ -67,6 +73,7 @@ pub extern "C" fn relkvanu_open_fenced(
     }
 }
 
+#[tactic(auto, using(crate::proofs::Openings::can_open_named))]
 fn named_of(
     alloc: Global,
     settings: &Settings,
@@ -75,8 +82,10 @@ fn named_of(
     first: u64,
     first_name: u64,
     secret: Secret,
-) -> Result<Box<Machine>, Answer>
-    ensures value { IfOk result (λ made. IsNamedOpening (opening_of settings.now shape.now now first) first_name made.value) }
+) -> Result<Box<Logged>, Answer>
+    ensures value { IfOk result (λ made. IsNamedOpening (opening_of settings.now shape.now now first) first_name made.value.now) }
+    ensures begun { IfOk result (λ made. made.value ≡ begun (machine.Fenced (fenced (opening_of settings.now shape.now now first) first_name))) }
+    ensures can { OnOk result (CanOpen (opening_of settings.now shape.now now first)) }
     ensures fault { IfErr result (IsWhyNotNamed (opening_of settings.now shape.now now first) first_name) }
     ensures memory { IfErr result (OpeningWantsMemory (opening_of settings.now shape.now now first)) }
     ensures numbers { IfErr result HasNoNumbers }
@@ -88,9 +97,7 @@ fn named_of(
         return Err(Answer::bad_argument(BAD_NAME));
     }
     match Terms::keyed(alloc, config, shape, now, first, first_name, secret) {
-        Ok(terms) => {
-            Box::new(alloc, Machine::Fenced(terms)).map_err(|_| Answer::out_of_memory())
-        }
+        Ok(terms) => boxed(alloc, Machine::Fenced(terms)),
         Err(OpenFault::MomentTooLarge) => Err(Answer::bad_argument(BAD_MOMENT)),
         Err(OpenFault::BadFirst) => Err(Answer::bad_argument(BAD_FIRST)),
     }
@@ -111,6 +118,7 @@ pub extern "C" fn relkvanu_fence(alloc: Global, handle: &mut Handle, first_name:
     ensures numbers { HasNoNumbers result }
     ensures unchanged { StaysAsItWas handle.old.value handle.new.value result }
     ensures names_unchanged { result.code ≡ no_memory → handle.new.names ≡ handle.old.names }
+    ensures past { GrowsBy (with_fence first_name) handle.old.past handle.new.past result }
 {
     let Some(mut machine) = handle.take(alloc) else {
         return Answer::closed();
@@ -128,11 +136,12 @@ pub extern "C" fn relkvanu_term(alloc: Global, handle: &mut Handle) -> Answer
     ensures answered { (m : State) → handle.old.value ≡ Some m → result ≡ term_told handle.old.names }
     ensures unchanged { handle.new.value ≡ handle.old.value }
     ensures names { handle.new.names ≡ handle.old.names }
+    ensures past { handle.new.past ≡ handle.old.past }
 {
     let Some(machine) = handle.take(alloc) else {
         return Answer::closed();
     };
-    let answer = term_of(&machine);
+    let answer = term_of(machine.machine());
     handle.put(alloc, machine);
     answer
 }
@@ -154,6 +163,7 @@ pub extern "C" fn relkvanu_reserve(
     ensures numbers { HasNoNumbers result }
     ensures unchanged { StaysAsItWas handle.old.value handle.new.value result }
     ensures names_unchanged { result.code ≡ no_memory → handle.new.names ≡ handle.old.names }
+    ensures past { GrowsBy (in_layer (fencing.Reserve term count)) handle.old.past handle.new.past result }
 {
     let Some(mut machine) = handle.take(alloc) else {
         return Answer::closed();
@@ -177,6 +187,7 @@ pub extern "C" fn relkvanu_forfeit(
     ensures numbers { HasNoNumbers result }
     ensures unchanged { StaysAsItWas handle.old.value handle.new.value result }
     ensures names_unchanged { result.code ≡ no_memory → handle.new.names ≡ handle.old.names }
+    ensures past { GrowsBy (in_layer (fencing.Forfeit term (ascending names.now))) handle.old.past handle.new.past result }
 {
     let Some(mut machine) = handle.take(alloc) else {
         return Answer::closed();
@@ -207,6 +218,7 @@ pub extern "C" fn relkvanu_ack_in(
     ensures numbers { HasNoNumbers result }
     ensures unchanged { StaysAsItWas handle.old.value handle.new.value result }
     ensures names_unchanged { result.code ≡ no_memory → handle.new.names ≡ handle.old.names }
+    ensures past { GrowsBy (in_layer (fencing.Make term (ack_of now id (subtask_at vertex index) fresh.now reused.now))) handle.old.past handle.new.past result }
 {
     let Some(mut machine) = handle.take(alloc) else {
         return Answer::closed();
@@ -234,6 +246,7 @@ pub extern "C" fn relkvanu_decline_in(
     ensures closed { StaysClosed handle.old.value handle.new.value result }
     ensures handled { IsHandled (λ k. term_step k (fencing.Make term (call.Decline now id (subtask_at vertex index)))) handle.old handle.new result }
     ensures memory { result.code ≢ no_memory }
+    ensures past { GrowsBy (in_layer (fencing.Make term (call.Decline now id (subtask_at vertex index)))) handle.old.past handle.new.past result }
 {
     let Some(mut machine) = handle.take(alloc) else {
         return Answer::closed();
@@ -247,25 +260,31 @@ pub extern "C" fn relkvanu_decline_in(
 }
 
 /// Makes a call with a term, and returns its answer.
-pub(crate) fn in_term(machine: &mut Machine, call: &FencedCall) -> Answer
-    ensures handled { IsTaken (λ k. term_step k call.now) machine.old machine.new result }
-    ensures memory { result.code ≡ no_memory → term_wants machine.old call.now ≡ true }
+pub(crate) fn in_term(machine: &mut Logged, call: &FencedCall) -> Answer
+    ensures handled { IsTaken (λ k. term_step k call.now) machine.old.now machine.new.now result }
+    ensures memory { result.code ≡ no_memory → term_wants machine.old.now call.now ≡ true }
     ensures numbers { HasNoNumbers result }
+    ensures past { IsGrown (in_layer call.now) machine.old machine.new result }
     ensures unchanged { result.code ≡ no_memory → machine.new ≡ machine.old }
 {
-    match machine {
+    match machine.machine() {
         Machine::Plain(_) => Answer::no_names(),
-        Machine::Fenced(terms) => make(terms, call),
+        Machine::Fenced(_) => make(machine, call),
     }
 }
 
-fn make(terms: &mut Terms, call: &FencedCall) -> Answer
-    ensures handled { IsTaken (λ k. term_step k call.now) (machine.Fenced terms.old) (machine.Fenced terms.new) result }
-    ensures memory { result.code ≡ no_memory → wants_memory terms.old call.now ≡ true }
+/// Makes a call with a term of a coordinator with names.
+///
+/// Condition: it has names.
+fn make(machine: &mut Logged, call: &FencedCall) -> Answer
+    requires { names_in machine.old.now ≢ None }
+    ensures handled { IsTaken (λ k. term_step k call.now) machine.old.now machine.new.now result }
+    ensures memory { result.code ≡ no_memory → term_wants machine.old.now call.now ≡ true }
     ensures numbers { HasNoNumbers result }
-    ensures unchanged { result.code ≡ no_memory → terms.new ≡ terms.old }
+    ensures past { IsGrown (in_layer call.now) machine.old machine.new result }
+    ensures unchanged { result.code ≡ no_memory → machine.new ≡ machine.old }
 {
-    match terms.apply(call) {
+    match machine.make(call) {
         Ok(answer) => Answer::of_fenced(count_of(call), &answer),
         Err(_) => Answer::out_of_memory(),
     }
@@ -290,10 +309,11 @@ fn term_of(machine: &Machine) -> Answer
     }
 }
 
-pub(crate) fn fence_machine(alloc: Global, machine: &mut Machine, first_name: u64) -> Answer
-    ensures handled { IsTaken (λ k. fence_step k first_name) machine.old machine.new result }
-    ensures memory { result.code ≡ no_memory → names_in machine.old ≡ None }
+pub(crate) fn fence_machine(alloc: Global, machine: &mut Logged, first_name: u64) -> Answer
+    ensures handled { IsTaken (λ k. fence_step k first_name) machine.old.now machine.new.now result }
+    ensures memory { result.code ≡ no_memory → names_in machine.old.now ≡ None }
     ensures numbers { HasNoNumbers result }
+    ensures past { IsGrown (with_fence first_name) machine.old machine.new result }
     ensures unchanged { result.code ≡ no_memory → machine.new ≡ machine.old }
 {
     match machine.fence(alloc, first_name) {

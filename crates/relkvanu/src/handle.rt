@@ -5,9 +5,10 @@ ghost use Rattle.std.specs.Option.{option_map};
 ghost use Rattle.relkvanu.specs.Kept.{IsHeld, kept};
 ghost use Rattle.ckpt_model.specs.State.{State};
 ghost use Rattle.ckpt_terms.specs.Machines.{Issued, core_in, machine_of};
+ghost use Rattle.ckpt_logged.specs.Chronicles.{Chronicle};
 
 use crate::raw_box::RawBox;
-use ckpt_terms::Machine;
+use ckpt_logged::Logged;
 use std::alloc::Global;
 use std::marker::Model;
 use std::mem;
@@ -22,56 +23,58 @@ pub struct Handle {
     pub ghost value: { Option State },
     /// The names that its tasks reserve, if they do.
     pub ghost names: { Option Issued },
+    /// Where the coordinator began, and what it was asked since, if there is one.
+    pub ghost past: { Option Chronicle },
 }
 
 impl Model for Handle {
-    ghost also_owns = { λ h. kept h.at h.value h.names };
+    ghost also_owns = { λ h. kept h.at h.value h.names h.past };
 }
 
 impl Handle {
     /// A handle with no coordinator.
     fn closed() -> Handle
-        ensures { IsHeld None result.value result.names }
+        ensures { IsHeld None result.value result.names result.past }
     {
         Handle { at: null_mut() }
     }
 
     /// A handle that has this coordinator.
-    fn of(machine: RawBox<Machine, Global>) -> Handle
-        ensures { IsHeld (Some machine.value) result.value result.names }
+    fn of(machine: RawBox<Logged, Global>) -> Handle
+        ensures { IsHeld (Some machine.value) result.value result.names result.past }
     {
         let RawBox { at, alloc: _ } = machine;
         Handle { at: at as *mut u8 }
     }
 
     /// The coordinator of the handle.
-    fn into_raw(self, alloc: Global) -> Option<RawBox<Machine, Global>>
-        ensures { IsHeld (option_map (λ machine. machine.value) result) self.value self.names }
+    fn into_raw(self, alloc: Global) -> Option<RawBox<Logged, Global>>
+        ensures { IsHeld (option_map (λ machine. machine.value) result) self.value self.names self.past }
     {
         let Handle { at } = self;
         if at.is_null() {
             None
         } else {
             Some(RawBox {
-                at: at as *mut Machine,
+                at: at as *mut Logged,
                 alloc,
             })
         }
     }
 
     /// Takes the coordinator out, and closes the handle.
-    pub(crate) fn take(&mut self, alloc: Global) -> Option<Box<Machine>>
-        ensures held { IsHeld (option_map (λ machine. machine.value) result) self.old.value self.old.names }
-        ensures whole { IfSome result (λ machine. machine.value ≡ machine_of (core_in machine.value) self.old.names) }
-        ensures closed { IsHeld None self.new.value self.new.names }
+    pub(crate) fn take(&mut self, alloc: Global) -> Option<Box<Logged>>
+        ensures held { IsHeld (option_map (λ machine. machine.value) result) self.old.value self.old.names self.old.past }
+        ensures whole { IfSome result (λ machine. machine.value.now ≡ machine_of (core_in machine.value.now) self.old.names) }
+        ensures closed { IsHeld None self.new.value self.new.names self.new.past }
     {
         let raw = mem::replace(self, Handle::closed()).into_raw(alloc)?;
         Some(raw.into_box())
     }
 
     /// Gives the handle this coordinator. Drops the one that it had.
-    pub(crate) fn put(&mut self, alloc: Global, machine: Box<Machine>)
-        ensures { IsHeld (Some machine.value) self.new.value self.new.names }
+    pub(crate) fn put(&mut self, alloc: Global, machine: Box<Logged>)
+        ensures { IsHeld (Some machine.value) self.new.value self.new.names self.new.past }
     {
         let had = mem::replace(self, Handle::of(RawBox::of(machine)));
         if let Some(raw) = had.into_raw(alloc) {

@@ -13,6 +13,8 @@ ghost use Rattle.relkvanu.specs.Images.{IsWhyNotSaved, SavedWantsMemory, Tells, 
 ghost use Rattle.relkvanu.specs.Opening.{StaysOpen};
 ghost use Rattle.relkvanu.specs.Told.{bad_argument, bad_image, no_memory, out_of_memory};
 ghost use Rattle.ckpt_core.specs.declared.image.ImageFault.TheVariants as fault;
+ghost use Rattle.ckpt_logged.specs.Chronicles.{begun};
+ghost use Rattle.ckpt_logged.specs.Events.{IsWell};
 ghost use Rattle.ckpt_terms.specs.Machines.{Issued, core_in, issued_by, names_in};
 
 use crate::answer::Answer;
@@ -21,6 +23,7 @@ use crate::opening::ALREADY_OPEN;
 use ckpt_core::{Core, Image, ImageFault};
 use ckpt_hash::Secret;
 use ckpt_image::{TextFault, image_text};
+use ckpt_logged::Logged;
 use ckpt_names_image::{SavedImage, names_image_text, parse_names_image};
 use ckpt_terms::{Machine, Terms, TermsImage};
 use std::alloc::{AllocError, Global};
@@ -44,11 +47,12 @@ pub extern "C" fn relkvanu_save(alloc: Global, handle: &mut Handle, image: &mut 
     ensures numbers { HasNoNumbers result }
     ensures unchanged { handle.new.value ≡ handle.old.value }
     ensures names { handle.new.names ≡ handle.old.names }
+    ensures past { handle.new.past ≡ handle.old.past }
 {
     let Some(machine) = handle.take(alloc) else {
         return Answer::closed();
     };
-    let answer = save_machine(alloc, &machine, image);
+    let answer = save_machine(alloc, machine.machine(), image);
     handle.put(alloc, machine);
     answer
 }
@@ -75,6 +79,8 @@ pub extern "C" fn relkvanu_open_saved(
     ensures numbers { HasNoNumbers result }
     ensures unchanged { StaysAsItWas handle.old.value handle.new.value result }
     ensures names { result.code ≢ 0 → handle.new.names ≡ handle.old.names }
+    ensures begun { (s : Saved) → result.code ≡ 0 → Tells image.now s → handle.new.past ≡ Some (begun (opened_with s)) }
+    ensures past { result.code ≢ 0 → handle.new.past ≡ handle.old.past }
 {
     if let Some(machine) = handle.take(alloc) {
         handle.put(alloc, machine);
@@ -160,8 +166,8 @@ fn write_text(text: &str, image: &mut [u8]) -> Answer
     Answer::done(SAVED, needed as u64, 0)
 }
 
-fn machine_of(alloc: Global, bytes: &[u8], secret: Secret) -> Result<Box<Machine>, Answer>
-    ensures value { IfOk result (λ machine. (s : Saved) → Tells bytes.now s → machine.value ≡ opened_with s) }
+fn machine_of(alloc: Global, bytes: &[u8], secret: Secret) -> Result<Box<Logged>, Answer>
+    ensures value { IfOk result (λ machine. (s : Saved) → Tells bytes.now s → machine.value ≡ begun (opened_with s)) }
     ensures told { OnOk result (TellsNothing bytes.now → ⊥) }
     ensures fault { IfErr result (IsWhyNotSaved bytes.now) }
     ensures memory { IfErr result (SavedWantsMemory bytes.now) }
@@ -190,8 +196,8 @@ fn saved_of(alloc: Global, bytes: &[u8]) -> Result<SavedImage, Answer>
     }
 }
 
-fn machine_from(alloc: Global, saved: &SavedImage, secret: Secret) -> Result<Box<Machine>, Answer>
-    ensures value { IfOk result (λ machine. machine.value ≡ opened_with (saved_in saved.now)) }
+fn machine_from(alloc: Global, saved: &SavedImage, secret: Secret) -> Result<Box<Logged>, Answer>
+    ensures value { IfOk result (λ machine. machine.value ≡ begun (opened_with (saved_in saved.now))) }
     ensures sound { OnOk result (CanBeOpened (saved_in saved.now)) }
     ensures fault { IfErr result (IsWhyNotOpened (saved_in saved.now)) }
     ensures numbers { IfErr result HasNoNumbers }
@@ -204,8 +210,8 @@ fn machine_from(alloc: Global, saved: &SavedImage, secret: Secret) -> Result<Box
 }
 
 #[tactic(auto, unfolding(crate::specs::Images::CanBeOpened, crate::specs::Images::opened_with))]
-fn plain_from(alloc: Global, image: &Image, secret: Secret) -> Result<Box<Machine>, Answer>
-    ensures value { IfOk result (λ machine. machine.value ≡ opened_with (Plain (state_in image.now))) }
+fn plain_from(alloc: Global, image: &Image, secret: Secret) -> Result<Box<Logged>, Answer>
+    ensures value { IfOk result (λ machine. machine.value ≡ begun (opened_with (Plain (state_in image.now)))) }
     ensures sound { OnOk result (CanBeOpened (Plain (state_in image.now))) }
     ensures fault { IfErr result (IsWhyNotOpened (Plain (state_in image.now))) }
     ensures numbers { IfErr result HasNoNumbers }
@@ -218,8 +224,8 @@ fn plain_from(alloc: Global, image: &Image, secret: Secret) -> Result<Box<Machin
 }
 
 #[tactic(auto, unfolding(crate::specs::Images::CanBeOpened, crate::specs::Images::opened_with))]
-fn named_from(alloc: Global, image: &TermsImage, secret: Secret) -> Result<Box<Machine>, Answer>
-    ensures value { IfOk result (λ machine. machine.value ≡ opened_with (Fenced (named_in image.now))) }
+fn named_from(alloc: Global, image: &TermsImage, secret: Secret) -> Result<Box<Logged>, Answer>
+    ensures value { IfOk result (λ machine. machine.value ≡ begun (opened_with (Fenced (named_in image.now)))) }
     ensures sound { OnOk result (CanBeOpened (Fenced (named_in image.now))) }
     ensures fault { IfErr result (IsWhyNotOpened (Fenced (named_in image.now))) }
     ensures numbers { IfErr result HasNoNumbers }
@@ -231,11 +237,13 @@ fn named_from(alloc: Global, image: &TermsImage, secret: Secret) -> Result<Box<M
     }
 }
 
-fn boxed(alloc: Global, machine: Machine) -> Result<Box<Machine>, Answer>
-    ensures value { IfOk result (λ boxed. boxed.value ≡ machine) }
+/// The box of a coordinator that begins here, or the answer if memory runs out.
+pub(crate) fn boxed(alloc: Global, machine: Machine) -> Result<Box<Logged>, Answer>
+    ensures value { IfOk result (λ boxed. boxed.value ≡ begun machine) }
+    ensures sound { OnOk result (IsWell machine) }
     ensures fault { IfErr result (λ answer. answer ≡ out_of_memory) }
 {
-    Box::new(alloc, machine).map_err(|_| Answer::out_of_memory())
+    Box::new(alloc, Logged::of(machine)).map_err(|_| Answer::out_of_memory())
 }
 
 /// The answer if no coordinator is made from an image.

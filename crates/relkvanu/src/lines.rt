@@ -15,6 +15,7 @@ ghost use Rattle.relkvanu.specs.Fenced.{IsHandled, IsTaken};
 ghost use Rattle.relkvanu.specs.Lines.{BringsLineFiles, IsCallTold, IsLineAnswered, IsLineTold, LineWantsMemory, asked_step, call_files, call_wants, is_free_line};
 ghost use Rattle.relkvanu.specs.Lines.{line_call_step, line_number, line_numbers, line_step, named_step, named_wants, numbers_told, plain_step};
 ghost use Rattle.relkvanu.specs.Lines.{said_files, said_wants, says_numbers, says_told};
+ghost use Rattle.relkvanu.specs.Past.{GrowsBy, IsGrown, asked_line, by_line, call_line, named_by, plain_line};
 ghost use Rattle.relkvanu.specs.Told.{no_memory};
 
 use crate::answer::Answer;
@@ -26,6 +27,7 @@ use crate::handle::Handle;
 use ckpt_core::Core;
 use ckpt_ids::Call;
 use ckpt_lines::Line;
+use ckpt_logged::Logged;
 use ckpt_term_lines::{TermLine, parse_term_line};
 use ckpt_terms::{FencedCall, Machine};
 use std::alloc::Global;
@@ -74,6 +76,7 @@ pub extern "C" fn relkvanu_line(
     ensures unchanged { StaysAsItWas handle.old.value handle.new.value result }
     ensures names { is_free_line (said line.now) ≡ true → handle.new.names ≡ handle.old.names }
     ensures names_unchanged { result.code ≡ no_memory → handle.new.names ≡ handle.old.names }
+    ensures past { GrowsBy (by_line (length files.old) line.now) handle.old.past handle.new.past result }
 {
     let Some(mut machine) = handle.take(alloc) else {
         return Answer::closed();
@@ -83,14 +86,15 @@ pub extern "C" fn relkvanu_line(
     answer
 }
 
-fn make_line(alloc: Global, machine: &mut Machine, line: &[u8], files: &mut [u64]) -> Answer
-    ensures answered { IsLineTold machine.old machine.new (said line.now) (length files.old) result }
-    ensures handled { IsTaken (λ k. line_step k (length files.old) line.now) machine.old machine.new result }
-    ensures front { BringsLineFiles (core_in machine.old) line.now files.old files.new result }
+fn make_line(alloc: Global, machine: &mut Logged, line: &[u8], files: &mut [u64]) -> Answer
+    ensures answered { IsLineTold machine.old.now machine.new.now (said line.now) (length files.old) result }
+    ensures handled { IsTaken (λ k. line_step k (length files.old) line.now) machine.old.now machine.new.now result }
+    ensures front { BringsLineFiles (core_in machine.old.now) line.now files.old files.new result }
     ensures kept { result.code ≢ 0 → files.new ≡ files.old }
-    ensures memory { result.code ≡ no_memory → (term_may_want_memory line.now || said_wants machine.old (said line.now)) ≡ true }
+    ensures memory { result.code ≡ no_memory → (term_may_want_memory line.now || said_wants machine.old.now (said line.now)) ≡ true }
     ensures numbers { HasNoNumbers result }
-    ensures names { is_free_line (said line.now) ≡ true → names_in machine.new ≡ names_in machine.old }
+    ensures names { is_free_line (said line.now) ≡ true → names_in machine.new.now ≡ names_in machine.old.now }
+    ensures past { IsGrown (by_line (length files.old) line.now) machine.old machine.new result }
     ensures unchanged { result.code ≡ no_memory → machine.new ≡ machine.old }
 {
     if let Some(call) = usual(line) {
@@ -106,17 +110,18 @@ fn make_line(alloc: Global, machine: &mut Machine, line: &[u8], files: &mut [u64
 /// Makes what is asked for. `make_line` takes it apart itself, which costs a line less.
 pub(crate) fn make_asked(
     alloc: Global,
-    machine: &mut Machine,
+    machine: &mut Logged,
     asked: &Asked,
     files: &mut [u64],
 ) -> Answer
-    ensures answered { IsLineTold machine.old machine.new (Ok asked.now) (length files.old) result }
-    ensures handled { IsTaken (λ k. asked_step k (length files.old) asked.now) machine.old machine.new result }
-    ensures front { result.code ≡ 0 → StandsInFront (said_files (core_in machine.old) (Ok asked.now)) files.old files.new }
+    ensures answered { IsLineTold machine.old.now machine.new.now (Ok asked.now) (length files.old) result }
+    ensures handled { IsTaken (λ k. asked_step k (length files.old) asked.now) machine.old.now machine.new.now result }
+    ensures front { result.code ≡ 0 → StandsInFront (said_files (core_in machine.old.now) (Ok asked.now)) files.old files.new }
     ensures kept { result.code ≢ 0 → files.new ≡ files.old }
-    ensures memory { result.code ≡ no_memory → said_wants machine.old (Ok asked.now) ≡ true }
+    ensures memory { result.code ≡ no_memory → said_wants machine.old.now (Ok asked.now) ≡ true }
     ensures numbers { HasNoNumbers result }
-    ensures names { is_free_line (Ok asked.now) ≡ true → names_in machine.new ≡ names_in machine.old }
+    ensures names { is_free_line (Ok asked.now) ≡ true → names_in machine.new.now ≡ names_in machine.old.now }
+    ensures past { IsGrown (asked_line (length files.old) asked.now) machine.old machine.new result }
     ensures unchanged { result.code ≡ no_memory → machine.new ≡ machine.old }
 {
     match asked {
@@ -126,14 +131,15 @@ pub(crate) fn make_asked(
 }
 
 /// Makes the call of a line. Term 0 is none.
-fn make_call(alloc: Global, machine: &mut Machine, call: &FencedCall, files: &mut [u64]) -> Answer
-    ensures answered { IsLineTold machine.old machine.new (Ok (ask.Call call.now)) (length files.old) result }
-    ensures handled { IsTaken (λ k. line_call_step k (length files.old) call.now) machine.old machine.new result }
-    ensures front { result.code ≡ 0 → StandsInFront (said_files (core_in machine.old) (Ok (ask.Call call.now))) files.old files.new }
+fn make_call(alloc: Global, machine: &mut Logged, call: &FencedCall, files: &mut [u64]) -> Answer
+    ensures answered { IsLineTold machine.old.now machine.new.now (Ok (ask.Call call.now)) (length files.old) result }
+    ensures handled { IsTaken (λ k. line_call_step k (length files.old) call.now) machine.old.now machine.new.now result }
+    ensures front { result.code ≡ 0 → StandsInFront (said_files (core_in machine.old.now) (Ok (ask.Call call.now))) files.old files.new }
     ensures kept { result.code ≢ 0 → files.new ≡ files.old }
-    ensures memory { result.code ≡ no_memory → call_wants machine.old call.now ≡ true }
+    ensures memory { result.code ≡ no_memory → call_wants machine.old.now call.now ≡ true }
     ensures numbers { HasNoNumbers result }
-    ensures names { is_free_line (Ok (ask.Call call.now)) ≡ true → names_in machine.new ≡ names_in machine.old }
+    ensures names { is_free_line (Ok (ask.Call call.now)) ≡ true → names_in machine.new.now ≡ names_in machine.old.now }
+    ensures past { IsGrown (call_line (length files.old) call.now) machine.old machine.new result }
     ensures unchanged { result.code ≡ no_memory → machine.new ≡ machine.old }
 {
     match call {
@@ -153,17 +159,18 @@ fn make_call(alloc: Global, machine: &mut Machine, call: &FencedCall, files: &mu
 /// Makes a call that has a term, and no use for it. Refused if there are no names.
 ///
 /// Condition: it needs no term and ends none.
-fn make_named(alloc: Global, machine: &mut Machine, call: &Call, files: &mut [u64]) -> Answer
+fn make_named(alloc: Global, machine: &mut Logged, call: &Call, files: &mut [u64]) -> Answer
     requires { is_free call.now ≡ true }
-    ensures handled { (term : ℕ) → IsTaken (λ k. named_step k (length files.old) term call.now) machine.old machine.new result }
-    ensures front { result.code ≡ 0 → StandsInFront (call_files (core_in machine.old) call.now) files.old files.new }
+    ensures handled { (term : ℕ) → IsTaken (λ k. named_step k (length files.old) term call.now) machine.old.now machine.new.now result }
+    ensures front { result.code ≡ 0 → StandsInFront (call_files (core_in machine.old.now) call.now) files.old files.new }
     ensures kept { result.code ≢ 0 → files.new ≡ files.old }
-    ensures memory { (term : ℕ) → result.code ≡ no_memory → named_wants machine.old term call.now ≡ true }
+    ensures memory { (term : ℕ) → result.code ≡ no_memory → named_wants machine.old.now term call.now ≡ true }
     ensures numbers { HasNoNumbers result }
-    ensures names { names_in machine.new ≡ names_in machine.old }
+    ensures names { names_in machine.new.now ≡ names_in machine.old.now }
+    ensures past { (term : ℕ) → IsGrown (λ c. named_by c.now (length files.old) term call.now c) machine.old machine.new result }
     ensures unchanged { result.code ≡ no_memory → machine.new ≡ machine.old }
 {
-    match machine {
+    match machine.machine() {
         Machine::Plain(_) => Answer::no_names(),
         Machine::Fenced(_) => make_plain(alloc, machine, call, files),
     }
@@ -180,15 +187,16 @@ fn is_free(call: &Call) -> bool
 }
 
 /// Makes a call without a term.
-#[tactic(auto, unfolding(crate::specs::Lines::call_made))]
-fn make_plain(alloc: Global, machine: &mut Machine, call: &Call, files: &mut [u64]) -> Answer
-    ensures answered { IsCallTold machine.old machine.new call.now (length files.old) result }
-    ensures handled { IsTaken (λ k. plain_step k (length files.old) call.now) machine.old machine.new result }
-    ensures front { result.code ≡ 0 → StandsInFront (call_files (core_in machine.old) call.now) files.old files.new }
+#[tactic(auto, unfolding(crate::specs::Lines::call_made, crate::specs::Past::plain_line))]
+fn make_plain(alloc: Global, machine: &mut Logged, call: &Call, files: &mut [u64]) -> Answer
+    ensures answered { IsCallTold machine.old.now machine.new.now call.now (length files.old) result }
+    ensures handled { IsTaken (λ k. plain_step k (length files.old) call.now) machine.old.now machine.new.now result }
+    ensures front { result.code ≡ 0 → StandsInFront (call_files (core_in machine.old.now) call.now) files.old files.new }
     ensures kept { result.code ≢ 0 → files.new ≡ files.old }
-    ensures memory { result.code ≡ no_memory → may_want_memory (core_in machine.old) call.now ≡ true }
+    ensures memory { result.code ≡ no_memory → may_want_memory (core_in machine.old.now) call.now ≡ true }
     ensures numbers { HasNoNumbers result }
-    ensures names { passes (names_in machine.old) call.now ≡ true → names_in machine.new ≡ names_in machine.old }
+    ensures names { passes (names_in machine.old.now) call.now ≡ true → names_in machine.new.now ≡ names_in machine.old.now }
+    ensures past { IsGrown (plain_line (length files.old) call.now) machine.old machine.new result }
     ensures unchanged { result.code ≡ no_memory → machine.new ≡ machine.old }
 {
     match call {
@@ -199,14 +207,15 @@ fn make_plain(alloc: Global, machine: &mut Machine, call: &Call, files: &mut [u6
 }
 
 /// Fetches at most `most` files, or none if the buffer has too few places for them.
-#[tactic(auto, unfolding(crate::specs::Lines::call_made))]
-fn take_that_fits(machine: &mut Machine, most: u64, files: &mut [u64]) -> Answer
-    ensures answered { IsCallTold machine.old machine.new (call.Take most) (length files.old) result }
-    ensures front { result.code ≡ 0 → StandsInFront (files_in (step (core_in machine.old) (call.Take most)).1) files.old files.new }
+#[tactic(auto, unfolding(crate::specs::Lines::call_made, crate::specs::Past::plain_line))]
+fn take_that_fits(machine: &mut Logged, most: u64, files: &mut [u64]) -> Answer
+    ensures answered { IsCallTold machine.old.now machine.new.now (call.Take most) (length files.old) result }
+    ensures front { result.code ≡ 0 → StandsInFront (files_in (step (core_in machine.old.now) (call.Take most)).1) files.old files.new }
     ensures kept { result.code ≢ 0 → files.new ≡ files.old }
-    ensures memory { result.code ≡ no_memory → may_want_memory (core_in machine.old) (call.Take most) ≡ true }
+    ensures memory { result.code ≡ no_memory → may_want_memory (core_in machine.old.now) (call.Take most) ≡ true }
     ensures numbers { HasNoNumbers result }
-    ensures names { names_in machine.new ≡ names_in machine.old }
+    ensures names { names_in machine.new.now ≡ names_in machine.old.now }
+    ensures past { IsGrown (plain_line (length files.old) (call.Take most)) machine.old machine.new result }
     ensures unchanged { result.code ≡ no_memory → machine.new ≡ machine.old }
 {
     let needed = fetchable(machine.core(), most);

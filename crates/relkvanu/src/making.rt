@@ -9,6 +9,7 @@ ghost use Rattle.relkvanu.specs.Calls.{HasNoNumbers, StaysClosed};
 ghost use Rattle.relkvanu.specs.Fenced.{IsHandled, IsTaken};
 ghost use Rattle.relkvanu.specs.Lines.{is_free_line, said_step};
 ghost use Rattle.relkvanu.specs.Making.{BringsMade, HandleReports, Reports, asked_if_fits, made_of, making};
+ghost use Rattle.relkvanu.specs.Past.{GrowsBy, IsGrown, said_line};
 ghost use Rattle.relkvanu.specs.Told.{no_memory};
 ghost use Rattle.relkvanu.specs.Writing.{ReadsBack, SaysBack, call_line_text, given};
 
@@ -19,7 +20,7 @@ use crate::lines::make_asked;
 use crate::writing::{CallFields, asked_of, text_of};
 use ckpt_core::Core;
 use ckpt_lines::LONGEST_LINE;
-use ckpt_terms::Machine;
+use ckpt_logged::Logged;
 use std::alloc::Global;
 
 /// The numbers told of a call that was made.
@@ -71,6 +72,7 @@ pub extern "C" fn relkvanu_make(
     ensures numbers { HasNoNumbers result }
     ensures unchanged { result.code ≢ 0 → (handle.new.value ≡ handle.old.value) × (handle.new.names ≡ handle.old.names) }
     ensures names { is_free_line (making call.entry.now first.now second.now line.old) ≡ true → handle.new.names ≡ handle.old.names }
+    ensures past { GrowsBy (said_line (length files.old) (making call.entry.now first.now second.now line.old)) handle.old.past handle.new.past result }
 {
     let Some(mut machine) = handle.take(alloc) else {
         return Answer::closed();
@@ -84,7 +86,7 @@ pub extern "C" fn relkvanu_make(
 #[tactic(auto, unfolding(crate::specs::Making::to_make))]
 fn make_given(
     alloc: Global,
-    machine: &mut Machine,
+    machine: &mut Logged,
     fields: &CallFields,
     first: &[u64],
     second: &[u64],
@@ -92,16 +94,18 @@ fn make_given(
     line: &mut [u8],
     made: &mut Made,
 ) -> Answer
-    ensures handled { IsTaken (λ k. said_step k (length files.old) (making fields.entry.now first.now second.now line.old)) machine.old machine.new result }
-    ensures files { BringsMade (core_in machine.old) (making fields.entry.now first.now second.now line.old) files.old files.new result }
+    ensures handled { IsTaken (λ k. said_step k (length files.old) (making fields.entry.now first.now second.now line.old)) machine.old.now machine.new.now result }
+    ensures files { BringsMade (core_in machine.old.now) (making fields.entry.now first.now second.now line.old) files.old files.new result }
     ensures line { result.code ≡ 0 → StandsInFront (call_line_text (given fields.entry.now first.now second.now)) line.old line.new }
     ensures read { ReadsBack (given fields.entry.now first.now second.now) (take made.new.written line.new) result }
-    ensures made { Reports (length (call_line_text (given fields.entry.now first.now second.now))) (core_in machine.old) (core_in machine.new) made.new result }
+    ensures made { Reports (length (call_line_text (given fields.entry.now first.now second.now))) (core_in machine.old.now) (core_in machine.new.now) made.new result }
     ensures kept { result.code ≢ 0 → (files.new ≡ files.old) × (line.new ≡ line.old) × (made.new ≡ made.old) }
     ensures memory { result.code ≡ no_memory → IsOk (given fields.entry.now first.now second.now) }
     ensures numbers { HasNoNumbers result }
-    ensures names { is_free_line (making fields.entry.now first.now second.now line.old) ≡ true → names_in machine.new ≡ names_in machine.old }
-    ensures unchanged { result.code ≢ 0 → machine.new ≡ machine.old }
+    ensures names { is_free_line (making fields.entry.now first.now second.now line.old) ≡ true → names_in machine.new.now ≡ names_in machine.old.now }
+    ensures past { IsGrown (said_line (length files.old) (making fields.entry.now first.now second.now line.old)) machine.old machine.new result }
+    ensures past_kept { result.code ≡ no_memory → machine.new ≡ machine.old }
+    ensures unchanged { result.code ≢ 0 → machine.new.now ≡ machine.old.now }
 {
     let asked = match asked_of(alloc, fields, first, second) {
         Ok(asked) => asked,
@@ -116,22 +120,24 @@ fn make_given(
 /// Makes what is asked for and writes its text, if that fits a line and the buffer.
 fn make_fitting(
     alloc: Global,
-    machine: &mut Machine,
+    machine: &mut Logged,
     asked: &Asked,
     text: &str,
     files: &mut [u64],
     line: &mut [u8],
     made: &mut Made,
 ) -> Answer
-    ensures handled { IsTaken (λ k. said_step k (length files.old) (asked_if_fits asked.now text.now (length line.old))) machine.old machine.new result }
-    ensures files { BringsMade (core_in machine.old) (asked_if_fits asked.now text.now (length line.old)) files.old files.new result }
+    ensures handled { IsTaken (λ k. said_step k (length files.old) (asked_if_fits asked.now text.now (length line.old))) machine.old.now machine.new.now result }
+    ensures files { BringsMade (core_in machine.old.now) (asked_if_fits asked.now text.now (length line.old)) files.old files.new result }
     ensures line { result.code ≡ 0 → StandsInFront text.now line.old line.new }
     ensures short { result.code ≡ 0 → length text.now ≤ LONGEST_LINE }
-    ensures made { Reports (length text.now) (core_in machine.old) (core_in machine.new) made.new result }
+    ensures made { Reports (length text.now) (core_in machine.old.now) (core_in machine.new.now) made.new result }
     ensures kept { result.code ≢ 0 → (files.new ≡ files.old) × (line.new ≡ line.old) × (made.new ≡ made.old) }
     ensures numbers { HasNoNumbers result }
-    ensures names { is_free_line (asked_if_fits asked.now text.now (length line.old)) ≡ true → names_in machine.new ≡ names_in machine.old }
-    ensures unchanged { result.code ≢ 0 → machine.new ≡ machine.old }
+    ensures names { is_free_line (asked_if_fits asked.now text.now (length line.old)) ≡ true → names_in machine.new.now ≡ names_in machine.old.now }
+    ensures past { IsGrown (said_line (length files.old) (asked_if_fits asked.now text.now (length line.old))) machine.old machine.new result }
+    ensures past_kept { result.code ≡ no_memory → machine.new ≡ machine.old }
+    ensures unchanged { result.code ≢ 0 → machine.new.now ≡ machine.old.now }
 {
     let bytes = text.as_bytes();
     if bytes.len() > LONGEST_LINE {

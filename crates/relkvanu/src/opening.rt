@@ -1,11 +1,16 @@
 //! Opening and closing a handle.
 
-ghost use Rattle.std.specs.Prelude.{◌≡◌, ◌≢◌, true, false, None, IfOk, IfErr};
+ghost use Rattle.std.specs.Prelude.{◌≡◌, ◌≢◌, true, false, None, IfOk, IfErr, OnOk};
 ghost use Rattle.ckpt_ids.specs.Configuration.{is_within_limits};
 ghost use Rattle.ckpt_ids.specs.Shapes.{is_shape};
 ghost use Rattle.relkvanu.specs.Calls.{HasNoNumbers, StaysAsItWas};
 ghost use Rattle.relkvanu.specs.Opening.{configuration_of, opening_of, IsNotOpened, IsOpened, IsOpening, IsWhyNot, OpeningWantsMemory, StaysOpen};
+ghost use Rattle.ckpt_model.specs.Laws.{CanOpen};
+ghost use Rattle.ckpt_model.specs.State.{opened};
+ghost use Rattle.ckpt_terms.specs.declared.machine.Machine.TheVariants as machine;
 ghost use Rattle.ckpt_terms.specs.Machines.{core_in, names_in};
+ghost use Rattle.ckpt_logged.specs.Chronicles.{begun};
+ghost use Rattle.relkvanu.specs.Past.{Begins};
 ghost use Rattle.relkvanu.specs.Told.{bad_argument, bad_config, bad_shape, no_memory};
 
 use crate::answer::Answer;
@@ -14,6 +19,7 @@ use crate::handle::Handle;
 use ckpt_core::{Core, OpenFault};
 use ckpt_hash::Secret;
 use ckpt_ids::{Config, ConfigValues, Shape, ShapeFault};
+use ckpt_logged::Logged;
 use ckpt_terms::Machine;
 use std::alloc::Global;
 
@@ -74,6 +80,7 @@ pub extern "C" fn relkvanu_open(
     ensures unchanged { StaysAsItWas handle.old.value handle.new.value result }
     ensures names { handle.new.names ≡ handle.old.names }
     ensures plain { handle.old.value ≡ None → handle.new.names ≡ None }
+    ensures past { Begins (opening_of settings.now shape.now now first) (machine.Plain (opened (opening_of settings.now shape.now now first))) handle.old.past handle.new.past result }
 {
     if let Some(machine) = handle.take(alloc) {
         handle.put(alloc, machine);
@@ -94,6 +101,7 @@ pub extern "C" fn relkvanu_open(
 pub extern "C" fn relkvanu_close(alloc: Global, handle: &mut Handle)
     ensures value { handle.new.value ≡ None }
     ensures names { handle.new.names ≡ None }
+    ensures past { handle.new.past ≡ None }
 {
     drop(handle.take(alloc));
 }
@@ -105,17 +113,23 @@ fn plain_of(
     now: u64,
     first: u64,
     secret: Secret,
-) -> Result<Box<Machine>, Answer>
-    ensures value { IfOk result (λ machine. IsOpening (opening_of settings.now shape.now now first) (core_in machine.value)) }
-    ensures names { IfOk result (λ machine. names_in machine.value ≡ None) }
+) -> Result<Box<Logged>, Answer>
+    ensures value { IfOk result (λ made. IsOpening (opening_of settings.now shape.now now first) (core_in made.value.now)) }
+    ensures names { IfOk result (λ made. names_in made.value.now ≡ None) }
+    ensures begun { IfOk result (λ made. made.value ≡ begun (machine.Plain (opened (opening_of settings.now shape.now now first)))) }
+    ensures can { OnOk result (CanOpen (opening_of settings.now shape.now now first)) }
     ensures fault { IfErr result (IsWhyNot (opening_of settings.now shape.now now first)) }
     ensures memory { IfErr result (OpeningWantsMemory (opening_of settings.now shape.now now first)) }
     ensures numbers { IfErr result HasNoNumbers }
+    ensures code { IfErr result (λ answer. answer.code ≢ 0) }
 {
     let config = config_of(settings)?;
     let shape = job_of(alloc, shape)?;
     match Core::keyed(alloc, config, shape, now, first, secret) {
-        Ok(core) => Box::new(alloc, Machine::Plain(core)).map_err(|_| Answer::out_of_memory()),
+        Ok(core) => {
+            let begun = Logged::of(Machine::Plain(core));
+            Box::new(alloc, begun).map_err(|_| Answer::out_of_memory())
+        }
         Err(OpenFault::MomentTooLarge) => Err(Answer::bad_argument(BAD_MOMENT)),
         Err(OpenFault::BadFirst) => Err(Answer::bad_argument(BAD_FIRST)),
     }

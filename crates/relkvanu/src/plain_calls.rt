@@ -6,6 +6,7 @@ ghost use Rattle.ckpt_ids.specs.declared.call.Call.TheVariants as call;
 ghost use Rattle.relkvanu.specs.Calls.{HasNoNumbers, IsAnswered, IsMade, IsMadePlainly, IsRefusedAs, StaysAsItWas, StaysClosed, WantsMemory, subtask_at};
 ghost use Rattle.relkvanu.specs.Fenced.{IsHandled, call_step};
 ghost use Rattle.relkvanu.specs.Opening.{configuration_of};
+ghost use Rattle.relkvanu.specs.Past.{GrowsBy, plainly};
 ghost use Rattle.relkvanu.specs.Told.{bad_config, no_memory};
 
 use crate::answer::Answer;
@@ -24,6 +25,7 @@ pub extern "C" fn relkvanu_tick(alloc: Global, handle: &mut Handle, now: u64) ->
     ensures numbers { HasNoNumbers result }
     ensures unchanged { StaysAsItWas handle.old.value handle.new.value result }
     ensures names { handle.new.names ≡ handle.old.names }
+    ensures past { GrowsBy (plainly (call.Tick now)) handle.old.past handle.new.past result }
 {
     calls::call(alloc, handle, &Call::Tick { now })
 }
@@ -37,6 +39,7 @@ pub extern "C" fn relkvanu_trigger(alloc: Global, handle: &mut Handle, now: u64)
     ensures numbers { HasNoNumbers result }
     ensures unchanged { StaysAsItWas handle.old.value handle.new.value result }
     ensures names { handle.new.names ≡ handle.old.names }
+    ensures past { GrowsBy (plainly (call.Trigger now)) handle.old.past handle.new.past result }
 {
     calls::call(alloc, handle, &Call::Trigger { now })
 }
@@ -50,6 +53,7 @@ pub extern "C" fn relkvanu_savepoint(alloc: Global, handle: &mut Handle, now: u6
     ensures numbers { HasNoNumbers result }
     ensures unchanged { StaysAsItWas handle.old.value handle.new.value result }
     ensures names { handle.new.names ≡ handle.old.names }
+    ensures past { GrowsBy (plainly (call.Savepoint now)) handle.old.past handle.new.past result }
 {
     calls::call(alloc, handle, &Call::Savepoint { now })
 }
@@ -68,6 +72,7 @@ pub extern "C" fn relkvanu_decline(
     ensures answered { IsMadePlainly handle.old handle.new (call.Decline now id (subtask_at vertex index)) result }
     ensures handled { IsHandled (λ k. call_step k (call.Decline now id (subtask_at vertex index))) handle.old handle.new result }
     ensures memory { result.code ≢ no_memory }
+    ensures past { GrowsBy (plainly (call.Decline now id (subtask_at vertex index))) handle.old.past handle.new.past result }
 {
     let decline = Call::Decline {
         now,
@@ -84,6 +89,7 @@ pub extern "C" fn relkvanu_dispose(alloc: Global, handle: &mut Handle, id: u64) 
     ensures answered { IsMade handle.old.value handle.new.value (call.Dispose id) result }
     ensures memory { result.code ≢ no_memory }
     ensures names { handle.new.names ≡ handle.old.names }
+    ensures past { GrowsBy (plainly (call.Dispose id)) handle.old.past handle.new.past result }
 {
     calls::call(
         alloc,
@@ -101,6 +107,7 @@ pub extern "C" fn relkvanu_cancel(alloc: Global, handle: &mut Handle, now: u64) 
     ensures answered { IsMadePlainly handle.old handle.new (call.Cancel now) result }
     ensures handled { IsHandled (λ k. call_step k (call.Cancel now)) handle.old handle.new result }
     ensures memory { result.code ≢ no_memory }
+    ensures past { GrowsBy (plainly (call.Cancel now)) handle.old.past handle.new.past result }
 {
     calls::call(alloc, handle, &Call::Cancel { now })
 }
@@ -112,6 +119,7 @@ pub extern "C" fn relkvanu_deleted(alloc: Global, handle: &mut Handle, file: u64
     ensures answered { IsMade handle.old.value handle.new.value (call.Deleted file) result }
     ensures memory { result.code ≢ no_memory }
     ensures names { handle.new.names ≡ handle.old.names }
+    ensures past { GrowsBy (plainly (call.Deleted file)) handle.old.past handle.new.past result }
 {
     calls::call(alloc, handle, &Call::Deleted { file: FileId(file) })
 }
@@ -123,6 +131,7 @@ pub extern "C" fn relkvanu_undeleted(alloc: Global, handle: &mut Handle, file: u
     ensures answered { IsMade handle.old.value handle.new.value (call.Undeleted file) result }
     ensures memory { result.code ≢ no_memory }
     ensures names { handle.new.names ≡ handle.old.names }
+    ensures past { GrowsBy (plainly (call.Undeleted file)) handle.old.past handle.new.past result }
 {
     calls::call(alloc, handle, &Call::Undeleted { file: FileId(file) })
 }
@@ -134,6 +143,7 @@ pub extern "C" fn relkvanu_count(alloc: Global, handle: &mut Handle, file: u64) 
     ensures answered { IsMade handle.old.value handle.new.value (call.Count file) result }
     ensures memory { result.code ≢ no_memory }
     ensures names { handle.new.names ≡ handle.old.names }
+    ensures past { GrowsBy (plainly (call.Count file)) handle.old.past handle.new.past result }
 {
     calls::call(alloc, handle, &Call::Count { file: FileId(file) })
 }
@@ -154,6 +164,8 @@ pub extern "C" fn relkvanu_configure(
     ensures answered { is_within_limits (configuration_of settings.now) ≡ true → IsMade handle.old.value handle.new.value (call.Configure now (configuration_of settings.now)) result }
     ensures memory { result.code ≢ no_memory }
     ensures names { handle.new.names ≡ handle.old.names }
+    ensures past { is_within_limits (configuration_of settings.now) ≡ true → GrowsBy (plainly (call.Configure now (configuration_of settings.now))) handle.old.past handle.new.past result }
+    ensures past_kept { is_within_limits (configuration_of settings.now) ≡ false → handle.new.past ≡ handle.old.past }
 {
     match config_of(settings) {
         Ok(config) => calls::call(alloc, handle, &Call::Configure { now, config }),

@@ -66,6 +66,7 @@ pub extern "C" fn relkvanu_mode(alloc: Global, handle: &mut Handle) -> Answer
     ensures sound { (m : State) → handle.old.value ≡ Some m → IsSound m }
     ensures unchanged { handle.new.value ≡ handle.old.value }
     ensures names { handle.new.names ≡ handle.old.names }
+    ensures past { handle.new.past ≡ handle.old.past }
 {
     let Some(machine) = handle.take(alloc) else {
         return Answer::closed();
@@ -82,6 +83,7 @@ pub extern "C" fn relkvanu_moment(alloc: Global, handle: &mut Handle) -> Answer
     ensures answered { (m : State) → handle.old.value ≡ Some m → result ≡ moment_told m.latest }
     ensures unchanged { handle.new.value ≡ handle.old.value }
     ensures names { handle.new.names ≡ handle.old.names }
+    ensures past { handle.new.past ≡ handle.old.past }
 {
     let Some(machine) = handle.take(alloc) else {
         return Answer::closed();
@@ -101,6 +103,7 @@ pub extern "C" fn relkvanu_due(alloc: Global, handle: &mut Handle) -> Answer
     ensures from { (m : State) → handle.old.value ≡ Some m → NoneIsEarlyFrom m result.a }
     ensures unchanged { handle.new.value ≡ handle.old.value }
     ensures names { handle.new.names ≡ handle.old.names }
+    ensures past { handle.new.past ≡ handle.old.past }
 {
     let Some(machine) = handle.take(alloc) else {
         return Answer::closed();
@@ -119,6 +122,7 @@ pub extern "C" fn relkvanu_oldest_expiry(alloc: Global, handle: &mut Handle) -> 
     ensures moment { (m : State) → handle.old.value ≡ Some m → IsNextExpiry m (expiry_in result) }
     ensures unchanged { handle.new.value ≡ handle.old.value }
     ensures names { handle.new.names ≡ handle.old.names }
+    ensures past { handle.new.past ≡ handle.old.past }
 {
     let Some(machine) = handle.take(alloc) else {
         return Answer::closed();
@@ -135,6 +139,7 @@ pub extern "C" fn relkvanu_choice(alloc: Global, handle: &mut Handle) -> Answer
     ensures answered { (m : State) → handle.old.value ≡ Some m → result ≡ choice_told (choice_of m) }
     ensures unchanged { handle.new.value ≡ handle.old.value }
     ensures names { handle.new.names ≡ handle.old.names }
+    ensures past { handle.new.past ≡ handle.old.past }
 {
     let Some(machine) = handle.take(alloc) else {
         return Answer::closed();
@@ -152,6 +157,7 @@ pub extern "C" fn relkvanu_live(alloc: Global, handle: &mut Handle, place: usize
     ensures answered { (m : State) → handle.old.value ≡ Some m → result ≡ live_told (option_map live_of (slice_get m.records place)) }
     ensures unchanged { handle.new.value ≡ handle.old.value }
     ensures names { handle.new.names ≡ handle.old.names }
+    ensures past { handle.new.past ≡ handle.old.past }
 {
     let Some(machine) = handle.take(alloc) else {
         return Answer::closed();
@@ -168,6 +174,7 @@ pub extern "C" fn relkvanu_missing(alloc: Global, handle: &mut Handle, id: u64) 
     ensures answered { (m : State) → handle.old.value ≡ Some m → result ≡ missing_told (option_map missing (pending_of m.records id)) }
     ensures unchanged { handle.new.value ≡ handle.old.value }
     ensures names { handle.new.names ≡ handle.old.names }
+    ensures past { handle.new.past ≡ handle.old.past }
 {
     let Some(machine) = handle.take(alloc) else {
         return Answer::closed();
@@ -184,6 +191,7 @@ pub extern "C" fn relkvanu_file_counts(alloc: Global, handle: &mut Handle) -> Fi
     ensures answered { (m : State) → handle.old.value ≡ Some m → result ≡ counts_of m }
     ensures unchanged { handle.new.value ≡ handle.old.value }
     ensures names { handle.new.names ≡ handle.old.names }
+    ensures past { handle.new.past ≡ handle.old.past }
 {
     let Some(machine) = handle.take(alloc) else {
         return FileCounts {

@@ -44,6 +44,7 @@ pub extern "C" fn relkvanu_live_from(alloc: Global, handle: &mut Handle, id: u64
     ensures answered { (m : State) → handle.old.value ≡ Some m → result ≡ live_told (option_map live_of (find (λ r. nat_le id r.id) m.records)) }
     ensures unchanged { handle.new.value ≡ handle.old.value }
     ensures names { handle.new.names ≡ handle.old.names }
+    ensures past { handle.new.past ≡ handle.old.past }
 {
     let Some(machine) = handle.take(alloc) else {
         return Answer::closed();
@@ -61,6 +62,7 @@ pub extern "C" fn relkvanu_standing(alloc: Global, handle: &mut Handle, id: u64)
     ensures answered { (m : State) → handle.old.value ≡ Some m → result ≡ standing_told (standing m id) }
     ensures unchanged { handle.new.value ≡ handle.old.value }
     ensures names { handle.new.names ≡ handle.old.names }
+    ensures past { handle.new.past ≡ handle.old.past }
 {
     let Some(machine) = handle.take(alloc) else {
         return Answer::closed();
@@ -90,6 +92,7 @@ pub extern "C" fn relkvanu_files_of(
     ensures kept { result.code ≢ 0 → files.new ≡ files.old }
     ensures unchanged { handle.new.value ≡ handle.old.value }
     ensures names { handle.new.names ≡ handle.old.names }
+    ensures past { handle.new.past ≡ handle.old.past }
 {
     let Some(machine) = handle.take(alloc) else {
         return Answer::closed();
@@ -120,6 +123,7 @@ pub extern "C" fn relkvanu_pins_of(
     ensures numbers { HasNoNumbers result }
     ensures unchanged { handle.new.value ≡ handle.old.value }
     ensures names { handle.new.names ≡ handle.old.names }
+    ensures past { handle.new.past ≡ handle.old.past }
 {
     let Some(machine) = handle.take(alloc) else {
         return Answer::closed();
@@ -137,6 +141,7 @@ pub extern "C" fn relkvanu_waiting_file(alloc: Global, handle: &mut Handle, plac
     ensures answered { (m : State) → handle.old.value ≡ Some m → result ≡ waiting_told (slice_get m.waiting place) }
     ensures unchanged { handle.new.value ≡ handle.old.value }
     ensures names { handle.new.names ≡ handle.old.names }
+    ensures past { handle.new.past ≡ handle.old.past }
 {
     let Some(machine) = handle.take(alloc) else {
         return Answer::closed();
@@ -164,6 +169,7 @@ pub extern "C" fn relkvanu_taken_files(
     ensures numbers { HasNoNumbers result }
     ensures unchanged { handle.new.value ≡ handle.old.value }
     ensures names { handle.new.names ≡ handle.old.names }
+    ensures past { handle.new.past ≡ handle.old.past }
 {
     let Some(machine) = handle.take(alloc) else {
         return Answer::closed();

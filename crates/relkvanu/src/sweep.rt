@@ -6,6 +6,8 @@ ghost use Rattle.ckpt_terms.specs.Machines.{core_in, issued_by, names_in};
 ghost use Rattle.relkvanu.specs.Buffers.{StandsInFront};
 ghost use Rattle.relkvanu.specs.Calls.{StaysClosed};
 ghost use Rattle.relkvanu.specs.Fenced.{BringsGarbage, BringsOf, IsGarbageTold, garbage_of, garbage_told, unissued_of};
+ghost use Rattle.relkvanu.specs.Kept.{IsHeld};
+ghost use Rattle.relkvanu.specs.Past.{IsPromised};
 
 use crate::answer::Answer;
 use crate::fenced::GARBAGE;
@@ -39,11 +41,14 @@ pub extern "C" fn relkvanu_garbage(
     ensures kept { result.code ≢ 0 → (garbage.new ≡ garbage.old) × (unissued.new ≡ unissued.old) }
     ensures unchanged { handle.new.value ≡ handle.old.value }
     ensures names { handle.new.names ≡ handle.old.names }
+    ensures past { handle.new.past ≡ handle.old.past }
+    ensures held { IsHeld handle.old.past handle.old.value handle.old.names handle.old.past }
+    ensures promised { IsPromised handle.old.past }
 {
     let Some(machine) = handle.take(alloc) else {
         return Answer::closed();
     };
-    let answer = garbage_in(&machine, files, garbage, unissued);
+    let answer = garbage_in(machine.machine(), files, garbage, unissued);
     handle.put(alloc, machine);
     answer
 }

@@ -11,19 +11,20 @@ use Rattle.std.specs.contracts.impls.GlobalAllocator.TheImpl.{ghosts}
 use Rattle.std.proofs.Crossing.{frees}
 use Rattle.std_alloc.specs.Box.Ownership.{box_owns}
 use Rattle.ckpt_model.specs.State.{State}
-use Rattle.ckpt_terms.specs.Machines.{Issued, machine_of}
-use Rattle.ckpt_terms.proofs.Crossings.{machine_send}
+use Rattle.ckpt_terms.specs.Machines.{Issued}
+use Rattle.ckpt_logged.proofs.Crossings.{logged_send}
+use Rattle.ckpt_logged.specs.Chronicles.{Chronicle}
 use Rattle.relkvanu.specs.Kept.{heap, kept}
 use Rattle.relkvanu.specs.contracts.handle.Handle.{the_row}
 use Rattle.relkvanu.proofs.Words.{R}
 
 boxed_keyless : (p : Ptr) (x : R.Denot) → Keyless (box_owns (ghosts.dealloc_token heap) R p x)
 boxed_keyless null_ptr x = (tt, frees.frees heap (raw (lone R.mir)) null_ptr)
-boxed_keyless (block_ptr b o) x = (part_keyless R machine_send full_share x b o, frees.frees heap (raw (lone R.mir)) (block_ptr b o))
+boxed_keyless (block_ptr b o) x = (part_keyless R logged_send full_share x b o, frees.frees heap (raw (lone R.mir)) (block_ptr b o))
 
-kept_keyless : (p : Ptr) (v : Option State) (n : Option Issued) → Keyless (kept p v n)
-kept_keyless p None n = λ _. tt
-kept_keyless p (Some m) n = boxed_keyless p (machine_of m n)
+kept_keyless : (p : Ptr) (v : Option State) (n : Option Issued) (c : Option Chronicle) → Keyless (kept p v n c)
+kept_keyless p v n None = λ _. tt
+kept_keyless p v n (Some c) = λ _. boxed_keyless p c
 
 pub send : IsSend the_row
-send = record { owned = λ h vs. ((λ fields. (tt, (tt, tt))), kept_keyless h.at h.value h.names); leaving = λ k d w. tt }
+send = record { owned = λ h vs. ((λ fields. (tt, (tt, tt))), kept_keyless h.at h.value h.names h.past); leaving = λ k d w. tt }

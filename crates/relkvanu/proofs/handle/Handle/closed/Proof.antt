@@ -34,7 +34,7 @@ closed_spec 𝓤 𝓛 𝓜 𝓡 wired =
     qed 𝓛 ((‵ ftrue ⊛ ‵ (owns (types_at f.ended.signature.params z.0.0) z.0.3 z.0.4)) ∷ raw ((c z.0.0 z.0.3).requires z.1) ∷ []) ∵
     split ! $ enter ! 𝓣.C 𝓣.Λ fn [] Post $ alloc_all ! (λ l. pass_all ! refl tt $
     sets ! (agg ! (and_then ! (lit ! tt) (no_more !))) refl (tt, (record { fits = lit< tt }, tt)) $
-    nothing ! $ fpack ! ((null_ptr ≡ null_ptr) × (n ≡ n)) (λ _. ftrue) (refl, refl) $ handle_in ! null_ptr v n $
-    use0 𝓛 (raw (fact 𝓤 (IsHeld k v n))) (fact_i 𝓤 (IsHeld k v n) (emp 𝓤) (refl, refl)) $
+    nothing ! $ fpack ! ((null_ptr ≡ null_ptr) × IsHeld k v n k) (λ _. ftrue) (refl, (refl, refl, refl)) $ handle_in ! null_ptr v n k $
+    use0 𝓛 (raw (fact 𝓤 (IsHeld k v n k))) (fact_i 𝓤 (IsHeld k v n k) (emp 𝓤) (refl, refl, refl)) $
     returns ! (look_at ! 0 refl) $ free_all ! refl $ keep ! (2 ∷ 3 ∷ 1 ∷ 0 ∷ []) $
-    by ! (leaves 𝓛 f.ended tt c z w (record { at = null_ptr; value = v; names = n }) tt tt)))
+    by ! (leaves 𝓛 f.ended tt c z w (record { at = null_ptr; value = v; names = n; past = k }) tt tt)))

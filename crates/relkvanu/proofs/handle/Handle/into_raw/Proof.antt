@@ -47,10 +47,10 @@ into_raw_spec 𝓤 𝓛 𝓜 𝓡 wired =
     let d = z.0.3.0 in let a = z.0.3.1.0 in let Post : Val → SProp 𝓤 = (walk_of 𝓛 f.ended hs c).post z in
     let Run : List Val → SProp 𝓤 = λ ws. WpFn 𝓤 H 𝓣.C 𝓣.Λ fn ws Post in let Out : RattleType = type_at f.ended.signature.result z.0.0 in
     let h = one (layout Z) z.0.4.1.0 ((LZ.lawful 𝓛).typed a z.0.4.1.0 are.1.0) in
-    let Says : Option A.Denot → Type 0 = λ r. IsHeld (option_map (λ (machine : A.Denot). machine.value) r) d.value d.names in
+    let Says : Option A.Denot → Type 0 = λ r. IsHeld (option_map (λ (machine : A.Denot). machine.value) r) d.value d.names d.past in
     qed 𝓛 ((‵ ftrue ⊛ ‵ (owns (types_at f.ended.signature.params z.0.0) z.0.3 z.0.4)) ∷ raw ((c z.0.0 z.0.3).requires z.1) ∷ []) ∵
     split ! $ move ! (1 ∷ []) $ fsplit ! $ handle_out ! d z.0.4.0 (λ vs. move ! (1 ∷ []) $ fsplit ! $
-    rewrite ! 0 (λ (us : List Val). ‵ (Z.own_val a us)) h.1 refl $ move ! (2 ∷ []) $ either ! d.at d.value d.names
+    rewrite ! 0 (λ (us : List Val). ‵ (Z.own_val a us)) h.1 refl $ move ! (2 ∷ []) $ either ! d.at d.value d.names d.past
     (λ null none. let w : Val = word (ptr_val null_ptr) in let told : z.0.4.0 ≡ w ∷ [] = vs ∙ ap (λ (p : Ptr). word (ptr_val p) ∷ []) null in
     suffices ! (Run (w ∷ h.0 ∷ [])) (subst (λ (us : List Val). ent 𝓤 (Run (w ∷ h.0 ∷ [])) (Run us)) (sym (λ i. told i ++ (h.1 i ++ []))) (id⊢ 𝓤 (Run (w ∷ h.0 ∷ [])))) $
     enter ! 𝓣.C 𝓣.Λ fn (w ∷ h.0 ∷ []) Post $ alloc_all ! (λ l. pass_all ! refl ((tt, (record { fits = lit< tt }, tt)), (h.2, tt)) $ let locals = env fn.locals l in

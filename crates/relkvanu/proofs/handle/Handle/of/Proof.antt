@@ -4,7 +4,7 @@ use mir.Val.{Val, vptr}
 use base.Logic.{SProp, ent, emp, id⊢}
 use base.Fml.{ftrue}
 use prog.Wp.{WpFn}
-use types.Kit.{‵, raw, ◌⊛◌, ◌$◌, ◌∵◌, !, qed, by, move, keep, split, fsplit, fjoin, suffices, use0, use1}
+use types.Kit.{‵, raw, ◌⊛◌, ◌$◌, ◌∵◌, !, qed, by, move, keep, split, fsplit, fjoin, suffices, fpack, use0}
 use types.Run.{stop, fld, of_opd, no_more, and_then, returns, enter}
 use types.ByLocal.{alloc_all, pass_all, free_all, look_at, get, get_in, sets}
 use types.Part.{agg, sub, whole}
@@ -25,8 +25,8 @@ use Rattle.std.proofs.raw_atomic.Walks.{proved_at, leaves}
 use Rattle.relkvanu.proofs.BoxWords.{Apart, word as pair, word_fits, apart_out}
 use Rattle.ckpt_model.specs.State.{State}
 use Rattle.ckpt_terms.specs.Machines.{Issued, core_in, names_in}
-use Rattle.relkvanu.specs.Kept.{IsHeld, kept}
-use Rattle.relkvanu.proofs.Words.{R, word, handle_in, keeps}
+use Rattle.relkvanu.specs.Kept.{IsHeld}
+use Rattle.relkvanu.proofs.Words.{R, boxed, word, handle_in}
 use Rattle.relkvanu.specs.contracts.handle.Handle.of as f
 use Rattle.relkvanu.proofs.handle.Handle.of.Statement.{statement}
 use Rattle.relkvanu.proofs.handle.Handle.of.Code as code
@@ -40,7 +40,7 @@ of_spec 𝓤 𝓛 𝓜 𝓡 wired =
     f.Key.name fn (code.unfolded 𝓤 H 𝓜 𝓡 wired) (λ z are.
     let d = z.0.3.0 in let Post : Val → SProp 𝓤 = (walk_of 𝓛 f.ended hs c).post z in
     let Run : List Val → SProp 𝓤 = λ ws. WpFn 𝓤 H 𝓣.C 𝓣.Λ fn ws Post in let k : Option R.Denot = Some d.value in
-    let had : Option State = Some (core_in d.value) in let names : Option Issued = names_in d.value in
+    let had : Option State = Some (core_in d.value.now) in let names : Option Issued = names_in d.value.now in
     qed 𝓛 ((‵ ftrue ⊛ ‵ (owns (types_at f.ended.signature.params z.0.0) z.0.3 z.0.4)) ∷ raw ((c z.0.0 z.0.3).requires z.1) ∷ []) ∵
     split ! $ move ! (1 ∷ []) $ fsplit ! $ apart_out R Z LZ ghosts ! d z.0.4.0 (λ b o v at vs good.
     let w : Val = pair b o v in
@@ -49,7 +49,7 @@ of_spec 𝓤 𝓛 𝓜 𝓡 wired =
     sets ! (of_opd ! (get_in ! (fld ! refl (stop !)) (sub ! 0 refl (whole !)))) refl (tt, tt) $
     sets ! (of_opd ! (get ! refl)) refl (tt, tt) $
     sets ! (agg ! (and_then ! (get ! refl) (no_more !))) refl (tt, (tt, tt)) $
-    use1 𝓛 (‵ (kept (block_ptr b o) had names)) (keeps 𝓛 (block_ptr b o) d.value) $ handle_in ! (block_ptr b o) had names $
-    use0 𝓛 (raw (fact 𝓤 (IsHeld k had names))) (fact_i 𝓤 (IsHeld k had names) (emp 𝓤) (refl, refl)) $ nothing ! $ nothing ! $ fjoin ! $
+    fpack ! (IsHeld k had names k) (λ _. boxed (block_ptr b o) d.value) (refl, refl, refl) $ handle_in ! (block_ptr b o) had names k $
+    use0 𝓛 (raw (fact 𝓤 (IsHeld k had names k))) (fact_i 𝓤 (IsHeld k had names k) (emp 𝓤) (refl, refl, refl)) $ nothing ! $ nothing ! $ fjoin ! $
     returns ! (look_at ! 0 refl) $ free_all ! refl $ keep ! (5 ∷ 0 ∷ 2 ∷ 1 ∷ []) $
-    by ! (leaves 𝓛 f.ended hs c z (word (vptr b o)) (record { at = block_ptr b o; value = had; names = names }) (tt, tt) (tt, tt)))))
+    by ! (leaves 𝓛 f.ended hs c z (word (vptr b o)) (record { at = block_ptr b o; value = had; names = names; past = k }) (tt, tt) (tt, tt)))))

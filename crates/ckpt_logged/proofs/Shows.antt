@@ -1,0 +1,49 @@
+-- A show leaves the coordinator as it was.
+use Rattle.std.proofs.Common.{◌≡◌, ℕ, List, refl, sym, ap, ◌∙◌, subst}
+use Rattle.std.specs.Prelude.{Option, Some, None, Result, Ok, Err, IfOk, OnErr}
+use Rattle.std.specs.declared.alloc.AllocError.{AllocError}
+use Rattle.ckpt_ids.specs.declared.call.Call.TheVariants as call
+use Rattle.ckpt_ids.specs.declared.reply.Answer.{Answer}
+use Rattle.ckpt_ids.specs.declared.reply.Refusal.{Refusal as Why}
+use Rattle.ckpt_model.specs.Refusals.{refusal}
+use Rattle.ckpt_model.specs.State.{State}
+use Rattle.ckpt_model.specs.Steps.{Stepped, effect, step, unless_refused}
+use Rattle.ckpt_terms.specs.declared.machine.Machine.{Machine}
+use Rattle.ckpt_terms.specs.declared.machine.Machine.TheVariants.{Plain, Fenced}
+use Rattle.ckpt_terms.specs.Machines.{Issued, core_in, machine_of, names_in}
+use Rattle.ckpt_logged.specs.Chronicles.{Chronicle, IsChronicle}
+use Rattle.ckpt_logged.specs.Events.{Event}
+
+shows_leave : (m : State) (id : ℕ) (w : Option Why) → (unless_refused m (call.Show id) w).0 ≡ m
+unfolding effect
+shows_leave m id (Some why) = refl
+shows_leave m id None = refl
+
+-- a show leaves the state
+show_stays : (m : State) (id : ℕ) → (step m (call.Show id)).0 ≡ m
+unfolding step
+show_stays m id = shows_leave m id (refusal m (call.Show id))
+
+pub whole : (k : Machine) → k ≡ machine_of (core_in k) (names_in k)
+whole (Plain m) = refl
+whole (Fenced m) = refl
+
+-- two coordinators with one state and the same names
+pub same_machine : (k n : Machine) → core_in k ≡ core_in n → names_in k ≡ names_in n → k ≡ n
+same_machine k n core names =
+    whole k ∙ ap (λ (m : State). machine_of m (names_in k)) core ∙ ap (λ (it : Option Issued). machine_of (core_in n) it) names ∙ sym (whole n)
+
+-- whatever a show answers
+pub shown : (old new : Machine) (id : ℕ) (result : Result Answer AllocError)
+    → IfOk result (λ answer. step (core_in old) (call.Show id) ≡ (core_in new, answer)) → OnErr result (new ≡ old) → names_in new ≡ names_in old → new ≡ old
+shown old new id (Ok answer) done unchanged names =
+    same_machine new old (sym (ap (λ (s : Stepped). s.0) done) ∙ show_stays (core_in old) id) names
+shown old new id (Err why) done unchanged names = unchanged
+
+pub still : (now new begin : Machine) (events : List Event) → IsChronicle (record { now = now; begin = begin; events = events }) → new ≡ now
+    → IsChronicle (record { now = new; begin = begin; events = events })
+still now new begin events its same = subst (λ (m : Machine). IsChronicle (record { now = m; begin = begin; events = events })) (sym same) its
+
+pub still_is : (now new begin : Machine) (events : List Event) (k : Chronicle) → record { now = now; begin = begin; events = events } ≡ k → new ≡ now
+    → record { now = new; begin = begin; events = events } ≡ k
+still_is now new begin events k is same = subst (λ (m : Machine). record { now = m; begin = begin; events = events } ≡ k) (sym same) is

@@ -1,0 +1,152 @@
+-- Answers the goals of `Logged::machine`.
+use Rattle.std.proofs.Common.{◌≡◌, List, [], ◌∷◌, ◌++◌, refl, sym, subst, ap, ◌∙◌, arith}
+use Rattle.ckpt_ids.specs.Records.{count, uses}
+use Rattle.ckpt_model.specs.State.{State}
+use Rattle.ckpt_model.specs.Histories.{replay}
+use Rattle.ckpt_model.specs.Laws.{Accounted, Acknowledgements, AreCalls, ChoiceIsLive, Handed, NoneAgain, Numbers, Outbox, ack_of}
+use Rattle.ckpt_model.specs.Soundness.{IsSound}
+use Rattle.ckpt_terms.specs.declared.call.FencedCall.{FencedCall}
+use Rattle.ckpt_terms.specs.declared.call.FencedCall.TheVariants.{Make}
+use Rattle.ckpt_terms.specs.declared.machine.Machine.{Machine}
+use Rattle.ckpt_terms.specs.declared.machine.Machine.TheVariants as machine
+use Rattle.ckpt_terms.specs.Fencing.{Fenced, core_calls, fenced_replay}
+use Rattle.ckpt_terms.specs.FencedLaws.{AreFencedCalls, IsFenced}
+use Rattle.ckpt_terms.specs.Machines.{core_in}
+use Rattle.ckpt_logged.specs.Events.{AreEvents, Event, IsWell, calls_in, calls_named, events_replay}
+use Rattle.ckpt_logged.specs.Chronicles.{Chronicle, IsChronicle, calls_of}
+use Rattle.ckpt_logged.specs.Promises.{AreDeletedSafely, AreIssuedOnce, FromOpening, HaveOneTerm, IsBalanced, LeaksNone, NeverAgain, OneOfEach, PinsHold}
+use Rattle.ckpt_logged.specs.Promises.{SavepointsStay, UsesNoMore}
+use Rattle.ckpt_logged.proofs.Asked.{calls-split, events-split, fenced-split, reached_named, reaches, replay-append, replay_named, replay_well}
+use Rattle.ckpt_logged.proofs.Counts.{balanced, flowing}
+use Rattle.ckpt_logged.proofs.Once.{one_of_each}
+use Rattle.ckpt_logged.proofs.logged.Logged.machine.Goals as goal
+
+its : (c : goal.After-self) → IsChronicle c.args.self.now
+its c = subst IsChronicle c.self.view_is c.self.invariant
+
+its_core : (m : Machine) → IsWell m → IsSound (core_in m)
+its_core (machine.Plain m) i = i
+its_core (machine.Fenced m) i = i.core
+
+calls_here : (c : goal.After-self) → AreCalls (calls_of c.args.self.now)
+calls_here c = let k : Chronicle = c.args.self.now in (reaches k.begin k.events (its c).events).0
+
+sound_here : (c : goal.After-self) → IsWell c.args.self.now.now
+sound_here c = let k : Chronicle = c.args.self.now in subst IsWell (sym (its c).replay) (replay_well k.begin k.events (its c).events (its c).begin)
+
+core_here : (c : goal.After-self) → core_in c.args.self.now.now ≡ replay (core_in c.args.self.now.begin) (calls_of c.args.self.now)
+core_here c = let k : Chronicle = c.args.self.now in ap core_in (its c).replay ∙ (reaches k.begin k.events (its c).events).1
+
+exactly_one_here : (c : goal.After-self) → OneOfEach (core_in c.args.self.now.now)
+exactly_one_here c = one_of_each (core_in c.args.self.now.now) (its_core c.args.self.now.now (sound_here c))
+
+balance_here : (c : goal.After-self) → IsBalanced c.args.self.now
+balance_here c f =
+    let k : Chronicle = c.args.self.now in
+    rw (core_here c) (balanced (core_in k.begin) (calls_of k) (calls_here c) (its_core k.begin (its c).begin) f)
+
+no_leak_here : (c : goal.After-self) → LeaksNone c.args.self.now
+no_leak_here c f =
+    let k : Chronicle = c.args.self.now in
+    let m : State = core_in k.begin in
+    let s : IsSound m = its_core k.begin (its c).begin in
+    rw (core_here c) (omega (arith, balanced m (calls_of k) (calls_here c) s f, flowing m (calls_of k) (calls_here c) s f))
+
+-- a moment with names: what always holds then, the calls since, and the state now
+
+is_fenced : (c : goal.After-self) (before after : List Event) (m : Fenced) → c.args.self.now.events ≡ before ++ after → events_replay c.args.self.now.begin before ≡ machine.Fenced m → IsFenced m
+is_fenced c before after m split at =
+    let k : Chronicle = c.args.self.now in
+    let both : AreEvents before × AreEvents after = events-split before after (subst AreEvents split (its c).events) in
+    subst IsWell at (replay_well k.begin before both.0 (its c).begin)
+
+calls_since : (c : goal.After-self) (before after : List Event) → c.args.self.now.events ≡ before ++ after → AreEvents after
+calls_since c before after split = (events-split before after (subst AreEvents split (its c).events)).1
+
+now_is : (c : goal.After-self) (before after : List Event) (m : Fenced) → c.args.self.now.events ≡ before ++ after → events_replay c.args.self.now.begin before ≡ machine.Fenced m
+    → c.args.self.now.now ≡ machine.Fenced (fenced_replay m (calls_named after))
+now_is c before after m split at =
+    let k : Chronicle = c.args.self.now in
+    (its c).replay ∙ ap (events_replay k.begin) split ∙ replay-append k.begin before after ∙ ap (λ (n : Machine). events_replay n after) at
+    ∙ (replay_named m after (calls_since c before after split)).1
+
+safe_here : (c : goal.After-self) → AreDeletedSafely c.args.self.now
+safe_here c before after m split at f h =
+    let calls : AreFencedCalls (calls_named after) = (replay_named m after (calls_since c before after split)).0 in
+    subst (λ (n : Machine). count (uses (core_in n).records) f ≡ 0) (sym (now_is c before after m split at))
+    (c.deletions_are_safe.ensures m (calls_named after) (is_fenced c before after m split at) calls f h)
+
+one_term_here : (c : goal.After-self) → HaveOneTerm c.args.self.now
+one_term_here c before after m call between later id term now p split at these given taken =
+    let ack : FencedCall = Make term (ack_of now id p) in
+    let calls : AreFencedCalls (call ∷ (between ++ ack ∷ later)) = subst AreFencedCalls these (replay_named m after (calls_since c before after split)).0 in
+    c.one_term.ensures m call between (is_fenced c before after m split at) calls.0 (fenced-split between (ack ∷ later) calls.1).0 id term now p given taken
+
+once_here : (c : goal.After-self) → AreIssuedOnce c.args.self.now
+once_here c before after m split at =
+    let calls : AreFencedCalls (calls_named after) = (replay_named m after (calls_since c before after split)).0 in
+    (now_is c before after m split at, c.issued_once.ensures.sound m (calls_named after) (is_fenced c before after m split at) calls)
+
+never_again_here : (c : goal.After-self) → NeverAgain c.args.self.now
+never_again_here c m at =
+    let k : Chronicle = c.args.self.now in
+    let these : calls_of k ≡ core_calls m (calls_named k.events) = ap (λ (n : Machine). calls_in n k.events) at ∙ reached_named m k.events in
+    subst (NoneAgain [] m.core) (sym these) (once_here c [] k.events m refl at).1.none_again
+
+-- from an opening: the laws are about each opening and list
+
+acknowledgements_here : (c : goal.After-self) → FromOpening c.args.self.now Acknowledgements
+acknowledgements_here c o can at = c.acknowledgements.ensures o (calls_of c.args.self.now) can (calls_here c)
+
+numbers_here : (c : goal.After-self) → FromOpening c.args.self.now Numbers
+numbers_here c o can at = c.numbers.ensures o (calls_of c.args.self.now)
+
+savepoints_here : (c : goal.After-self) → FromOpening c.args.self.now SavepointsStay
+savepoints_here c o can at before after split =
+    let both : AreCalls before × AreCalls after = calls-split before after (subst AreCalls split (calls_here c)) in
+    c.savepoints.ensures o before after can both.0 both.1
+
+handed_here : (c : goal.After-self) → FromOpening c.args.self.now Handed
+handed_here c o can at = c.handed.ensures o (calls_of c.args.self.now) can (calls_here c)
+
+used_no_more_here : (c : goal.After-self) → FromOpening c.args.self.now UsesNoMore
+used_no_more_here c o can at before after split = c.used_no_more.ensures o before after can (subst AreCalls split (calls_here c))
+
+accounted_here : (c : goal.After-self) → FromOpening c.args.self.now Accounted
+accounted_here c o can at = c.accounted.ensures o (calls_of c.args.self.now) can (calls_here c)
+
+outbox_here : (c : goal.After-self) → FromOpening c.args.self.now Outbox
+outbox_here c o can at = c.outbox.ensures o (calls_of c.args.self.now) can (calls_here c)
+
+choice_here : (c : goal.After-self) → FromOpening c.args.self.now ChoiceIsLive
+choice_here c o can at = c.choice.ensures o (calls_of c.args.self.now) can (calls_here c)
+
+pinned_here : (c : goal.After-self) → FromOpening c.args.self.now PinsHold
+pinned_here c o can at before call after split =
+    let both : AreCalls before × AreCalls (call ∷ after) = calls-split before (call ∷ after) (subst AreCalls split (calls_here c)) in
+    c.pinned.ensures o before call after can both.0 both.1.0 both.1.1
+
+pub returns-clause-promised : goal.returns-clause-promised
+returns-clause-promised c = record {
+  replayed = (its c).replay;
+  begin = (its c).begin;
+  sound = sound_here c;
+  calls = calls_here c;
+  core = core_here c;
+  exactly_one = exactly_one_here c;
+  balance = balance_here c;
+  no_leak = no_leak_here c;
+  safe = safe_here c;
+  one_term = one_term_here c;
+  once = once_here c;
+  never_again = never_again_here c;
+  acknowledgements = acknowledgements_here c;
+  numbers = numbers_here c;
+  savepoints = savepoints_here c;
+  handed = handed_here c;
+  used_no_more = used_no_more_here c;
+  accounted = accounted_here c;
+  outbox = outbox_here c;
+  choice = choice_here c;
+  pinned = pinned_here c;
+}

@@ -1,0 +1,4 @@
+-- The definitions that contracts cite.
+pub mod Chronicles
+pub mod Events
+pub mod Promises
