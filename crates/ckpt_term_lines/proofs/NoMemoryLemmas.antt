@@ -9,7 +9,7 @@ use Rattle.ckpt_lines.proofs.ReadingLaws.{NoMemory, bind, either, line_of-no_mem
 use Rattle.ckpt_term_lines.specs.declared.keyword.TermKeyword.{TermKeyword}
 use Rattle.ckpt_term_lines.specs.declared.keyword.TermKeyword.TheVariants as keyword
 use Rattle.ckpt_term_lines.specs.TermKeywords.{term_keyword_of}
-use Rattle.ckpt_term_lines.specs.TermReading.{fence_row, forfeit_row, in_row, name_places, plain_row, reserve_row, some_line, term_line_of, term_reading, term_row, term_row_of}
+use Rattle.ckpt_term_lines.specs.TermReading.{advance_row, fence_row, forfeit_row, in_row, name_places, plain_row, reserve_row, some_line, term_line_of, term_reading, term_row, term_row_of}
 
 fence-no_memory : (words : List (List ℕ)) → NoMemory (fence_row words)
 unfolding fence_row
@@ -25,6 +25,10 @@ names-no_memory words = bind (each number words) _ (numbers-no_memory words) (λ
 forfeit-no_memory : (words : List (List ℕ)) → NoMemory (forfeit_row words)
 unfolding forfeit_row
 forfeit-no_memory words = number_then words _ (λ term. bind (name_places term.1) _ (names-no_memory term.1) (λ names. tt))
+
+advance-no_memory : (words : List (List ℕ)) → NoMemory (advance_row words)
+unfolding advance_row
+advance-no_memory words = number_then words _ (λ now. number_then now.1 _ (λ term. bind (only_number term.1) _ (only-no_memory term.1) (λ first. tt)))
 
 some-no_memory : (words : List (List ℕ)) → NoMemory (some_line words)
 some-no_memory [] = refl
@@ -43,6 +47,7 @@ unfolding term_row
 row-no_memory keyword.Fence words = fence-no_memory words
 row-no_memory keyword.Reserve words = reserve-no_memory words
 row-no_memory keyword.Forfeit words = forfeit-no_memory words
+row-no_memory keyword.Advance words = advance-no_memory words
 row-no_memory keyword.In words = in-no_memory words
 
 row_of-no_memory : (first : Option TermKeyword) (all words : List (List ℕ)) → NoMemory (term_row_of first all words)

@@ -8,13 +8,15 @@ pub(crate) enum TermKeyword {
     Fence,
     Reserve,
     Forfeit,
+    Advance,
     In,
 }
 
-const KEYWORDS: [TermKeyword; 4] = [
+const KEYWORDS: [TermKeyword; 5] = [
     TermKeyword::Fence,
     TermKeyword::Reserve,
     TermKeyword::Forfeit,
+    TermKeyword::Advance,
     TermKeyword::In,
 ];
 
@@ -26,6 +28,7 @@ fn spelling(keyword: TermKeyword) -> &'static [u8]
         TermKeyword::Fence => b"fence",
         TermKeyword::Reserve => b"reserve",
         TermKeyword::Forfeit => b"forfeit",
+        TermKeyword::Advance => b"advance",
         TermKeyword::In => b"in",
     }
 }
