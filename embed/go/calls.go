@@ -24,6 +24,7 @@ const (
 	CallFence     CallKind = C.RELKVANU_CALL_FENCE   // Relkvanu_fence.
 	CallReserve   CallKind = C.RELKVANU_CALL_RESERVE // Relkvanu_reserve.
 	CallForfeit   CallKind = C.RELKVANU_CALL_FORFEIT // Relkvanu_forfeit.
+	CallAdvance   CallKind = C.RELKVANU_CALL_ADVANCE // Relkvanu_advance.
 	// embed/bindings: end
 )
 

@@ -12,7 +12,8 @@ static inline bool rks_has_moment(uint32_t kind) {
     case RELKVANU_CALL_ACK:
     case RELKVANU_CALL_DECLINE:
     case RELKVANU_CALL_RESTORE:
-    case RELKVANU_CALL_CANCEL: return true;
+    case RELKVANU_CALL_CANCEL:
+    case RELKVANU_CALL_ADVANCE: return true;
     default: return false;
     }
 }
@@ -32,7 +33,8 @@ static inline bool rks_is_made(uint32_t kind) {
     case RELKVANU_CALL_UNDELETED:
     case RELKVANU_CALL_FENCE:
     case RELKVANU_CALL_RESERVE:
-    case RELKVANU_CALL_FORFEIT: return true;
+    case RELKVANU_CALL_FORFEIT:
+    case RELKVANU_CALL_ADVANCE: return true;
     default: return false;
     }
 }

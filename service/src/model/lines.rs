@@ -98,7 +98,8 @@ fn changing(said: relkvanu::Call<'_>) -> Option<(u64, Call)> {
         C::Fence { first_name } => (0, Call::Fence { first_name }),
         C::Reserve { term, count } => (0, Call::Reserve { term, count }),
         C::Forfeit { term, names } => (0, Call::Forfeit { term, names: names.to_vec() }),
-        C::Show { .. } | C::Count { .. } => return None,
+        // The service makes no advance.
+        C::Advance { .. } | C::Show { .. } | C::Count { .. } => return None,
     })
 }
 

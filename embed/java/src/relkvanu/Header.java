@@ -237,6 +237,8 @@ final class Header {
     static final int CALL_RESERVE = 14;
     /** relkvanu_forfeit */
     static final int CALL_FORFEIT = 15;
+    /** relkvanu_advance */
+    static final int CALL_ADVANCE = 18;
     /** no text of an answer has more bytes */
     static final int ANSWER_TEXT = 128;
 }
