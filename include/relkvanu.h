@@ -92,12 +92,13 @@ typedef struct {
 /* A call, for relkvanu_call_line and relkvanu_make and of relkvanu_line_call. The first two do not read fields that its kind does not use;
  * the third sets them to 0. */
 typedef struct {
-    uint32_t kind;   /* RELKVANU_CALL_TICK to RELKVANU_CALL_CONFIGURE */
+    uint32_t kind;   /* RELKVANU_CALL_TICK to RELKVANU_CALL_ADVANCE */
     uint16_t vertex; /* with index: the subtask of an ack or a decline */
     uint16_t index;
     uint64_t now;    /* the moment, if the kind has one */
-    uint64_t number; /* of the record or file; for a restore the savepoint or 0; a take the most files; a fence the first name; a reserve how many */
-    uint64_t term;   /* the term of the caller, or 0 for none; a fence has none */
+    uint64_t number; /* of the record or file; for a restore the savepoint or 0; a take the most files; a fence or an advance the first name; a
+                        reserve how many */
+    uint64_t term;   /* the term of the caller, or 0 for none; a fence has none; of an advance the greatest that was told */
 } relkvanu_call;
 
 /* What a call that was made leaves, of relkvanu_make. */
@@ -259,6 +260,7 @@ typedef struct {
 #define RELKVANU_CALL_FORFEIT 15u /* relkvanu_forfeit */
 #define RELKVANU_CALL_TRIGGER 16u
 #define RELKVANU_CALL_CONFIGURE 17u
+#define RELKVANU_CALL_ADVANCE 18u /* relkvanu_advance */
 
 /* The same numbers as types, for debuggers, and for a compiler that warns of a switch which lacks one: switch ((enum relkvanu_refusal)
  * answer.what). A later version may give others. The packages of other languages and relkvanu_answer_text are made from these, and from the
@@ -416,7 +418,8 @@ enum relkvanu_call_kind {
     relkvanu_call_kind_reserve = RELKVANU_CALL_RESERVE,
     relkvanu_call_kind_forfeit = RELKVANU_CALL_FORFEIT,
     relkvanu_call_kind_trigger = RELKVANU_CALL_TRIGGER,
-    relkvanu_call_kind_configure = RELKVANU_CALL_CONFIGURE
+    relkvanu_call_kind_configure = RELKVANU_CALL_CONFIGURE,
+    relkvanu_call_kind_advance = RELKVANU_CALL_ADVANCE
 };
 
 /* Opens a coordinator in a closed handle, from the moment now on. Its first record has the number first, 1 to 2^62 - 1.
@@ -571,8 +574,8 @@ size_t relkvanu_answer_text(const relkvanu_answer *answer, uint8_t *text, size_t
 #define RELKVANU_ANSWER_TEXT 128 /* no text of an answer has more bytes */
 
 /* Lines of a log, to replay its calls, and of a script. docs/SCRIPT.md defines the lines of scripts. docs/LOGS.md defines those that scripts
- * do not have, for calls on names and calls with a term: fence, reserve, forfeit and in. A line is the bytes before its newline, at most
- * 131072. A carriage return at its end is dropped. A log may have any number of lines. */
+ * do not have, for calls on names and calls with a term: fence, reserve, forfeit, advance and in. A line is the bytes before its newline, at
+ * most 131072. A carriage return at its end is dropped. A log may have any number of lines. */
 
 /* Makes the call of a line, and returns what the function of that call returns.
  *
@@ -583,7 +586,7 @@ size_t relkvanu_answer_text(const relkvanu_answer *answer, uint8_t *text, size_t
  * call, returns RELKVANU_BAD_LINE. Only RELKVANU_TAKEN changes the buffer. The call takes memory as its own function does, and for the
  * lists of an ack, job, restore or forfeit line. So such a line may return RELKVANU_NO_MEMORY instead of a refusal.
  *
- * A line with fence, reserve or forfeit returns what relkvanu_fence, relkvanu_reserve or relkvanu_forfeit returns. An ack or a decline line
+ * A line with fence, reserve, forfeit or advance returns what relkvanu_fence and so on returns. An ack or a decline line
  * after in and a term returns what relkvanu_ack_in or relkvanu_decline_in returns. Each other call after in and a term returns what it
  * returns alone, but RELKVANU_FENCED with RELKVANU_NO_NAMES on a handle without names. After in and the term 0 a call is the one without a
  * term. */
@@ -593,8 +596,8 @@ RELKVANU_NODISCARD relkvanu_answer relkvanu_line(relkvanu *handle, const uint8_t
  * of numbers, in the line's order; keep is 1 and delete is 0. Checks no number against the limits of a job.
  *
  * RELKVANU_TOO_SHORT, and a is how many places it needs; or RELKVANU_BAD_LINE with the fault. Neither changes the buffer. A restore
- * line with a bad shape is RELKVANU_LINE_CALL, and so is each line with fence, reserve, forfeit, in, trigger or configure: relkvanu_line
- * says what is wrong with it. Takes memory only for the lists of an ack, job, restore or forfeit line. */
+ * line with a bad shape is RELKVANU_LINE_CALL, and so is each line with fence, reserve, forfeit, advance, in, trigger or configure:
+ * relkvanu_line says what is wrong with it. Takes memory only for the lists of an ack, job, restore or forfeit line. */
 RELKVANU_NODISCARD relkvanu_answer relkvanu_line_says(const uint8_t *line, size_t line_len, uint64_t *numbers, size_t numbers_len);
 
 /* Writes the call that a line says: its kind, numbers and term to call, and its lists to the start of first and second. For an ack these
@@ -703,8 +706,8 @@ RELKVANU_NODISCARD relkvanu_answer relkvanu_taken_files(relkvanu *handle, uint64
  *   learn the term that it began. Otherwise a crash forgets them, and the names are given out again.
  *
  * On a handle with names a call without a term has the term 0, which none has: relkvanu_ack and relkvanu_decline are refused with
- * RELKVANU_OLD_TERM, and so are the lines of such calls, unless they begin with in and the term. relkvanu_restore and relkvanu_cancel end
- * the term; after 2^62 terms they are refused with RELKVANU_TERMS_USED_UP. All other functions work as without.
+ * RELKVANU_OLD_TERM, and so are the lines of such calls, unless they begin with in and the term. relkvanu_restore, relkvanu_advance and
+ * relkvanu_cancel end the term; after 2^62 terms they are refused with RELKVANU_TERMS_USED_UP. All other functions work as without.
  *
  * RELKVANU_FENCED and its reasons come before any RELKVANU_REFUSED. */
 
@@ -740,6 +743,16 @@ RELKVANU_NODISCARD relkvanu_answer relkvanu_reserve(relkvanu *handle, uint64_t t
  *
  * RELKVANU_FORFEITED. RELKVANU_FENCED: RELKVANU_NO_NAMES, RELKVANU_OLD_TERM. The call first copies the list, which takes memory. */
 RELKVANU_NODISCARD relkvanu_answer relkvanu_forfeit(relkvanu *handle, uint64_t term, const uint64_t *names, size_t names_len);
+
+/* Begins a job again that goes on from an older image or log, such as one that was restored from a backup: relkvanu_restore of the latest, in
+ * the shape that the job has, in a term above term, the greatest that any task was told, and with names from first_name on, 1 to 2^62, above
+ * each that was given out. A smaller term and a smaller first_name lower nothing. Names that are passed over are garbage, unless the handle's
+ * records use them. Make this call before any other of such a job. docs/RULES.md, section 13, says what it is for.
+ *
+ * RELKVANU_RESTORED, and relkvanu_term tells the new term. RELKVANU_FENCED with RELKVANU_NO_NAMES; RELKVANU_BAD_ARGUMENT with
+ * RELKVANU_BAD_NAME; RELKVANU_FENCED with RELKVANU_TERMS_USED_UP, checked in this order; then the refusals of relkvanu_restore. None of these
+ * changes anything. Takes no memory. */
+RELKVANU_NODISCARD relkvanu_answer relkvanu_advance(relkvanu *handle, uint64_t now, uint64_t term, uint64_t first_name);
 
 /* relkvanu_ack of a task of this term. An accepted acknowledgement spends the names of its fresh files.
  *

@@ -16,6 +16,8 @@ static void round_trips(void) {
         {"reserve 0 0", {RELKVANU_CALL_RESERVE, 0, 0, 0, 0, 0}, {0}, {0}, 0, 0},
         {"forfeit 3", {RELKVANU_CALL_FORFEIT, 0, 0, 0, 0, 3}, {0}, {0}, 0, 0},
         {"forfeit 3 7 8 9", {RELKVANU_CALL_FORFEIT, 0, 0, 0, 0, 3}, {7, 8, 9}, {0}, 3, 0},
+        {"advance 5 3 70", {RELKVANU_CALL_ADVANCE, 0, 0, 5, 70, 3}, {0}, {0}, 0, 0},
+        {"advance 0 0 0", {RELKVANU_CALL_ADVANCE, 0, 0, 0, 0, 0}, {0}, {0}, 0, 0},
         {"in 3 tick 4", {RELKVANU_CALL_TICK, 0, 0, 4, 0, 3}, {0}, {0}, 0, 0},
         {"in 3 savepoint 4", {RELKVANU_CALL_SAVEPOINT, 0, 0, 4, 0, 3}, {0}, {0}, 0, 0},
         {"in 3 ack 4 5 1.2 +6 +7 =8", {RELKVANU_CALL_ACK, 1, 2, 4, 5, 3}, {6, 7}, {8}, 2, 1},

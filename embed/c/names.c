@@ -71,6 +71,39 @@ static void given_up(void) {
     relkvanu_close(&job);
 }
 
+/* A job goes on from an image that lacks the last restart and the last names. */
+static void from_an_older_image(void) {
+    relkvanu job = named(5), older = {NULL}, nameless = plain();
+    uint8_t image[2048];
+    uint64_t files[] = {4, 5, 8, 9}, left[4], others[4];
+    relkvanu_answer saved;
+    DONE(relkvanu_reserve(&job, 1, 1), RELKVANU_RESERVED, 5, 1);
+    saved = relkvanu_save(&job, image, sizeof image);
+    CHECK(saved.code == RELKVANU_DONE && saved.what == RELKVANU_SAVED);
+    DONE(relkvanu_restore(&job, 1000, 0, NULL, 0), RELKVANU_RESTORED_FRESH, 0, 0);
+    DONE(relkvanu_reserve(&job, 2, 3), RELKVANU_RESERVED, 6, 3);
+    relkvanu_close(&job);
+    DONE(relkvanu_open_saved(&older, image, saved.a, 3, 4), RELKVANU_OPENED, 0, 0);
+    BAD(relkvanu_advance(&older, 1000, NAMES_END, 0), RELKVANU_BAD_NAME);
+    BAD(relkvanu_advance(&older, 1000, 2, NAMES_END + 1), RELKVANU_BAD_NAME);
+    FENCED(relkvanu_advance(&older, NAMES_END, NAMES_END, 9), RELKVANU_TERMS_USED_UP, 0);
+    expect(relkvanu_advance(&older, NAMES_END, 2, 9), RELKVANU_REFUSED, RELKVANU_MOMENT_TOO_LARGE, 0, 0, __LINE__);
+    DONE(relkvanu_term(&older), RELKVANU_TERM, 1, 6);
+    DONE(relkvanu_advance(&older, 1000, 2, 9), RELKVANU_RESTORED_FRESH, 0, 0);
+    DONE(relkvanu_term(&older), RELKVANU_TERM, 3, 9);
+    FENCED(relkvanu_reserve(&older, 2, 1), RELKVANU_OLD_TERM, 0);
+    DONE(relkvanu_garbage(&older, files, 4, left, 4, others, 4), RELKVANU_GARBAGE, 3, 1);
+    CHECK(left[0] == 4 && left[1] == 5 && left[2] == 8 && others[0] == 9);
+    DONE(line(&older, "advance 1000 1 1"), RELKVANU_RESTORED_FRESH, 0, 0);
+    DONE(relkvanu_term(&older), RELKVANU_TERM, 4, 9);
+    BAD(line(&older, "advance 1000 1 0"), RELKVANU_BAD_NAME);
+    FENCED(relkvanu_advance(&nameless, 1000, 1, 0), RELKVANU_NO_NAMES, 0);
+    FENCED(line(&nameless, "advance 1000 1 0"), RELKVANU_NO_NAMES, 0);
+    relkvanu_close(&older);
+    CLOSED(relkvanu_advance(&older, 1000, 1, 1));
+    relkvanu_close(&nameless);
+}
+
 /* Both buffers need a place for each file, and nothing else is written. */
 static void buffers(void) {
     relkvanu job = named(5);
@@ -147,6 +180,10 @@ static relkvanu_answer forfeits(relkvanu *job) {
     return relkvanu_forfeit(job, 1, &name, 1);
 }
 
+static relkvanu_answer advances(relkvanu *job) {
+    return relkvanu_advance(job, 1000, 3, 1000000);
+}
+
 static relkvanu_answer acknowledges(relkvanu *job) {
     return ack(job, 1, 1000, 1, 5);
 }
@@ -184,6 +221,7 @@ static void memory(void) {
     CHECK(without_memory(busy, forfeits) > 0);
     CHECK(without_memory(busy, acknowledges) > 0);
     CHECK(without_memory(busy, declines) == 0);
+    CHECK(without_memory(busy, advances) == 0);
     relkvanu job = busy();
     heap_refuse_from(1);
     look(&job);
@@ -198,6 +236,7 @@ int main(void) {
     without_a_term();
     names_later();
     given_up();
+    from_an_older_image();
     buffers();
     texts();
     memory();

@@ -26,6 +26,7 @@ const (
 	CallForfeit   CallKind = C.RELKVANU_CALL_FORFEIT // Relkvanu_forfeit.
 	CallTrigger   CallKind = C.RELKVANU_CALL_TRIGGER
 	CallConfigure CallKind = C.RELKVANU_CALL_CONFIGURE
+	CallAdvance   CallKind = C.RELKVANU_CALL_ADVANCE // Relkvanu_advance.
 	// embed/bindings: end
 )
 

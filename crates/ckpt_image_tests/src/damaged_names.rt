@@ -1,6 +1,6 @@
 //! Texts of images with names in each kind of state that no image may have: each is damaged, with
 //! ample memory. What is wrong follows from docs/IMAGE.md.
-use crate::names::{WRITTEN, fenced};
+use crate::names::{TOUCHING, fenced};
 use crate::support::{holds, with};
 use ckpt_core::{ImageFault, Secret};
 use ckpt_terms::Terms;
@@ -22,7 +22,7 @@ fn find(
     expected: Option<ImageFault>,
 ) -> Result<(), Fail> {
     for (part, other) in rows {
-        let text = with(alloc, WRITTEN, part, other)?;
+        let text = with(alloc, TOUCHING, part, other)?;
         holds(rt, fault(alloc, text.as_str())? == expected, other);
     }
     Ok(())
@@ -64,7 +64,7 @@ const DAMAGED: [(&str, &str); 19] = [
 
 #[test]
 fn refuses_each_kind_of_damaged_names(rt: HostRuntime) -> Result<(), Fail> {
-    assert!(rt; fault(rt.alloc(), WRITTEN)?.is_none());
+    assert!(rt; fault(rt.alloc(), TOUCHING)?.is_none());
     find(&rt, rt.alloc(), &DAMAGED, Some(ImageFault::Damaged))
 }
 

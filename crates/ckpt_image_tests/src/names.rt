@@ -9,8 +9,9 @@ use std::alloc::{AllocError, Global};
 use std::process::Abort;
 use std::test::Fail;
 
-/// Names 5 to 8 and then 9 and 10 were reserved, and checkpoint 1 has file 6.
-pub const WRITTEN: &str = concat!(
+/// Names 5 to 8 and then 9 and 10 were reserved, and checkpoint 1 has file 6. Two ranges touch, as in
+/// the texts of earlier builds.
+pub const TOUCHING: &str = concat!(
     r#"{"base":null,"#,
     r#""clock":{"completed":1040,"due":2000,"latest":1040},"#,
     r#""failures":0,"#,
@@ -63,6 +64,11 @@ fn job(alloc: Global) -> Result<Terms, Fail> {
     Ok(terms)
 }
 
+/// The text of that job: no two ranges touch.
+fn written(alloc: Global) -> Result<String, AllocError> {
+    with(alloc, TOUCHING, "[7,9],[9,11]", "[7,11]")
+}
+
 /// The image with names that a text describes.
 pub fn fenced(alloc: Global, text: &str) -> Result<TermsImage, Fail> {
     match parse_names_image(alloc, text)? {
@@ -74,7 +80,16 @@ pub fn fenced(alloc: Global, text: &str) -> Result<TermsImage, Fail> {
 #[test]
 fn writes_a_job_with_names(rt: HostRuntime) -> Result<(), Fail> {
     let text = names_image_text(rt.alloc(), &job(rt.alloc())?.image()?)?;
-    are_equal(&rt, text.as_str(), WRITTEN);
+    are_equal(&rt, text.as_str(), written(rt.alloc())?.as_str());
+    Ok(())
+}
+
+#[test]
+fn writes_ranges_that_touch_as_one(rt: HostRuntime) -> Result<(), Fail> {
+    let image = fenced(rt.alloc(), TOUCHING)?;
+    let terms = Terms::from_image(rt.alloc(), &image, Secret::fixed())?;
+    let text = names_image_text(rt.alloc(), &terms.image()?)?;
+    are_equal(&rt, text.as_str(), written(rt.alloc())?.as_str());
     Ok(())
 }
 
@@ -88,7 +103,7 @@ fn answer_alike(cut: &mut Terms, whole: &mut Terms, call: FencedCall) -> Result<
 #[test]
 fn goes_on_from_its_text(rt: HostRuntime) -> Result<(), Fail> {
     let alloc = rt.alloc();
-    let image = fenced(alloc, WRITTEN)?;
+    let image = fenced(alloc, TOUCHING)?;
     let mut whole = job(alloc)?;
     let mut cut = Terms::from_image(alloc, &image, Secret::fixed())?;
     assert!(rt; answer_alike(&mut cut, &mut whole, ack(alloc, 1050, 1, 5)?)?);
@@ -105,7 +120,7 @@ fn goes_on_from_its_text(rt: HostRuntime) -> Result<(), Fail> {
 
 #[test]
 fn reads_what_an_image_holds(rt: HostRuntime) -> Result<(), Fail> {
-    let image = fenced(rt.alloc(), WRITTEN)?;
+    let image = fenced(rt.alloc(), TOUCHING)?;
     let terms = Terms::from_image(rt.alloc(), &image, Secret::fixed())?;
     assert!(rt; terms.term() == 1 && terms.next_name() == 11);
     let spans = terms.unspent();
@@ -154,7 +169,7 @@ fn refusal(alloc: Global, text: &str) -> Result<Option<TextFault>, TextFault> {
 #[test]
 fn refuses_what_is_no_image_with_names(rt: HostRuntime) -> Result<(), Fail> {
     for (part, other) in REFUSED {
-        let text = with(rt.alloc(), WRITTEN, part, other)?;
+        let text = with(rt.alloc(), TOUCHING, part, other)?;
         let fault = refusal(rt.alloc(), text.as_str())?;
         holds(&rt, fault == Some(TextFault::NoImage), other);
     }
@@ -164,11 +179,11 @@ fn refuses_what_is_no_image_with_names(rt: HostRuntime) -> Result<(), Fail> {
 /// A reader of images without names refuses one with names. In version 1 the member has no meaning.
 #[test]
 fn tells_the_two_by_their_version(rt: HostRuntime) -> Result<(), Fail> {
-    match parse_image(rt.alloc(), WRITTEN) {
+    match parse_image(rt.alloc(), TOUCHING) {
         Ok(_) => return Err(Fail::new("an image with names is read as one without")),
         Err(fault) => assert!(rt; told(fault)? == TextFault::NoImage),
     }
-    let text = with(rt.alloc(), WRITTEN, "\"version\":2", "\"version\":1")?;
+    let text = with(rt.alloc(), TOUCHING, "\"version\":2", "\"version\":1")?;
     let saved = parse_names_image(rt.alloc(), text.as_str())?;
     assert!(rt; matches!(&saved, SavedImage::Plain(_)));
     Ok(())

@@ -5,6 +5,7 @@ pub mod FileLemmas
 pub mod FirstNumbers
 pub mod KeywordLemmas
 pub mod LineLemmas
+pub mod ListLemmas
 mod Names
 pub mod NumberLemmas
 pub mod NumberWords

@@ -1,5 +1,5 @@
 -- The first word of a line, which says what kind of line it is.
-use Rattle.std.specs.Prelude.{ℕ, Bool, true, false, List, [], ◌∷◌, codes, Option, find}
+use Rattle.std.specs.Prelude.{ℕ, List, [], ◌∷◌, codes, Option, find}
 use Rattle.std.specs.Str.{bytes_eq}
 use Rattle.ckpt_lines.specs.declared.keyword.Keyword.{Keyword}
 use Rattle.ckpt_lines.specs.declared.keyword.Keyword.TheVariants.{Config, Job, Start, Tick, Savepoint, Ack, Decline, Dispose, Restore, Cancel, Take, Deleted, Undeleted, Show, Count, All}
@@ -27,10 +27,3 @@ keywords = Config ∷ Job ∷ Start ∷ Tick ∷ Savepoint ∷ Ack ∷ Decline �
 
 unfoldable pub keyword_of : List ℕ → Option Keyword
 keyword_of word = find (λ keyword. bytes_eq (spelling keyword) word) keywords
-
--- these lines have lists, whose length is not known beforehand
-abbrev pub takes_memory : Keyword → Bool
-takes_memory Ack = true
-takes_memory Job = true
-takes_memory Restore = true
-takes_memory _ = false

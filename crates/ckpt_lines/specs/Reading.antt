@@ -1,5 +1,5 @@
 -- What a line says, or the first fault from the left.
-use Rattle.std.specs.Prelude.{◌≡◌, ℕ, Bool, true, false, not, ◌&&◌, ◌==◌, nat_lt, List, [], ◌∷◌, length, slice_index, if◌then◌else◌, Option, Some, None, Result, Ok, Err}
+use Rattle.std.specs.Prelude.{◌≡◌, ℕ, Bool, true, false, not, ◌&&◌, ◌==◌, nat_lt, List, [], ◌∷◌, length, slice_index, if◌then◌else◌, Option, Some, None, is_ok, Result, Ok, Err}
 use Rattle.std.specs.List.{filter_map}
 use Rattle.std.specs.Str.Lines.{strip_carriage_return}
 use Rattle.ckpt_ids.specs.declared.subtask.SubtaskId.{SubtaskId}
@@ -18,7 +18,7 @@ use Rattle.ckpt_lines.specs.declared.line.Line.{Line}
 use Rattle.ckpt_lines.specs.declared.line.Line.TheVariants.{Skip, Config, Job, Start, Call, BadShape, All}
 use Rattle.ckpt_lines.specs.declared.values.FileWord.{FileWord}
 use Rattle.ckpt_lines.specs.Bytes.{hash}
-use Rattle.ckpt_lines.specs.Keywords.{keyword_of, spelling, takes_memory}
+use Rattle.ckpt_lines.specs.Keywords.{keyword_of, spelling}
 use Rattle.ckpt_lines.specs.Values.{number, subtask, retention, target_of, file_word, fresh_file, reused_file}
 use Rattle.ckpt_lines.specs.Words.{words_of}
 
@@ -210,15 +210,45 @@ is_too_long line = nat_lt LONGEST_LINE (length line)
 unfoldable pub reading : List ℕ → Result Line LineFault
 reading line = if is_too_long line then Err fault.TooLong else line_of (words_of (strip_carriage_return line))
 
-abbrev pub may_take_memory : Option Keyword → Bool
-may_take_memory None = false
-may_take_memory (Some first) = takes_memory first
+abbrev pub begins_with_a_number : List (List ℕ) → Bool
+begins_with_a_number [] = false
+begins_with_a_number (word ∷ words) = is_ok (number word)
+
+-- true, and read without a fault
+abbrev pub is_yes : Result Bool LineFault → Bool
+is_yes (Ok b) = b
+is_yes (Err why) = false
+
+-- whether the files of an `ack` are reached: the words before them have no fault
+unfoldable pub reaches_files : List (List ℕ) → Bool
+reaches_files words = is_yes (do
+  now ← number_place words
+  id ← number_place now.1
+  subtask ← subtask_place id.1
+  Ok true)
+
+-- and whether a parallelism of a `restore` is read
+unfoldable pub reaches_a_shape : List (List ℕ) → Bool
+reaches_a_shape words = is_yes (do
+  now ← number_place words
+  target ← target_place now.1
+  Ok (begins_with_a_number target.1))
+
+-- `ack`, `job` and `restore` have lists. Memory is taken only once the words before the list were read, and of numbers the first one.
+abbrev pub reaches_a_list : Keyword → List (List ℕ) → Bool
+reaches_a_list keyword.Ack words = reaches_files words
+reaches_a_list keyword.Job words = begins_with_a_number words
+reaches_a_list keyword.Restore words = reaches_a_shape words
+reaches_a_list first words = false
+
+abbrev pub row_reaches_a_list : Option Keyword → List (List ℕ) → Bool
+row_reaches_a_list None words = false
+row_reaches_a_list (Some first) words = reaches_a_list first words
 
 abbrev pub begins_with_a_list : List (List ℕ) → Bool
 begins_with_a_list [] = false
-begins_with_a_list (word ∷ words) = may_take_memory (keyword_of word)
+begins_with_a_list (word ∷ words) = row_reaches_a_list (keyword_of word) words
 
--- `ack`, `job` and `restore` have lists
 unfoldable pub may_want_memory : List ℕ → Bool
 may_want_memory line = not (is_too_long line) && begins_with_a_list (words_of (strip_carriage_return line))
 
@@ -248,6 +278,6 @@ Takes (Some first) before after = before ≡ spelling first ∷ after
 
 -- What the first word says, and the words after it: the kind of the line, or that it is skipped.
 abbrev pub Begins : Result (Option Keyword) LineFault → List (List ℕ) → List (List ℕ) → Type 0
-Begins (Ok (Some first)) before after = (line_of before ≡ row first after) × (begins_with_a_list before ≡ takes_memory first)
+Begins (Ok (Some first)) before after = (line_of before ≡ row first after) × (begins_with_a_list before ≡ reaches_a_list first after)
 Begins (Ok None) before after = line_of before ≡ Ok Skip
 Begins (Err why) before after = (line_of before ≡ Err why) × (is_memory why ≡ false)

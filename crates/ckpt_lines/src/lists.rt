@@ -1,5 +1,6 @@
 //! Lists at the end of a line: numbers, and file words.
-ghost use Rattle.ckpt_lines.specs.Reading.{each, file_places, Reads};
+ghost use Rattle.std.specs.Prelude.{◌≡◌, true, Err};
+ghost use Rattle.ckpt_lines.specs.Reading.{begins_with_a_number, each, file_places, Reads};
 ghost use Rattle.ckpt_lines.specs.Values.{number};
 
 use crate::fault::LineFault;
@@ -11,7 +12,8 @@ use std::alloc::Global;
 
 /// The numbers up to the end of the line.
 pub(crate) fn numbers(alloc: Global, words: &mut Words<'_>) -> Result<Numbers, LineFault>
-    ensures { Reads result (each number words.old) }
+    ensures line { Reads result (each number words.old) }
+    ensures memory { result ≡ Err LineFault.Memory → begins_with_a_number words.old ≡ true }
 {
     let mut list = Vec::new(alloc);
     while let Some(word) = words.next() {

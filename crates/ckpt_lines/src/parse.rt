@@ -69,7 +69,8 @@ pub fn line_of(alloc: Global, words: &mut Words<'_>) -> Result<Line, LineFault>
 ///
 /// Returns [`LineFault::TooLong`] for more than [`LONGEST_LINE`] bytes, the carriage return
 /// included. Otherwise returns [`LineFault::Word`] if the first word is unknown, otherwise the
-/// first fault from the left. Only `ack`, `job` and `restore` lines return [`LineFault::Memory`].
+/// first fault from the left. Only `ack`, `job` and `restore` lines return [`LineFault::Memory`], and
+/// only once the words before their list were read, and the first number of a list of numbers.
 #[tactic(auto, unfolding(crate::specs::Reading::reading, crate::specs::Reading::may_want_memory))]
 pub fn parse_line(alloc: Global, line: &[u8]) -> Result<Line, LineFault>
     ensures line { IfOk result (λ read. reading line.now ≡ Ok read) }

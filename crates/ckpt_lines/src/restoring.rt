@@ -1,5 +1,5 @@
 //! What a `restore` line says, once its words are read.
-ghost use Rattle.std.specs.Prelude.{Ok};
+ghost use Rattle.std.specs.Prelude.{◌≡◌, ◌≢◌, [], Ok, Err};
 ghost use Rattle.ckpt_lines.specs.Reading.{restoring, Reads};
 
 use crate::fault::LineFault;
@@ -16,7 +16,8 @@ pub(crate) fn restoring(
     target: Target,
     parallelisms: &Numbers,
 ) -> Result<Line, LineFault>
-    ensures { Reads result (Ok (restoring now target parallelisms.now)) }
+    ensures line { Reads result (Ok (restoring now target parallelisms.now)) }
+    ensures memory { result ≡ Err LineFault.Memory → parallelisms.now ≢ [] }
 {
     if parallelisms.is_empty() {
         return Ok(Line::Call(Call::Restore {

@@ -1,7 +1,6 @@
 //! Each kind of line, from the words after its first.
 ghost use Rattle.std.specs.Prelude.{◌≡◌, true};
-ghost use Rattle.ckpt_lines.specs.Keywords.{takes_memory};
-ghost use Rattle.ckpt_lines.specs.Reading.{ack_line, all_line, config_line, decline_line, ended, job_line, number_call, number_line, only_number, restore_line, row, settings, start_line, Reads, IsExact};
+ghost use Rattle.ckpt_lines.specs.Reading.{ack_line, all_line, config_line, decline_line, ended, job_line, number_call, number_line, only_number, restore_line, row, settings, start_line, Reads, IsExact, begins_with_a_number, reaches_a_list, reaches_a_shape, reaches_files};
 
 use crate::fault::LineFault;
 use crate::keyword::Keyword;
@@ -77,7 +76,8 @@ fn config(words: &mut Words<'_>) -> Result<Line, LineFault>
 
 #[tactic(auto, unfolding(crate::specs::Reading::job_line))]
 fn job(alloc: Global, words: &mut Words<'_>) -> Result<Line, LineFault>
-    ensures { Reads result (job_line words.old) }
+    ensures line { Reads result (job_line words.old) }
+    ensures memory { result ≡ Err LineFault.Memory → begins_with_a_number words.old ≡ true }
 {
     let parallelisms = numbers(alloc, words)?;
     if parallelisms.is_empty() {
@@ -86,9 +86,10 @@ fn job(alloc: Global, words: &mut Words<'_>) -> Result<Line, LineFault>
     Ok(Line::Job { parallelisms })
 }
 
-#[tactic(auto, unfolding(crate::specs::Reading::ack_line))]
+#[tactic(auto, unfolding(crate::specs::Reading::ack_line, crate::specs::Reading::reaches_files))]
 fn ack(alloc: Global, words: &mut Words<'_>) -> Result<Line, LineFault>
-    ensures { Reads result (ack_line words.old) }
+    ensures line { Reads result (ack_line words.old) }
+    ensures memory { result ≡ Err LineFault.Memory → reaches_files words.old ≡ true }
 {
     let now = words.number()?;
     let id = CheckpointId(words.number()?);
@@ -114,9 +115,10 @@ fn decline(words: &mut Words<'_>) -> Result<Line, LineFault>
     Ok(Line::Call(Call::Decline { now, id, subtask }))
 }
 
-#[tactic(auto, unfolding(crate::specs::Reading::restore_line))]
+#[tactic(auto, unfolding(crate::specs::Reading::restore_line, crate::specs::Reading::reaches_a_shape))]
 fn restore(alloc: Global, words: &mut Words<'_>) -> Result<Line, LineFault>
-    ensures { Reads result (restore_line words.old) }
+    ensures line { Reads result (restore_line words.old) }
+    ensures memory { result ≡ Err LineFault.Memory → reaches_a_shape words.old ≡ true }
 {
     let now = words.number()?;
     let target = target(words)?;
@@ -190,7 +192,7 @@ fn number_line(keyword: Keyword, words: &mut Words<'_>) -> Result<Line, LineFaul
 #[tactic(auto, unfolding(crate::specs::Reading::row))]
 pub(crate) fn row(alloc: Global, keyword: Keyword, words: &mut Words<'_>) -> Result<Line, LineFault>
     ensures line { Reads result (row keyword words.old) }
-    ensures memory { result ≡ Err LineFault.Memory → takes_memory keyword ≡ true }
+    ensures memory { result ≡ Err LineFault.Memory → reaches_a_list keyword words.old ≡ true }
 {
     match keyword {
         Keyword::Config => config(words),

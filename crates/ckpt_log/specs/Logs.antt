@@ -1,5 +1,6 @@
 -- What each line of a log does, and what it prints.
-use Rattle.std.specs.Prelude.{ℕ, ◌==◌, if◌then◌else◌, List, Option, Some, None, Result, Ok, Err}
+use Rattle.std.specs.Prelude.{ℕ, Bool, false, ◌&&◌, ◌==◌, if◌then◌else◌, List, Option, Some, None, Result, Ok, Err}
+use Rattle.ckpt_model.specs.Memory.{may_want_memory}
 use Rattle.ckpt_model.specs.State.{State}
 use Rattle.ckpt_model.specs.Steps.{Stepped, step}
 use Rattle.ckpt_lines.specs.declared.fault.LineFault.{LineFault}
@@ -50,6 +51,11 @@ stepped s = (s.0, Script (script_outcome.Answered s.1))
 abbrev pub plainly_called : State → FencedCall → State × LogOutcome
 plainly_called m (Make term call) = if term == 0 then stepped (step m call) else (m, Refused NoNames)
 plainly_called m call = (m, Refused NoNames)
+
+-- and it may run out of memory only where that step may
+abbrev pub plainly_wants : State → FencedCall → Bool
+plainly_wants m (Make term call) = (term == 0) && may_want_memory m call
+plainly_wants m call = false
 
 -- with this state, and with these names
 abbrev pub with_core : LogScene → State → Option Issued → LogScene

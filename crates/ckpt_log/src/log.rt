@@ -1,9 +1,11 @@
 //! A log that is being replayed: what its lines do, and what they print.
-ghost use Rattle.std.specs.Prelude.{◌≡◌, ◌++◌, Ok, Err, IfOk, OnOk, is_err, string_bytes};
+ghost use Rattle.std.specs.Prelude.{◌≡◌, ◌++◌, true, Ok, Err, IfOk, OnOk, OnErr, is_err, string_bytes};
+ghost use Rattle.ckpt_model.specs.Memory.{may_want_memory};
 ghost use Rattle.ckpt_model.specs.Steps.{step};
 ghost use Rattle.ckpt_session.specs.Sessions.{after_start, before_start, configured, obeyed, refused, shaped, started_so_far};
 ghost use Rattle.ckpt_term_lines.specs.TermReading.{term_reading};
-ghost use Rattle.ckpt_log.specs.Logs.{in_script, log_called, log_done, log_fenced, log_said, log_set, opening_log, plainly_called, stepped};
+ghost use Rattle.ckpt_log.specs.Logs.{in_script, log_called, log_done, log_fenced, log_said, log_set, opening_log, plainly_called, plainly_wants, stepped};
+ghost use Rattle.ckpt_terms.specs.Machines.{IsFirstName};
 
 use crate::outcome::{LogOutcome, LogRefusal};
 use crate::texts::write_log_outcome;
@@ -118,7 +120,8 @@ impl Log {
     /// Gives the coordinator names.
     #[tactic(auto, unfolding(crate::specs::Logs::log_fenced))]
     fn fence(&mut self, first: u64) -> Result<LogOutcome, AllocError>
-        ensures { IfOk result (λ outcome. (self.new, outcome) ≡ log_fenced self.old self.old.scene.core first) }
+        ensures done { IfOk result (λ outcome. (self.new, outcome) ≡ log_fenced self.old self.old.scene.core first) }
+        ensures memory { OnErr result (IsFirstName first) }
     {
         let Some(machine) = &mut self.machine else {
             return Ok(not_started());
@@ -264,7 +267,8 @@ fn not_started() -> LogOutcome
 
 /// Makes a call of a coordinator without names.
 fn call_plainly(core: &mut Core, call: &FencedCall) -> Result<LogOutcome, AllocError>
-    ensures { IfOk result (λ outcome. (core.new, outcome) ≡ plainly_called core.old call.now) }
+    ensures done { IfOk result (λ outcome. (core.new, outcome) ≡ plainly_called core.old call.now) }
+    ensures memory { OnErr result (plainly_wants core.old call.now ≡ true) }
 {
     match call {
         FencedCall::Make { term: 0, call } => answer(core, call),
@@ -274,7 +278,8 @@ fn call_plainly(core: &mut Core, call: &FencedCall) -> Result<LogOutcome, AllocE
 
 /// Makes a call of the coordinator.
 fn answer(core: &mut Core, call: &Call) -> Result<LogOutcome, AllocError>
-    ensures { IfOk result (λ outcome. (core.new, outcome) ≡ stepped (step core.old call.now)) }
+    ensures done { IfOk result (λ outcome. (core.new, outcome) ≡ stepped (step core.old call.now)) }
+    ensures memory { OnErr result (may_want_memory core.old call.now ≡ true) }
 {
     match core.apply(call) {
         Ok(reply) => Ok(LogOutcome::Script(Outcome::Answered(Answer::Done(reply)))),

@@ -5,7 +5,7 @@ use ckpt_terms::{FenceFault, FencedAnswer};
 /// Why a log itself refuses a line, before the coordinator sees it. Nothing has changed.
 #[derive(Clone, Copy, Debug, PartialEq, Eq)]
 pub enum LogRefusal {
-    /// `reserve`, `forfeit`, or `in` with a term other than 0, before an accepted `fence`.
+    /// `reserve`, `forfeit`, `advance`, or `in` with a term other than 0, before an accepted `fence`.
     NoNames,
     /// `in` with a line that is no call, or `all`.
     NoCall,

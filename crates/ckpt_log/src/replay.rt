@@ -27,8 +27,7 @@ pub fn replay<R: Read, W: Write>(
     let mut bytes = Vec::new(alloc);
     match reader.read_to_end(&mut bytes) {
         Ok(_) => (),
-        Err(why) if why.kind() == ErrorKind::OutOfMemory => return Err(RunFault::Memory),
-        Err(_) => return Err(RunFault::Read),
+        Err(why) => return Err(read_fault(why.kind())),
     }
     let mut text = String::new(alloc);
     let is_faulty = print_log(alloc, secret, bytes.as_slice(), &mut text)?;
@@ -44,6 +43,17 @@ fn write_out<W: Write>(writer: &mut W, bytes: &[u8]) -> std::io::Result<()>
 {
     writer.write_all(bytes)?;
     writer.flush()
+}
+
+/// Why a log could not be read whole, from what the reader says.
+fn read_fault(kind: ErrorKind) -> RunFault
+    ensures memory { result ≡ RunFault.Memory → kind ≡ ErrorKind.OutOfMemory }
+    ensures read { result ≢ RunFault.Memory → result ≡ RunFault.Read }
+{
+    match kind {
+        ErrorKind::OutOfMemory => RunFault::Memory,
+        _ => RunFault::Read,
+    }
 }
 
 /// Appends what a log prints. Returns whether a line has a fault.

@@ -1,22 +1,22 @@
 -- The text that is written for a state with names is read as that state, and not as one without names.
-use Rattle.std.proofs.Common.{◌≡◌, ◌↔◌, ℕ, ◌≤◌, Bool, true, false, eqb, map, refl, ap, ⊎_elim, arith, Option, Some, None, cond, codes}
+use Rattle.std.proofs.Common.{◌≡◌, ◌↔◌, ℕ, ◌≤◌, Bool, true, false, eqb, List, map, refl, sym, ap, ◌∙◌, ⊎_elim, arith, Option, Some, None, cond, codes}
 use Rattle.std.specs.Prelude.{option_and_then, option_map}
 use Rattle.std.proofs.lemmas.Bool.{cases_Bool}
 use Rattle.ckpt_model.specs.State.{State}
 use Rattle.ckpt_image.specs.Fits.{Fits}
-use Rattle.ckpt_image.specs.Images.{image_of, image_of_any_version}
+use Rattle.ckpt_image.specs.Images.{image_of, image_of_any_version, image_read}
 use Rattle.ckpt_image.specs.Members.{number_of, only, version_of}
 use Rattle.ckpt_image.specs.Written.{image_members}
 use Rattle.ckpt_image.proofs.RoundTrip.{all, members_read_back}
 use Rattle.ckpt_image.proofs.Plain.{image_depth, members_have_no_float, shallow_items}
-use Rattle.ckpt_names_image.specs.Named.{Fenced, Named, Plain, Saved, named_data, named_of, names_data, names_of, saved_of, span_data, span_of}
+use Rattle.ckpt_names_image.specs.Named.{Fenced, Named, Plain, Saved, named_data, named_of, names_data, names_of, saved_of, saved_read, span_data, span_of}
 use Rattle.ckpt_names_image.proofs.Placed.{depth_put, float_put}
 use Rattle.ckpt_terms.specs.declared.names.Span.{Span}
 use Rattle.ckpt_answers.specs.MetadataTexts.{members}
 use Rattle.ckpt_answers.proofs.NoFloats.{no_floats}
 use Rattle.serde_json.specs.Data.{Data, object, put, depth, items_depth, members_depth}
 use Rattle.serde_json.specs.Find.{get}
-use Rattle.serde_json.specs.Read.{max_depth}
+use Rattle.serde_json.specs.Read.{max_depth, read}
 use Rattle.serde_json.specs.View.{items_of}
 use Rattle.serde_json.specs.Written.{has_float}
 
@@ -119,3 +119,14 @@ by_member (Some d) any named m = by_number (number_of d) any named m
 pub plain_as_ever : (d : Data) (m : State) → (saved_of d ≡ Some (Plain m)) ↔ (image_of d ≡ Some m)
 unfolding saved_of image_of
 plain_as_ever d m = by_member (get (codes "version") d) (image_of_any_version d) (named_of d) m
+
+-- a text that is read as an image without names is read so among both kinds
+pub plain_text_back : (text : List ℕ) (m : State) → image_read text ≡ Some m → saved_read text ≡ Some (Plain m)
+unfolding image_read saved_read
+plain_text_back text m is = by (read text) refl
+  where
+    by : (found : Option Data) → read text ≡ found → option_and_then saved_of (read text) ≡ Some (Plain m)
+    by (Some d) e = ap (option_and_then saved_of) e ∙ (plain_as_ever d m).1 (ap (option_and_then image_of) (sym e) ∙ is)
+    by None e =
+        let none : ◌≡◌ {A = Option State} None (Some m) = ap (option_and_then image_of) (sym e) ∙ is in
+        absurd cc

@@ -1,10 +1,10 @@
 -- A done checkpoint is dropped for newer ones only, unless a call goes back.
-use Rattle.std.proofs.Common.{◌≡◌, ℕ, ◌≤◌, ◌<◌, Bool, true, false, ◌&&◌, nat_lt, nat_le, List, [], ◌∷◌, ◌∙◌, refl, ap, arith, if◌then◌else◌, find, inl, inr, Some}
+use Rattle.std.proofs.Common.{◌≡◌, ℕ, ◌≤◌, ◌<◌, Bool, true, false, ◌&&◌, nat_lt, nat_le, List, [], ◌∷◌, ◌∙◌, refl, sym, ap, arith, if◌then◌else◌, find, inl, inr, Option, Some, None}
 use Rattle.std.proofs.lemmas.Grind.{common_steps}
 use Rattle.std.specs.Prelude.{◌==◌}
 use Rattle.ckpt_ids.specs.declared.call.Target.TheVariants as target
 use Rattle.ckpt_ids.specs.declared.call.Call.{Call}
-use Rattle.ckpt_ids.specs.declared.call.Call.TheVariants.{Ack, Restore, Cancel}
+use Rattle.ckpt_ids.specs.declared.call.Call.TheVariants.{Ack, Restore, Cancel, Configure}
 use Rattle.ckpt_ids.specs.declared.reply.Choice.TheVariants as choice
 use Rattle.ckpt_ids.specs.Ordered.{IsIn}
 use Rattle.ckpt_ids.specs.Records.{Record}
@@ -14,9 +14,10 @@ use Rattle.ckpt_model.specs.State.{State, choice_of, is_checkpoint, is_done_chec
 use Rattle.ckpt_model.specs.Steps.{Stepped, step}
 use Rattle.ckpt_model.specs.Histories.{replay}
 use Rattle.ckpt_model.specs.Laws.{AreCalls, Part, ack_of}
-use Rattle.ckpt_model.specs.Soundness.{IsSound}
-use Rattle.ckpt_model.specs.Keeping.{may_drop, newer_than}
+use Rattle.ckpt_model.specs.Soundness.{IsCall, IsSound}
+use Rattle.ckpt_model.specs.Keeping.{TakesNewest, has_done_checkpoint, is_accepted, may_drop, newer_than}
 use Rattle.ckpt_model.specs.Interleavings.{is_completing}
+use Rattle.ckpt_model.proofs.Keeping.Configured.{configures_now}
 use Rattle.ckpt_model.proofs.Keeping.Kept.{keeps}
 use Rattle.ckpt_model.proofs.Keeping.Completed.{leaves_done}
 use Rattle.ckpt_model.proofs.Keeping.Latest.{takes_newest}
@@ -37,31 +38,59 @@ at_most m n e = grind (arith, common_steps)
 below : (m n : ℕ) → nat_lt m n ≡ true → m < n
 below m n e = grind (arith, common_steps)
 
--- a call that may drop a checkpoint, and does not go back, leaves as many newer ones as are retained
-leaves_newer : (id : ℕ) (m : State) (call : Call) → goes_back m call ≡ false → may_drop id m call ≡ true → m.opening.config.retained ≤ newer_than id (step m call).0
-leaves_newer id m (Restore now (target.Savepoint s) shape) e f = absurd (grind (arith, common_steps))
-leaves_newer id m (Cancel now) e f = absurd (grind (arith, common_steps))
-leaves_newer id m (Ack now s subtask fresh reused) e f =
-    let x : Stepped = step m (Ack now s subtask fresh reused) in
-    at_most m.opening.config.retained (newer_than id x.0) (both_true (is_completing x.1) (nat_le m.opening.config.retained (newer_than id x.0)) f).1
-leaves_newer id m call e f = absurd (grind (arith, common_steps))
-
-one_call_by : (id : ℕ) (m : State) (call : Call) (h : HasNoOlder id m) (b : Bool) → may_drop h.0.id m call ≡ b → IsSound m → goes_back m call ≡ false → HasNoOlder id (step m call).0
-one_call_by id m call h false e s back = (h.0, keeps m call s h.0 h.1 h.2 e, h.2, h.3)
-one_call_by id m call h true e s back =
+-- of what a completion leaves, as many are newer as are retained
+completion_leaves_newer : (id : ℕ) (m : State) (h : HasNoOlder id m) (x : Stepped) → IsSound m → (is_completing x.1 && nat_le m.opening.config.retained (newer_than h.0.id x.0)) ≡ true → HasNoOlder id x.0
+completion_leaves_newer id m h x s e =
     let newer : Record → Bool = λ r. is_done_checkpoint r && nat_lt h.0.id r.id in
-    let many : m.opening.config.retained ≤ newer_than h.0.id (step m call).0 = leaves_newer h.0.id m call back e in
+    let many : m.opening.config.retained ≤ newer_than h.0.id x.0 = at_most m.opening.config.retained (newer_than h.0.id x.0) (both_true (is_completing x.1) (nat_le m.opening.config.retained (newer_than h.0.id x.0)) e).1 in
     let some : 1 ≤ m.opening.config.retained = s.config.retained_from in
-    let one = IsIn-from_counted newer (step m call).0.records (omega (arith, many, some)) in
+    let one = IsIn-from_counted newer x.0.records (omega (arith, many, some)) in
     let parts = both_true (is_done_checkpoint one.0) (nat_lt h.0.id one.0.id) one.2 in
     let after : h.0.id < one.0.id = below h.0.id one.0.id parts.1 in
     let from : id ≤ h.0.id = h.3 in
     (one.0, one.1, parts.0, omega (arith, after, from))
 
+same_choice : (m n : ℕ) → choice.Checkpoint m ≡ choice.Checkpoint n → m ≡ n
+same_choice m n e = grind (arith, common_steps)
+
+no_savepoint : (m n : ℕ) → choice.Savepoint m ≡ choice.Checkpoint n → ⊥
+no_savepoint m n e = grind (arith, common_steps)
+
+not_fresh : (n : ℕ) → choice.Fresh ≡ choice.Checkpoint n → ⊥
+not_fresh n e = grind (arith, common_steps)
+
+-- a checkpoint that is the choice is live
+live_by : (id n : ℕ) (m : State) (b : Bool) (base : Option ℕ) → has_done_checkpoint m ≡ b → m.base ≡ base → TakesNewest m → choice_of m ≡ choice.Checkpoint n → id ≤ n → HasNoOlder id m
+live_by id n m true base done at takes chosen up =
+    let newest = takes.checkpoint done in
+    let same : newest.0.id ≡ n = same_choice newest.0.id n (sym newest.2 ∙ chosen) in
+    (newest.0, newest.1.live, newest.1.done, omega (arith, up, same))
+live_by id n m false (Some s) done at takes chosen up = absurd (no_savepoint s n (sym (takes.savepoint done s at) ∙ chosen))
+live_by id n m false None done at takes chosen up = absurd (not_fresh n (sym (takes.fresh done at) ∙ chosen))
+
+-- a call that may drop a checkpoint, and does not go back, leaves one that is no older
+leaves_one : (id : ℕ) (m : State) (call : Call) (h : HasNoOlder id m) → IsCall call → IsSound m → goes_back m call ≡ false → may_drop h.0.id m call ≡ true → HasNoOlder id (step m call).0
+leaves_one id m (Restore now (target.Savepoint s) shape) h are sound back e = absurd (grind (arith, common_steps))
+leaves_one id m (Cancel now) h are sound back e = absurd (grind (arith, common_steps))
+leaves_one id m (Ack now s subtask fresh reused) h are sound back e = completion_leaves_newer id m h (step m (Ack now s subtask fresh reused)) sound e
+leaves_one id m (Configure now config) h are sound back e =
+    let x : Stepped = step m (Configure now config) in
+    let accepted : is_accepted x.1 ≡ true = (both_true (is_accepted x.1) (nat_le config.retained (newer_than h.0.id m)) e).0 in
+    let newest = (takes_newest m sound).checkpoint (list_any-from_IsIn is_done_checkpoint h.0 m.records h.1 h.2) in
+    let up : h.0.id ≤ newest.0.id = newest.1.greatest h.0 h.1 h.2 in
+    let from : id ≤ h.0.id = h.3 in
+    let stays : choice_of x.0 ≡ choice_of m = (configures_now m now config sound are accepted).choice in
+    live_by id newest.0.id x.0 (has_done_checkpoint x.0) x.0.base refl refl (takes_newest x.0 (step_keeps m (Configure now config) are sound)) (stays ∙ newest.2) (omega (arith, up, from))
+leaves_one id m call h are sound back e = absurd (grind (arith, common_steps))
+
+one_call_by : (id : ℕ) (m : State) (call : Call) (h : HasNoOlder id m) (b : Bool) → may_drop h.0.id m call ≡ b → IsCall call → IsSound m → goes_back m call ≡ false → HasNoOlder id (step m call).0
+one_call_by id m call h false e are s back = (h.0, keeps m call s h.0 h.1 h.2 e, h.2, h.3)
+one_call_by id m call h true e are s back = leaves_one id m call h are s back e
+
 all_calls : (id : ℕ) (m : State) (calls : List Call) → IsSound m → AreCalls calls → NoneGoesBack m calls → HasNoOlder id m → HasNoOlder id (replay m calls)
 all_calls id m [] s are back h = h
 all_calls id m (call ∷ calls) s are back h =
-    all_calls id (step m call).0 calls (step_keeps m call are.0 s) are.1 back.1 (one_call_by id m call h (may_drop h.0.id m call) refl s back.0)
+    all_calls id (step m call).0 calls (step_keeps m call are.0 s) are.1 back.1 (one_call_by id m call h (may_drop h.0.id m call) refl are.0 s back.0)
 
 -- what is found is in the list, and passes the test
 found_by : {X : Type 0} (p : X → Bool) (x y : X) (xs : List X) (b : Bool) → p x ≡ b → (if b then Some x else find p xs) ≡ Some y → (find p xs ≡ Some y → IsIn y xs × (p y ≡ true)) → IsIn y (x ∷ xs) × (p y ≡ true)

@@ -12,13 +12,12 @@ use Rattle.ckpt_lines.specs.declared.line.Line.TheVariants as script
 use Rattle.ckpt_terms.specs.declared.call.FencedCall.TheVariants as call
 use Rattle.ckpt_term_lines.specs.declared.line.TermLine.TheVariants as term_line
 use Rattle.ckpt_lines.specs.Keywords.{keyword_of}
-use Rattle.ckpt_lines.specs.Reading.{begins_with_a_list, is_too_long, line_of, number_place, reading}
-use Rattle.ckpt_lines.specs.Values.{number_of}
+use Rattle.ckpt_lines.specs.Reading.{begins_with_a_list, begins_with_a_number, is_too_long, line_of, number_place, reading}
 use Rattle.ckpt_lines.specs.Words.{words_of}
 use Rattle.ckpt_term_lines.specs.declared.keyword.TermKeyword.{TermKeyword}
-use Rattle.ckpt_term_lines.specs.declared.keyword.TermKeyword.TheVariants.{Fence, Reserve, Forfeit, In, Trigger, Configure}
+use Rattle.ckpt_term_lines.specs.declared.keyword.TermKeyword.TheVariants.{Fence, Reserve, Forfeit, In, Trigger, Configure, Advance}
 use Rattle.ckpt_term_lines.specs.TermKeywords.{term_keyword_of, term_keywords, term_spelling}
-use Rattle.ckpt_term_lines.specs.TermReading.{TermBegins, in_takes_memory, made_line, plain_row, script_row, term_line_of, term_reading, without_term}
+use Rattle.ckpt_term_lines.specs.TermReading.{TermBegins, in_takes_memory, made_line, plain_row, script_row, term_line_of, term_reading, without_term, reaches_names}
 
 -- what is found passes the test
 passes : {X : Type 0} (p : X → Bool) (xs : List X) (x : X) → find p xs ≡ Some x → p x ≡ true
@@ -43,6 +42,7 @@ unfolding line_of keyword_of
 no_line Fence words = refl
 no_line Reserve words = refl
 no_line Forfeit words = refl
+no_line Advance words = refl
 no_line In words = refl
 no_line Trigger words = refl
 no_line Configure words = refl
@@ -92,17 +92,11 @@ unfolding term_line_of
 begins None word before after split is = rw (split, ← is) (refl, refl)
 begins (Some first) word before after split is = rw (split, ← is) (refl, refl)
 
--- the words after a number that was read
+-- the words after a term that was read
 pub after_term : (words after : List (List ℕ)) (term : ℕ) → number_place words ≡ Ok (term, after) → in_takes_memory words ≡ begins_with_a_list after
-unfolding number_place
-after_term [] after term is = let none : ◌≡◌ {A = Result (ℕ × List (List ℕ)) LineFault} (Err fault.Missing) (Ok (term, after)) = is in absurd cc
-after_term (word ∷ words) after term is = by (number_of word) refl
-  where
-    by : (found : Option ℕ) → number_of word ≡ found → begins_with_a_list words ≡ begins_with_a_list after
-    by (Some n) e =
-        let same : ◌≡◌ {A = Result (ℕ × List (List ℕ)) LineFault} (Ok (n, words)) (Ok (term, after)) = rw e at is in
-        let pair : ◌≡◌ {A = ℕ × List (List ℕ)} (n, words) (term, after) = cc in
-        ap (λ (p : ℕ × List (List ℕ)). begins_with_a_list p.1) pair
-    by None e =
-        let none : ◌≡◌ {A = Result (ℕ × List (List ℕ)) LineFault} (Err fault.Number) (Ok (term, after)) = rw e at is in
-        absurd cc
+unfolding in_takes_memory
+after_term words after term is = rw is refl
+
+pub names_after_term : (words after : List (List ℕ)) (term : ℕ) → number_place words ≡ Ok (term, after) → reaches_names words ≡ begins_with_a_number after
+unfolding reaches_names
+names_after_term words after term is = rw is refl

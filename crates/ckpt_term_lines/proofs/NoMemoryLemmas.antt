@@ -9,7 +9,7 @@ use Rattle.ckpt_lines.proofs.ReadingLaws.{NoMemory, bind, either, line_of-no_mem
 use Rattle.ckpt_term_lines.specs.declared.keyword.TermKeyword.{TermKeyword}
 use Rattle.ckpt_term_lines.specs.declared.keyword.TermKeyword.TheVariants as keyword
 use Rattle.ckpt_term_lines.specs.TermKeywords.{term_keyword_of}
-use Rattle.ckpt_term_lines.specs.TermReading.{configure_row, fence_row, forfeit_row, in_row, made_line, made_row, name_places, plain_row, reserve_row, script_row, term_line_of, term_reading, term_row, term_row_of, trigger_row}
+use Rattle.ckpt_term_lines.specs.TermReading.{configure_row, fence_row, forfeit_row, in_row, made_line, made_row, name_places, plain_row, reserve_row, script_row, term_line_of, term_reading, term_row, term_row_of, trigger_row, advance_row}
 
 fence-no_memory : (words : List (List ℕ)) → NoMemory (fence_row words)
 unfolding fence_row
@@ -25,6 +25,10 @@ names-no_memory words = bind (each number words) _ (numbers-no_memory words) (λ
 forfeit-no_memory : (words : List (List ℕ)) → NoMemory (forfeit_row words)
 unfolding forfeit_row
 forfeit-no_memory words = number_then words _ (λ term. bind (name_places term.1) _ (names-no_memory term.1) (λ names. tt))
+
+advance-no_memory : (words : List (List ℕ)) → NoMemory (advance_row words)
+unfolding advance_row
+advance-no_memory words = number_then words _ (λ now. number_then now.1 _ (λ term. bind (only_number term.1) _ (only-no_memory term.1) (λ first. tt)))
 
 trigger-no_memory : (term : ℕ) (words : List (List ℕ)) → NoMemory (trigger_row term words)
 unfolding trigger_row
@@ -45,6 +49,7 @@ made_row-no_memory (Some keyword.Configure) term all words = configure-no_memory
 made_row-no_memory (Some keyword.Fence) term all words = script-no_memory term all
 made_row-no_memory (Some keyword.Reserve) term all words = script-no_memory term all
 made_row-no_memory (Some keyword.Forfeit) term all words = script-no_memory term all
+made_row-no_memory (Some keyword.Advance) term all words = script-no_memory term all
 made_row-no_memory (Some keyword.In) term all words = script-no_memory term all
 
 made-no_memory : (term : ℕ) (words : List (List ℕ)) → NoMemory (made_line term words)
@@ -65,6 +70,7 @@ unfolding term_row
 row-no_memory keyword.Fence words = fence-no_memory words
 row-no_memory keyword.Reserve words = reserve-no_memory words
 row-no_memory keyword.Forfeit words = forfeit-no_memory words
+row-no_memory keyword.Advance words = advance-no_memory words
 row-no_memory keyword.In words = in-no_memory words
 row-no_memory keyword.Trigger words = trigger-no_memory 0 words
 row-no_memory keyword.Configure words = configure-no_memory 0 words

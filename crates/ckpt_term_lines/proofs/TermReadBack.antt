@@ -20,7 +20,7 @@ use Rattle.ckpt_terms.specs.declared.call.FencedCall.TheVariants as call
 use Rattle.ckpt_term_lines.specs.declared.line.TermLine.{TermLine}
 use Rattle.ckpt_term_lines.specs.declared.line.TermLine.TheVariants as line
 use Rattle.ckpt_term_lines.specs.TermKeywords.{term_keyword_of}
-use Rattle.ckpt_term_lines.specs.TermReading.{configure_row, fence_row, forfeit_row, in_row, made_line, reserve_row, term_line_of, term_reading, term_row, trigger_row, without_term}
+use Rattle.ckpt_term_lines.specs.TermReading.{configure_row, fence_row, forfeit_row, in_row, made_line, reserve_row, term_line_of, term_reading, term_row, trigger_row, without_term, advance_row}
 use Rattle.ckpt_term_lines.specs.TermTexts.{FitsTermCall, IsTermReadAs, fence_text, made_text, term_text}
 use Rattle.ckpt_term_lines.proofs.FirstWords.{as_script, as_script_in}
 
@@ -66,6 +66,16 @@ says_forfeit term names fits all order = record {
   written = next (codes "forfeit") (decimal term ++ flat_map (λ n. 32 ∷ decimal n) names) (decimal term ∷ map decimal names) (plain_by (codes "forfeit") refl)
       (each_next decimal (decimal term) names (plain_number term fits) (plain_numbers names all));
   is = rw (number_place-decimal term (map decimal names) fits, each-numbers names all, stays names order) refl;
+}
+
+says_advance : (now term first : ℕ) → Fits now → Fits term → Fits first
+    → TermSays (line.Call (call.Advance now term first)) (codes "advance" ++ 32 ∷ (decimal now ++ 32 ∷ (decimal term ++ 32 ∷ decimal first)))
+unfolding term_line_of term_keyword_of term_row advance_row
+says_advance now term first fits fits' fits'' = record {
+  words = codes "advance" ∷ decimal now ∷ decimal term ∷ decimal first ∷ [];
+  written = next (codes "advance") (decimal now ++ 32 ∷ (decimal term ++ 32 ∷ decimal first)) (decimal now ∷ decimal term ∷ decimal first ∷ []) (plain_by (codes "advance") refl)
+      (next (decimal now) (decimal term ++ 32 ∷ decimal first) (decimal term ∷ decimal first ∷ []) (plain_number now fits) (one (decimal term) first (plain_number term fits') fits''));
+  is = rw (number_place-decimal now (decimal term ∷ decimal first ∷ []) fits, number_place-decimal term (decimal first ∷ []) fits', only first fits'') refl;
 }
 
 -- a call of a script, with a term
@@ -157,6 +167,8 @@ says : (c : FencedCall) → FitsTermCall c → TermSays (line.Call c) (term_text
 unfolding term_text
 says (call.Reserve term count) fits = put_together _ _ _ (append_assoc (codes "reserve") (spaced term) (spaced count)) (says_reserve term count fits.0 fits.1)
 says (call.Forfeit term names) fits = put_together _ _ _ (append_assoc (codes "forfeit") (spaced term) (flat_map spaced names)) (says_forfeit term names fits.0 (from_all Fits names fits.1.0) fits.1.1)
+says (call.Advance now term first) fits =
+    put_together _ _ _ (parts_4 (codes "advance") (spaced now) (spaced term) (spaced first)) (says_advance now term first fits.0 fits.1 fits.2)
 says (call.Make term c) fits = says_made term c fits.0 fits.1
 
 pub reads : (c : FencedCall) → FitsTermCall c → IsTermReadAs (line.Call c) (term_text c)

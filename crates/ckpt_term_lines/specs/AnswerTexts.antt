@@ -4,7 +4,7 @@ use Rattle.ckpt_ids.specs.declared.reply.Reply.TheVariants.{Restored, Cancelled}
 use Rattle.ckpt_ids.specs.declared.reply.Answer.{Answer}
 use Rattle.ckpt_ids.specs.declared.reply.Answer.TheVariants.{Done}
 use Rattle.ckpt_terms.specs.declared.call.FencedRefusal.{FencedRefusal}
-use Rattle.ckpt_terms.specs.declared.call.FencedRefusal.TheVariants.{OldTerm, Ended, BadCount, NamesUsedUp, TermsUsedUp, Spent, NeverReserved}
+use Rattle.ckpt_terms.specs.declared.call.FencedRefusal.TheVariants.{OldTerm, Ended, BadCount, NamesUsedUp, TermsUsedUp, BadName, Spent, NeverReserved}
 use Rattle.ckpt_terms.specs.declared.call.FencedAnswer.{FencedAnswer}
 use Rattle.ckpt_terms.specs.declared.call.FencedAnswer.TheVariants.{Reserved, Forfeited, Made, Fenced}
 use Rattle.ckpt_answers.specs.Texts.{answer_bytes, spaced}
@@ -16,10 +16,11 @@ fence_refusal_bytes Ended = codes "Ended"
 fence_refusal_bytes BadCount = codes "BadCount"
 fence_refusal_bytes NamesUsedUp = codes "NamesUsedUp"
 fence_refusal_bytes TermsUsedUp = codes "TermsUsedUp"
+fence_refusal_bytes BadName = codes "BadName"
 fence_refusal_bytes (Spent file) = codes "Spent" ++ spaced file
 fence_refusal_bytes (NeverReserved file) = codes "NeverReserved" ++ spaced file
 
--- A restore and a cancel that were accepted ended the term. The one that runs after the call has a line of its own.
+-- A restore, an advance and a cancel that were accepted ended the term. The one that runs after the call has a line of its own.
 abbrev pub new_term_bytes : ℕ → Answer → List ℕ
 new_term_bytes term (Done (Restored from released)) = codes "term" ++ spaced term ++ codes "\n"
 new_term_bytes term (Done (Cancelled dropped released)) = codes "term" ++ spaced term ++ codes "\n"

@@ -1,4 +1,4 @@
--- What a line of a log says whose job gives out names: one of six kinds of line, or a line of a script.
+-- What a line of a log says whose job gives out names: one of seven kinds of line, or a line of a script.
 use Rattle.std.specs.Prelude.{◌≡◌, ℕ, Bool, true, false, not, ◌&&◌, List, [], ◌∷◌, if◌then◌else◌, Option, Some, None, Result, Ok, Err}
 use Rattle.std.specs.Str.Lines.{strip_carriage_return}
 use Rattle.ckpt_ids.specs.declared.call.Call.TheVariants as calls
@@ -9,7 +9,7 @@ use Rattle.ckpt_lines.specs.declared.fault.LineFault.{LineFault}
 use Rattle.ckpt_lines.specs.declared.fault.LineFault.TheVariants as fault
 use Rattle.ckpt_lines.specs.declared.line.Line.{Line}
 use Rattle.ckpt_lines.specs.declared.line.Line.TheVariants as script
-use Rattle.ckpt_lines.specs.Reading.{◌>>=◌, begins_with_a_list, each, is_too_long, line_of, number_place, only_number, settings}
+use Rattle.ckpt_lines.specs.Reading.{◌>>=◌, begins_with_a_list, each, is_too_long, line_of, number_place, only_number, settings, begins_with_a_number, is_yes}
 use Rattle.ckpt_lines.specs.Values.{number}
 use Rattle.ckpt_lines.specs.Words.{words_of}
 use Rattle.ckpt_terms.specs.declared.call.FencedCall.TheVariants as call
@@ -41,6 +41,13 @@ forfeit_row words = do
   term ← number_place words
   names ← name_places term.1
   Ok (Call (call.Forfeit term.0 names))
+
+unfoldable pub advance_row : List (List ℕ) → Result TermLine LineFault
+advance_row words = do
+  now ← number_place words
+  term ← number_place now.1
+  first ← only_number term.1
+  Ok (Call (call.Advance now.0 term.0 first))
 
 -- with this term a call, a bad shape, or no call
 abbrev pub in_term : ℕ → Line → TermLine
@@ -102,6 +109,7 @@ unfoldable pub term_row : TermKeyword → List (List ℕ) → Result TermLine Li
 term_row keyword.Fence words = fence_row words
 term_row keyword.Reserve words = reserve_row words
 term_row keyword.Forfeit words = forfeit_row words
+term_row keyword.Advance words = advance_row words
 term_row keyword.In words = in_row words
 term_row keyword.Trigger words = trigger_row 0 words
 term_row keyword.Configure words = configure_row 0 words
@@ -119,13 +127,20 @@ unfoldable pub term_reading : List ℕ → Result TermLine LineFault
 term_reading line = if is_too_long line then Err fault.TooLong else term_line_of (words_of (strip_carriage_return line))
 
 -- the words after the term of an `in` begin a line with a list
-abbrev pub in_takes_memory : List (List ℕ) → Bool
-in_takes_memory [] = false
-in_takes_memory (term ∷ words) = begins_with_a_list words
+unfoldable pub in_takes_memory : List (List ℕ) → Bool
+in_takes_memory words = is_yes (do
+  term ← number_place words
+  Ok (begins_with_a_list term.1))
+
+-- and those after the term of a `forfeit` begin with a name
+unfoldable pub reaches_names : List (List ℕ) → Bool
+reaches_names words = is_yes (do
+  term ← number_place words
+  Ok (begins_with_a_number term.1))
 
 -- the words after the first may have a list
 abbrev pub term_row_takes_memory : TermKeyword → List (List ℕ) → Bool
-term_row_takes_memory keyword.Forfeit words = true
+term_row_takes_memory keyword.Forfeit words = reaches_names words
 term_row_takes_memory keyword.In words = in_takes_memory words
 term_row_takes_memory first words = false
 

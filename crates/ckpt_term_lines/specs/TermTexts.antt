@@ -17,6 +17,7 @@ made_text term made = if term == 0 then call_text made else codes "in" ++ spaced
 unfoldable pub term_text : FencedCall → List ℕ
 term_text (call.Reserve term count) = codes "reserve" ++ spaced term ++ spaced count
 term_text (call.Forfeit term names) = codes "forfeit" ++ spaced term ++ flat_map spaced names
+term_text (call.Advance now term first) = codes "advance" ++ spaced now ++ spaced term ++ spaced first
 term_text (call.Make term made) = made_text term made
 
 unfoldable pub fence_text : ℕ → List ℕ
@@ -26,6 +27,7 @@ fence_text first = codes "fence" ++ spaced first
 abbrev pub FitsTermCall : FencedCall → Type 0
 FitsTermCall (call.Reserve term count) = Fits term × Fits count
 FitsTermCall (call.Forfeit term names) = Fits term × FitsFiles names
+FitsTermCall (call.Advance now term first) = Fits now × Fits term × Fits first
 FitsTermCall (call.Make term made) = Fits term × FitsCall made
 
 -- a text within the limit of lines is read as this line

@@ -13,11 +13,11 @@ use Rattle.ckpt_answers.specs.Texts.{answer_bytes, refusal_bytes}
 use Rattle.ckpt_lines.specs.CallTexts.{call_text}
 use Rattle.ckpt_terms.specs.declared.call.FencedAnswer.TheVariants.{Reserved, Forfeited, Made, Fenced}
 use Rattle.ckpt_terms.specs.declared.call.FencedCall.TheVariants as call
-use Rattle.ckpt_terms.specs.declared.call.FencedRefusal.TheVariants.{OldTerm, Spent, NeverReserved}
+use Rattle.ckpt_terms.specs.declared.call.FencedRefusal.TheVariants.{OldTerm, Spent, NeverReserved, BadName}
 use Rattle.ckpt_term_lines.specs.declared.line.TermLine.TheVariants.{Fence, Call, Other, BadConfig, NoCall}
 use Rattle.ckpt_term_lines.specs.AnswerTexts.{fence_refusal_bytes, fenced_answer_bytes}
 use Rattle.ckpt_term_lines.specs.TermKeywords.{term_keyword_of}
-use Rattle.ckpt_term_lines.specs.TermReading.{configure_row, fence_row, forfeit_row, in_row, made_line, plain_row, reserve_row, script_row, term_line_of, term_reading, term_row, trigger_row}
+use Rattle.ckpt_term_lines.specs.TermReading.{configure_row, fence_row, forfeit_row, in_row, made_line, plain_row, reserve_row, script_row, term_line_of, term_reading, term_row, trigger_row, advance_row}
 use Rattle.ckpt_term_lines.specs.TermTexts.{term_text}
 
 pub first_name : term_reading (codes " fence  007" ++ 13 ∷ []) ≡ Ok (Fence 7)
@@ -49,6 +49,23 @@ no_names = refl
 pub signed_name : term_reading (codes "forfeit 1 +7") ≡ Err fault.Number
 unfolding term_reading term_line_of term_keyword_of term_row forfeit_row number_place number_of each
 signed_name = refl
+
+-- the moment, the greatest term that was told, and the first name
+pub advance : term_reading (codes "advance 2500 9 5000") ≡ Ok (Call (call.Advance 2500 9 5000))
+unfolding term_reading term_line_of term_keyword_of term_row advance_row only_number number_place number_of ended
+advance = refl
+
+pub advance_with_a_sign : term_reading (codes "advance 2500 9 +7") ≡ Err fault.Number
+unfolding term_reading term_line_of term_keyword_of term_row advance_row only_number number_place number_of
+advance_with_a_sign = refl
+
+pub advance_without_a_name : term_reading (codes "advance 2500 9") ≡ Err fault.Missing
+unfolding term_reading term_line_of term_keyword_of term_row advance_row only_number number_place number_of
+advance_without_a_name = refl
+
+pub advances_in_a_term : term_reading (codes "in 3 advance 2500 9 5000") ≡ Err fault.Word
+unfolding term_reading term_line_of term_keyword_of term_row in_row number_place number_of line_of keyword_of
+advances_in_a_term = refl
 
 pub ack_in_term : term_reading (codes "in 3 ack 5 1 0.2 =3 +4") ≡ Ok (Call (call.Make 3 (made.Ack 5 1 (record { vertex = 0; index = 2 }) (4 ∷ []) (3 ∷ []))))
 unfolding term_reading term_line_of term_keyword_of term_row in_row made_line script_row number_place number_of line_of keyword_of row ack_line subtask_place subtask_of part_of file_places each file_word
@@ -125,6 +142,10 @@ pub writes_no_names : term_text (call.Forfeit 1 []) ≡ codes "forfeit " ++ (dec
 unfolding term_text
 writes_no_names = refl
 
+pub writes_an_advance : term_text (call.Advance 5 2 70) ≡ codes "advance " ++ ((decimal 5 ++ (codes " " ++ decimal 2)) ++ (codes " " ++ decimal 70))
+unfolding term_text
+writes_an_advance = refl
+
 pub writes_a_term : term_text (call.Make 3 (made.Cancel 5)) ≡ codes "in " ++ (decimal 3 ++ codes " " ++ (codes "cancel " ++ decimal 5))
 unfolding term_text call_text
 writes_a_term = refl
@@ -149,6 +170,10 @@ term_stays = refl
 pub old_term : fenced_answer_bytes (Fenced OldTerm) ≡ codes "fenced OldTerm\n"
 unfolding fenced_answer_bytes fence_refusal_bytes
 old_term = refl
+
+pub bad_name : fenced_answer_bytes (Fenced BadName) ≡ codes "fenced BadName\n"
+unfolding fenced_answer_bytes fence_refusal_bytes
+bad_name = refl
 
 pub spent : fenced_answer_bytes (Fenced (Spent 41)) ≡ codes "fenced Spent " ++ (decimal 41 ++ codes "\n")
 unfolding fenced_answer_bytes fence_refusal_bytes

@@ -70,6 +70,7 @@ fn write_reason(text: &mut String, why: FencedRefusal) -> Result<(), AllocError>
         FencedRefusal::BadCount => text.push_str("BadCount"),
         FencedRefusal::NamesUsedUp => text.push_str("NamesUsedUp"),
         FencedRefusal::TermsUsedUp => text.push_str("TermsUsedUp"),
+        FencedRefusal::BadName => text.push_str("BadName"),
         FencedRefusal::Spent(file) => write_number(text, "Spent ", file.0),
         FencedRefusal::NeverReserved(file) => write_number(text, "NeverReserved ", file.0),
     }

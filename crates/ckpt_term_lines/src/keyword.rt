@@ -8,15 +8,17 @@ pub(crate) enum TermKeyword {
     Fence,
     Reserve,
     Forfeit,
+    Advance,
     In,
     Trigger,
     Configure,
 }
 
-const KEYWORDS: [TermKeyword; 6] = [
+const KEYWORDS: [TermKeyword; 7] = [
     TermKeyword::Fence,
     TermKeyword::Reserve,
     TermKeyword::Forfeit,
+    TermKeyword::Advance,
     TermKeyword::In,
     TermKeyword::Trigger,
     TermKeyword::Configure,
@@ -30,6 +32,7 @@ fn spelling(keyword: TermKeyword) -> &'static [u8]
         TermKeyword::Fence => b"fence",
         TermKeyword::Reserve => b"reserve",
         TermKeyword::Forfeit => b"forfeit",
+        TermKeyword::Advance => b"advance",
         TermKeyword::In => b"in",
         TermKeyword::Trigger => b"trigger",
         TermKeyword::Configure => b"configure",

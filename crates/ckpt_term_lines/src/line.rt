@@ -15,9 +15,10 @@ pub enum TermLine {
         /// The first name.
         first: u64,
     },
-    /// A call: `reserve term n`, `forfeit term f1 f2 ..` with any number of names, or `in term` and
-    /// then `trigger now`, `configure now` and the seven settings as in a `config` line, or a line of
-    /// a script that says a call. Without `in` that call has term 0, which belongs to no task.
+    /// A call: `reserve term n`, `forfeit term f1 f2 ..` with any number of names, `advance now term
+    /// n`, or `in term` and then `trigger now`, `configure now` and the seven settings as in a
+    /// `config` line, or a line of a script that says a call. Without `in` that call has term 0,
+    /// which belongs to no task.
     Call(FencedCall),
     /// A line of a script that says no call. `in` and a term may stand before a
     /// [`BadShape`](Line::BadShape).

@@ -43,15 +43,15 @@ fn term_line_of(alloc: Global, text: &[u8]) -> Result<TermLine, LineFault>
 
 /// Reads one line of a log: the bytes before its newline. [`TermLine`] has the form of each line.
 ///
-/// The first word decides. A line that begins with none of `fence`, `reserve`, `forfeit`, `in`,
-/// `trigger` and `configure` is read as [`parse_line`](ckpt_lines::parse_line) reads it. Numbers,
-/// words, spaces and the carriage return are as in a script.
+/// The first word decides. A line that begins with none of `fence`, `reserve`, `forfeit`, `advance`,
+/// `in`, `trigger` and `configure` is read as [`parse_line`](ckpt_lines::parse_line) reads it.
+/// Numbers, words, spaces and the carriage return are as in a script.
 ///
 /// Returns [`LineFault::TooLong`] for more than [`LONGEST_LINE`] bytes, the carriage return
 /// included. Otherwise returns [`LineFault::Word`] if the first word is unknown, or the first one
 /// after `in` and its term, and otherwise the first fault from the left. `in` with a term alone is
-/// [`LineFault::Missing`]. Only a `forfeit` line, and an `ack`, a `job` and a `restore`, return
-/// [`LineFault::Memory`].
+/// [`LineFault::Missing`]. Only a `forfeit` line, once its term and a first name were read, and an
+/// `ack`, a `job` and a `restore`, as in a script, return [`LineFault::Memory`].
 #[tactic(auto, unfolding(crate::specs::TermReading::term_reading, crate::specs::TermReading::term_may_want_memory))]
 pub fn parse_term_line(alloc: Global, line: &[u8]) -> Result<TermLine, LineFault>
     ensures line { IfOk result (λ read. term_reading line.now ≡ Ok read) }

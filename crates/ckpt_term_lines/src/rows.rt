@@ -1,8 +1,8 @@
 //! The lines that scripts do not have, from the words after their first.
 ghost use Rattle.std.specs.Prelude.{◌≡◌, true};
-ghost use Rattle.ckpt_lines.specs.Reading.{begins_with_a_list, IsExact, Reads};
+ghost use Rattle.ckpt_lines.specs.Reading.{begins_with_a_list, IsExact, Reads, begins_with_a_number};
 ghost use Rattle.ckpt_lines.specs.Words.{words_of};
-ghost use Rattle.ckpt_term_lines.specs.TermReading.{configure_row, fence_row, forfeit_row, in_row, in_takes_memory, made_line, name_places, reserve_row, script_row, term_row, term_row_takes_memory, trigger_row};
+ghost use Rattle.ckpt_term_lines.specs.TermReading.{configure_row, fence_row, forfeit_row, in_row, in_takes_memory, made_line, name_places, reserve_row, script_row, term_row, term_row_takes_memory, trigger_row, advance_row, reaches_names};
 
 use crate::keyword::{TermKeyword, keyword_of};
 use crate::line::{TermLine, configuring, in_term};
@@ -30,7 +30,8 @@ fn reserve(words: &mut Words<'_>) -> Result<TermLine, LineFault>
 
 /// The names up to the end of the line.
 fn names(alloc: Global, words: &mut Words<'_>) -> Result<Files, LineFault>
-    ensures { Reads result (name_places words.old) }
+    ensures line { Reads result (name_places words.old) }
+    ensures memory { result ≡ Err LineFault.Memory → begins_with_a_number words.old ≡ true }
 {
     let mut list = Vec::new(alloc);
     while let Some(word) = words.next() {
@@ -40,13 +41,24 @@ fn names(alloc: Global, words: &mut Words<'_>) -> Result<Files, LineFault>
     Ok(Files::of(list))
 }
 
-#[tactic(auto, unfolding(crate::specs::TermReading::forfeit_row))]
+#[tactic(auto, unfolding(crate::specs::TermReading::forfeit_row, crate::specs::TermReading::reaches_names))]
 fn forfeit(alloc: Global, words: &mut Words<'_>) -> Result<TermLine, LineFault>
-    ensures { Reads result (forfeit_row words.old) }
+    ensures line { Reads result (forfeit_row words.old) }
+    ensures memory { result ≡ Err LineFault.Memory → reaches_names words.old ≡ true }
 {
     let term = words.number()?;
     let names = names(alloc, words)?;
     Ok(TermLine::Call(FencedCall::Forfeit { term, names }))
+}
+
+#[tactic(auto, unfolding(crate::specs::TermReading::advance_row))]
+fn advance(words: &mut Words<'_>) -> Result<TermLine, LineFault>
+    ensures { IsExact result (advance_row words.old) }
+{
+    let now = words.number()?;
+    let term = words.number()?;
+    let first = only_number(words)?;
+    Ok(TermLine::Call(FencedCall::Advance { now, term, first }))
 }
 
 #[tactic(auto, unfolding(crate::specs::TermReading::trigger_row))]
@@ -97,7 +109,7 @@ fn made_line(alloc: Global, term: u64, text: &[u8]) -> Result<TermLine, LineFaul
     }
 }
 
-#[tactic(auto, unfolding(crate::specs::TermReading::in_row))]
+#[tactic(auto, unfolding(crate::specs::TermReading::in_row, crate::specs::TermReading::in_takes_memory))]
 fn in_row(alloc: Global, words: &mut Words<'_>) -> Result<TermLine, LineFault>
     ensures line { Reads result (in_row words.old) }
     ensures memory { result ≡ Err LineFault.Memory → in_takes_memory words.old ≡ true }
@@ -120,6 +132,7 @@ pub(crate) fn row(
         TermKeyword::Fence => fence(words),
         TermKeyword::Reserve => reserve(words),
         TermKeyword::Forfeit => forfeit(alloc, words),
+        TermKeyword::Advance => advance(words),
         TermKeyword::In => in_row(alloc, words),
         TermKeyword::Trigger => trigger(0, words),
         TermKeyword::Configure => configure(0, words),

@@ -53,6 +53,11 @@ fn write_fenced_call(text: &mut String, call: &FencedCall) -> Result<(), AllocEr
             write_number(text, "forfeit ", *term)?;
             write_names(text, names)
         }
+        FencedCall::Advance { now, term, first } => {
+            write_number(text, "advance ", *now)?;
+            write_number(text, " ", *term)?;
+            write_number(text, " ", *first)
+        }
         FencedCall::Make { term, call } => write_made(text, *term, call),
     }
 }

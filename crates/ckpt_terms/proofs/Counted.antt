@@ -9,8 +9,8 @@ use Rattle.ckpt_ids.proofs.OrderedLemmas.{IsIn-append_cases, IsIn-append_left, I
 use Rattle.ckpt_terms.specs.declared.names.Span.{Span}
 use Rattle.ckpt_terms.specs.Spans.{row, names_of, AreRanges, AreRangesBelow}
 use Rattle.ckpt_terms.proofs.Stepping.{row_ascends}
-use Rattle.ckpt_terms.proofs.SpanLemmas.{names_push, row-bounds, row-from_bounds, append_rises}
-use Rattle.ckpt_terms.proofs.RangeLemmas.{length-row, names_at}
+use Rattle.ckpt_terms.proofs.SpanLemmas.{names_at, names_push, row-bounds, row-from_bounds, append_rises}
+use Rattle.ckpt_terms.proofs.RangeLemmas.{length-row}
 
 -- ranges with this many names, of which the greatest is the one before this end
 pub record AreCounted (spans : List Span) (end held : ℕ) : Type 0 where

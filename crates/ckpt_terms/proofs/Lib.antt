@@ -1,10 +1,12 @@
 -- The lemmas that the proofs use.
 pub mod Absent
+pub mod Advancing
 pub mod Classes
 pub mod Counted
 pub mod Crossings
 pub mod Fences
 pub mod Imaged
+pub mod JoinLemmas
 pub mod KnownFiles
 pub mod MachineLemmas
 pub mod Known

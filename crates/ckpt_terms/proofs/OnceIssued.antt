@@ -10,8 +10,8 @@ use Rattle.ckpt_model.specs.Histories.{replay}
 use Rattle.ckpt_model.specs.Laws.{AreCalls, NoneAgain, along, handed_by, registered_by, deleted_by}
 use Rattle.ckpt_model.proofs.Histories.Balance.{handed}
 use Rattle.ckpt_terms.specs.declared.call.FencedCall.{FencedCall}
-use Rattle.ckpt_terms.specs.declared.call.FencedCall.TheVariants.{Reserve, Forfeit, Make}
-use Rattle.ckpt_terms.specs.Fencing.{Fenced, fenced, made, passed, FencedStepped, fenced_replay, core_calls}
+use Rattle.ckpt_terms.specs.declared.call.FencedCall.TheVariants.{Reserve, Forfeit, Make, Advance}
+use Rattle.ckpt_terms.specs.Fencing.{Fenced, fenced, made, passed, FencedStepped, fenced_replay, core_calls, restart}
 use Rattle.ckpt_terms.specs.FencedLaws.{CanFence, AreFencedCalls, IsFenced, IssuesOnce, IssuedOnce}
 use Rattle.ckpt_terms.proofs.Known.{new_fresh, deleted_known}
 use Rattle.ckpt_terms.proofs.Stepping.{fenced_step_by, fresh_unspent, IsOpen, IsLater, made_later, made_keeps}
@@ -33,6 +33,11 @@ history m (Make term its ∷ calls) a =
     let call : FencedCall = Make term its in
     let P : FencedStepped → Type 0 = λ x. AreCalls (passed call x.1 ++ core_calls x.0 calls) × ((fenced_replay x.0 calls).core ≡ replay m.core (passed call x.1 ++ core_calls x.0 calls)) in
     fenced_step_by m call P (λ _. history m calls a.1) (λ _. let h = history (made m call).0 calls a.1 in ((a.0, h.0), h.1))
+history m (Advance now term first ∷ calls) a =
+    let call : FencedCall = Advance now term first in
+    let n : Fenced = (made m call).0 in
+    let P : FencedStepped → Type 0 = λ x. AreCalls (passed call x.1 ++ core_calls x.0 calls) × ((fenced_replay x.0 calls).core ≡ replay m.core (passed call x.1 ++ core_calls x.0 calls)) in
+    fenced_step_by m call P (λ _. history m calls a.1) (λ _. let h = history n calls a.1 in ((tt, h.0), h.1))
 
 -- no name of these is open
 abbrev AreClosed : Fenced → List ℕ → Type 0
@@ -68,6 +73,15 @@ none_again m (Make term its ∷ calls) gone a i c =
       λ f h k. c f h (inl (fresh_unspent m term its f e (new_fresh m.core its f k))),
       none_again n calls (gone ++ deleted_by m.core its) a.1 (made_keeps m call a.0 e i)
           (closed_later m n (gone ++ deleted_by m.core its) (made_later m call i e) (closed_with_deleted m its gone i c)),
+    ))
+none_again m (Advance now term first ∷ calls) gone a i c =
+    let call : FencedCall = Advance now term first in
+    let n : Fenced = (made m call).0 in
+    let deleted : List ℕ = gone ++ deleted_by m.core (restart now) in
+    let P : FencedStepped → Type 0 = λ x. NoneAgain gone m.core (passed call x.1 ++ core_calls x.0 calls) in
+    fenced_step_by m call P (λ _. none_again m calls gone a.1 i c) (λ e. (
+      λ f h k. absurd (new_fresh m.core (restart now) f k),
+      none_again n calls deleted a.1 (made_keeps m call a.0 e i) (closed_later m n deleted (made_later m call i e) (closed_with_deleted m (restart now) gone i c)),
     ))
 
 -- the laws

@@ -1,5 +1,5 @@
 -- Each accepted acknowledgement of a pending record was made in the term of its trigger.
-use Rattle.std.proofs.Common.{◌≡◌, ℕ, ◌+◌, ◌<◌, true, false, not, ◌&&◌, eqb, List, [], ◌∷◌, refl, sym, ◌∙◌, ◌⊎◌, inl, inr, ⊎_elim, arith}
+use Rattle.std.proofs.Common.{◌≡◌, ℕ, ◌+◌, ◌<◌, true, false, not, ◌&&◌, eqb, List, [], ◌∷◌, refl, sym, ap, ◌∙◌, ◌⊎◌, inl, inr, ⊎_elim, arith}
 use Rattle.std.specs.Prelude.{Option, None, max}
 use Rattle.std.proofs.lemmas.Bool.{cases_Bool, both_ways, and_parts, and_from, not-true, not-false, not_from_false, eqb-true, cond_both}
 use Rattle.std.proofs.lemmas.Grind.{common_steps}
@@ -21,12 +21,12 @@ use Rattle.ckpt_model.proofs.Histories.Takings.{taken_from, taken_id}
 use Rattle.ckpt_model.proofs.Stepping.Changes.{IsPassedOver, IsTakenBy, passed_moves}
 use Rattle.ckpt_model.proofs.Stepping.Walk.{step_is}
 use Rattle.ckpt_terms.specs.declared.call.FencedCall.{FencedCall}
-use Rattle.ckpt_terms.specs.declared.call.FencedCall.TheVariants.{Reserve, Forfeit, Make}
+use Rattle.ckpt_terms.specs.declared.call.FencedCall.TheVariants.{Reserve, Forfeit, Make, Advance}
 use Rattle.ckpt_terms.specs.declared.call.FencedRefusal.TheVariants.{OldTerm}
-use Rattle.ckpt_terms.specs.Fencing.{Fenced, FencedStepped, ends_the_term, fence, fenced_replay, fenced_step, is_accepted, is_of_task, made}
+use Rattle.ckpt_terms.specs.Fencing.{Fenced, FencedStepped, ends_the_term, fence, fenced_replay, fenced_step, is_accepted, is_of_task, made, restart}
 use Rattle.ckpt_terms.specs.FencedLaws.{AreFencedCalls, IsFenced, IsFencedCall, OneTerm, given_in, is_taken_in}
 use Rattle.ckpt_terms.proofs.Fences.{replay_fenced, step_fenced}
-use Rattle.ckpt_terms.proofs.Stepping.{fenced_step_by, none_else}
+use Rattle.ckpt_terms.proofs.Stepping.{advance_by, fenced_step_by, none_else}
 
 -- an accepted restore leaves nothing pending
 restored_is_idle : (m : State) (t : Target) (shape : Option (List ℕ)) (y : Record) → IsIn y (restore m t shape).0.records → y.done ≡ true
@@ -75,10 +75,8 @@ record IsOfTerm (m : Fenced) (number term : ℕ) : Type 0 where
   pending : (y : Record) → IsIn y m.core.records → y.id ≡ number → y.done ≡ false → m.term ≡ term
 
 -- and so after each call
-made_of_term : (m : Fenced) (call : FencedCall) (number term : ℕ) → IsFenced m → IsOfTerm m number term → IsOfTerm (made m call).0 number term
-made_of_term m (Reserve its count) number term i p = record { given = p.given; pending = p.pending }
-made_of_term m (Forfeit its names) number term i p = record { given = p.given; pending = p.pending }
-made_of_term m (Make its call) number term i p =
+make_of_term : (m : Fenced) (its : ℕ) (call : Call) (number term : ℕ) → IsFenced m → IsOfTerm m number term → IsOfTerm (made m (Make its call)).0 number term
+make_of_term m its call number term i p =
     let s : Stepped = step m.core call in
     record {
       given = omega (arith, p.given, next_rises m.core call);
@@ -87,6 +85,19 @@ made_of_term m (Make its call) number term i p =
           (λ ends. absurd (both_ways y.done waits (ended_is_idle m.core call y ends h)))
           (λ _. ⊎_elim (λ k. p.pending k.0 k.1 (sym k.3 ∙ e) k.2) (λ (k : IsTriggered m.core y). absurd (omega (arith, p.given, k.id))) (step_came m.core call i.core y h waits));
     }
+
+made_of_term : (m : Fenced) (call : FencedCall) (number term : ℕ) → IsFenced m → IsOfTerm m number term → IsOfTerm (made m call).0 number term
+made_of_term m (Reserve its count) number term i p = record { given = p.given; pending = p.pending }
+made_of_term m (Forfeit its names) number term i p = record { given = p.given; pending = p.pending }
+made_of_term m (Make its call) number term i p = make_of_term m its call number term i p
+made_of_term m (Advance now its first) number term i p =
+    let s : Stepped = step m.core (restart now) in
+    advance_by m now its first (λ (n : Fenced). IsOfTerm n number term)
+    (λ yes. record {
+      given = omega (arith, p.given, next_rises m.core (restart now));
+      pending = λ y h e waits. absurd (both_ways y.done waits (ended_is_idle m.core (restart now) y (ap (λ b. b && true) yes) h));
+    })
+    (λ _. make_of_term m 0 (restart now) number term i p)
 
 step_of_term : (m : Fenced) (call : FencedCall) (number term : ℕ) → IsFenced m → IsOfTerm m number term → IsOfTerm (fenced_step m call).0 number term
 step_of_term m call number term i p = fenced_step_by m call (λ (x : FencedStepped). IsOfTerm x.0 number term) (λ _. p) (λ _. made_of_term m call number term i p)
@@ -104,10 +115,8 @@ trigger_of_term : (m : Fenced) (call : FencedCall) (number : ℕ) → IsFenced m
 trigger_of_term m call number i =
     fenced_step_by m call (λ (x : FencedStepped). given_in x.1 ≡ number ∷ [] → IsOfTerm x.0 number m.term) (λ why e. absurd (cc)) (λ _. by_call call)
   where
-    by_call : (c : FencedCall) → given_in (made m c).1 ≡ number ∷ [] → IsOfTerm (made m c).0 number m.term
-    by_call (Reserve its count) e = absurd (cc)
-    by_call (Forfeit its names) e = absurd (cc)
-    by_call (Make its c) e =
+    by_make : (its : ℕ) (c : Call) → given_in (made m (Make its c)).1 ≡ number ∷ [] → IsOfTerm (made m (Make its c)).0 number m.term
+    by_make its c e =
         let s : Stepped = step m.core c in
         let g = gives_goes_on m.core c number e in
         record {
@@ -117,6 +126,16 @@ trigger_of_term m call number i =
               (λ ends. absurd (both_ways y.done waits (ended_is_idle m.core c y ends h)))
               (λ _. refl);
         }
+
+    by_call : (c : FencedCall) → given_in (made m c).1 ≡ number ∷ [] → IsOfTerm (made m c).0 number m.term
+    by_call (Reserve its count) e = absurd (cc)
+    by_call (Forfeit its names) e = absurd (cc)
+    by_call (Make its c) e = by_make its c e
+    by_call (Advance now its first) e =
+        let g = gives_goes_on m.core (restart now) number e in
+        advance_by m now its first (λ (n : Fenced). IsOfTerm n number m.term)
+        (λ yes. record { given = g.1; pending = λ y h k waits. absurd (both_ways y.done waits (ended_is_idle m.core (restart now) y (ap (λ b. b && true) yes) h)) })
+        (λ _. by_make 0 (restart now) e)
 
 -- an acknowledgement that the layer lets through has the term that runs
 let_through : (m : Fenced) (term : ℕ) (call : Call) → is_of_task call ≡ true → fence m (Make term call) ≡ None → term ≡ m.term

@@ -5,7 +5,7 @@ use Rattle.std.specs.Prelude.{Option, Some, None, is_some, IfSome}
 use Rattle.std.specs.List.{All, list_any, range_with_len}
 use Rattle.std.proofs.lemmas.Bool.{cases_Bool, both_ways, ne_eqb, and_from, le-leb, lt-ltb, and_parts, ltb-true, ltb-false, leb-true}
 use Rattle.std.proofs.lemmas.List.{append_assoc, length-set, take-append-drop, set_split, take-set, drop-set}
-use Rattle.std.proofs.lemmas.List.Elements.{All-head, All-tail, All-get_or, All-from_get_or, All-append, All-take, All-drop, All-set, All-cons, All-nil}
+use Rattle.std.proofs.lemmas.List.Elements.{All-head, All-tail, All-get_or, All-from_get_or, All-append, All-take, All-drop, All-set, All-cons}
 use Rattle.std.proofs.lemmas.List.Folds.{list_any_none, list_any_at, list_any-append}
 use Rattle.ckpt_ids.specs.Ordered.{IsIn}
 use Rattle.ckpt_ids.specs.Ascending.{IsAscendingSet}
@@ -13,21 +13,14 @@ use Rattle.ckpt_ids.proofs.PlaceLemmas.{get_or_any}
 use Rattle.ckpt_ids.proofs.OrderedLemmas.{IsIn-append_right, IsIn-append_left, ComesBefore-at, IsInOrder-filter, filter-all, test-from_IsIn}
 use Rattle.ckpt_terms.specs.declared.names.Span.{Span}
 use Rattle.ckpt_terms.specs.Fencing.{without_all}
-use Rattle.ckpt_terms.specs.Spans.{row, in_span, names_of, AreRanges, AreKept, HasAt, IsCut}
+use Rattle.ckpt_terms.specs.Spans.{row, in_span, joined, names_of, AreRanges, AreKept, HasAt, IsCut}
 use Rattle.ckpt_terms.proofs.SpanLemmas.{span, row-from_bounds, row_empty, row_split, in_spans, added_rises, added_is, without-append, without_below, without_above, without_itself, append_rises}
-use Rattle.ckpt_terms.proofs.SpanLemmas.{rises_behind, ranges_at}
+use Rattle.ckpt_terms.proofs.JoinLemmas.{joined_names, joined_some}
+use Rattle.ckpt_terms.proofs.SpanLemmas.{names_append, names_at, rises_behind}
 
 -- each range has a name
 abbrev pub HaveNames : List Span → Type 0
 HaveNames xs = All (λ s. s.from < s.to) xs
-
-names_append : (xs ys : List Span) → names_of (xs ++ ys) ≡ names_of xs ++ names_of ys
-names_append [] ys = refl
-names_append (x ∷ xs) ys = ap (λ zs. row x ++ zs) (names_append xs ys) ∙ sym (append_assoc (row x) (names_of xs) (names_of ys))
-
--- the names before a range, its own, and those behind it
-pub names_at : (xs : List Span) (i : ℕ) (d : Span) → i < length xs → names_of xs ≡ names_of (take i xs) ++ (row (get_or xs i d) ++ names_of (drop (i + 1) xs))
-names_at xs i d h = ap names_of (sym (take-append-drop i xs)) ∙ names_append (take i xs) (drop i xs) ∙ ap (λ ys. names_of (take i xs) ++ ys) (ranges_at xs i d h)
 
 names_from : (xs : List Span) (i : ℕ) (d : Span) (f : ℕ) → i < length xs → IsIn f (row (get_or xs i d)) → IsIn f (names_of xs)
 names_from xs i d f h k =
@@ -278,18 +271,26 @@ two_more xs i name s h a low high =
     let counted : length (names_of ys) + 1 ≡ length (names_of xs) = k.count in
     omega arith
 
+-- the names with those of an added range
+pub joined_is : (spans : List Span) (first count : ℕ) → AreRanges spans → 0 < count → names_of (joined spans (span first (first + count))) ≡ names_of spans ++ range_with_len first count
+joined_is spans first count are some =
+    let e : (first + count) - first ≡ count = omega arith in
+    joined_names spans (span first (first + count)) are.some (omega arith) ∙ ap (λ n. names_of spans ++ range_with_len first n) e
+
 -- an added range
-pub added : (spans : List Span) (first count held len room held2 room2 : ℕ) → AreKept spans held len room → ((f : ℕ) → IsIn f (names_of spans) → f < first) → 0 < count → held2 ≡ held + count
-    → held2 + len + 1 ≤ room2 + room2 → AreKept (spans ++ span first (first + count) ∷ []) held2 (len + 1) room2
-added spans first count held len room held2 room2 k above some is fits =
+pub added : (spans : List Span) (first count held len room held2 len2 room2 : ℕ) → AreKept spans held len room → ((f : ℕ) → IsIn f (names_of spans) → f < first) → 0 < count → held2 ≡ held + count
+    → held2 + len + 1 ≤ room2 + room2 → len2 ≤ len + 1 → AreKept (joined spans (span first (first + count))) held2 len2 room2
+added spans first count held len room held2 len2 room2 k above some is fits few =
     let new : Span = span first (first + count) in
-    let P : Span → Type 0 = λ s. s.from < s.to in
-    let its : names_of (spans ++ new ∷ []) ≡ names_of spans ++ range_with_len first count = added_is spans first count in
-    let long : length (names_of (spans ++ new ∷ [])) ≡ length (names_of spans) + length (range_with_len first count) = ap length its ∙ length-append (names_of spans) (range_with_len first count) in
+    let its : names_of (joined spans new) ≡ names_of spans ++ range_with_len first count = joined_is spans first count k.ranges some in
+    let long : length (names_of (joined spans new)) ≡ length (names_of spans) + length (range_with_len first count) = ap length its ∙ length-append (names_of spans) (range_with_len first count) in
     let row_ : length (range_with_len first count) ≡ count = length-row first count in
     let names : length (names_of spans) ≡ held = k.names in
     record {
-      ranges = record { some = All-append P spans (new ∷ []) k.ranges.some (All-cons P new [] (omega arith) (All-nil P)); ascending = added_rises spans first count k.ranges.ascending above };
+      ranges = record {
+        some = joined_some spans new k.ranges.some (omega arith);
+        ascending = subst IsAscendingSet (added_is spans first count ∙ sym its) (added_rises spans first count k.ranges.ascending above);
+      };
       names = omega arith;
       fits = omega arith;
     }

@@ -3,6 +3,7 @@ use Rattle.std.proofs.Common.{◌≡◌, ℕ, ◌+◌, ◌^◌, true, false, not
 use Rattle.std.specs.Prelude.{Option, Some, None, cond}
 use Rattle.std.proofs.lemmas.Bool.{cases_Bool, both_ways, or_cases}
 use Rattle.ckpt_ids.specs.declared.reply.Answer.{Answer}
+use Rattle.ckpt_ids.specs.declared.reply.Answer.TheVariants.{Done, Refused}
 use Rattle.ckpt_ids.specs.Ascending.{ascending}
 use Rattle.ckpt_ids.specs.Ordered.{IsIn}
 use Rattle.ckpt_ids.specs.Records.{uses, is_present}
@@ -15,12 +16,12 @@ use Rattle.ckpt_model.specs.Images.{AreAlike, GoesOnAs, CanHold, settled}
 use Rattle.ckpt_model.proofs.Images.Alike.{go_on_alike}
 use Rattle.ckpt_model.proofs.Images.Settled.{settled_can_hold, settled_alike}
 use Rattle.ckpt_terms.specs.declared.call.FencedCall.{FencedCall}
-use Rattle.ckpt_terms.specs.declared.call.FencedCall.TheVariants.{Reserve, Forfeit, Make}
+use Rattle.ckpt_terms.specs.declared.call.FencedCall.TheVariants.{Reserve, Forfeit, Make, Advance}
 use Rattle.ckpt_terms.specs.declared.call.FencedRefusal.{FencedRefusal}
 use Rattle.ckpt_terms.specs.declared.call.FencedRefusal.TheVariants.{OldTerm, Ended, BadCount, NamesUsedUp}
 use Rattle.ckpt_terms.specs.declared.call.FencedAnswer.{FencedAnswer}
 use Rattle.ckpt_terms.specs.declared.call.FencedAnswer.TheVariants as answer
-use Rattle.ckpt_terms.specs.Fencing.{Fenced, ends_the_term, is_accepted, fence, unspent_after, after_call, FencedStepped, made, unless_fenced, fenced_step, fenced_replay}
+use Rattle.ckpt_terms.specs.Fencing.{Fenced, ends_the_term, is_accepted, fence, unspent_after, after_call, advanced, restart, FencedStepped, made, unless_fenced, fenced_step, fenced_replay}
 use Rattle.ckpt_terms.specs.FencedLaws.{IsFenced}
 use Rattle.ckpt_terms.specs.TermsImages.{fenced_answers, fenced_settled, AreFencedAlike, FencedGoesOnAs, CanHoldFenced, IsFencedCut}
 use Rattle.ckpt_terms.proofs.Known.{known-from_outbox, known-from_present}
@@ -44,11 +45,25 @@ fence_same m k (Reserve term count) e =
     ap (λ (s : State). cond (not (eqb term m.term)) (Some OldTerm) (cond (is_cancelled s.mode) (Some Ended) rest)) e
 fence_same m k (Forfeit term names) e = refl
 fence_same m k (Make term call) e = refl
+fence_same m k (Advance now term first) e = refl
 
 -- both give the same answer, and are alike after it
 record StepsAs (x y : FencedStepped) : Type 0 where
   answer : x.1 ≡ y.1
   state : AreFencedAlike x.0 y.0
+
+-- an advance over alike steps
+advanced_alike : (m : Fenced) (k : State) (now term first : ℕ) (s t : Stepped) → AreAlike s.0 t.0 → s.1 ≡ t.1
+    → AreFencedAlike (advanced m now term first s) (advanced (over m k) now term first t)
+    × ((advanced m now term first s).term ≡ (advanced (over m k) now term first t).term)
+advanced_alike m k now term first (n, Done reply) (o, b) alike same =
+    let x : Fenced = advanced m now term first (n, Done reply) in
+    let Both : Answer → Type 0 = λ a. let y : Fenced = advanced (over m k) now term first (o, a) in AreFencedAlike x y × (x.term ≡ y.term) in
+    subst Both same (alike_by x (advanced (over m k) now term first (o, Done reply)) alike refl refl refl, refl)
+advanced_alike m k now term first (n, Refused why) (o, b) alike same =
+    let x : Fenced = advanced m now term first (n, Refused why) in
+    let Both : Answer → Type 0 = λ a. let y : Fenced = advanced (over m k) now term first (o, a) in AreFencedAlike x y × (x.term ≡ y.term) in
+    subst Both same (alike_by x (advanced (over m k) now term first (o, Refused why)) alike refl refl refl, refl)
 
 made_alike : (m : Fenced) (k : State) (call : FencedCall) → AreAlike m.core k → StepsAs (made m call) (made (over m k) call)
 made_alike m k (Reserve term count) e = record { answer = refl; state = alike_by (made m (Reserve term count)).0 (made (over m k) (Reserve term count)).0 e refl refl refl }
@@ -64,6 +79,16 @@ made_alike m k (Make term call) e =
           (ap (λ (a : Answer). cond (is_accepted a && ends_the_term call) (m.term + 1) m.term) same)
           refl
           (ap (λ (a : Answer). cond (is_accepted a) (unspent_after m.unspent call) m.unspent) same);
+    }
+made_alike m k (Advance now term first) e =
+    let s : Stepped = step m.core (restart now) in
+    let t : Stepped = step k (restart now) in
+    let g : GoesOnAs m.core k (restart now ∷ []) = go_on_alike m.core k (restart now ∷ []) e in
+    let same : s.1 ≡ t.1 = cc g.answers in
+    let both = advanced_alike m k now term first s t g.state same in
+    record {
+      answer = ap (λ (n : ℕ). answer.Made n s.1) both.1 ∙ ap (λ (a : Answer). answer.Made (advanced (over m k) now term first t).term a) same;
+      state = both.0;
     }
 
 step_over : (m : Fenced) (k : State) (call : FencedCall) → AreAlike m.core k → StepsAs (fenced_step m call) (fenced_step (over m k) call)

@@ -2,10 +2,10 @@
 use Rattle.std.proofs.Common.{◌≡◌, ℕ, zero, suc, ◌+◌, ◌-◌, ◌<◌, ◌≤◌, true, false, not, ◌||◌, ltb, leb, eqb, List, [], ◌∷◌, ◌++◌, refl, sym, ap, subst, ◌∙◌, inl, inr, ⊎_elim, arith}
 use Rattle.std.specs.List.{list_any, range_with_len}
 use Rattle.std.proofs.lemmas.Bool.{cases_Bool, both_ways, and_parts, and_from, ltb-true, lt-ltb, leb-true, le-leb, eqb-true, eq-eqb, ne_eqb}
-use Rattle.std.proofs.lemmas.List.{append-nil, append_assoc}
+use Rattle.std.proofs.lemmas.List.{append-nil, append_assoc, take-append-drop}
 use Rattle.std.proofs.lemmas.List.Folds.{list_any-append}
 use Rattle.std.proofs.Math.Seq.{drop-cons}
-use Rattle.std.proofs.Common.{drop, get_or, length}
+use Rattle.std.proofs.Common.{take, drop, get_or, length}
 use Rattle.ckpt_ids.specs.Ordered.{IsIn}
 use Rattle.ckpt_ids.specs.Ascending.{IsAscendingSet}
 use Rattle.ckpt_ids.proofs.OrderedLemmas.{IsIn-append_right, ComesBefore-at, filter-same, filter-all, list_any-none, list_any-from_IsIn, IsInOrder-append}
@@ -43,7 +43,7 @@ row-from_bounds from to f l r = row_there from (to - from) f l (omega arith)
 pub row_empty : (from to : ℕ) → to ≤ from → row (span from to) ≡ []
 row_empty from to h = let e : to - from ≡ 0 = omega arith in ap (range_with_len from) e
 
-range_split : (a n k : ℕ) → range_with_len a (n + k) ≡ range_with_len a n ++ range_with_len (a + n) k
+pub range_split : (a n k : ℕ) → range_with_len a (n + k) ≡ range_with_len a n ++ range_with_len (a + n) k
 range_split a zero k = let e : a + 0 ≡ a = omega arith in let z : 0 + k ≡ k = omega arith in ap (range_with_len a) z ∙ ap (λ b. range_with_len b k) (sym e)
 range_split a (suc n) k =
     let e : (a + 1) + n ≡ a + suc n = omega arith in
@@ -130,3 +130,11 @@ next_cons xs i d h = let s : suc i ≡ i + 1 = omega arith in drop-cons xs i d h
 -- the ranges from a place on
 pub ranges_at : (spans : List Span) (i : ℕ) (d : Span) → i < length spans → names_of (drop i spans) ≡ row (get_or spans i d) ++ names_of (drop (i + 1) spans)
 ranges_at spans i d h = ap names_of (next_cons spans i d h)
+
+pub names_append : (xs ys : List Span) → names_of (xs ++ ys) ≡ names_of xs ++ names_of ys
+names_append [] ys = refl
+names_append (x ∷ xs) ys = ap (λ zs. row x ++ zs) (names_append xs ys) ∙ sym (append_assoc (row x) (names_of xs) (names_of ys))
+
+-- the names before a range, its own, and those behind it
+pub names_at : (xs : List Span) (i : ℕ) (d : Span) → i < length xs → names_of xs ≡ names_of (take i xs) ++ (row (get_or xs i d) ++ names_of (drop (i + 1) xs))
+names_at xs i d h = ap names_of (sym (take-append-drop i xs)) ∙ names_append (take i xs) (drop i xs) ∙ ap (λ ys. names_of (take i xs) ++ ys) (ranges_at xs i d h)

@@ -1,8 +1,8 @@
 -- What one call of a fenced coordinator changes.
 use Rattle.std.proofs.Common.{◌≡◌, ℕ, zero, suc, ◌+◌, ◌<◌, ◌≤◌, ◌^◌, Bool, true, false, not, ◌&&◌, ◌||◌, ltb, leb, eqb, List, [], ◌++◌, refl, ap, ◌∙◌, ◌⊎◌, inl, inr, ⊎_elim, arith}
-use Rattle.std.specs.Prelude.{Option, Some, None, cond}
+use Rattle.std.specs.Prelude.{Option, Some, None, cond, max}
 use Rattle.std.specs.List.{list_any, filter, find, range_with_len}
-use Rattle.std.proofs.lemmas.Bool.{cases_Bool, both_ways, and_parts, and_from, cond_both, ltb-false, lt-ltb, leb-false, cond-true}
+use Rattle.std.proofs.lemmas.Bool.{cases_Bool, both_ways, and_parts, and_from, or_parts, cond_both, ltb-false, lt-ltb, leb-false, lt-leb, cond-true, cond-false}
 use Rattle.ckpt_ids.specs.declared.call.Call.{Call}
 use Rattle.ckpt_ids.specs.Ordered.{IsIn}
 use Rattle.ckpt_ids.specs.Ascending.{IsAscendingSet}
@@ -15,11 +15,11 @@ use Rattle.ckpt_model.specs.Laws.{registered_by}
 use Rattle.ckpt_model.proofs.Records.Counts.{fails-from_find}
 use Rattle.ckpt_model.proofs.Soundness.Calls.{step_keeps}
 use Rattle.ckpt_terms.specs.declared.call.FencedCall.{FencedCall}
-use Rattle.ckpt_terms.specs.declared.call.FencedCall.TheVariants.{Reserve, Forfeit, Make}
+use Rattle.ckpt_terms.specs.declared.call.FencedCall.TheVariants.{Reserve, Forfeit, Make, Advance}
 use Rattle.ckpt_terms.specs.declared.call.FencedRefusal.{FencedRefusal}
-use Rattle.ckpt_terms.specs.declared.call.FencedRefusal.TheVariants.{OldTerm, Ended, BadCount, NamesUsedUp, TermsUsedUp}
+use Rattle.ckpt_terms.specs.declared.call.FencedRefusal.TheVariants.{OldTerm, Ended, BadCount, NamesUsedUp, TermsUsedUp, BadName}
 use Rattle.ckpt_terms.specs.declared.call.FencedAnswer.TheVariants as answer
-use Rattle.ckpt_terms.specs.Fencing.{Fenced, is_unspent, is_of_task, fresh_of, ends_the_term, is_accepted, not_reserved, fence, without_all, unspent_after, after_call, FencedStepped, made}
+use Rattle.ckpt_terms.specs.Fencing.{Fenced, is_unspent, is_of_task, fresh_of, ends_the_term, is_accepted, not_reserved, fence, without_all, unspent_after, after_call, FencedStepped, made, raised, restart}
 use Rattle.ckpt_terms.specs.Fencing.{unless_fenced, fenced_step}
 use Rattle.ckpt_terms.specs.FencedLaws.{IsFencedCall, IsFenced}
 use Rattle.ckpt_terms.proofs.Modes.{cancelled_by}
@@ -176,10 +176,73 @@ make_later m term call i e = record {
       (λ (k : IsIn f (registered_by m.core call)). inr (inl (fresh_unspent m term call f e (registered_fresh m.core call f k).0))) (present_after m.core call f i.core h);
 }
 
+-- an advance restores the job with its floors raised, or the restore is refused
+pub advance_by : (m : Fenced) (now term first : ℕ) (P : Fenced → Type 0)
+    → (is_accepted (step m.core (restart now)).1 ≡ true → P (made (raised m term first) (Make 0 (restart now))).0)
+    → (is_accepted (step m.core (restart now)).1 ≡ false → P (made m (Make 0 (restart now))).0)
+    → P (made m (Advance now term first)).0
+advance_by m now term first P accepted refused =
+    let s : Stepped = step m.core (restart now) in
+    cond_both (is_accepted s.1) (raised m term first) m (λ (k : Fenced). P (after_call k (restart now) s)) accepted refused
+
+-- one that is made keeps within the limits of names and terms
+pub record CanAdvance (m : Fenced) (term first : ℕ) : Type 0 where
+  pub names : first ≤ 2 ^ 62
+  pub terms : leb (2 ^ 62) (max m.term term) ≡ false
+
+pub advance_fits : (m : Fenced) (now term first : ℕ) → fence m (Advance now term first) ≡ None → CanAdvance m term first
+advance_fits m now term first e =
+    let a = none_else (eqb first 0 || ltb (2 ^ 62) first) BadName _ e in
+    let b = none_else (leb (2 ^ 62) (max m.term term)) TermsUsedUp None a.1 in
+    record { names = ltb-false (2 ^ 62) first (or_parts (eqb first 0) (ltb (2 ^ 62) first) a.0).1; terms = b.0 }
+
+-- a restore is let through where a term comes after the one that runs
+restart_passes : (m : Fenced) (now : ℕ) → leb (2 ^ 62) m.term ≡ false → fence m (Make 0 (restart now)) ≡ None
+restart_passes m now more = cond-false (leb (2 ^ 62) m.term) (Some TermsUsedUp) None more
+
+raised_passes : (m : Fenced) (now term first : ℕ) → fence m (Advance now term first) ≡ None → fence (raised m term first) (Make 0 (restart now)) ≡ None
+raised_passes m now term first e = restart_passes (raised m term first) now (advance_fits m now term first e).terms
+
+same_passes : (m : Fenced) (now term first : ℕ) → fence m (Advance now term first) ≡ None → fence m (Make 0 (restart now)) ≡ None
+same_passes m now term first e =
+    let top : max m.term term < 2 ^ 62 = leb-false (2 ^ 62) (max m.term term) (advance_fits m now term first e).terms in
+    restart_passes m now (lt-leb (2 ^ 62) m.term (omega arith))
+
+raised_later : (m : Fenced) (term first : ℕ) → IsLater m (raised m term first)
+raised_later m term first = record {
+  term = omega arith;
+  still_open = λ f h. ⊎_elim (λ (k : IsIn f m.unspent). inl k) (λ (k : max m.next_name first ≤ f). let le : m.next_name ≤ f = omega arith in inr le) h;
+  known = λ f h. inl h;
+  present = λ f h. inl h;
+}
+
+pub raised_fenced : (m : Fenced) (term first : ℕ) → CanAdvance m term first → IsFenced m → IsFenced (raised m term first)
+raised_fenced m term first can i = record {
+  core = i.core;
+  term_from = let h : 1 ≤ m.term = i.term_from in omega arith;
+  term_to = let h : max m.term term < 2 ^ 62 = leb-false (2 ^ 62) (max m.term term) can.terms in omega arith;
+  names_from = let h : 1 ≤ m.next_name = i.names_from in omega arith;
+  names_to = let h : m.next_name ≤ 2 ^ 62 = i.names_to in let k : first ≤ 2 ^ 62 = can.names in omega arith;
+  known = λ f h. let b : f < m.next_name = i.known f h in omega arith;
+  reserved = λ f h. let b : f < m.next_name = i.reserved f h in omega arith;
+  apart = i.apart;
+  ascending = i.ascending;
+  ended = i.ended;
+}
+
+advance_later : (m : Fenced) (now term first : ℕ) → IsFenced m → fence m (Advance now term first) ≡ None → IsLater m (made m (Advance now term first)).0
+advance_later m now term first i e =
+    let k : Fenced = raised m term first in
+    advance_by m now term first (λ (n : Fenced). IsLater m n)
+    (λ _. later_then m k (made k (Make 0 (restart now))).0 (raised_later m term first)
+    (make_later k 0 (restart now) (raised_fenced m term first (advance_fits m now term first e) i) (raised_passes m now term first e)))
+    (λ _. make_later m 0 (restart now) i (same_passes m now term first e))
+
 pub made_later : (m : Fenced) (call : FencedCall) → IsFenced m → fence m call ≡ None → IsLater m (made m call).0
 made_later m (Reserve term count) i e = reserve_later m term count
 made_later m (Forfeit term names) i e = forfeit_later m term names
 made_later m (Make term call) i e = make_later m term call i e
+made_later m (Advance now term first) i e = advance_later m now term first i e
 
 -- and what always holds
 
@@ -254,7 +317,14 @@ make_keeps m term call c fits i =
           (cancelled_by m.core call t);
     }
 
+pub advance_keeps : (m : Fenced) (now term first : ℕ) → fence m (Advance now term first) ≡ None → IsFenced m → IsFenced (made m (Advance now term first)).0
+advance_keeps m now term first e i =
+    advance_by m now term first (λ (n : Fenced). IsFenced n)
+    (λ _. make_keeps (raised m term first) 0 (restart now) tt (raised_passes m now term first e) (raised_fenced m term first (advance_fits m now term first e) i))
+    (λ _. make_keeps m 0 (restart now) tt (same_passes m now term first e) i)
+
 pub made_keeps : (m : Fenced) (call : FencedCall) → IsFencedCall call → fence m call ≡ None → IsFenced m → IsFenced (made m call).0
 made_keeps m (Reserve term count) c e i = reserve_keeps m term count e i
 made_keeps m (Forfeit term names) c e i = forfeit_keeps m term names i
 made_keeps m (Make term call) c e i = make_keeps m term call c e i
+made_keeps m (Advance now term first) c e i = advance_keeps m now term first e i

@@ -1,20 +1,22 @@
 -- What the code of a fenced coordinator does, in the words of its step.
 use Rattle.std.proofs.Common.{◌≡◌, ℕ, ◌+◌, true, false, not, eqb, List, [], ◌++◌, refl, sym, ap, subst, ◌∙◌}
-use Rattle.std.specs.Prelude.{Some, None}
+use Rattle.std.specs.Prelude.{Some, None, max}
 use Rattle.std.specs.List.{list_any, range_with_len}
 use Rattle.std.proofs.lemmas.Bool.{cond-true, cond-false, not_from_false, not_from_true, eq-eqb, ne_eqb}
 use Rattle.ckpt_ids.specs.declared.call.Call.{Call}
 use Rattle.ckpt_ids.proofs.OrderedLemmas.{filter-all}
 use Rattle.ckpt_model.specs.State.{State}
 use Rattle.ckpt_model.specs.Steps.{Stepped, step}
-use Rattle.ckpt_terms.specs.declared.call.FencedCall.TheVariants.{Reserve, Forfeit, Make}
+use Rattle.ckpt_terms.specs.declared.call.FencedCall.TheVariants.{Reserve, Forfeit, Make, Advance}
 use Rattle.ckpt_terms.specs.declared.call.FencedRefusal.TheVariants.{OldTerm}
 use Rattle.ckpt_terms.specs.declared.call.FencedAnswer.TheVariants as answer
-use Rattle.ckpt_terms.specs.Fencing.{Fenced, fence, fenced_step, without_all, unspent_after, after_call, fresh_of, ends_the_term}
+use Rattle.ckpt_terms.specs.Fencing.{Fenced, fence, fenced_step, without_all, unspent_after, after_call, advanced, restart, fresh_of, ends_the_term}
 use Rattle.ckpt_terms.specs.FencedLaws.{IsFenced}
 use Rattle.ckpt_model.specs.Soundness.{IsCall}
 use Rattle.ckpt_ids.specs.declared.reply.Answer.{Answer}
-use Rattle.ckpt_terms.proofs.Stepping.{fenced_off, fenced_on, reserve_keeps, forfeit_keeps, make_keeps}
+use Rattle.ckpt_ids.specs.declared.reply.Answer.TheVariants.{Done}
+use Rattle.ckpt_ids.specs.declared.reply.Reply.{Reply}
+use Rattle.ckpt_terms.proofs.Stepping.{fenced_off, fenced_on, reserve_keeps, forfeit_keeps, make_keeps, advance_keeps}
 
 abbrev pub layer : State → ℕ → ℕ → List ℕ → Fenced
 layer core term next_name unspent = record { core = core; term = term; next_name = next_name; unspent = unspent }
@@ -72,3 +74,35 @@ make_fenced m term call core its after left c e is is_after is_left i =
     let At : ℕ → Type 0 = λ t. IsFenced (layer core t m.next_name (after_call m call (core, its)).unspent) in
     let Of : List ℕ → Type 0 = λ xs. IsFenced (layer core after m.next_name xs) in
     subst Of (sym is_left) (subst At (sym is_after) (subst Then is (make_keeps m term call c e i)))
+
+-- an advance that reaches the coordinator
+pub advance_on : (m : Fenced) (now term first : ℕ) (core : State) (its : Answer) → fence m (Advance now term first) ≡ None → step m.core (restart now) ≡ (core, its)
+    → fenced_step m (Advance now term first) ≡ (advanced m now term first (core, its), answer.Made (advanced m now term first (core, its)).term its)
+advance_on m now term first core its e is =
+    let Then : Stepped → Type 0 = λ s. fenced_step m (Advance now term first) ≡ (advanced m now term first s, answer.Made (advanced m now term first s).term s.1) in
+    subst Then is (fenced_on m (Advance now term first) e)
+
+pub advance_fenced : (m : Fenced) (now term first : ℕ) (core : State) (its : Answer) → fence m (Advance now term first) ≡ None → step m.core (restart now) ≡ (core, its)
+    → IsFenced m → IsFenced (advanced m now term first (core, its))
+advance_fenced m now term first core its e is i =
+    let Then : Stepped → Type 0 = λ s. IsFenced (advanced m now term first s) in
+    subst Then is (advance_keeps m now term first e i)
+
+-- the same, in the words of the code that raises the floors
+pub advance_done : (m : Fenced) (now term first : ℕ) (core : State) (reply : Reply) (last next : ℕ) (left : List ℕ) → fence m (Advance now term first) ≡ None
+    → step m.core (restart now) ≡ (core, Done reply) → last ≡ max m.term term → next ≡ max m.next_name first → left ≡ []
+    → fenced_step m (Advance now term first) ≡ (layer core (last + 1) next left, answer.Made (last + 1) (Done reply))
+advance_done m now term first core reply last next left e is is_last is_next is_left =
+    let At : ℕ → ℕ → List ℕ → Type 0 = λ t n xs. fenced_step m (Advance now term first) ≡ (layer core (t + 1) n xs, answer.Made (t + 1) (Done reply)) in
+    subst (λ (xs : List ℕ). At last next xs) (sym is_left)
+    (subst (λ (n : ℕ). At last n []) (sym is_next)
+    (subst (λ (t : ℕ). At t (max m.next_name first) []) (sym is_last) (advance_on m now term first core (Done reply) e is)))
+
+pub advance_done_fenced : (m : Fenced) (now term first : ℕ) (core : State) (reply : Reply) (last next : ℕ) (left : List ℕ) → fence m (Advance now term first) ≡ None
+    → step m.core (restart now) ≡ (core, Done reply) → last ≡ max m.term term → next ≡ max m.next_name first → left ≡ [] → IsFenced m
+    → IsFenced (layer core (last + 1) next left)
+advance_done_fenced m now term first core reply last next left e is is_last is_next is_left i =
+    let At : ℕ → ℕ → List ℕ → Type 0 = λ t n xs. IsFenced (layer core (t + 1) n xs) in
+    subst (λ (xs : List ℕ). At last next xs) (sym is_left)
+    (subst (λ (n : ℕ). At last n []) (sym is_next)
+    (subst (λ (t : ℕ). At t (max m.next_name first) []) (sym is_last) (advance_fenced m now term first core (Done reply) e is i)))

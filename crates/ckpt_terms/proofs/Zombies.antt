@@ -1,39 +1,56 @@
 -- What an accepted restore or cancel leaves: no held name, and no task whose calls change anything.
-use Rattle.std.proofs.Common.{◌≡◌, ℕ, ◌+◌, ◌<◌, ◌≤◌, true, false, not, ◌&&◌, eqb, List, [], refl, subst, ◌∙◌, ◌⊎◌, inl, inr, ⊎_elim, arith}
+use Rattle.std.proofs.Common.{◌≡◌, ℕ, ◌+◌, ◌<◌, ◌≤◌, max, Bool, true, false, not, ◌&&◌, eqb, List, [], refl, ap, subst, ◌∙◌, ◌⊎◌, inl, inr, ⊎_elim, arith}
 use Rattle.std.specs.Prelude.{Some}
-use Rattle.std.proofs.lemmas.Bool.{cases_Bool, both_ways, and_parts, and_from, ne_eqb, not_from_false, cond-true}
+use Rattle.std.proofs.lemmas.Bool.{cases_Bool, both_ways, and_parts, and_from, ne_eqb, not_from_false, cond-true, cond_both}
 use Rattle.ckpt_ids.specs.Ordered.{IsIn}
+use Rattle.ckpt_ids.specs.declared.call.Call.{Call}
 use Rattle.ckpt_model.specs.State.{is_known}
 use Rattle.ckpt_model.specs.Steps.{Stepped, step}
 use Rattle.ckpt_terms.specs.declared.call.FencedCall.{FencedCall}
-use Rattle.ckpt_terms.specs.declared.call.FencedCall.TheVariants.{Reserve, Forfeit, Make}
+use Rattle.ckpt_terms.specs.declared.call.FencedCall.TheVariants.{Reserve, Forfeit, Make, Advance}
 use Rattle.ckpt_terms.specs.declared.call.FencedRefusal.{FencedRefusal}
 use Rattle.ckpt_terms.specs.declared.call.FencedRefusal.TheVariants.{OldTerm}
 use Rattle.ckpt_terms.specs.declared.call.FencedAnswer.TheVariants as answer
-use Rattle.ckpt_terms.specs.Fencing.{is_garbage, Fenced, is_of_task, ends_the_term, is_accepted, has_ended, fence, unspent_after, without_all, fresh_of, made, FencedStepped, fenced_step}
+use Rattle.ckpt_terms.specs.Fencing.{is_garbage, Fenced, is_of_task, ends_the_term, is_accepted, has_ended, fence, unspent_after, without_all, fresh_of, made, raised, restart, FencedStepped, fenced_step}
 use Rattle.ckpt_terms.specs.Fencing.{fenced_replay}
 use Rattle.ckpt_terms.specs.FencedLaws.{AreFencedCalls, IsFenced, is_from_task, term_of, ZombiesAreFenced, SweepIsExact, CancelledIsSwept}
-use Rattle.ckpt_terms.proofs.Stepping.{fenced_step_by, fenced_off, IsOpen}
+use Rattle.ckpt_terms.proofs.Stepping.{advance_by, fenced_step_by, fenced_off, IsOpen}
 use Rattle.ckpt_terms.proofs.Fences.{step_fenced, replay_later}
 use Rattle.ckpt_terms.proofs.Classes.{garbage_from}
 
 -- what a call leaves that ends the term
-made_ended : (m : Fenced) (call : FencedCall) → has_ended call (made m call).1 ≡ true → (((made m call).0).term ≡ m.term + 1) × (((made m call).0).unspent ≡ [])
-made_ended m (Make term end) h =
+pub make_ended : (m : Fenced) (term : ℕ) (end : Call) → (is_accepted (step m.core end).1 && ends_the_term end) ≡ true
+    → (m.term < ((made m (Make term end)).0).term) × (((made m (Make term end)).0).unspent ≡ [])
+make_ended m term end h =
     let s : Stepped = step m.core end in
     let a = and_parts (is_accepted s.1) (ends_the_term end) h in (
-      cond-true (is_accepted s.1 && ends_the_term end) (m.term + 1) m.term h,
+      cond_both (is_accepted s.1 && ends_the_term end) (m.term + 1) m.term (λ (t : ℕ). m.term < t) (λ _. omega arith)
+          (λ no. absurd (both_ways (is_accepted s.1 && ends_the_term end) no h)),
       cond-true (is_accepted s.1) (unspent_after m.unspent end) m.unspent a.0
           ∙ cond-true (ends_the_term end) [] (without_all (fresh_of end) m.unspent) a.1,
     )
+
+made_ended : (m : Fenced) (call : FencedCall) → has_ended call (made m call).1 ≡ true → (m.term < ((made m call).0).term) × (((made m call).0).unspent ≡ [])
+made_ended m (Make term end) h = make_ended m term end h
+made_ended m (Advance now term first) h =
+    let s : Stepped = step m.core (restart now) in
+    let k : Fenced = raised m term first in
+    let Ended : Fenced → Type 0 = λ n. (m.term < n.term) × (n.unspent ≡ []) in
+    advance_by m now term first Ended
+    (λ yes.
+    let its = make_ended k 0 (restart now) (ap (λ (b : Bool). b && true) yes) in
+    let above : max m.term term < ((made k (Make 0 (restart now))).0).term = its.0 in
+    (omega arith, its.1))
+    (λ no. absurd (both_ways (is_accepted s.1) no h))
 made_ended m call h = absurd (both_ways (has_ended call (made m call).1) refl h)
 
 none_ended : (m : Fenced) (call : FencedCall) (why : FencedRefusal) → has_ended call (answer.Fenced why) ≡ false
 none_ended m (Make term end) why = refl
+none_ended m (Advance now term first) why = refl
 none_ended m call why = refl
 
-ended : (m : Fenced) (call : FencedCall) → has_ended call (fenced_step m call).1 ≡ true → (((fenced_step m call).0).term ≡ m.term + 1) × (((fenced_step m call).0).unspent ≡ [])
-ended m call = fenced_step_by m call (λ (x : FencedStepped). has_ended call x.1 ≡ true → ((x.0).term ≡ m.term + 1) × ((x.0).unspent ≡ []))
+ended : (m : Fenced) (call : FencedCall) → has_ended call (fenced_step m call).1 ≡ true → (m.term < ((fenced_step m call).0).term) × (((fenced_step m call).0).unspent ≡ [])
+ended m call = fenced_step_by m call (λ (x : FencedStepped). has_ended call x.1 ≡ true → (m.term < (x.0).term) × ((x.0).unspent ≡ []))
     (λ why h. absurd (both_ways (has_ended call (answer.Fenced why)) (none_ended m call why) h)) (λ _ h. made_ended m call h)
 
 -- a task of another term is fenced
@@ -43,13 +60,14 @@ other_term term its h = not_from_false (eqb term its) (ne_eqb term its (λ e. ab
 old_fenced : (n : Fenced) (late : FencedCall) → is_from_task late ≡ true → term_of late < n.term → fence n late ≡ Some OldTerm
 old_fenced n (Reserve term count) t h = cond-true (not (eqb term n.term)) _ _ (other_term term n.term h)
 old_fenced n (Forfeit term names) t h = cond-true (not (eqb term n.term)) _ _ (other_term term n.term h)
+old_fenced n (Advance now term first) t h = absurd (cc)
 old_fenced n (Make term call) t h = cond-true (is_of_task call && not (eqb term n.term)) _ _ (and_from (is_of_task call) (not (eqb term n.term)) t (other_term term n.term h))
 
 pub zombies_are_fenced : (m : Fenced) (calls : List FencedCall) → IsFenced m → AreFencedCalls calls → ZombiesAreFenced m calls
 zombies_are_fenced m calls i b end its_call e late t h =
     let k : Fenced = (fenced_step m end).0 in
     let n : Fenced = fenced_replay k calls in
-    let now : k.term ≡ m.term + 1 = (ended m end e).0 in
+    let now : m.term < k.term = (ended m end e).0 in
     let later : k.term ≤ n.term = (replay_later k calls b (step_fenced m end its_call i)).term in
     fenced_off n late OldTerm (old_fenced n late t (omega arith))
 

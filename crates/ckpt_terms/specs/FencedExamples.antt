@@ -1,6 +1,6 @@
 -- Worked examples: the answers of a fenced coordinator, computed by the definitions. The expected answers were written by
 -- hand, from the rules.
-use Rattle.std.specs.Prelude.{◌≡◌, ℕ, ◌^◌, ◌-◌, List, refl, map, true, false, [], ◌∷◌, None}
+use Rattle.std.specs.Prelude.{◌≡◌, ℕ, ◌^◌, ◌+◌, ◌-◌, List, refl, map, true, false, [], ◌∷◌, None}
 use Rattle.ckpt_ids.specs.declared.call.Target.TheVariants as target
 use Rattle.ckpt_ids.specs.declared.reply.Choice.TheVariants as choice
 use Rattle.ckpt_ids.specs.declared.call.Call.TheVariants.{Tick, Ack, Decline, Restore, Cancel, Take}
@@ -11,8 +11,8 @@ use Rattle.ckpt_ids.specs.declared.reply.Answer.TheVariants.{Done, Refused}
 use Rattle.ckpt_ids.specs.declared.subtask.SubtaskId.{SubtaskId}
 use Rattle.ckpt_model.specs.Steps.{step_computes}
 use Rattle.ckpt_terms.specs.declared.call.FencedCall.{FencedCall}
-use Rattle.ckpt_terms.specs.declared.call.FencedCall.TheVariants.{Reserve, Forfeit, Make}
-use Rattle.ckpt_terms.specs.declared.call.FencedRefusal.TheVariants.{OldTerm, Ended, BadCount, NamesUsedUp, Spent, NeverReserved}
+use Rattle.ckpt_terms.specs.declared.call.FencedCall.TheVariants.{Reserve, Forfeit, Make, Advance}
+use Rattle.ckpt_terms.specs.declared.call.FencedRefusal.TheVariants.{OldTerm, Ended, BadCount, NamesUsedUp, TermsUsedUp, BadName, Spent, NeverReserved}
 use Rattle.ckpt_terms.specs.declared.call.FencedAnswer.{FencedAnswer}
 use Rattle.ckpt_terms.specs.declared.call.FencedAnswer.TheVariants.{Reserved, Forfeited, Made, Fenced}
 use Rattle.ckpt_terms.specs.Fencing as fencing
@@ -86,3 +86,39 @@ pub rows : answers (layer (2 ^ 62 - 1)) (
     )
 unfolding fencing.fenced_step step_computes
 rows = refl
+
+-- A job goes on from an older image, in term 1 with the next name 8 and the name 7 held. Tasks were told terms up to 9 since then, and
+-- names up to 19 were given out. An advance that is given less raises the term by 1, and leaves the next name.
+abbrev older : List FencedCall
+older = Reserve 1 3 ∷ Make 0 (Tick 1000) ∷ Make 1 (Ack 1000 1 subtask (5 ∷ 6 ∷ []) []) ∷ []
+
+abbrev from_older : fencing.Fenced
+from_older = fencing.fenced_replay (layer 5) older
+
+pub goes_on_above : answers from_older (
+    Advance 1500 9 20 ∷ Reserve 9 1 ∷ Reserve 10 2 ∷ Make 1 (Ack 1600 2 subtask (7 ∷ []) []) ∷ Make 10 (Ack 1600 2 subtask (19 ∷ []) [])
+    ∷ Advance 1600 3 7 ∷ Reserve 11 1 ∷ Make 0 (Cancel 2000) ∷ Advance 2100 50 50 ∷ []
+    ) ≡ (
+    Made 10 (Done (reply.Restored (choice.Checkpoint 1) 0)) ∷ Fenced OldTerm ∷ Reserved 20 ∷ Fenced OldTerm ∷ Fenced (Spent 19)
+    ∷ Made 11 (Done (reply.Restored (choice.Checkpoint 1) 0)) ∷ Reserved 22 ∷ Made 12 (Done (reply.Cancelled 1 2)) ∷ Made 12 (Refused refusal.NotRunning) ∷ []
+    )
+unfolding fencing.fenced_step step_computes
+goes_on_above = refl
+
+-- The names that were passed over are spent, and so is the one that was held: 4 is below the first, 5 and 6 are in use, and 20 was not
+-- given out yet.
+pub passed_over_are_garbage : map (fencing.is_garbage (fencing.fenced_replay from_older (Advance 1500 9 20 ∷ []))) (4 ∷ 5 ∷ 6 ∷ 7 ∷ 8 ∷ 19 ∷ 20 ∷ [])
+    ≡ true ∷ false ∷ false ∷ true ∷ true ∷ true ∷ false ∷ []
+unfolding fencing.fenced_step step_computes
+passed_over_are_garbage = refl
+
+-- its refusals, in their order, and the last term and name that it can reach
+pub advance_rows : answers from_older (
+    Advance 1500 (2 ^ 62) 0 ∷ Advance 1500 9 (2 ^ 62 + 1) ∷ Advance 1500 (2 ^ 62) 20 ∷ Reserve 1 1
+    ∷ Advance 1500 (2 ^ 62 - 1) (2 ^ 62) ∷ Reserve (2 ^ 62) 1 ∷ Advance 1600 1 1 ∷ []
+    ) ≡ (
+    Fenced BadName ∷ Fenced BadName ∷ Fenced TermsUsedUp ∷ Reserved 8
+    ∷ Made (2 ^ 62) (Done (reply.Restored (choice.Checkpoint 1) 0)) ∷ Fenced NamesUsedUp ∷ Fenced TermsUsedUp ∷ []
+    )
+unfolding fencing.fenced_step step_computes
+advance_rows = refl

@@ -11,7 +11,7 @@ use Rattle.ckpt_model.specs.Soundness.{IsSound, IsCall}
 use Rattle.ckpt_model.specs.Laws.{AreCalls, CanOpen, NoneAgain, Part, ack_of, along, given_as, handed_by, is_ack_taken, registered_by}
 use Rattle.ckpt_terms.specs.declared.call.TheConstants.{LAST_TERM, NAMES_END}
 use Rattle.ckpt_terms.specs.declared.call.FencedCall.{FencedCall}
-use Rattle.ckpt_terms.specs.declared.call.FencedCall.TheVariants.{Reserve, Forfeit, Make}
+use Rattle.ckpt_terms.specs.declared.call.FencedCall.TheVariants.{Reserve, Forfeit, Make, Advance}
 use Rattle.ckpt_terms.specs.declared.call.FencedRefusal.TheVariants.{OldTerm}
 use Rattle.ckpt_terms.specs.declared.call.FencedAnswer.{FencedAnswer}
 use Rattle.ckpt_terms.specs.declared.call.FencedAnswer.TheVariants as answer
@@ -83,13 +83,15 @@ abbrev pub is_from_task : FencedCall → Bool
 is_from_task (Reserve term count) = true
 is_from_task (Forfeit term names) = true
 is_from_task (Make term call) = is_of_task call
+is_from_task (Advance now term first) = false
 
 abbrev pub term_of : FencedCall → ℕ
 term_of (Reserve term count) = term
 term_of (Forfeit term names) = term
 term_of (Make term call) = term
+term_of (Advance now term first) = term
 
--- Once a restore or a cancel is accepted, no reservation, forfeit, acknowledgement or decline of the tasks that ran before
+-- Once a restore, an advance or a cancel is accepted, no reservation, forfeit, acknowledgement or decline of the tasks that ran before
 -- changes anything, whatever else is called, and each is told so.
 abbrev pub ZombiesAreFenced : Fenced → List FencedCall → Type 0
 ZombiesAreFenced m calls =
@@ -99,7 +101,7 @@ ZombiesAreFenced m calls =
     → let n : Fenced = fenced_replay (fenced_step m end).0 calls in
     (late : FencedCall) → is_from_task late ≡ true → term_of late ≤ m.term → fenced_step n late ≡ (n, answer.Fenced OldTerm)
 
--- Right after an accepted restore or cancel no name is held: each one below the next is in use, waits for deletion, was
+-- Right after an accepted restore, advance or cancel no name is held: each one below the next is in use, waits for deletion, was
 -- fetched for it, or is garbage. So a sweep then misses no file that has such a name and is garbage; a task that should be
 -- dead may still write one later.
 abbrev pub SweepIsExact : Fenced → Type 0

@@ -1,8 +1,9 @@
 -- A coordinator whose tasks reserve the names of their files, in a term that each restart ends.
-use Rattle.std.specs.Prelude.{ℕ, ◌+◌, Bool, true, false, not, ◌&&◌, ◌||◌, nat_lt, nat_le, ◌==◌, List, [], ◌∷◌, ◌++◌, filter, find, if◌then◌else◌, Option, Some, None}
+use Rattle.std.specs.Prelude.{ℕ, ◌+◌, max, Bool, true, false, not, ◌&&◌, ◌||◌, nat_lt, nat_le, ◌==◌, List, [], ◌∷◌, ◌++◌, filter, find, if◌then◌else◌, Option, Some, None}
 use Rattle.std.specs.List.{list_any, range_with_len}
 use Rattle.ckpt_ids.specs.declared.call.Call.{Call}
 use Rattle.ckpt_ids.specs.declared.call.Call.TheVariants.{Ack, Decline, Restore, Cancel}
+use Rattle.ckpt_ids.specs.declared.call.Target.TheVariants as target
 use Rattle.ckpt_ids.specs.declared.reply.Answer.{Answer}
 use Rattle.ckpt_ids.specs.declared.reply.Answer.TheVariants.{Done, Refused}
 use Rattle.ckpt_model.specs.State.{State, Opening, opened, is_known}
@@ -10,9 +11,9 @@ use Rattle.ckpt_model.specs.Refusals.{is_cancelled}
 use Rattle.ckpt_model.specs.Steps.{Stepped, step}
 use Rattle.ckpt_terms.specs.declared.call.TheConstants.{LAST_TERM, MOST_NAMES, NAMES_END}
 use Rattle.ckpt_terms.specs.declared.call.FencedCall.{FencedCall}
-use Rattle.ckpt_terms.specs.declared.call.FencedCall.TheVariants.{Reserve, Forfeit, Make}
+use Rattle.ckpt_terms.specs.declared.call.FencedCall.TheVariants.{Reserve, Forfeit, Make, Advance}
 use Rattle.ckpt_terms.specs.declared.call.FencedRefusal.{FencedRefusal}
-use Rattle.ckpt_terms.specs.declared.call.FencedRefusal.TheVariants.{OldTerm, Ended, BadCount, NamesUsedUp, TermsUsedUp, Spent, NeverReserved}
+use Rattle.ckpt_terms.specs.declared.call.FencedRefusal.TheVariants.{OldTerm, Ended, BadCount, NamesUsedUp, TermsUsedUp, BadName, Spent, NeverReserved}
 use Rattle.ckpt_terms.specs.declared.call.FencedAnswer.{FencedAnswer}
 use Rattle.ckpt_terms.specs.declared.call.FencedAnswer.TheVariants as answer
 
@@ -51,6 +52,14 @@ abbrev pub is_accepted : Answer → Bool
 is_accepted (Done reply) = true
 is_accepted (Refused why) = false
 
+-- a restore of the choice, in the shape that the job has
+abbrev pub restart : ℕ → Call
+restart now = Restore now target.Latest None
+
+-- with the term that runs and the next name raised to these
+abbrev pub raised : Fenced → ℕ → ℕ → Fenced
+raised m term first = record m { term = max m.term term; next_name = max m.next_name first }
+
 -- what the layer refuses
 
 -- of a name that the running term does not hold
@@ -60,6 +69,10 @@ not_held m f = if nat_lt f m.next_name then Spent f else NeverReserved f
 abbrev pub not_reserved : Fenced → Option ℕ → Option FencedRefusal
 not_reserved m None = None
 not_reserved m (Some f) = Some (not_held m f)
+
+-- of an advance after which this term is the last one that has ended
+abbrev pub advance_fault : ℕ → ℕ → Option FencedRefusal
+advance_fault last first = if (first == 0) || nat_lt NAMES_END first then Some BadName else (if nat_le LAST_TERM last then Some TermsUsedUp else None)
 
 abbrev pub fence : Fenced → FencedCall → Option FencedRefusal
 fence m (Reserve term count) =
@@ -73,6 +86,7 @@ fence m (Make term call) =
     if is_of_task call && not (term == m.term)
     then Some OldTerm
     else (if ends_the_term call && nat_le LAST_TERM m.term then Some TermsUsedUp else not_reserved m (find (λ f. not (is_unspent m f)) (fresh_of call)))
+fence m (Advance now term first) = advance_fault (max m.term term) first
 
 -- what it does
 
@@ -90,6 +104,10 @@ after_call m call s = record {
   unspent = if is_accepted s.1 then unspent_after m.unspent call else m.unspent;
 }
 
+-- an advance raises the term and the next name, and then the job is restored; both stay if the restore is refused
+abbrev pub advanced : Fenced → ℕ → ℕ → ℕ → Stepped → Fenced
+advanced m now term first s = after_call (if is_accepted s.1 then raised m term first else m) (restart now) s
+
 abbrev pub FencedStepped : Type 0
 FencedStepped = Fenced × FencedAnswer
 
@@ -97,6 +115,8 @@ abbrev pub made : Fenced → FencedCall → FencedStepped
 made m (Reserve term count) = (record m { next_name = m.next_name + count; unspent = m.unspent ++ range_with_len m.next_name count }, answer.Reserved m.next_name)
 made m (Forfeit term names) = (record m { unspent = without_all names m.unspent }, answer.Forfeited)
 made m (Make term call) = let s : Stepped = step m.core call in (after_call m call s, answer.Made (after_call m call s).term s.1)
+made m (Advance now term first) =
+    let s : Stepped = step m.core (restart now) in (advanced m now term first s, answer.Made (advanced m now term first s).term s.1)
 
 abbrev pub unless_fenced : Fenced → FencedCall → Option FencedRefusal → FencedStepped
 unless_fenced m call (Some why) = (m, answer.Fenced why)
@@ -108,6 +128,7 @@ fenced_step m call = unless_fenced m call (fence m call)
 -- an answer that says that the call ended the term
 abbrev pub has_ended : FencedCall → FencedAnswer → Bool
 has_ended (Make term call) (answer.Made after its) = is_accepted its && ends_the_term call
+has_ended (Advance now term first) (answer.Made after its) = is_accepted its
 has_ended call answer = false
 
 -- lists of calls
@@ -119,6 +140,7 @@ fenced_replay m (call ∷ calls) = fenced_replay (fenced_step m call).0 calls
 -- the calls that reach the coordinator
 abbrev pub passed : FencedCall → FencedAnswer → List Call
 passed (Make term call) (answer.Made after its) = call ∷ []
+passed (Advance now term first) (answer.Made after its) = restart now ∷ []
 passed call answer = []
 
 abbrev pub core_calls : Fenced → List FencedCall → List Call

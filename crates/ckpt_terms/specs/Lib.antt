@@ -1,4 +1,5 @@
 -- The definitions that contracts cite.
+pub mod Advancing
 pub mod FencedExamples
 pub mod Fencing
 pub mod FencedLaws

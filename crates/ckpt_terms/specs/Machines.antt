@@ -1,5 +1,5 @@
 -- A coordinator with or without names, and its step where a call has no term.
-use Rattle.std.specs.Prelude.{◌≡◌, ℕ, Bool, not, ◌&&◌, ◌||◌, nat_le, nat_lt, ◌==◌, List, [], ◌++◌, flat_map, if◌then◌else◌, Option, Some, None, is_none}
+use Rattle.std.specs.Prelude.{◌≡◌, ◌≤◌, ℕ, Bool, not, ◌&&◌, ◌||◌, nat_le, nat_lt, ◌==◌, List, [], ◌++◌, flat_map, if◌then◌else◌, Option, Some, None, is_none}
 use Rattle.std.specs.List.{list_any}
 use Rattle.ckpt_ids.specs.declared.call.Call.{Call}
 use Rattle.ckpt_ids.specs.Records.{Record}
@@ -80,6 +80,11 @@ known_files m = flat_map files_by m.records ++ (m.waiting ++ m.taken)
 -- whether one of them has this number or a greater one
 abbrev pub has_known_from : State → ℕ → Bool
 has_known_from m first = list_any (nat_le first) (known_files m)
+
+-- a name from which on names can be given out
+pub record IsFirstName (first : ℕ) : Type 0 where
+  pub from : 1 ≤ first
+  pub to : first ≤ NAMES_END
 
 -- why a coordinator can't have names from this one on
 abbrev pub fence_fault : Machine → ℕ → Option FenceFault

@@ -1,5 +1,5 @@
 -- Ranges of names.
-use Rattle.std.specs.Prelude.{◌≡◌, ℕ, ◌+◌, ◌-◌, ◌<◌, ◌≤◌, Bool, ◌&&◌, nat_lt, nat_le, List, [], ◌∷◌, flat_map, length}
+use Rattle.std.specs.Prelude.{◌≡◌, ℕ, ◌+◌, ◌-◌, ◌<◌, ◌≤◌, Bool, ◌&&◌, nat_lt, nat_le, ◌==◌, List, [], ◌∷◌, flat_map, length, if◌then◌else◌, ⊤}
 use Rattle.std.specs.List.{All, HoldsAt, range_with_len}
 use Rattle.ckpt_ids.specs.Ascending.{IsAscendingSet}
 use Rattle.ckpt_ids.specs.Ordered.{IsIn}
@@ -15,6 +15,31 @@ in_span name s = nat_le s.from name && nat_lt name s.to
 
 abbrev pub names_of : List Span → List ℕ
 names_of spans = flat_map row spans
+
+-- a name before ranges; the first one begins earlier then, if it began right behind the name
+abbrev pub with_first : ℕ → List Span → List Span
+with_first name [] = record { from = name; to = name + 1 } ∷ []
+with_first name (s ∷ spans) = if s.from == name + 1 then record { from = name; to = s.to } ∷ spans else record { from = name; to = name + 1 } ∷ s ∷ spans
+
+-- the ranges of ascending names, as few as can be: no two of them touch
+unfoldable pub ranges_of : List ℕ → List Span
+ranges_of [] = []
+ranges_of (name ∷ names) = with_first name (ranges_of names)
+
+-- with a range behind them; the last one ends later then, if it ended where the range begins
+abbrev pub joined : List Span → Span → List Span
+joined [] s = s ∷ []
+joined (last ∷ []) s = if last.to == s.from then record { from = last.from; to = s.to } ∷ [] else last ∷ s ∷ []
+joined (t ∷ u ∷ spans) s = t ∷ joined (u ∷ spans) s
+
+-- no range ends where the next one begins
+abbrev pub EndsBefore : Span → List Span → Type 0
+EndsBefore s [] = ⊤
+EndsBefore s (t ∷ spans) = s.to < t.from
+
+abbrev pub AreApart : List Span → Type 0
+AreApart [] = ⊤
+AreApart (s ∷ spans) = EndsBefore s spans × AreApart spans
 
 -- in ascending order, and none is empty
 pub record AreRanges (spans : List Span) : Type 0 where

@@ -36,6 +36,17 @@ pub enum FencedCall {
         /// The call.
         call: Call,
     },
+    /// The job begins again from its choice, as a restore of the latest does, in a term above all
+    /// that were told, and with names above all that were given out. It is for a job that goes on
+    /// from an older image: there `term` and `first` come from outside.
+    Advance {
+        /// The moment of the call.
+        now: u64,
+        /// The term that runs then is above this one, and above the one that runs now.
+        term: u64,
+        /// The next name is then at least this one, and at least the one that it is now.
+        first: u64,
+    },
 }
 
 /// Why a call did not reach the coordinator: the first of these that applies. Nothing changed.
@@ -51,6 +62,8 @@ pub enum FencedRefusal {
     NamesUsedUp,
     /// As many terms have ended as can be counted, 2^62.
     TermsUsedUp,
+    /// The first name of an advance is 0 or above 2^62.
+    BadName,
     /// The first fresh file whose name the running term does not hold. The name was given out, so an
     /// accepted acknowledgement has named it (this one, if it was sent before), or it was given up,
     /// or its term has ended. Nobody deletes the file for this answer.

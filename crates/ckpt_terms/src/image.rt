@@ -8,7 +8,7 @@ ghost use Rattle.ckpt_model.specs.Images.{HasSoundNumbers, record_in, state_in};
 ghost use Rattle.ckpt_model.specs.Refusals.{is_cancelled};
 ghost use Rattle.ckpt_model.specs.Soundness.{IsSound};
 ghost use Rattle.ckpt_terms.specs.FencedLaws.{IsFenced};
-ghost use Rattle.ckpt_terms.specs.Spans.{AreRanges, AreRangesBelow, names_of};
+ghost use Rattle.ckpt_terms.specs.Spans.{AreRanges, AreRangesBelow, names_of, ranges_of};
 ghost use Rattle.ckpt_terms.specs.Spent.{files_are_spent, is_spent, record_is_spent};
 ghost use Rattle.ckpt_terms.specs.TermsImages.{CanOpenFenced, fenced_in, fenced_settled};
 
@@ -30,16 +30,19 @@ pub struct TermsImage {
     pub term: u64,
     /// The first name that was never reserved.
     pub next_name: u64,
-    /// The names that the running term holds: ranges in ascending order, none of them empty.
+    /// The names that the running term holds: ranges in ascending order, none of them empty. In an
+    /// image that was made of a coordinator no two of them touch.
     pub unspent: Vec<Span>,
 }
 
 impl Terms {
     /// The state as an image. The files that were fetched are in ascending order, because no call
-    /// returns the order in which they were fetched. Fails only if memory runs out.
+    /// returns the order in which they were fetched. The ranges of names are as few as can be. Fails
+    /// only if memory runs out.
     pub fn image(&self) -> Result<TermsImage, AllocError>
         ensures value { IfOk result (λ image. fenced_in image ≡ fenced_settled self.now) }
         ensures good { IfOk result (λ image. CanOpenFenced image) }
+        ensures fewest { IfOk result (λ image. image.unspent.items ≡ ranges_of self.now.unspent) }
     {
         let term = self.term();
         let core = self.core().image()?;

@@ -7,6 +7,7 @@ ghost use Rattle.ckpt_model.specs.Soundness.{IsSound};
 ghost use Rattle.ckpt_model.specs.State.{State, Opening, opened};
 ghost use Rattle.ckpt_terms.specs.declared.call.FencedCall.{FencedCall};
 ghost use Rattle.ckpt_terms.specs.declared.machine.Machine.TheVariants as machine;
+ghost use Rattle.ckpt_terms.specs.Advancing.{AdvancesAll};
 ghost use Rattle.ckpt_terms.specs.Fencing.{Fenced, fenced, fenced_replay};
 ghost use Rattle.ckpt_terms.specs.FencedLaws.{CanFence, AreFencedCalls, IsFenced, IsFencedCall, Classified, GarbageForGood, OneTerm};
 ghost use Rattle.ckpt_terms.specs.FencedLaws.{DeletionsAreSafe, IssuesOnce, IssuedOnce, ZombiesAreFenced, SweepIsExact, CancelledIsSwept};
@@ -53,9 +54,16 @@ pub fn issued_once()
     ensures opened { (o : Opening) (first : ℕ) (calls : List FencedCall) → CanFence o first → AreFencedCalls calls → IssuedOnce o first calls }
 {}
 
-/// Once a restore or a cancel is accepted, the tasks that ran before change nothing.
+/// Once a restore, an advance or a cancel is accepted, the tasks that ran before change nothing.
 pub fn zombies_are_fenced()
     ensures { (m : Fenced) (calls : List FencedCall) → IsFenced m → AreFencedCalls calls → ZombiesAreFenced m calls }
+{}
+
+/// From an accepted advance on, each term that is told is above the one that the advance was given
+/// and the one that ran before, and each name that is given out is at least the first one that it
+/// was given and the next one of before.
+pub fn advances()
+    ensures { (m : Fenced) (now term first : ℕ) (calls : List FencedCall) → IsFenced m → AreFencedCalls calls → AdvancesAll m now term first calls }
 {}
 
 /// Each acknowledgement that is accepted for a pending record was made in the term in which that
@@ -71,7 +79,7 @@ pub fn completes()
     ensures { (m : Fenced) (id : ℕ) (r : Record) (ts : List TimedPart) → IsFenced m → CompletesInTerm m id r ts }
 {}
 
-/// Right after an accepted restore or cancel each name that was given out is in use, waits for
+/// Right after an accepted restore, advance or cancel each name that was given out is in use, waits for
 /// deletion, was fetched for it, or is garbage.
 pub fn sweep_is_exact()
     ensures { (m : Fenced) → SweepIsExact m }

@@ -8,7 +8,7 @@ ghost use Rattle.ckpt_terms.specs.Fencing.{Fenced};
 ghost use Rattle.ckpt_terms.specs.declared.machine.FenceFault.TheVariants as fault;
 ghost use Rattle.ckpt_terms.specs.declared.machine.Machine.TheVariants as machine;
 ghost use Rattle.ckpt_terms.specs.FencedLaws.{IsFenced};
-ghost use Rattle.ckpt_terms.specs.Machines.{MakesStep, core_in, fence_fault, fenced_of, first_names, is_free, machine_of, machine_step, names_in, passes};
+ghost use Rattle.ckpt_terms.specs.Machines.{IsFirstName, MakesStep, core_in, fence_fault, fenced_of, first_names, is_free, machine_of, machine_step, names_in, passes};
 
 use crate::call::{FencedAnswer, NAMES_END};
 use crate::names::Names;
@@ -109,6 +109,7 @@ impl Machine {
     pub fn fence(&mut self, alloc: Global, first_name: u64) -> Result<(), FenceFault>
         ensures fault { result_err result ≢ Some fault.Memory → result_err result ≡ fence_fault self.old first_name }
         ensures memory { result ≡ Err fault.Memory → names_in self.old ≡ None }
+        ensures in_limits { result ≡ Err fault.Memory → IsFirstName first_name }
         ensures done { OnOk result (self.new ≡ machine_of (core_in self.old) (Some (first_names first_name))) }
         ensures sound { OnOk result (IsFenced (fenced_of (core_in self.old) (first_names first_name))) }
         ensures unchanged { OnErr result (self.new ≡ self.old) }
@@ -121,6 +122,7 @@ impl Machine {
     fn can_fence(&self, first_name: u64) -> Result<(), FenceFault>
         ensures fault { result_err result ≢ Some fault.Memory → result_err result ≡ fence_fault self.now first_name }
         ensures memory { result ≡ Err fault.Memory → names_in self.now ≡ None }
+        ensures in_limits { result ≡ Err fault.Memory → IsFirstName first_name }
     {
         match self {
             Machine::Plain(core) => test_name(core, first_name),
@@ -149,7 +151,8 @@ fn make(core: &mut Core, call: &Call) -> Result<FencedAnswer, AllocError>
 }
 
 fn test_name(core: &Core, first_name: u64) -> Result<(), FenceFault>
-    ensures { result_err result ≢ Some fault.Memory → result_err result ≡ fence_fault (machine.Plain core.now) first_name }
+    ensures fault { result_err result ≢ Some fault.Memory → result_err result ≡ fence_fault (machine.Plain core.now) first_name }
+    ensures in_limits { result ≡ Err fault.Memory → IsFirstName first_name }
 {
     if first_name == 0 || first_name > NAMES_END {
         return Err(FenceFault::BadName);

@@ -5,7 +5,7 @@ ghost use Rattle.std.specs.List.{list_any, range_with_len};
 ghost use Rattle.std.specs.Prelude.{◌==◌};
 ghost use Rattle.ckpt_ids.specs.Ordered.{IsIn};
 ghost use Rattle.ckpt_terms.specs.Fencing.{without_all};
-ghost use Rattle.ckpt_terms.specs.Spans.{AreRanges, HasAt, IsCut, in_span, names_of};
+ghost use Rattle.ckpt_terms.specs.Spans.{AreRanges, HasAt, IsCut, in_span, joined, names_of, ranges_of};
 
 use ckpt_ids::{FileId, Files};
 use std::alloc::{AllocError, Global};
@@ -31,7 +31,8 @@ impl Span {
 
 /// Names in ascending order, kept as ranges.
 ///
-/// Names that are taken out can split a range. Room for that is reserved when names are added, at
+/// A range that is added behind one that it touches makes that one longer. Names that are taken out
+/// can split a range. Room for that is reserved when names are added, at
 /// most 16 bytes for each name. So taking names out needs no memory.
 #[derive(Debug)]
 pub struct Names {
@@ -95,12 +96,14 @@ impl Names {
         &self.spans
     }
 
-    /// A copy of the ranges. Fails only if memory runs out.
+    /// The ranges of the names, as few as can be: no two of them touch. Fails only if memory runs
+    /// out.
     pub fn copied_ranges(&self) -> Result<Vec<Span>, AllocError>
         ensures names { IfOk result (λ spans. names_of spans.items ≡ self.now) }
         ensures ranges { IfOk result (λ spans. AreRanges spans.items) }
+        ensures fewest { IfOk result (λ spans. spans.items ≡ ranges_of self.now) }
     {
-        copy_of(self.alloc, &self.spans)
+        fewest(self.alloc, &self.spans)
     }
 
     /// Whether the name is one of them. Makes a binary search among the ranges.
@@ -141,10 +144,13 @@ impl Names {
             return Err(AllocError);
         };
         make_room(&mut self.spans, held)?;
-        self.spans.push_reserved(Span {
-            from: first,
-            to: first + count,
-        });
+        join(
+            &mut self.spans,
+            Span {
+                from: first,
+                to: first + count,
+            },
+        );
         self.held = held;
         Ok(())
     }
@@ -182,6 +188,44 @@ fn copy_of(alloc: Global, ranges: &[Span]) -> Result<Vec<Span>, AllocError>
     let mut spans = Vec::new(alloc);
     spans.extend_from_slice(ranges)?;
     Ok(spans)
+}
+
+/// The ranges of the names of these, as few as can be. Fails only if memory runs out.
+///
+/// Condition: the ranges are in ascending order, and none is empty.
+fn fewest(alloc: Global, ranges: &[Span]) -> Result<Vec<Span>, AllocError>
+    requires { AreRanges ranges.now }
+    ensures names { IfOk result (λ spans. names_of spans.items ≡ names_of ranges.now) }
+    ensures ranges { IfOk result (λ spans. AreRanges spans.items) }
+    ensures fewest { IfOk result (λ spans. spans.items ≡ ranges_of (names_of ranges.now)) }
+{
+    let mut spans = Vec::with_capacity(alloc, ranges.len())?;
+    for span in ranges {
+        join(&mut spans, *span);
+    }
+    Ok(spans)
+}
+
+/// Puts a range behind the others. If the last one ends where it begins, they become one.
+///
+/// Condition: there is room for one more.
+fn join(spans: &mut Vec<Span>, new: Span)
+    requires { vec_len spans.old < vec_capacity spans.old }
+    ensures items { spans.new.items ≡ joined spans.old.items new }
+    ensures len { vec_len spans.new ≤ vec_len spans.old + 1 }
+    ensures capacity { vec_capacity spans.new ≡ vec_capacity spans.old }
+{
+    match spans.pop() {
+        Some(last) if last.to == new.from => spans.push_reserved(Span {
+            from: last.from,
+            to: new.to,
+        }),
+        Some(last) => {
+            spans.push_reserved(last);
+            spans.push_reserved(new);
+        }
+        None => spans.push_reserved(new),
+    }
 }
 
 /// Whether one of the ranges has the name. Makes a binary search.

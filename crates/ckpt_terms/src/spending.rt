@@ -2,10 +2,11 @@
 
 ghost use Rattle.std.specs.Prelude.{◌≡◌, ◌<◌, ◌+◌, ◌^◌, [], IfSome, None, true, if◌then◌else◌};
 ghost use Rattle.ckpt_model.specs.Soundness.{IsCall};
-ghost use Rattle.ckpt_terms.specs.Fencing.{ends_the_term, fresh_of, is_of_task, unspent_after};
+ghost use Rattle.ckpt_terms.specs.Fencing.{advance_fault, ends_the_term, fresh_of, is_of_task, restart, unspent_after};
 
+use crate::call::{FencedRefusal, LAST_TERM, NAMES_END};
 use crate::names::Names;
-use ckpt_ids::{Call, Files};
+use ckpt_ids::{Call, Files, Target};
 use std::alloc::Global;
 
 /// Whether a task makes the call.
@@ -65,4 +66,28 @@ pub(crate) fn recall_call(call: &Call)
     {
         shape.recall();
     }
+}
+
+/// A restore of the choice, in the shape that the job has.
+pub(crate) fn restart(now: u64) -> Call
+    ensures { result ≡ restart now }
+{
+    Call::Restore {
+        now,
+        target: Target::Latest,
+        shape: None,
+    }
+}
+
+/// Why the layer refuses an advance, after which this term would be the last one that has ended.
+pub(crate) fn refuses_advance(last: u64, first: u64) -> Option<FencedRefusal>
+    ensures { result ≡ advance_fault last first }
+{
+    if first == 0 || first > NAMES_END {
+        return Some(FencedRefusal::BadName);
+    }
+    if last >= LAST_TERM {
+        return Some(FencedRefusal::TermsUsedUp);
+    }
+    None
 }

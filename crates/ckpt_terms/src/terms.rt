@@ -3,7 +3,7 @@
 ghost use Rattle.std.specs.Prelude.{◌≡◌, IfOk, OnErr, find, not, true};
 ghost use Rattle.std.specs.Result.{result_err};
 ghost use Rattle.ckpt_model.specs.Soundness.{IsCall};
-ghost use Rattle.ckpt_terms.specs.declared.call.FencedCall.TheVariants.{Reserve, Forfeit, Make};
+ghost use Rattle.ckpt_terms.specs.declared.call.FencedCall.TheVariants.{Reserve, Forfeit, Make, Advance};
 ghost use Rattle.ckpt_terms.specs.Fencing.{fence, fenced, fenced_step, fresh_of, is_garbage, is_unspent, not_held, not_reserved};
 ghost use Rattle.ckpt_terms.specs.FencedLaws.{IsFenced, IsFencedCall};
 ghost use Rattle.ckpt_terms.specs.Spans.{AreRanges, names_of};
@@ -12,7 +12,9 @@ ghost use Rattle.ckpt_terms.specs.Wants.{wants_memory};
 
 use crate::call::{FencedAnswer, FencedCall, FencedRefusal, LAST_TERM, MOST_NAMES, NAMES_END};
 use crate::names::{Names, Span};
-use crate::spending::{ends, fresh_of, is_of_task, recall_call, spend, term_after};
+use crate::spending::{
+    ends, fresh_of, is_of_task, recall_call, refuses_advance, restart, spend, term_after,
+};
 use ckpt_core::{Core, CoreFault, Mode, OpenFault, Secret};
 use ckpt_ids::{Answer, Call, Config, FileId, Files, Shape};
 use std::alloc::{AllocError, Global};
@@ -98,6 +100,7 @@ impl Terms {
             FencedCall::Reserve { term, count } => self.reserve(*term, *count),
             FencedCall::Forfeit { term, names } => Ok(self.forfeit(*term, names)),
             FencedCall::Make { term, call } => self.make(*term, call),
+            FencedCall::Advance { now, term, first } => Ok(self.advance(*now, *term, *first)),
         }
     }
 
@@ -141,6 +144,32 @@ impl Terms {
         }
         self.unspent.remove_all(names);
         FencedAnswer::Forfeited
+    }
+
+    /// Raises the term and the next name, and restores the job to its choice. Takes no memory.
+    fn advance(&mut self, now: u64, term: u64, first: u64) -> FencedAnswer
+        ensures { fenced_step self.old (Advance now term first) ≡ (self.new, result) }
+    {
+        let last = self.term.max(term);
+        if let Some(why) = refuses_advance(last, first) {
+            return FencedAnswer::Fenced(why);
+        }
+        match self.core.apply(&restart(now)) {
+            Ok(reply) => {
+                self.term = last + 1;
+                self.next_name = self.next_name.max(first);
+                self.unspent = Names::new(self.alloc);
+                FencedAnswer::Made {
+                    term: self.term,
+                    answer: Answer::Done(reply),
+                }
+            }
+            Err(CoreFault::Refused(why)) => FencedAnswer::Made {
+                term: self.term,
+                answer: Answer::Refused(why),
+            },
+            Err(CoreFault::Memory) => unreachable!(),
+        }
     }
 
     /// Makes a call of the coordinator, as [`Terms::apply`] makes [`FencedCall::Make`].

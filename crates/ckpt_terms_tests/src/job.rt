@@ -68,6 +68,22 @@ impl Job {
         self.apply(rt, &FencedCall::Forfeit { term, names }, want)
     }
 
+    /// Raises the term above this one, and the next name to this one.
+    pub fn advance(
+        &mut self,
+        rt: &impl Abort,
+        term: u64,
+        first: u64,
+        want: FencedAnswer,
+    ) -> Result<(), Fail> {
+        let call = FencedCall::Advance {
+            now: 0,
+            term,
+            first,
+        };
+        self.apply(rt, &call, want)
+    }
+
     pub fn tick(&mut self, rt: &impl Abort, now: u64, want: FencedAnswer) -> Result<(), Fail> {
         self.make(rt, 0, Call::Tick { now }, want)
     }

@@ -5,6 +5,8 @@
 #![tactic(auto)]
 
 #[cfg(test)]
+mod advancing;
+#[cfg(test)]
 mod endings;
 #[cfg(test)]
 mod garbage;

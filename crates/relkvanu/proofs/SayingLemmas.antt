@@ -15,7 +15,7 @@ use Rattle.ckpt_ids.proofs.AscendingLemmas.{ascending_already}
 use Rattle.ckpt_ids.proofs.LimitLemmas.{limits_hold, shape_holds}
 use Rattle.ckpt_lines.specs.Reading.{is_new_shape}
 use Rattle.ckpt_lines.specs.CallTexts.{parallelisms}
-use Rattle.ckpt_terms.specs.declared.call.FencedCall.TheVariants.{Reserve, Forfeit, Make}
+use Rattle.ckpt_terms.specs.declared.call.FencedCall.TheVariants.{Reserve, Forfeit, Make, Advance}
 use Rattle.relkvanu.specs.declared.answer.Answer.{Answer}
 use Rattle.relkvanu.specs.declared.asked.Asked.{Asked}
 use Rattle.relkvanu.specs.declared.asked.Asked.TheVariants as ask
@@ -102,23 +102,23 @@ call_back term (call.Configure now config) lists named = configure_given term no
 
 -- its kind is none of those that need names
 abbrev IsOfScript : CallFields → Type 0
-IsOfScript c = (c.kind == 13 ≡ false) × (c.kind == 14 ≡ false) × (c.kind == 15 ≡ false)
+IsOfScript c = (c.kind == 13 ≡ false) × (c.kind == 14 ≡ false) × (c.kind == 15 ≡ false) × (c.kind == 18 ≡ false)
 
 of_script : (term : ℕ) (c : Call) → IsOfScript (call_fields term c)
-of_script term (call.Tick now) = (refl, refl, refl)
-of_script term (call.Savepoint now) = (refl, refl, refl)
-of_script term (call.Ack now id s fresh reused) = (refl, refl, refl)
-of_script term (call.Decline now id s) = (refl, refl, refl)
-of_script term (call.Dispose id) = (refl, refl, refl)
-of_script term (call.Restore now t shape) = (refl, refl, refl)
-of_script term (call.Cancel now) = (refl, refl, refl)
-of_script term (call.Take most) = (refl, refl, refl)
-of_script term (call.Deleted file) = (refl, refl, refl)
-of_script term (call.Undeleted file) = (refl, refl, refl)
-of_script term (call.Show id) = (refl, refl, refl)
-of_script term (call.Count file) = (refl, refl, refl)
-of_script term (call.Trigger now) = (refl, refl, refl)
-of_script term (call.Configure now config) = (refl, refl, refl)
+of_script term (call.Tick now) = (refl, refl, refl, refl)
+of_script term (call.Savepoint now) = (refl, refl, refl, refl)
+of_script term (call.Ack now id s fresh reused) = (refl, refl, refl, refl)
+of_script term (call.Decline now id s) = (refl, refl, refl, refl)
+of_script term (call.Dispose id) = (refl, refl, refl, refl)
+of_script term (call.Restore now t shape) = (refl, refl, refl, refl)
+of_script term (call.Cancel now) = (refl, refl, refl, refl)
+of_script term (call.Take most) = (refl, refl, refl, refl)
+of_script term (call.Deleted file) = (refl, refl, refl, refl)
+of_script term (call.Undeleted file) = (refl, refl, refl, refl)
+of_script term (call.Show id) = (refl, refl, refl, refl)
+of_script term (call.Count file) = (refl, refl, refl, refl)
+of_script term (call.Trigger now) = (refl, refl, refl, refl)
+of_script term (call.Configure now config) = (refl, refl, refl, refl)
 
 term_of_fields : (term : ℕ) (c : Call) → (call_fields term c).term ≡ term
 term_of_fields term (call.Tick now) = refl
@@ -141,7 +141,7 @@ made_back : (term : ℕ) (c : Call) → CallHasLists c → call_has_no_fields c 
 unfolding given
 made_back term c lists named =
     let none = of_script term c in
-    rw (none.0, none.1, none.2, call_back term c lists named, term_of_fields term c) refl
+    rw (none.0, none.1, none.2, none.3, call_back term c lists named, term_of_fields term c) refl
 
 -- all that can be asked for
 pub given_back : (asked : Asked) → HasLists asked → has_no_fields asked ≡ false → given (fields_of asked) (first_of asked) (second_of asked) ≡ Ok asked
@@ -149,6 +149,7 @@ unfolding given
 given_back (ask.Fence first) lists named = refl
 given_back (ask.Call (Reserve term count)) lists named = refl
 given_back (ask.Call (Forfeit term names)) lists named = ap (λ (xs : List ℕ). Ok (ask.Call (Forfeit term xs))) (sym (ascending_already names lists))
+given_back (ask.Call (Advance now term first)) lists named = refl
 given_back (ask.Call (Make term c)) lists named = made_back term c lists named
 
 -- the line that asks for this asks for it

@@ -21,11 +21,11 @@ use Rattle.ckpt_model.specs.Steps.{start_or_hold, after_expiry, failed_over, tic
 use Rattle.ckpt_model.specs.Steps.{restore, restarted, cancel, configure, take_files, show, effect, at_moment, step}
 use Rattle.ckpt_model.proofs.Answering.StepCases.{step_by}
 use Rattle.ckpt_terms.specs.declared.call.FencedCall.{FencedCall}
-use Rattle.ckpt_terms.specs.declared.call.FencedCall.TheVariants.{Reserve, Forfeit, Make}
+use Rattle.ckpt_terms.specs.declared.call.FencedCall.TheVariants.{Reserve, Forfeit, Make, Advance}
 use Rattle.ckpt_terms.specs.declared.machine.FenceFault.{FenceFault}
 use Rattle.ckpt_terms.specs.declared.machine.Machine.{Machine}
 use Rattle.ckpt_terms.specs.declared.machine.Machine.TheVariants as machine
-use Rattle.ckpt_terms.specs.Fencing.{Fenced, FencedStepped, fenced_step, is_accepted, made}
+use Rattle.ckpt_terms.specs.Fencing.{Fenced, FencedStepped, fenced_step, is_accepted, made, restart}
 use Rattle.ckpt_terms.specs.Machines.{core_in, fence_fault, is_free, machine_of, names_in}
 use Rattle.ckpt_terms.proofs.Stepping.{fenced_step_by}
 use Rattle.relkvanu.specs.declared.answer.Answer.{Answer}
@@ -167,6 +167,11 @@ made_leaves m (Make term call) unmade =
     let core : (step m.core call).0 ≡ m.core = step_leaves m.core call unmade in
     let refused : is_accepted (step m.core call).1 ≡ false = refused_unless m.core (step m.core call) (step_ends m.core call) unmade in
     rw (refused, core) refl
+made_leaves m (Advance now term first) unmade =
+    let call : Call = restart now in
+    let core : (step m.core call).0 ≡ m.core = step_leaves m.core call unmade in
+    let refused : is_accepted (step m.core call).1 ≡ false = refused_unless m.core (step m.core call) (step_ends m.core call) unmade in
+    rw (refused, core) refl
 
 fenced_leaves : (m : Fenced) (call : FencedCall) → (fenced_told (count_of call) (fenced_step m call).1).code ≢ 0 → (fenced_step m call).0 ≡ m
 fenced_leaves m call = fenced_step_by m call (λ (x : FencedStepped). (fenced_told (count_of call) x.1).code ≢ 0 → x.0 ≡ m) (λ why _. refl) (λ _. made_leaves m call)
@@ -199,6 +204,7 @@ line_call_leaves k places (Make term call) =
     (λ _. named_leaves k places term call)
 line_call_leaves k places (Reserve term count) = term_leaves k (Reserve term count)
 line_call_leaves k places (Forfeit term names) = term_leaves k (Forfeit term names)
+line_call_leaves k places (Advance now term first) = term_leaves k (Advance now term first)
 
 fence_leaves : (k : Machine) (first : ℕ) (why : Option FenceFault) → Leaves k (named_unless k first why, fence_told why)
 fence_leaves k first None unmade = absurd (unmade refl)

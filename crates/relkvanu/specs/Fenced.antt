@@ -44,6 +44,7 @@ fenced_refusal_told why.Ended = fenced 2 0
 fenced_refusal_told why.BadCount = fenced 3 0
 fenced_refusal_told why.NamesUsedUp = fenced 4 0
 fenced_refusal_told why.TermsUsedUp = fenced 5 0
+fenced_refusal_told why.BadName = bad_argument bad_name
 fenced_refusal_told (why.Spent file) = fenced 6 file
 fenced_refusal_told (why.NeverReserved file) = fenced 7 file
 

@@ -11,7 +11,7 @@ use Rattle.ckpt_ids.specs.declared.call.Target.TheVariants as target
 use Rattle.ckpt_ids.specs.declared.reply.Refusal.TheVariants.{NoSuchSavepoint}
 use Rattle.ckpt_ids.specs.declared.subtask.SubtaskId.{SubtaskId}
 use Rattle.ckpt_lines.specs.CallTexts.{parallelisms}
-use Rattle.ckpt_terms.specs.declared.call.FencedCall.TheVariants.{Reserve, Forfeit, Make}
+use Rattle.ckpt_terms.specs.declared.call.FencedCall.TheVariants.{Reserve, Forfeit, Make, Advance}
 use Rattle.relkvanu.specs.declared.answer.Answer.{Answer}
 use Rattle.relkvanu.specs.declared.asked.Asked.{Asked}
 use Rattle.relkvanu.specs.declared.asked.Asked.TheVariants as ask
@@ -54,6 +54,7 @@ abbrev pub fields_of : Asked → CallFields
 fields_of (ask.Fence first) = fields_with 13 no_subtask 0 first 0
 fields_of (ask.Call (Reserve term count)) = fields_with 14 no_subtask 0 count term
 fields_of (ask.Call (Forfeit term names)) = fields_with 15 no_subtask 0 0 term
+fields_of (ask.Call (Advance now term first)) = fields_with 18 no_subtask now first term
 fields_of (ask.Call (Make term call)) = call_fields term call
 
 -- the settings in the order of `relkvanu_settings`, of which the last is 0 or 1

@@ -10,7 +10,7 @@ use Rattle.ckpt_lines.specs.declared.limits.TheConstants.{LONGEST_LINE}
 use Rattle.ckpt_lines.specs.declared.line.Line.TheVariants as script
 use Rattle.ckpt_lines.specs.Reading.{is_new_shape, reading}
 use Rattle.ckpt_lines.specs.CallTexts.{config_text, job_text, line_of_config, start_text}
-use Rattle.ckpt_terms.specs.declared.call.FencedCall.TheVariants.{Reserve, Forfeit, Make}
+use Rattle.ckpt_terms.specs.declared.call.FencedCall.TheVariants.{Reserve, Forfeit, Make, Advance}
 use Rattle.ckpt_term_lines.specs.declared.line.TermLine.{TermLine}
 use Rattle.ckpt_term_lines.specs.declared.line.TermLine.TheVariants as line
 use Rattle.ckpt_term_lines.specs.TermReading.{term_reading}
@@ -68,6 +68,7 @@ given c first second =
     if c.kind == 13 then Ok (ask.Fence c.number)
     else if c.kind == 14 then Ok (ask.Call (Reserve c.term c.number))
     else if c.kind == 15 then Ok (ask.Call (Forfeit c.term (ascending first)))
+    else if c.kind == 18 then Ok (ask.Call (Advance c.now c.term c.number))
     else with_term c.term (call_given c first second)
 
 -- the bad argument because of which nothing is asked for, unless memory ran out

@@ -59,7 +59,7 @@ impl Answer {
 
     fn of_fenced_refusal(why: FencedRefusal) -> Answer
         ensures told { result ≡ fenced_refusal_told why }
-        ensures code { result.code ≡ 7 }
+        ensures code { result.code ≢ no_memory }
     {
         match why {
             FencedRefusal::OldTerm => Answer::fenced(1, 0),
@@ -67,6 +67,7 @@ impl Answer {
             FencedRefusal::BadCount => Answer::fenced(3, 0),
             FencedRefusal::NamesUsedUp => Answer::fenced(4, 0),
             FencedRefusal::TermsUsedUp => Answer::fenced(5, 0),
+            FencedRefusal::BadName => Answer::bad_argument(BAD_NAME),
             FencedRefusal::Spent(FileId(file)) => Answer::fenced(6, file),
             FencedRefusal::NeverReserved(FileId(file)) => Answer::fenced(7, file),
         }

@@ -259,6 +259,38 @@ pub extern "C" fn relkvanu_decline_in(
     answer
 }
 
+/// Begins the job again from its latest record, as `relkvanu_restore` does, in a term above this one
+/// and above the one that runs. The next name is then at least `first_name`, 1 to 2^62. It is for a
+/// job that goes on from an older image, whose term and names lie behind those that tasks were told.
+///
+/// The first of these that applies is the answer: the handle has no names, the name is outside 1 to
+/// 2^62, no term is left, or why the restore is refused. Then nothing has changed. Takes no memory.
+#[unsafe(no_mangle)]
+pub extern "C" fn relkvanu_advance(
+    alloc: Global,
+    handle: &mut Handle,
+    now: u64,
+    term: u64,
+    first_name: u64,
+) -> Answer
+    ensures closed { StaysClosed handle.old.value handle.new.value result }
+    ensures handled { IsHandled (λ k. term_step k (fencing.Advance now term first_name)) handle.old handle.new result }
+    ensures memory { result.code ≢ no_memory }
+    ensures numbers { HasNoNumbers result }
+{
+    let Some(mut machine) = handle.take(alloc) else {
+        return Answer::closed();
+    };
+    let call = FencedCall::Advance {
+        now,
+        term,
+        first: first_name,
+    };
+    let answer = in_term(&mut machine, &call);
+    handle.put(alloc, machine);
+    answer
+}
+
 /// Makes a call with a term, and returns its answer.
 pub(crate) fn in_term(machine: &mut Logged, call: &FencedCall) -> Answer
     ensures handled { IsTaken (λ k. term_step k call.now) machine.old.now machine.new.now result }

@@ -16,9 +16,9 @@ use crate::asked::{Asked, said};
 use crate::buffers::write_files;
 use crate::lines::LINE_CALL;
 use crate::writing::{
-    CALL_ACK, CALL_CANCEL, CALL_CONFIGURE, CALL_COUNT, CALL_DECLINE, CALL_DELETED, CALL_DISPOSE,
-    CALL_FENCE, CALL_FORFEIT, CALL_RESERVE, CALL_RESTORE, CALL_SAVEPOINT, CALL_SHOW, CALL_TAKE,
-    CALL_TICK, CALL_TRIGGER, CALL_UNDELETED, CallFields,
+    CALL_ACK, CALL_ADVANCE, CALL_CANCEL, CALL_CONFIGURE, CALL_COUNT, CALL_DECLINE, CALL_DELETED,
+    CALL_DISPOSE, CALL_FENCE, CALL_FORFEIT, CALL_RESERVE, CALL_RESTORE, CALL_SAVEPOINT, CALL_SHOW,
+    CALL_TAKE, CALL_TICK, CALL_TRIGGER, CALL_UNDELETED, CallFields,
 };
 use ckpt_ids::{Call, Config, FileId, Refusal, SubtaskId, Target};
 use ckpt_terms::FencedCall;
@@ -164,6 +164,9 @@ fn fields_of(asked: &Asked) -> CallFields
         }
         Asked::Call(FencedCall::Forfeit { term, names: _ }) => {
             fields_with(CALL_FORFEIT, NO_SUBTASK, 0, 0, *term)
+        }
+        Asked::Call(FencedCall::Advance { now, term, first }) => {
+            fields_with(CALL_ADVANCE, NO_SUBTASK, *now, *first, *term)
         }
         Asked::Call(FencedCall::Make { term, call }) => call_fields(*term, call),
     }

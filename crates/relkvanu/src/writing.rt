@@ -56,6 +56,8 @@ pub(crate) const CALL_TRIGGER: u32 = 16;
 
 pub(crate) const CALL_CONFIGURE: u32 = 17;
 
+pub(crate) const CALL_ADVANCE: u32 = 18;
+
 const BAD_KIND: u32 = 6;
 
 const WRITTEN: u32 = 44;
@@ -64,8 +66,8 @@ const WRITTEN: u32 = 44;
 #[repr(C)]
 #[derive(Clone, Copy, Debug, PartialEq, Eq)]
 pub struct CallFields {
-    /// 1 to 17: tick, savepoint, ack, decline, dispose, restore, cancel, take, deleted, undeleted, show,
-    /// count, fence, reserve, forfeit, trigger, configure.
+    /// 1 to 18: tick, savepoint, ack, decline, dispose, restore, cancel, take, deleted, undeleted, show,
+    /// count, fence, reserve, forfeit, trigger, configure, advance.
     pub kind: u32,
     /// The vertex of the subtask of an ack or a decline.
     pub vertex: u16,
@@ -74,9 +76,11 @@ pub struct CallFields {
     /// The moment in milliseconds, if the kind has one.
     pub now: u64,
     /// The number of the record or file. For a restore the savepoint, or 0 for the latest record.
-    /// For a take the most files, for a fence the first name, for a reserve how many names.
+    /// For a take the most files, for a fence and an advance the first name, for a reserve how many
+    /// names.
     pub number: u64,
-    /// The term of the caller, or 0 for none. A fence has none.
+    /// The term of the caller, or 0 for none. A fence has none. For an advance the greatest term that
+    /// was told.
     pub term: u64,
 }
 
@@ -152,6 +156,11 @@ pub(crate) fn asked_of(
             Ok(names) => Ok(Asked::Call(FencedCall::Forfeit { term, names })),
             Err(_) => Err(Answer::out_of_memory()),
         },
+        CALL_ADVANCE => Ok(Asked::Call(FencedCall::Advance {
+            now: fields.now,
+            term,
+            first: number,
+        })),
         _ => match call_of(alloc, fields, first, second) {
             Ok(call) => Ok(Asked::Call(FencedCall::Make { term, call })),
             Err(answer) => Err(answer),

@@ -402,6 +402,11 @@ JNIEXPORT void JNICALL Java_relkvanu_Native_forfeit(JNIEnv *env, jclass of, jlon
     answer_out(env, out, told);
 }
 
+JNIEXPORT void JNICALL Java_relkvanu_Native_advance(JNIEnv *env, jclass of, jlong handle, jlong now, jlong term, jlong first_name, jlongArray out) {
+    (void)of;
+    answer_out(env, out, relkvanu_advance((relkvanu *)(uintptr_t)handle, (uint64_t)now, (uint64_t)term, (uint64_t)first_name));
+}
+
 JNIEXPORT void JNICALL Java_relkvanu_Native_ackIn(JNIEnv *env, jclass of, jlong handle, jlong term, jlong now, jlong id, jint vertex, jint index, jlongArray fresh, jlongArray reused, jlongArray out) {
     (void)of;
     struct room of_fresh;

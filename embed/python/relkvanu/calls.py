@@ -7,7 +7,7 @@ from typing import Callable, Dict, Optional, Tuple, Union
 from relkvanu import header
 from relkvanu.coordinator import U64, Settings, Unknown, _done, _shared, _text
 from relkvanu.lines import (
-    _line, ack_line, configure_line, decline_line, fence_line, forfeit_line, reserve_line, restore_line, settings_of, take_line,
+    _line, ack_line, advance_line, configure_line, decline_line, fence_line, forfeit_line, reserve_line, restore_line, settings_of, take_line,
 )
 
 
@@ -32,6 +32,7 @@ class CallKind(enum.IntEnum):
     FORFEIT = header.CALL_FORFEIT
     TRIGGER = header.CALL_TRIGGER
     CONFIGURE = header.CALL_CONFIGURE
+    ADVANCE = header.CALL_ADVANCE
 # embed/bindings: end
 
 
@@ -206,10 +207,22 @@ class Forfeit:
         return forfeit_line(self.term, self.names)
 
 
+@dataclass(frozen=True)
+class Advance:
+    """The job begins again in a term above this one, the greatest that any task was told. Names are given out from first_name on."""
+
+    now: int
+    term: int
+    first_name: int
+
+    def line(self) -> str:
+        return advance_line(self.now, self.term, self.first_name)
+
+
 # embed/bindings makes what a call is
 Call = Union[
     Tick, Savepoint, Ack, Decline, Dispose, Restore, Cancel, Take, Deleted, Undeleted, Show, Count, Fence, Reserve, Forfeit,
-    Trigger, Configure,
+    Trigger, Configure, Advance,
 ]
 
 OF_A_MOMENT: Dict[int, Callable[[int, int], Call]] = {
@@ -267,4 +280,6 @@ def _call(it: header.relkvanu_call, first: Tuple[int, ...], second: Tuple[int, .
         return Reserve(it.term, it.number)
     if it.kind == CallKind.FORFEIT:
         return Forfeit(it.term, first)
+    if it.kind == CallKind.ADVANCE:
+        return Advance(it.now, it.term, it.number)
     raise Unknown(header.DONE, header.LINE_CALL)

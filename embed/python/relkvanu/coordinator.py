@@ -474,6 +474,14 @@ class Coordinator:
         then. Names that the term does not hold are passed over, so the call can be repeated."""
         _told(self._call("forfeit", _u64(term), _words(names), len(names)), header.FORFEITED)
 
+    def advance(self, now: int, term: int, first_name: int) -> Reply:
+        """Restores a job that goes on from an older image, from its latest record, in a term above `term`, the greatest that any task was
+        told, and with names from `first_name` on, above each that was given out. It is the first call of such a job."""
+        with self._lock:
+            if _u64(now) <= LAST_MOMENT and self._is_ahead(now):
+                raise Refused("MomentTooLarge", None)
+            return self._moved("advance", now, _u64(term), _u64(first_name))
+
     def ack_in(
         self, term: int, now: int, id: int, vertex: int, index: int, fresh: Sequence[int], reused: Sequence[int] = ()
     ) -> Reply:

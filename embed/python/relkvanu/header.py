@@ -133,6 +133,7 @@ CALL_RESERVE = 14
 CALL_FORFEIT = 15
 CALL_TRIGGER = 16
 CALL_CONFIGURE = 17
+CALL_ADVANCE = 18
 ANSWER_TEXT = 128
 
 
@@ -253,6 +254,7 @@ FUNCTIONS: Dict[str, Tuple[Any, List[Any]]] = {
     "relkvanu_term": (relkvanu_answer, [POINTER(relkvanu)]),
     "relkvanu_reserve": (relkvanu_answer, [POINTER(relkvanu), c_uint64, c_uint64]),
     "relkvanu_forfeit": (relkvanu_answer, [POINTER(relkvanu), c_uint64, POINTER(c_uint64), c_size_t]),
+    "relkvanu_advance": (relkvanu_answer, [POINTER(relkvanu), c_uint64, c_uint64, c_uint64]),
     "relkvanu_ack_in": (relkvanu_answer, [POINTER(relkvanu), c_uint64, c_uint64, c_uint64, c_uint16, c_uint16, POINTER(c_uint64), c_size_t, POINTER(c_uint64), c_size_t]),
     "relkvanu_decline_in": (relkvanu_answer, [POINTER(relkvanu), c_uint64, c_uint64, c_uint64, c_uint16, c_uint16]),
     "relkvanu_garbage": (relkvanu_answer, [POINTER(relkvanu), POINTER(c_uint64), c_size_t, POINTER(c_uint64), c_size_t, POINTER(c_uint64), c_size_t]),

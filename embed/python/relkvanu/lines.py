@@ -163,3 +163,7 @@ def reserve_line(term: int, count: int) -> str:
 
 def forfeit_line(term: int, names: Sequence[int]) -> str:
     return _line(header.CALL_FORFEIT, first=names, term=term)
+
+
+def advance_line(now: int, term: int, first_name: int) -> str:
+    return _line(header.CALL_ADVANCE, now, first_name, term=term)

@@ -75,7 +75,7 @@ FORMS: Tuple[Tuple[str, str, str], ...] = (
 )
 COMPILED = tuple((re.compile(form), verb, names.split()) for form, verb, names in FORMS)
 # embed/bindings makes the first words of calls
-_CALLS = "tick|savepoint|ack|decline|dispose|restore|cancel|take|deleted|undeleted|fence|reserve|forfeit|trigger|configure"
+_CALLS = "tick|savepoint|ack|decline|dispose|restore|cancel|take|deleted|undeleted|fence|reserve|forfeit|trigger|configure|advance"
 # embed/bindings: end
 LOGGED = re.compile(rf"(config|job|start|in|{_CALLS})( .*)?")  # the library says what is missing
 

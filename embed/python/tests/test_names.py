@@ -4,7 +4,7 @@ import unittest
 
 from relkvanu import (
     AckCompleted, AckLate, BadArgument, Cancelled, Closed, Coordinator, DeclineFailed, Fenced, Forfeited, Named, Refused, Reserved, RestoredCheckpoint,
-    Settings, Taken, Triggered, lines,
+    Settings, Taken, Triggered, calls, lines,
 )
 
 SETTINGS = Settings(interval=1000)
@@ -70,6 +70,19 @@ class Names(unittest.TestCase):
             self.assertEqual(job.take(2), Taken((8,)))
             garbage, unissued = job.garbage(files)
             self.assertEqual((garbage, unissued), ((7, 4, 7), (9,)))
+
+    def test_an_advance_goes_on_above_what_was_told(self):
+        with self.with_checkpoint_1() as job:
+            self.bad("BadName", lambda: job.advance(2100, 9, 0))
+            self.fenced("TermsUsedUp", lambda: job.advance(2100, NAMES_END, 20))
+            self.assertEqual(job.term(), (1, 8))
+            self.assertEqual(job.advance(2100, 9, 20), RestoredCheckpoint(id=1, released=0))
+            self.assertEqual(job.term(), (10, 20))
+            self.assertEqual(job.garbage([5, 7, 19, 20]), ((7, 19), (20,)))
+            self.fenced("OldTerm", lambda: job.reserve(9, 1))
+            self.assertEqual(job.reserve(10, 1), range(20, 21))
+        call = calls.line_call(b"advance 5 3 70")
+        self.assertEqual((call, call.line()), (calls.Advance(5, 3, 70), "advance 5 3 70"))
 
     def test_forfeited_names_are_garbage(self):
         with self.with_checkpoint_1() as job:

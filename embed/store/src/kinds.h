@@ -14,7 +14,8 @@ static inline bool rks_has_moment(uint32_t kind) {
     case RELKVANU_CALL_RESTORE:
     case RELKVANU_CALL_CANCEL:
     case RELKVANU_CALL_TRIGGER:
-    case RELKVANU_CALL_CONFIGURE: return true;
+    case RELKVANU_CALL_CONFIGURE:
+    case RELKVANU_CALL_ADVANCE: return true;
     default: return false;
     }
 }
@@ -36,7 +37,8 @@ static inline bool rks_is_made(uint32_t kind) {
     case RELKVANU_CALL_RESERVE:
     case RELKVANU_CALL_FORFEIT:
     case RELKVANU_CALL_TRIGGER:
-    case RELKVANU_CALL_CONFIGURE: return true;
+    case RELKVANU_CALL_CONFIGURE:
+    case RELKVANU_CALL_ADVANCE: return true;
     default: return false;
     }
 }

@@ -100,8 +100,8 @@ fn changing(said: relkvanu::Call<'_>) -> Option<(u64, Call)> {
         C::Fence { first_name } => (0, Call::Fence { first_name }),
         C::Reserve { term, count } => (0, Call::Reserve { term, count }),
         C::Forfeit { term, names } => (0, Call::Forfeit { term, names: names.to_vec() }),
-        // The service takes no new settings, so no log of its jobs has the last.
-        C::Show { .. } | C::Count { .. } | C::Configure { .. } => return None,
+        // The service takes no new settings and makes no advance, so no log of its jobs has them.
+        C::Advance { .. } | C::Show { .. } | C::Count { .. } | C::Configure { .. } => return None,
     })
 }
 

@@ -243,6 +243,8 @@ final class Header {
     static final int CALL_FORFEIT = 15;
     static final int CALL_TRIGGER = 16;
     static final int CALL_CONFIGURE = 17;
+    /** relkvanu_advance */
+    static final int CALL_ADVANCE = 18;
     /** no text of an answer has more bytes */
     static final int ANSWER_TEXT = 128;
 }

@@ -112,6 +112,8 @@ final class Native {
 
     static native void forfeit(long handle, long term, long[] names, long[] out);
 
+    static native void advance(long handle, long now, long term, long firstName, long[] out);
+
     static native void ackIn(long handle, long term, long now, long id, int vertex, int index, long[] fresh, long[] reused, long[] out);
 
     static native void declineIn(long handle, long term, long now, long id, int vertex, int index, long[] out);

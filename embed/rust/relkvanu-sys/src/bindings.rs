@@ -240,6 +240,8 @@ pub const RELKVANU_CALL_RESERVE: u32 = 14;
 pub const RELKVANU_CALL_FORFEIT: u32 = 15;
 pub const RELKVANU_CALL_TRIGGER: u32 = 16;
 pub const RELKVANU_CALL_CONFIGURE: u32 = 17;
+/// relkvanu_advance
+pub const RELKVANU_CALL_ADVANCE: u32 = 18;
 /// no text of an answer has more bytes
 pub const RELKVANU_ANSWER_TEXT: u32 = 128;
 
@@ -430,7 +432,7 @@ extern "C" {
         text_len: usize,
     ) -> usize;
 
-    /// Makes the call of a line, and returns what the function of that call returns. A take line writes the files that it fetches to the start of files. If it would fetch more than files_len, the answer is RELKVANU_TOO_SHORT, a is how many places it needs, and nothing has changed. A show line returns what relkvanu_show returns with an empty buffer. A restore line with a bad shape returns RELKVANU_BAD_ARGUMENT with RELKVANU_BAD_SHAPE. A line that has no words or is a comment returns RELKVANU_SKIPPED. A line that can't be read, or makes no call, returns RELKVANU_BAD_LINE. Only RELKVANU_TAKEN changes the buffer. The call takes memory as its own function does, and for the lists of an ack, job, restore or forfeit line. So such a line may return RELKVANU_NO_MEMORY instead of a refusal. A line with fence, reserve or forfeit returns what relkvanu_fence, relkvanu_reserve or relkvanu_forfeit returns. An ack or a decline line after in and a term returns what relkvanu_ack_in or relkvanu_decline_in returns. Each other call after in and a term returns what it returns alone, but RELKVANU_FENCED with RELKVANU_NO_NAMES on a handle without names. After in and the term 0 a call is the one without a term.
+    /// Makes the call of a line, and returns what the function of that call returns. A take line writes the files that it fetches to the start of files. If it would fetch more than files_len, the answer is RELKVANU_TOO_SHORT, a is how many places it needs, and nothing has changed. A show line returns what relkvanu_show returns with an empty buffer. A restore line with a bad shape returns RELKVANU_BAD_ARGUMENT with RELKVANU_BAD_SHAPE. A line that has no words or is a comment returns RELKVANU_SKIPPED. A line that can't be read, or makes no call, returns RELKVANU_BAD_LINE. Only RELKVANU_TAKEN changes the buffer. The call takes memory as its own function does, and for the lists of an ack, job, restore or forfeit line. So such a line may return RELKVANU_NO_MEMORY instead of a refusal. A line with fence, reserve, forfeit or advance returns what relkvanu_fence and so on returns. An ack or a decline line after in and a term returns what relkvanu_ack_in or relkvanu_decline_in returns. Each other call after in and a term returns what it returns alone, but RELKVANU_FENCED with RELKVANU_NO_NAMES on a handle without names. After in and the term 0 a call is the one without a term.
     pub fn relkvanu_line(
         handle: *mut relkvanu,
         line: *const u8,
@@ -439,7 +441,7 @@ extern "C" {
         files_len: usize,
     ) -> relkvanu_answer;
 
-    /// Returns the kind of the line, RELKVANU_LINE_SKIP to RELKVANU_LINE_ALL. If the line makes no call, writes its numbers to the start of numbers, in the line's order; keep is 1 and delete is 0. Checks no number against the limits of a job. RELKVANU_TOO_SHORT, and a is how many places it needs; or RELKVANU_BAD_LINE with the fault. Neither changes the buffer. A restore line with a bad shape is RELKVANU_LINE_CALL, and so is each line with fence, reserve, forfeit, in, trigger or configure: relkvanu_line says what is wrong with it. Takes memory only for the lists of an ack, job, restore or forfeit line.
+    /// Returns the kind of the line, RELKVANU_LINE_SKIP to RELKVANU_LINE_ALL. If the line makes no call, writes its numbers to the start of numbers, in the line's order; keep is 1 and delete is 0. Checks no number against the limits of a job. RELKVANU_TOO_SHORT, and a is how many places it needs; or RELKVANU_BAD_LINE with the fault. Neither changes the buffer. A restore line with a bad shape is RELKVANU_LINE_CALL, and so is each line with fence, reserve, forfeit, advance, in, trigger or configure: relkvanu_line says what is wrong with it. Takes memory only for the lists of an ack, job, restore or forfeit line.
     pub fn relkvanu_line_says(
         line: *const u8,
         line_len: usize,
@@ -572,6 +574,14 @@ extern "C" {
         term: u64,
         names: *const u64,
         names_len: usize,
+    ) -> relkvanu_answer;
+
+    /// Begins a job again that goes on from an older image or log, such as one that was restored from a backup: relkvanu_restore of the latest, in the shape that the job has, in a term above term, the greatest that any task was told, and with names from first_name on, 1 to 2^62, above each that was given out. A smaller term and a smaller first_name lower nothing. Names that are passed over are garbage, unless the handle's records use them. Make this call before any other of such a job. docs/RULES.md, section 13, says what it is for. RELKVANU_RESTORED, and relkvanu_term tells the new term. RELKVANU_FENCED with RELKVANU_NO_NAMES; RELKVANU_BAD_ARGUMENT with RELKVANU_BAD_NAME; RELKVANU_FENCED with RELKVANU_TERMS_USED_UP, checked in this order; then the refusals of relkvanu_restore. None of these changes anything. Takes no memory.
+    pub fn relkvanu_advance(
+        handle: *mut relkvanu,
+        now: u64,
+        term: u64,
+        first_name: u64,
     ) -> relkvanu_answer;
 
     /// relkvanu_ack of a task of this term. An accepted acknowledgement spends the names of its fresh files. As relkvanu_ack, and before its refusals RELKVANU_FENCED: RELKVANU_NO_NAMES, RELKVANU_OLD_TERM, and for the first fresh file whose name the term does not hold RELKVANU_SPENT or RELKVANU_NEVER_RESERVED. An acknowledgement that is sent twice is RELKVANU_SPENT the second time, if it has fresh files: then an accepted one has named them. So a task does not delete a file for RELKVANU_SPENT.

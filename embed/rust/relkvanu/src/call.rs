@@ -29,6 +29,8 @@ pub(crate) enum CallKind {
     Forfeit,
     Trigger,
     Configure,
+    /// Relkvanu_advance.
+    Advance,
     /// A number that this crate does not know: the library is of another version.
     Unknown(u32),
 }
@@ -53,6 +55,7 @@ impl CallKind {
             sys::RELKVANU_CALL_FORFEIT => CallKind::Forfeit,
             sys::RELKVANU_CALL_TRIGGER => CallKind::Trigger,
             sys::RELKVANU_CALL_CONFIGURE => CallKind::Configure,
+            sys::RELKVANU_CALL_ADVANCE => CallKind::Advance,
             other => CallKind::Unknown(other),
         }
     }
@@ -77,6 +80,7 @@ impl CallKind {
             CallKind::Forfeit => sys::RELKVANU_CALL_FORFEIT,
             CallKind::Trigger => sys::RELKVANU_CALL_TRIGGER,
             CallKind::Configure => sys::RELKVANU_CALL_CONFIGURE,
+            CallKind::Advance => sys::RELKVANU_CALL_ADVANCE,
             CallKind::Unknown(what) => *what,
         }
     }
@@ -153,6 +157,13 @@ pub enum Call<'a> {
     Forfeit {
         term: u64,
         names: &'a [u64],
+    },
+    /// The job begins again in a term above this one, which is the greatest that any task was told. Names are given out
+    /// from `first_name` on.
+    Advance {
+        now: u64,
+        term: u64,
+        first_name: u64,
     },
     /// The acknowledgement of a task of this term.
     AckIn {
@@ -235,7 +246,10 @@ impl<'a> Call<'a> {
                 id,
                 subtask,
             },
-            call @ (Call::Reserve { .. } | Call::Forfeit { .. } | Call::Fence { .. }) => call,
+            call @ (Call::Reserve { .. }
+            | Call::Forfeit { .. }
+            | Call::Advance { .. }
+            | Call::Fence { .. }) => call,
             _ => return Err(Fault::BadLine(LineFault::NoCall)),
         })
     }
@@ -290,6 +304,11 @@ impl<'a> Call<'a> {
                 count: number,
             },
             CallKind::Forfeit => Call::Forfeit { term, names: first },
+            CallKind::Advance => Call::Advance {
+                now,
+                term,
+                first_name: number,
+            },
             CallKind::Unknown(_) => return None,
         })
     }
@@ -375,6 +394,11 @@ impl<'a> Call<'a> {
             Call::Show { id } => of(CallKind::Show, 0, id),
             Call::Reserve { term, count } => in_term(term, of(CallKind::Reserve, 0, count)),
             Call::Forfeit { term, .. } => in_term(term, of(CallKind::Forfeit, 0, 0)),
+            Call::Advance {
+                now,
+                term,
+                first_name,
+            } => in_term(term, of(CallKind::Advance, now, first_name)),
             Call::AckIn {
                 term,
                 now,

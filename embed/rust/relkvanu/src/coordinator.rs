@@ -426,6 +426,15 @@ impl Coordinator {
         reply(told, sys::RELKVANU_FORFEITED).map(|_| ())
     }
 
+    /// Restores a job that goes on from an older image, from its latest record, in a term above `term`, the greatest that
+    /// any task was told, and with names from `first_name` on, above each that was given out. It is the first call of such
+    /// a job.
+    pub fn advance(&mut self, now: u64, term: u64, first_name: u64) -> Called {
+        self.check_moment(now)?;
+        // SAFETY: as in `tick`.
+        called(unsafe { sys::relkvanu_advance(self.handle(), now, term, first_name) })
+    }
+
     /// [`ack`](Self::ack) of a task of this term. If it is accepted, it spends the names of the fresh files.
     ///
     /// The same acknowledgement once more is refused as [`Spent`](crate::Fenced::Spent), if it has fresh files: a task deletes no

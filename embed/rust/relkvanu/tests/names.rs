@@ -114,6 +114,24 @@ fn a_restore_ends_the_term() {
 }
 
 #[test]
+fn an_advance_goes_on_above_what_was_told() {
+    let mut job = with_checkpoint_1();
+    assert_eq!(job.advance(2100, 9, 0), Err(Fault::BadName));
+    assert_eq!(
+        job.advance(2100, NAMES_END, 20),
+        fenced(Fenced::TermsUsedUp)
+    );
+    assert_eq!(job.term(), term(1, 8));
+    let from = Choice::Checkpoint(1);
+    let restored = Answer::Restored { from, released: 0 };
+    assert_eq!(job.advance(2100, 9, 20), Ok(restored));
+    assert_eq!(job.term(), term(10, 20));
+    assert_eq!(job.garbage(&[5, 7, 19, 20]), sorted(&[7, 19], &[20]));
+    assert_eq!(job.reserve(9, 1), fenced(Fenced::OldTerm));
+    assert_eq!(job.reserve(10, 1), Ok(20..21));
+}
+
+#[test]
 fn forfeited_names_are_garbage() {
     let mut job = with_checkpoint_1();
     for _ in 0..2 {

@@ -78,7 +78,7 @@ const DECLINE: Call = Call::DeclineIn {
     id: 1,
     subtask: (1, 2),
 };
-const LINES: [(&str, Call); 6] = [
+const LINES: [(&str, Call); 7] = [
     ("fence 20", Call::Fence { first_name: 20 }),
     (
         "reserve 3 1000",
@@ -99,6 +99,14 @@ const LINES: [(&str, Call); 6] = [
         Call::Forfeit {
             term: 3,
             names: &[],
+        },
+    ),
+    (
+        "advance 5 3 70",
+        Call::Advance {
+            now: 5,
+            term: 3,
+            first_name: 70,
         },
     ),
     ("in 3 ack 5 1 1.2 +11 +12 =7", ACK),

@@ -3,10 +3,11 @@ use Rattle.std.proofs.Common.{◌≡◌, length}
 use Rattle.ckpt_lines.specs.Reading.{each}
 use Rattle.ckpt_lines.specs.Values.{number}
 use Rattle.ckpt_lines.proofs.EachLemmas.{with_front}
+use Rattle.ckpt_lines.proofs.ListLemmas.{HasBegun}
 use Rattle.ckpt_term_lines.proofs.rows.names.Given as goal
 
 abbrev pub invariant-loop-word : goal.invariant-loop-word
-invariant-loop-word l = with_front l.list.items (each number l.words) ≡ each number l.initial.words
+invariant-loop-word l = (with_front l.list.items (each number l.words) ≡ each number l.initial.words) × HasBegun l.words l.initial.words
 
 abbrev pub decreases-loop-word : goal.decreases-loop-word
 decreases-loop-word l = length l.words

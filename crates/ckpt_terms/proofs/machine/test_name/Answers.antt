@@ -20,12 +20,12 @@ told m first b some fits is =
 seen : (m n : State) (first : ℕ) (b : Bool) → n ≡ settled m → b ≡ has_known_from n first → has_known_from m first ≡ b
 seen m n first b is told = sym (told ∙ ap (λ (s : State). has_known_from s first) is ∙ settled_from m first)
 
-pub returns-then-has_known_from : goal.returns-then-has_known_from
-returns-then-has_known_from c = λ _.
+pub returns-then-has_known_from-clause-fault : goal.returns-then-has_known_from-clause-fault
+returns-then-has_known_from-clause-fault c = λ _.
     told c.args.core.now c.args.first_name true c.if-first_name-eq0.false c.if-first_name-gt-NAMES_END.false
     (seen c.args.core.now (state_in c.in-Ok.image) c.args.first_name true c.in-Ok.ensures.value (sym c.if-has_known_from.true ∙ c.has_known_from.ensures))
 
-pub returns : goal.returns
-returns c = λ _.
+pub returns-clause-fault : goal.returns-clause-fault
+returns-clause-fault c = λ _.
     told c.args.core.now c.args.first_name false c.if-first_name-eq0.false c.if-first_name-gt-NAMES_END.false
     (seen c.args.core.now (state_in c.in-Ok.image) c.args.first_name false c.in-Ok.ensures.value (sym c.if-has_known_from.false ∙ c.has_known_from.ensures))

@@ -1,14 +1,15 @@
 -- Answers the goals of `Names::add`.
-use Rattle.std.proofs.Common.{◌≡◌, ◌<◌, ◌≤◌, ◌+◌, ◌++◌, ◌∷◌, [], ℕ, List, length, arith, sym, subst, ap, ◌∙◌, vec_len, vec_capacity}
+use Rattle.std.proofs.Common.{◌≡◌, ◌<◌, ◌≤◌, ◌+◌, ◌++◌, ℕ, List, length, arith, sym, subst, ap, ◌∙◌, vec_len, vec_capacity}
+use Rattle.std.specs.List.{range_with_len}
 use Rattle.ckpt_ids.specs.Ordered.{IsIn}
 use Rattle.ckpt_terms.specs.declared.names.Span.{Span}
-use Rattle.ckpt_terms.specs.Spans.{AreKept, names_of}
+use Rattle.ckpt_terms.specs.Spans.{AreKept, joined, names_of}
 use Rattle.ckpt_terms.proofs.SpanLemmas.{span}
-use Rattle.ckpt_terms.proofs.RangeLemmas.{fewer, added}
+use Rattle.ckpt_terms.proofs.RangeLemmas.{fewer, added, joined_is}
 use Rattle.ckpt_terms.proofs.names.Names.add.Goals as goal
 
-pub push_reserved-requires : goal.push_reserved-requires
-push_reserved-requires c =
+pub join-requires : goal.join-requires
+join-requires c =
     let xs : List Span = c.self.inside.spans.items in
     let few : length xs ≤ length (names_of xs) = fewer xs c.self.invariant.ranges.some in
     let same : length (names_of xs) ≡ c.self.inside.held = c.self.invariant.names in
@@ -19,17 +20,23 @@ pub invariant_of-self-2 : goal.invariant_of-self-2
 invariant_of-self-2 c =
     let xs : List Span = c.self.inside.spans.items in
     let len : ℕ = vec_len c.self.inside.spans in
-    let room : ℕ = vec_capacity c.push_reserved.new.self in
+    let room : ℕ = vec_capacity c.join.new.spans in
     let held : ℕ = c.in-Some.held in
     let new : Span = span c.args.first (c.args.first + c.args.count) in
     let Below : List ℕ → Type 0 = λ names. (f : ℕ) → IsIn f names → f < c.args.first in
-    let Items : List Span → Type 0 = λ ys. AreKept ys held (vec_len c.push_reserved.new.self) room in
-    let Len : ℕ → Type 0 = λ n. AreKept (xs ++ new ∷ []) held n room in
+    let Items : List Span → Type 0 = λ ys. AreKept ys held (vec_len c.join.new.spans) room in
     let sum : held ≡ c.self.inside.held + c.args.count = c.in-Some.ensures.1 in
-    let put : c.push_reserved.new.self.items ≡ xs ++ new ∷ [] = c.push_reserved.ensures.items ∙ ap (λ ys. ys ++ new ∷ []) c.in_ok-make_room.ensures.items in
-    let longer : len + 1 ≡ vec_len c.push_reserved.new.self = omega (arith, c.in_ok-make_room.ensures.len, c.push_reserved.ensures.len) in
-    let fits : held + len + 1 ≤ room + room = omega (arith, c.in_ok-make_room.ensures.room, c.push_reserved.ensures.capacity) in
+    let put : c.join.new.spans.items ≡ joined xs new = c.join.ensures.items ∙ ap (λ ys. joined ys new) c.in_ok-make_room.ensures.items in
+    let longer : vec_len c.join.new.spans ≤ len + 1 = omega (arith, c.in_ok-make_room.ensures.len, c.join.ensures.len) in
+    let fits : held + len + 1 ≤ room + room = omega (arith, c.in_ok-make_room.ensures.room, c.join.ensures.capacity) in
     let some : 0 < c.args.count = omega arith in
     subst Items (sym put)
-    (subst Len longer (added xs c.args.first c.args.count c.self.inside.held len (vec_capacity c.self.inside.spans) held room c.self.invariant
-    (subst Below (sym c.self.view_is) c.requires.above) some sum fits))
+    (added xs c.args.first c.args.count c.self.inside.held len (vec_capacity c.self.inside.spans) held (vec_len c.join.new.spans) room c.self.invariant
+    (subst Below (sym c.self.view_is) c.requires.above) some sum fits longer)
+
+pub returns-clause-ok : goal.returns-clause-ok
+returns-clause-ok c =
+    let xs : List Span = c.self.inside.spans.items in
+    let new : Span = span c.args.first (c.args.first + c.args.count) in
+    let put : c.join.new.spans.items ≡ joined xs new = c.join.ensures.items ∙ ap (λ ys. joined ys new) c.in_ok-make_room.ensures.items in
+    ap names_of put ∙ joined_is xs c.args.first c.args.count c.self.invariant.ranges (omega arith) ∙ ap (λ ns. ns ++ range_with_len c.args.first c.args.count) c.self.view_is
