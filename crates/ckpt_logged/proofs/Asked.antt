@@ -9,7 +9,7 @@ use Rattle.ckpt_model.specs.Laws.{AreCalls}
 use Rattle.ckpt_model.specs.Soundness.{IsSound}
 use Rattle.ckpt_model.proofs.Soundness.Calls.{step_keeps}
 use Rattle.ckpt_terms.specs.declared.call.FencedCall.{FencedCall}
-use Rattle.ckpt_terms.specs.declared.call.FencedCall.TheVariants.{Reserve, Forfeit, Make}
+use Rattle.ckpt_terms.specs.declared.call.FencedCall.TheVariants.{Reserve, Forfeit, Make, Advance}
 use Rattle.ckpt_terms.specs.declared.machine.FenceFault.{FenceFault}
 use Rattle.ckpt_terms.specs.declared.machine.Machine.{Machine}
 use Rattle.ckpt_terms.specs.declared.machine.Machine.TheVariants as machine
@@ -90,6 +90,10 @@ reach_layer m (Make term its) c =
     let call : FencedCall = Make term its in
     let P : FencedStepped → Type 0 = λ x. AreCalls (passed call x.1) × (x.0.core ≡ replay m.core (passed call x.1)) in
     fenced_step_by m call P (λ _. (tt, refl)) (λ _. ((c, tt), refl))
+reach_layer m (Advance now term first) c =
+    let call : FencedCall = Advance now term first in
+    let P : FencedStepped → Type 0 = λ x. AreCalls (passed call x.1) × (x.0.core ≡ replay m.core (passed call x.1)) in
+    fenced_step_by m call P (λ _. (tt, refl)) (λ _. ((tt, tt), refl))
 
 fence_core : (m : Machine) (first : ℕ) (fault : Option FenceFault) → core_in (named_from m first fault) ≡ core_in m
 fence_core m first None = refl

@@ -277,6 +277,7 @@ pub extern "C" fn relkvanu_advance(
     ensures handled { IsHandled (λ k. term_step k (fencing.Advance now term first_name)) handle.old handle.new result }
     ensures memory { result.code ≢ no_memory }
     ensures numbers { HasNoNumbers result }
+    ensures past { GrowsBy (in_layer (fencing.Advance now term first_name)) handle.old.past handle.new.past result }
 {
     let Some(mut machine) = handle.take(alloc) else {
         return Answer::closed();
