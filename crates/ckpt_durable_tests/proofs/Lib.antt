@@ -1,0 +1,1 @@
+-- No lemmas: the loop of `copy_onto` has its invariant and its answers.
