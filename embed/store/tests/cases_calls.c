@@ -170,14 +170,14 @@ static void quiet_commits(void) {
     relkvanu_store *store = opens(&options, RELKVANU_STORE_OK);
     checkpoint(store, 1);
     uint64_t version = store->version;
+    checkpoint(store, 101); /* another tick is due, and the files of the first one wait */
+    CHECK(store->version > version && store->view.has_files, "%" PRIu64 " versions", store->version - version);
+    version = store->version;
     for (int i = 0; i < 50; i++) {
         done(store, RELKVANU_CALL_SAVEPOINT, 20, 0);
     }
     CHECK(
         store->version <= version + 1, "50 commits, %" PRIu64 " versions", store->version - version); /* the first one may move the clock */
-    version = store->version;
-    checkpoint(store, 101); /* another tick is due, and the files of the first one wait */
-    CHECK(store->version > version && store->view.has_files, "%" PRIu64 " versions", store->version - version);
     relkvanu_store_close(store);
 }
 

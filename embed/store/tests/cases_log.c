@@ -147,11 +147,43 @@ static void any_bit_of_a_page_header(void) {
     CHECK(tried.stopped > 50, "%u stopped, %u opened", tried.stopped, tried.opened);
 }
 
+/* How many commits the -wal has, and where the last one begins and ends. */
+static unsigned count_commits(const struct kept *wal, size_t *begin, size_t *end) {
+    static const char none[4];
+    unsigned commits = 0;
+    *begin = *end = WAL_HEADER;
+    for (size_t at = WAL_HEADER; at + FRAME <= wal->len && memcmp(wal->bytes + at + 8, wal->bytes + 16, 8) == 0; at += FRAME) {
+        if (memcmp(wal->bytes + at + 4, none, 4) != 0) {
+            *begin = *end;
+            *end = at + FRAME;
+            commits++;
+        }
+    }
+    return commits;
+}
+
+/* Reserves until several commits are in the -wal. Returns how many reservations it took. */
+static int fills_the_wal(void *with) {
+    struct kept wal;
+    size_t begin, end;
+    int made = 0;
+    (void)with;
+    relkvanu_store_options options = names_options(RELKVANU_STORE_CREATE, RELKVANU_STORE_NO_IMAGES);
+    relkvanu_store *store = opens(&options, RELKVANU_STORE_OK);
+    do {
+        reserve_list(store, 1);
+        made++;
+        keep(&wal, "x.db-wal");
+    } while (count_commits(&wal, &begin, &end) < 4 && made < 200);
+    _exit(made);
+}
+
 /* A bit of a page that is not the last one's does not lose calls silently, even if nobody knows how many were answered. */
 static void damage_without_a_tail(void) {
     struct kept all[3];
     relkvanu_store_options options = names_options(RELKVANU_STORE_RECOVER, RELKVANU_STORE_NO_IMAGES);
-    CHECK(in_child(reserves, NULL) == 7, "the job");
+    uint64_t made = (uint64_t)in_child(fills_the_wal, NULL);
+    CHECK(made < 200, "no -wal of several commits");
     keep_all(all);
     all[1].bytes[WAL_HEADER + FRAME_HEADER + 100] ^= 4; /* of the first commit of several */
     put_back(&all[1], all[1].len);
@@ -161,23 +193,13 @@ static void damage_without_a_tail(void) {
     all[1].bytes[WAL_HEADER + FRAME_HEADER + 100] ^= 4;
     put_back(&all[1], all[1].len);
     relkvanu_store_close(opens(&options, RELKVANU_STORE_OK)); /* it was left as it was */
-    CHECK(report.next_name == CALLS * 10 + 1, "next name %" PRIu64, report.next_name);
+    CHECK(report.next_name == made * 10 + 1, "next name %" PRIu64, report.next_name);
     free_all(all);
 }
 
-/* The places of the commits of a -wal: where the last one begins, and where it ends. */
-static void last_commit(const struct kept *wal, size_t *begin, size_t *end) {
-    static const char none[4];
-    *begin = *end = WAL_HEADER;
-    for (size_t at = WAL_HEADER; at + FRAME <= wal->len && memcmp(wal->bytes + at + 8, wal->bytes + 16, 8) == 0; at += FRAME) {
-        if (memcmp(wal->bytes + at + 4, none, 4) != 0) {
-            *begin = *end;
-            *end = at + FRAME;
-        }
-    }
-}
+enum { LAST_LIST = 200 };
 
-/* A commit of 20 calls and one of 100. Keeps the tail of the first one. */
+/* A commit of 20 calls and one of 200. Keeps the tail of the first one. */
 static int makes_torn(void *with) {
     struct kept lock;
     (void)with;
@@ -185,7 +207,7 @@ static int makes_torn(void *with) {
     relkvanu_store *store = opens(&options, RELKVANU_STORE_OK);
     reserve_list(store, LIST);
     keep(&lock, "x.db.lock");
-    reserve_list(store, 100);
+    reserve_list(store, LAST_LIST);
     int file = open(in("lock before"), O_WRONLY | O_CREAT, 0600);
     CHECK(write(file, lock.bytes, lock.len) == (ssize_t)lock.len, "the tail before");
     _exit(7);
@@ -212,14 +234,14 @@ static void torn_last_commits(void) {
     CHECK(in_child(makes_torn, NULL) == 7, "the job");
     keep_all(all);
     keep(&before, "lock before");
-    last_commit(&all[1], &begin, &end);
+    count_commits(&all[1], &begin, &end);
     CHECK(end - begin >= 2 * FRAME, "a commit of %zu bytes", end - begin);
     for (size_t i = 0; i < 300; i++) {
         size_t len = begin + (end - begin) * i / 300;
         uint64_t calls = calls_of_cut(all, &before, len), told = calls_of_cut(all, &all[2], len);
         CHECK(calls == LIST && told == UINT64_MAX, "cut at %zu: %" PRIu64 " calls, %" PRIu64, len, calls, told);
     }
-    CHECK(says("its log ends with call 20, and call 120 was answered"), "%s", report.message);
+    CHECK(says("its log ends with call 20, and call 220 was answered"), "%s", report.message);
     for (size_t at = begin; at < end; at += FRAME) {
         char frame[FRAME];
         memcpy(frame, all[1].bytes + at, FRAME);
@@ -227,7 +249,8 @@ static void torn_last_commits(void) {
         CHECK(calls_of_cut(all, &before, all[1].len) == LIST, "a frame at %zu", at);
         memcpy(all[1].bytes + at, frame, FRAME);
     }
-    CHECK(calls_of_cut(all, &before, all[1].len) == LIST + 100 && calls_of_cut(all, &all[2], all[1].len) == LIST + 100, "all of it");
+    CHECK(calls_of_cut(all, &before, all[1].len) == LIST + LAST_LIST && calls_of_cut(all, &all[2], all[1].len) == LIST + LAST_LIST,
+        "all of it");
     free_all(all);
     free(before.bytes);
 }
