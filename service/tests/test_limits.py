@@ -8,7 +8,7 @@ import threading
 import time
 
 from harness import COMMAND, Server, configured, folder, served, until
-from relkvanu_service import Service, cancel, savepoint
+from relkvanu_service import Service, ack, cancel, deleted, dispose, restore, savepoint, undeleted
 from test_api import JOB
 from test_bytes import filled
 
@@ -288,3 +288,65 @@ def test_moments_are_those_of_what_happened():
         server.kill()
         assert told == at_image > opened, (told, at_image, opened)
         return "those of the opening and of the image"
+
+
+def test_the_age_of_the_oldest_file():
+    """Of files that wait, and of those that were taken: since the call that released or took the oldest one."""
+    ages = {state: f'relkvanu_oldest_file_age_seconds{{job_name="a",state="{state}"}}' for state in ("waiting", "taken")}
+    with served() as server:
+        job = Service(server.url).open("a", SETTINGS, [1])
+        until(lambda: ages["taken"] in server.get("/metrics")[2])
+        assert metric(server, ages["waiting"]) == metric(server, ages["taken"]) == 0
+        job.calls([savepoint(), ack(1, "0.0", [1, 2, 3]), dispose(1)])
+        released = time.time()
+        until(lambda: metric(server, ages["waiting"]) >= 2)
+        assert metric(server, ages["waiting"]) <= time.time() - released + 2 and metric(server, ages["taken"]) == 0
+        files = job.take(1)
+        until(lambda: 0 < metric(server, ages["taken"]) < metric(server, ages["waiting"]))
+        # one that could not be deleted waits again, since it was released
+        job.calls([undeleted(files[0])])
+        until(lambda: metric(server, ages["taken"]) == 0)
+        assert metric(server, ages["waiting"]) >= 2
+        job.calls([deleted(file) for file in job.take(9)])
+        until(lambda: metric(server, ages["waiting"]) == 0)
+        return "that of its release, and of its take"
+
+
+def test_since_when_a_job_is_served_and_was_restored():
+    with folder() as at:
+        server = Server(at).start()
+        job = Service(server.url).open("a", SETTINGS, [1])
+        opened = job.state()["opened"] / 1000
+        names = [f'relkvanu_{name}_timestamp_seconds{{job_name="a"}}' for name in ("last_restored", "served_since")]
+        assert metric(server, names[0]) == opened and abs(metric(server, names[1]) - opened) < 30
+        job.call(restore())
+        restored = job.state()["now"] / 1000
+        assert opened < metric(server, names[0]) <= restored, (opened, restored)
+        server.stop()
+        server.start()
+        assert metric(server, names[1]) > restored and metric(server, names[1]) >= metric(server, "process_start_time_seconds")
+        server.kill()
+        return "by the job's moments, and by the clock"
+
+
+def test_records_that_ended_are_bounded():
+    """The database and the history keep the last ones. They go in pieces once newer ones are kept."""
+    keep, records = 20, 150
+    with served(args=["--image-calls", "10", "--keep-calls", "20", "--keep-records", str(keep)]) as server:
+        job = Service(server.url).open("a", SETTINGS, [1])
+        for record in range(1, records + 1):
+            job.calls([savepoint(), ack(record, "0.0", []), dispose(record)])
+
+        def count(path, table, where=""):
+            with sqlite3.connect(path, timeout=COMMAND) as base:
+                return base.execute(f"select count(*), coalesce(max(id), 0) from {table}{where}").fetchone()
+
+        history = f"{server.folder}/history-{server.port}"
+        until(lambda: count(server.database, "past")[1] > records - 20)
+        # those of the last summary may not be saved yet
+        until(lambda: count(history, "record")[0] <= keep + 15, told=lambda: count(history, "record"))
+        kept = count(server.database, "past")[0]
+        assert keep // 2 <= kept <= keep + 15, kept
+        newest = job.records(5) if hasattr(job, "records") else server.get("/v1/jobs/a/records?limit=5")[2]["records"]
+        assert [record["id"] for record in newest] == list(range(records, records - 5, -1)), newest
+        return f"{kept} of {records} records are kept in the database"

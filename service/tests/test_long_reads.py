@@ -1,5 +1,4 @@
 """PostgreSQL over a year: a table of keys in its steady state, a read that lasts for hours beside the commits, and commits that last."""
-import re
 import subprocess
 import threading
 import time

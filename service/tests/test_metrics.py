@@ -56,8 +56,12 @@ def test_metrics_say_what_was_done():
         needed("promtool")
         told = subprocess.run(["promtool", "check", "metrics"], input=text, text=True, stdout=subprocess.PIPE, stderr=subprocess.STDOUT, check=False)
         assert told.returncode == 0 and not told.stdout.strip(), told.stdout
+        until(lambda: "relkvanu_oldest_file_age_seconds" in scraped(server)[0])  # the historian tells it
+        text = scraped(server)[0]
+        # test_discard_folder and test_sweep look at the others; that of backups is the exporter's of the machine
         with open(f"{DEPLOY}/alerts.yml", encoding="utf-8") as it:
-            named = set(re.findall(r"relkvanu_(?!discard_|sweep_)[a-z_]+", it.read()))  # test_discard_folder and test_sweep look at the others
+            rules = re.sub(r'__name__=~"relkvanu_\((.*?)\)(\w+)"', lambda it: " ".join(f"relkvanu_{one}{it[2]}" for one in it[1].split("|")), it.read())
+        named = set(re.findall(r"relkvanu_(?!discard_|sweep_|backup_)[a-z_]+", rules))
         missing = [name for name in named if not re.search(rf"^{name}\b", text, re.M)]
         assert not missing, f"alerts use what there is not: {missing}"
         return f"{len(values)} values, and {len(named)} that alerts use"
@@ -68,23 +72,25 @@ def test_each_alert_fires_and_rests():
     told = subprocess.run(["promtool", "test", "rules", "alerts_test.yml"], cwd=DEPLOY, text=True, stdout=subprocess.PIPE, stderr=subprocess.STDOUT, check=False)
     assert told.returncode == 0, told.stdout
     with open(f"{DEPLOY}/alerts.yml", encoding="utf-8") as rules, open(f"{DEPLOY}/alerts_test.yml", encoding="utf-8") as tests:
-        alerts, tried = set(re.findall(r"alert: (\w+)", rules.read())), set(re.findall(r"alertname: (\w+)", tests.read()))
-    assert alerts == tried, (alerts, tried)
+        alerts, cases = set(re.findall(r"alert: (\w+)", rules.read())), tests.read()
+    # each is tried where it has to fire, and where it must not
+    against = set(re.findall(r"alertname: (\w+), exp_alerts: \[\]", cases))
+    fires = set(re.findall(r"alertname: (\w+)\n    exp_alerts:(?! \[\])", cases))
+    assert alerts == fires == against, (alerts ^ fires, alerts ^ against)
     return f"{len(alerts)} alerts"
 
 
 def test_each_alert_has_its_row():
-    """In the section of the page that its annotation names, with its severity."""
+    """In the section of alerts, with its severity, at the anchor that its annotation names."""
     with open(f"{DEPLOY}/alerts.yml", encoding="utf-8") as it:
-        alerts = re.findall(r"- alert: (\w+)\n.*?severity: (\w+)\}\n    annotations:\n      runbook: '([^']*)'", it.read(), re.DOTALL)
+        alerts = re.findall(r"- alert: (\w+)\n.*?severity: (\w+)\}\n    annotations:\n      runbook_url: '([^']*)'", it.read(), re.DOTALL)
         it.seek(0)
         assert len(alerts) == it.read().count("- alert: "), alerts
-    [place] = {place for _, _, place in alerts}
-    page, _, anchor = place.partition("#")
+    [page] = {place.partition("#")[0] for _, _, place in alerts}
     with open(f"{TOP}/docs/{page}", encoding="utf-8") as it:
-        [section] = [text for title, text in re.findall(r"^##+ ([^\n]*)\n(.*?)(?=^##|\Z)", it.read(), re.DOTALL | re.MULTILINE) if title.lower() == anchor]
-    rows = re.findall(r"^\| `(Relkvanu\w+)` \| (\w+) \| [^|]+ \| [^|]+ \|$", section, re.MULTILINE)
-    assert rows == [(name, severity) for name, severity, _ in alerts], (rows, alerts)
+        [section] = [text for title, text in re.findall(r"^##+ ([^\n]*)\n(.*?)(?=^##|\Z)", it.read(), re.DOTALL | re.MULTILINE) if title == "Alerts"]
+    rows = re.findall(r'^\| <a id="(\w+)"></a>`(Relkvanu\w+)` \| (\w+) \| [^|]+ \| [^|]+ \|$', section, re.MULTILINE)
+    assert rows == [(place.partition("#")[2], name, severity) for name, severity, place in alerts], (rows, alerts)
     return f"{len(rows)} rows"
 
 

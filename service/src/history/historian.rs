@@ -262,7 +262,8 @@ impl Historian {
     /// Tells the metrics for how long the oldest files wait for deletion, or have been taken for it.
     fn tell_oldest_files(&self, tables: &Tables, jobs: &[JobState]) -> Result<(), Error> {
         for job in jobs {
-            let age = |at: Option<u64>| at.map_or(Duration::ZERO, |at| Duration::from_millis(job.now.saturating_sub(at)));
+            let age =
+                |at: Option<u64>| at.map_or(Duration::ZERO, |at| Duration::from_millis(job.now.saturating_sub(at)));
             let none = job.files.waiting + job.files.taken == 0;
             let (waiting, taken) = if none { (None, None) } else { tables.oldest_files(job.opening.number)? };
             self.metrics.upkeep.oldest_files(&job.opening.name, age(waiting), age(taken));

@@ -90,7 +90,10 @@ mod tests {
     fn no_token_takes_the_room_of_all_others() {
         let (bodies, token) = (bodies(), |name: &str| Some(name.to_string()));
         let mut some: Vec<Room> = (0..6).map(|_| Room::new(&bodies, token("a"))).collect();
-        assert_eq!(some.iter_mut().map(|room| room.grow(10)).collect::<Vec<_>>(), [true, true, true, true, true, false]);
+        assert_eq!(
+            some.iter_mut().map(|room| room.grow(10)).collect::<Vec<_>>(),
+            [true, true, true, true, true, false]
+        );
         let (mut other, mut more) = (Room::new(&bodies, token("b")), Room::new(&bodies, token("b")));
         // half of what is left, and then one body of the greatest length
         assert!(other.grow(25) && !more.grow(1));

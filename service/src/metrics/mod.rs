@@ -224,11 +224,7 @@ impl Metrics {
     }
 
     /// All metrics as text, with the gauges of these jobs. `served` tells which jobs this process has now.
-    pub fn text(
-        &self,
-        jobs: &[JobState],
-        served: impl FnOnce() -> Vec<Served>,
-    ) -> Result<Vec<u8>, prometheus::Error> {
+    pub fn text(&self, jobs: &[JobState], served: impl FnOnce() -> Vec<Served>) -> Result<Vec<u8>, prometheus::Error> {
         self.set(jobs, served);
         self.families.text()
     }
@@ -315,4 +311,46 @@ fn gauge(name: &str, help: &str, labels: &[&str]) -> Result<IntGaugeVec, prometh
 
 fn histogram(name: &str, help: &str, buckets: &[f64]) -> Result<Histogram, prometheus::Error> {
     Histogram::with_opts(HistogramOpts::new(name, help).buckets(buckets.to_vec()))
+}
+
+#[cfg(test)]
+mod tests {
+    use super::*;
+    use crate::model::Fault;
+    use serde_json::Value;
+    use std::collections::BTreeSet;
+
+    /// A word that is missing there would leave values of deleted jobs.
+    #[test]
+    fn each_call_of_the_api_is_known() -> Result<(), serde_json::Error> {
+        let api: Value = serde_json::from_str(include_str!("../../web/openapi.json"))?;
+        let forms = api["components"]["schemas"]["Call"]["oneOf"].as_array().cloned().unwrap_or_default();
+        let calls: BTreeSet<&str> =
+            forms.iter().filter_map(|form| form["properties"]["call"]["enum"][0].as_str()).collect();
+        // the call that gives a job names has a path of its own
+        let known: BTreeSet<&str> = CALLS.into_iter().filter(|call| *call != "fence").collect();
+        assert_eq!(calls, known);
+        Ok(())
+    }
+
+    #[test]
+    fn a_job_that_is_forgotten_has_no_values() -> Result<(), prometheus::Error> {
+        let metrics = Metrics::new()?;
+        for job in ["gone", "stays"] {
+            for outcome in [Outcome::NoMemory, Outcome::NotMade, Outcome::Refused(Fault::Memory)] {
+                CALLS.iter().for_each(|call| metrics.call(job, call, &outcome));
+            }
+            for kind in KINDS {
+                Search::HOWS.iter().for_each(|how| metrics.record(job, kind, how, 1.0));
+                metrics.sizes.record(job, kind, (1, 2));
+            }
+            metrics.history(job, 1);
+            metrics.image_fails(job, true);
+            metrics.upkeep.oldest_files(job, Duration::ZERO, Duration::ZERO);
+        }
+        metrics.forget("gone");
+        let text = String::from_utf8_lossy(&metrics.families.text()?).into_owned();
+        assert!(!text.contains("gone") && text.contains("stays"));
+        Ok(())
+    }
 }

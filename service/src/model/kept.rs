@@ -212,7 +212,9 @@ mod tests {
         assert!(!kept.wants_image(19, KEEPING) && kept.wants_image(20, KEEPING));
         kept.add(&image(20, 1500), KEEPING);
         assert!(!kept.wants_image(34, KEEPING) && kept.wants_image(35, KEEPING));
-        assert!(!kept.wants_image(1 << 40, Keeping { image_calls: 0, keep_calls: 0, keep_bytes: 0, keep_records: 1000 }));
+        assert!(
+            !kept.wants_image(1 << 40, Keeping { image_calls: 0, keep_calls: 0, keep_bytes: 0, keep_records: 1000 })
+        );
     }
 
     #[test]
@@ -252,7 +254,8 @@ mod tests {
 
     #[test]
     fn images_and_summaries_between_near_ones_go() {
-        let (mut kept, keeping) = (Kept::default(), Keeping { image_calls: 1, keep_calls: 8000, keep_bytes: 0, keep_records: 1000 });
+        let (mut kept, keeping) =
+            (Kept::default(), Keeping { image_calls: 1, keep_calls: 8000, keep_bytes: 0, keep_records: 1000 });
         for seq in 1..=20_000 {
             kept.add_summary(seq, keeping);
             kept.add(&image(seq, 1), keeping);

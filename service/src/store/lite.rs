@@ -4,7 +4,9 @@ use super::error::{DbError, Failure, Unusable};
 use super::files::{self, Opened};
 use super::lite_write::write;
 use super::moved::{self, MOVED};
-use super::rows::{is_event, steps_after, Committed, Group, Keyed, Lead, Store, Written, MOST_STARTS, OF_JOBS, OLD_GONE, VERSION};
+use super::rows::{
+    is_event, steps_after, Committed, Group, Keyed, Lead, Store, Written, MOST_STARTS, OF_JOBS, OLD_GONE, VERSION,
+};
 use crate::model::{lengths_text, Held, Shards};
 use rusqlite::config::DbConfig;
 use rusqlite::{ffi, params, Connection, ErrorCode, OptionalExtension};
@@ -170,7 +172,8 @@ impl Store for Lite {
     }
 
     fn forget_keys(&mut self, before: u64, most: u64) -> Result<u64, DbError> {
-        let sql = "delete from request where (job, key) in (select job, key from request where at < ? order by at limit ?)";
+        let sql =
+            "delete from request where (job, key) in (select job, key from request where at < ? order by at limit ?)";
         Ok(self.connection.execute(sql, [signed(before), signed(most)])? as u64)
     }
 

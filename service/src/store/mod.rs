@@ -33,8 +33,8 @@ pub use pg_read::PgReader;
 pub use pg_target::{Found, Target};
 pub use reader::Reader;
 pub use room::room_of;
-pub use rows::{Committed, GoneJob, Group, Keyed, Lead, SavedImage, Store};
 pub use rows::Disk;
+pub use rows::{Committed, GoneJob, Group, Keyed, Lead, SavedImage, Store};
 #[cfg(test)]
 pub use rows::{Room, EVENT};
 pub use tables::{are_alike, bytes_of, Cells, Table, TABLES};

@@ -22,7 +22,8 @@ const TAKE_ALL: &str = "with free as (select number from shard where owner is nu
         where (select count(*) from free) = (select count(*) from shard) returning name)
     update shard set owner = me.name, epoch = epoch + 1 from me returning shard.number, epoch";
 /// Passes over a member whose commit is under way: it holds the row's lock.
-const EXPEL: &str = "with silent as (select name from member where name = $1 and beat = $2::bigint for update skip locked)
+const EXPEL: &str =
+    "with silent as (select name from member where name = $1 and beat = $2::bigint for update skip locked)
     delete from member using silent where member.name = silent.name returning 1";
 const LEAVE: &str = "delete from member where name = $1";
 /// In the order of their numbers, so that two processes never wait for each other. One that was deleted gets none: the owner has to be a

@@ -110,8 +110,7 @@ pub struct SavedImage {
 }
 
 /// Jobs that were deleted before a moment, but for the last one of each shard. What is left of them is deleted.
-pub const OLD_GONE: &str =
-    "is_empty = 1 and at < $1 and job not in (select max(job) from gone_job group by job & 63)";
+pub const OLD_GONE: &str = "is_empty = 1 and at < $1 and job not in (select max(job) from gone_job group by job & 63)";
 
 /// How many identities the log keeps.
 pub const MOST_STARTS: i64 = 64;

@@ -119,7 +119,9 @@ impl Writer {
                 Err(Failure::Lost(why) | Failure::NameTaken(why)) => lose(&why),
             };
             if let (true, Some((job, upto, most))) = (is_written, old) {
-                self.store.forget_past(job, upto, most).unwrap_or_else(|why| log::warn(&format!("old records stay: {why}")));
+                self.store
+                    .forget_past(job, upto, most)
+                    .unwrap_or_else(|why| log::warn(&format!("old records stay: {why}")));
             }
             if let (true, Some(place), Some(seq)) = (is_written, job, whole) {
                 let job = self.jobs.at(place);

@@ -113,8 +113,8 @@ pub fn state(job: &mut Job, now: u64) -> JobState {
 
 #[cfg(test)]
 mod tests {
-    use super::*;
     use super::super::Served;
+    use super::*;
     use crate::metrics::Metrics;
     use crate::model::parse_config;
     use std::time::Duration;
