@@ -48,6 +48,13 @@ def row(it):
     return (it,)
 
 
+def falls_once(block):
+    falls_once.left -= 1
+    if falls_once.left == 0:
+        raise OSError
+    return block + 1
+
+
 def impure():
     impure.calls += 1
     return impure.calls
@@ -153,6 +160,20 @@ class Collections(Base):
             number, found = checkpoints.run(step, lambda: (0, {"x": da.zeros(4, chunks=2)}))
             self.assertEqual((number, list(found["x"].compute())), (8, [28.0] * 4))
         self.assertEqual(len(self.files()), 3)
+
+    def test_what_failed_is_computed_anew(self):
+        """What a step gives has another key after load(): Dask still knows that of before as failed, while somebody holds it."""
+        falls_once.left, held = 1, []
+
+        def step(number, x):
+            if number == 2:
+                return None
+            held.append(x.map_blocks(falls_once, meta=x._meta).persist())
+            return number + 1, {"x": held[-1]}
+
+        with self.opened() as checkpoints:
+            number, found = checkpoints.run(step, lambda: (0, {"x": da.zeros(2, chunks=2)}), failures=1)
+            self.assertEqual((number, list(found["x"].compute()), len(held)), (2, [2.0] * 2, 3))
 
     def test_what_is_cancelled_is_an_ordinary_exception(self):
         with self.opened() as checkpoints:

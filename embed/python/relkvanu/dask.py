@@ -6,10 +6,13 @@ or of save(), means to load() again. Dask's own way, to compute what was lost fr
 """
 import logging
 import time
+import uuid
 from typing import Any, Callable, Dict, List, NamedTuple, Optional, Sequence, Tuple, Union
 
 import cloudpickle
-import dask.base
+import dask.core
+from dask.base import get_collection_names, replace_name_in_key
+from dask.utils import key_split
 from distributed import Client, Future, wait
 
 from relkvanu.coordinator import Error
@@ -67,12 +70,15 @@ def _shape(collection: Any) -> Any:
 
 
 def _collection(shape: Any, futures: List[Future]) -> Any:
+    """A collection gets another name each time: what is computed from it has other keys than what was computed from a lost one, which
+    the scheduler may still know as failed."""
     if shape == "future":
         return futures[0]
     if shape == "list":
         return futures
     rebuild, words = shape.shell.__dask_postpersist__()
-    return rebuild(dict(zip(shape.keys, futures)), *words)
+    rename = {name: f"{key_split(name)}-{uuid.uuid4().hex}" for name in get_collection_names(shape.shell)}
+    return rebuild(dict(zip((replace_name_in_key(key, rename) for key in shape.keys), futures)), *words, rename=rename)
 
 
 class Checkpoints:
