@@ -109,7 +109,7 @@ fn made_line(alloc: Global, term: u64, text: &[u8]) -> Result<TermLine, LineFaul
     }
 }
 
-#[tactic(auto, unfolding(crate::specs::TermReading::in_row, crate::specs::TermReading::in_takes_memory))]
+#[tactic(auto, using(crate::proofs::FirstWords::after_term), unfolding(crate::specs::TermReading::in_row, crate::specs::TermReading::in_takes_memory))]
 fn in_row(alloc: Global, words: &mut Words<'_>) -> Result<TermLine, LineFault>
     ensures line { Reads result (in_row words.old) }
     ensures memory { result ≡ Err LineFault.Memory → in_takes_memory words.old ≡ true }
