@@ -23,7 +23,7 @@ use std::marker::Model;
 use std::snapshot::Snapshot;
 
 /// A coordinator, the state that it began with, and what it was asked since. Only clauses read the
-/// last two: they take no bytes and no instructions.
+/// last two: they take no bytes.
 pub struct Logged {
     machine: Machine,
     begin: Snapshot<Machine>,
