@@ -33,7 +33,11 @@ else:
         if name not in __all__:
             raise AttributeError(f"module 'relkvanu' has no attribute {name!r}")
         found = getattr(importlib.import_module("relkvanu.coordinator"), name, None)
-        return getattr(importlib.import_module("relkvanu.discarder"), name) if found is None else found
+        globals()[name] = getattr(importlib.import_module("relkvanu.discarder"), name) if found is None else found
+        return globals()[name]
+
+    def __dir__() -> "list[str]":
+        return sorted({*globals(), *__all__})
 
 __all__ = [
     "BadArgument", "BadLine", "Chosen", "Closed", "Coordinator", "Discarded", "Discarder", "Error", "Fenced", "FileCounts",

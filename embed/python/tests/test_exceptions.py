@@ -37,7 +37,7 @@ class Exceptions(unittest.TestCase):
                 self.assertEqual([getattr(again, it) for it in fields], [getattr(raised, it) for it in fields])
 
     def test_all_are_an_error(self):
-        exceptions = [it for it in vars(relkvanu).values() if isinstance(it, type) and issubclass(it, BaseException)]
+        exceptions = [it for it in (getattr(relkvanu, name) for name in dir(relkvanu)) if isinstance(it, type) and issubclass(it, BaseException)]
         self.assertEqual(set(exceptions), {type(it) for it, _, _ in ALL} | {Error})
         self.assertTrue(all(issubclass(it, Error) for it in exceptions))
         with Coordinator(Settings(interval=1000), [1], 0) as job:
