@@ -65,6 +65,8 @@ def work(server, service, seen):
     server.get("/nowhere")
     seen.look()
     job.calls([savepoint(), ack(1, "0.0", [1, 2], sizes=[100, 20])])
+    timed = service.job("timed")
+    timed.call(ack(until(lambda: next((it["id"] for it in timed.state()["live"] if not it["done"]), None)), "0.0", [1]))
     until(lambda: seen.look()['relkvanu_savepoints{job_name="orders"}'] == 1)
     server.get("/nowhere")
     with open(f"{server.folder}/fills", "wb") as it:
