@@ -347,6 +347,6 @@ def test_records_that_ended_are_bounded():
         until(lambda: count(history, "record")[0] <= keep + 15, told=lambda: count(history, "record"))
         kept = count(server.database, "past")[0]
         assert keep // 2 <= kept <= keep + 15, kept
-        newest = job.records(5) if hasattr(job, "records") else server.get("/v1/jobs/a/records?limit=5")[2]["records"]
+        newest = server.get("/v1/jobs/a/records?limit=5")[2]["records"]
         assert [record["id"] for record in newest] == list(range(records, records - 5, -1)), newest
         return f"{kept} of {records} records are kept in the database"

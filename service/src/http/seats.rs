@@ -10,8 +10,8 @@ use tokio::sync::Notify;
 const HEALTH: usize = 64;
 /// For how long a new connection keeps its place: by then a client has sent its request.
 pub const YOUNG: Duration = Duration::from_secs(1);
-/// For how long it keeps it while it agrees on TLS: if thousands connect at once, this process takes some seconds for all of them.
-pub const AGREEING: Duration = Duration::from_secs(10);
+/// The same with TLS: if thousands agree on it at once, they and this process take some seconds for all of them.
+pub const YOUNG_BY_TLS: Duration = Duration::from_secs(10);
 /// How often a connection that found no place looks whether one is old by now.
 const LOOK: Duration = Duration::from_millis(20);
 
@@ -171,17 +171,6 @@ impl Seat {
         self.places.freed(kind);
     }
 
-    /// The connection has agreed on TLS. From now on it keeps its place for as long as a new one without TLS.
-    pub fn agreed(&self) {
-        let mut state = self.state();
-        if let State::Idle(kind, ticket) = *state {
-            let mut pool = self.places.pool(kind);
-            if pool.idle.remove(&ticket).is_some() {
-                *state = State::Idle(kind, pool.add_idle(&self.goes, YOUNG));
-            }
-        }
-    }
-
     /// Ends once another connection has got the place.
     pub async fn lost(&self) {
         self.goes.notified().await;
@@ -264,17 +253,13 @@ mod tests {
     }
 
     #[test]
-    fn a_connection_is_old_some_time_after_it_agreed() {
+    fn a_connection_is_old_after_some_time() {
         let places = places();
-        let (one, _two) = (places.enter_now(AGREEING), places.enter_now(AGREEING));
-        let Some(one) = one else { panic!("there is a place") };
-        one.agreed();
+        let (one, two) = (places.enter_now(YOUNG), places.enter_now(YOUNG_BY_TLS));
+        let (Some(one), Some(two)) = (one, two) else { panic!("there are places") };
         assert!(places.enter_now(YOUNG).is_none() && !is_lost(&one));
         std::thread::sleep(YOUNG);
-        assert!(places.enter_now(YOUNG).is_some() && is_lost(&one));
-        // one that lost its place has none to keep
-        one.agreed();
-        assert!(places.enter_now(YOUNG).is_none());
+        assert!(places.enter_now(YOUNG).is_some() && is_lost(&one) && !is_lost(&two));
     }
 
     #[test]

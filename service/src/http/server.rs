@@ -1,5 +1,5 @@
 //! Accepts connections until the service stops, and then waits until each request that was begun has its answer.
-use super::seats::{Places, Seat, AGREEING, YOUNG};
+use super::seats::{Places, Seat, YOUNG, YOUNG_BY_TLS};
 use super::tls::Tls;
 use super::{connection, App};
 use crate::log;
@@ -31,7 +31,7 @@ pub async fn serve(app: Arc<App>, listener: TcpListener, stop: impl Future<Outpu
 /// A connection that finds no place waits for one, and those behind it wait in the system's queue.
 async fn accept(app: &Arc<App>, listener: &TcpListener, is_open: mpsc::Sender<()>) {
     let places = Places::of(&app.limits);
-    let keeps = if app.keys.tls().is_some() { AGREEING } else { YOUNG };
+    let keeps = if app.keys.tls().is_some() { YOUNG_BY_TLS } else { YOUNG };
     loop {
         match listener.accept().await {
             Ok((stream, _)) => {
@@ -54,7 +54,6 @@ async fn connected(app: Arc<App>, stream: TcpStream, seat: Arc<Seat>, _is_open: 
         None => connection::serve(Arc::clone(&app), stream, seat).await,
         Some(acceptor) => {
             if let Some(stream) = agreed(&app, &seat, acceptor.accept(stream)).await {
-                seat.agreed();
                 connection::serve(Arc::clone(&app), stream, seat).await;
             }
         }
