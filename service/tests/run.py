@@ -21,7 +21,8 @@ LONGEST = int(os.environ.get("RELKVANU_LONGEST", "3600"))
 # the longest first
 MODULES = [
     "test_spread",
-    "test_postgres", "test_long_reads", "test_partition", "test_promotion", "test_lease", "test_dask", "test_page", "test_page_acts", "test_page_state", "test_events", "test_stream", "test_failover", "test_history",
+    "test_postgres", "test_long_reads",
+    "test_partition", "test_promotion", "test_lease", "test_dask", "test_page", "test_page_acts", "test_page_state", "test_events", "test_stream", "test_failover", "test_history",
     "test_kills", "test_clocks", "test_put_off", "test_replay", "test_tables", "test_power", "test_wal", "test_disks", "test_images",
     "test_long_images",
     "test_start", "test_unit", "test_end_units", "test_stuck", "test_connections", "test_limits", "test_herd", "test_bytes", "test_stop", "test_load", "test_api",

@@ -7,7 +7,7 @@ import sqlite3
 import threading
 import time
 
-from harness import COMMAND, Server, configured, folder, served, until
+from harness import COMMAND, Server, caught_up, configured, folder, served, until
 from relkvanu_service import Service, ack, cancel, deleted, dispose, restore, savepoint, undeleted
 from test_api import JOB
 from test_bytes import filled
@@ -341,6 +341,7 @@ def test_records_that_ended_are_bounded():
             with sqlite3.connect(path, timeout=COMMAND) as base:
                 return base.execute(f"select count(*), coalesce(max(id), 0) from {table}{where}").fetchone()
 
+        caught_up(job)
         history = f"{server.folder}/history-{server.port}"
         until(lambda: count(server.database, "past")[1] > records - 20)
         # those of the last summary may not be saved yet
