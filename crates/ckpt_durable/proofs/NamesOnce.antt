@@ -4,9 +4,9 @@ use Rattle.std.proofs.lemmas.Bool.{both_ways}
 use Rattle.ckpt_terms.specs.declared.call.FencedAnswer.{FencedAnswer}
 use Rattle.ckpt_terms.specs.declared.call.FencedAnswer.TheVariants as answer
 use Rattle.ckpt_terms.specs.declared.call.FencedCall.{FencedCall}
-use Rattle.ckpt_terms.specs.declared.call.FencedCall.TheVariants.{Reserve, Forfeit, Make}
+use Rattle.ckpt_terms.specs.declared.call.FencedCall.TheVariants.{Reserve, Forfeit, Make, Advance}
 use Rattle.ckpt_terms.specs.Fencing.{Fenced, FencedStepped, fenced_step, made}
-use Rattle.ckpt_terms.proofs.Stepping.{fenced_step_by}
+use Rattle.ckpt_terms.proofs.Stepping.{advance_by, fenced_step_by}
 use Rattle.ckpt_durable.specs.Crashes.{Event, GivesNamesOnce, IsWithin, along, world}
 use Rattle.ckpt_durable.proofs.Lists.{within_later}
 use Rattle.ckpt_durable.proofs.Worlds.{durable}
@@ -15,6 +15,7 @@ made_names : (m : Fenced) (call : FencedCall) → m.next_name ≤ (made m call).
 made_names m (Reserve term count) = omega arith
 made_names m (Forfeit term names) = omega arith
 made_names m (Make term its) = omega arith
+made_names m (Advance now term first) = advance_by m now term first (λ (n : Fenced). m.next_name ≤ n.next_name) (λ _. omega arith) (λ _. omega arith)
 
 names_rise : (m : Fenced) (call : FencedCall) → m.next_name ≤ (fenced_step m call).0.next_name
 names_rise m call = fenced_step_by m call (λ (x : FencedStepped). m.next_name ≤ x.0.next_name) (λ _. omega arith) (λ _. made_names m call)

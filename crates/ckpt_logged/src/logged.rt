@@ -199,15 +199,19 @@ fn recall_machine(machine: &Machine)
     }
 }
 
-/// Does nothing. Its contract says that the shape of a restore is a valid shape.
+/// Does nothing. Its contract says that the shape of a restore is a valid shape, and that a
+/// configuration is within its limits.
 fn recall_call(call: &Call)
     ensures { IsCall call.now }
 {
-    if let Call::Restore {
-        shape: Some(shape),
-        ..
-    } = call
-    {
-        shape.recall();
+    match call {
+        Call::Restore {
+            shape: Some(shape),
+            ..
+        } => shape.recall(),
+        Call::Configure { config, .. } => {
+            let _ = config.interval();
+        }
+        _ => (),
     }
 }
