@@ -64,7 +64,7 @@ unfolding term_reading term_line_of term_keyword_of term_row advance_row only_nu
 advance_without_a_name = refl
 
 pub advances_in_a_term : term_reading (codes "in 3 advance 2500 9 5000") ≡ Err fault.Word
-unfolding term_reading term_line_of term_keyword_of term_row in_row number_place number_of line_of keyword_of
+unfolding term_reading term_line_of term_keyword_of term_row in_row made_line script_row number_place number_of line_of keyword_of
 advances_in_a_term = refl
 
 pub ack_in_term : term_reading (codes "in 3 ack 5 1 0.2 =3 +4") ≡ Ok (Call (call.Make 3 (made.Ack 5 1 (record { vertex = 0; index = 2 }) (4 ∷ []) (3 ∷ []))))
