@@ -161,9 +161,11 @@ impl Folder {
             }
         };
         lock(&marker, &path)?;
-        others::check_own(&folder, &path, &name, &given.names)?;
+        if !given.init {
+            others::check_own(&folder, &path, &name, &given.names)?;
+        }
         // on a full disk deletions matter most
-        let says_first = others::say(&folder, &name, &given.names).unwrap_or_else(|error| {
+        let says_first = others::say(&folder, &name, &given.names, given.init).unwrap_or_else(|error| {
             log::warn(&format!("{}/{name}: how the files are named can't be written: {error}", path.display()));
             false
         });

@@ -69,16 +69,17 @@ pub fn check_own(folder: &File, path: &Path, own: &str, names: &Names) -> Result
     match names_of(folder, own) {
         Some(Names { prefix, suffix }) if prefix != names.prefix || suffix != names.suffix => Err(Stop::Never(format!(
             "{}/{own}{NAMES} says that the files of this job are named {prefix}NUMBER{suffix}: is --prefix or --suffix wrong? If the \
-             files have other names now, delete {own}{NAMES}",
+             files have other names now, run it once with --init",
             path.display()
         ))),
         _ => Ok(()),
     }
 }
 
-/// Writes down how the files of the job are named, for discarders and sweepers of other jobs. Returns whether that was not known.
-pub fn say(folder: &File, own: &str, names: &Names) -> std::io::Result<bool> {
-    if names_of(folder, own).is_some() {
+/// Writes down how the files of the job are named, for discarders and sweepers of other jobs. What is known stays, unless it is to be said
+/// `anew`. Returns whether it was not known.
+pub fn say(folder: &File, own: &str, names: &Names, anew: bool) -> std::io::Result<bool> {
+    if names_of(folder, own).is_some() && !anew {
         return Ok(false);
     }
     let text = json!({"prefix": names.prefix, "suffix": names.suffix});
