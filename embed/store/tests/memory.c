@@ -347,47 +347,6 @@ static relkvanu_store *open_new(relkvanu_store_options *options) {
     return store;
 }
 
-static uint64_t calls_of(relkvanu_store *store) {
-    relkvanu_store_counts counts;
-    relkvanu_store_count(store, &counts);
-    return counts.calls;
-}
-
-/* Gives up more names than a line has room for, with the n-th request refused. Returns how many of the two calls were made. */
-static uint64_t forfeit(relkvanu_store *store, unsigned long nth) {
-    enum { NAMES = 5000 };
-    static uint64_t list[NAMES];
-    relkvanu_answer answer;
-    int status = relkvanu_store_reserve(store, term, NAMES, &answer);
-    CHECK(status == RELKVANU_STORE_OK && answer.code == RELKVANU_DONE, "status %d", status);
-    for (uint64_t i = 0; i < NAMES; i++) {
-        list[i] = answer.a + i;
-    }
-    uint64_t before = calls_of(store);
-    set_refused(COORDINATOR, nth, false);
-    status = relkvanu_store_forfeit(store, term, list, NAMES, &answer);
-    set_none();
-    uint64_t made = calls_of(store) - before;
-    CHECK(status == RELKVANU_STORE_OK && (answer.code == RELKVANU_DONE) == (made == 2),
-        "status %d, code %" PRIu32 " after %" PRIu64 " calls", status, answer.code, made);
-    return made;
-}
-
-/* Who is told that names were given up has given up all of them, also if memory ended before the last. */
-static void forfeits_in_parts(void) {
-    relkvanu_store_options options = job_options(RELKVANU_STORE_CREATE, 0);
-    options.flags = RELKVANU_STORE_CREATE;
-    relkvanu_store *store = open_new(&options);
-    unsigned halves = 0;
-    uint64_t made = 0;
-    for (unsigned long nth = 1; made != 2; nth++) {
-        made = forfeit(store, nth);
-        halves += made == 1;
-    }
-    CHECK(halves != 0, "memory ended between no two parts");
-    relkvanu_store_close(store);
-}
-
 static uint64_t wait_of(relkvanu_store *store) {
     uint64_t wait = 0;
     CHECK(relkvanu_store_next_tick(store, &wait) == RELKVANU_STORE_OK, "no tick");
@@ -421,7 +380,7 @@ static void ticks_pause(void) {
 }
 
 int main(int argc, char **argv) {
-    unsigned passed = 6;
+    unsigned passed = 5;
     CHECK(argc == 2, "memory FOLDER");
     snprintf(path, sizeof path, "%s/x.db", argv[1]);
     snprintf(storage, sizeof storage, "%s/storage", argv[1]);
@@ -445,7 +404,6 @@ int main(int argc, char **argv) {
     images_wait(COORDINATOR);
     images_wait(SQLITE);
     folder_waits(argv[1]);
-    forfeits_in_parts();
     ticks_pause();
     printf("%u passed, 0 failed\n", passed);
     return 0;
