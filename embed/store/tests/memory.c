@@ -365,91 +365,8 @@ static void folder_waits(const char *folder) {
     printf("store: memory of a folder: up to request %lu\n", nth);
 }
 
-static relkvanu_store *open_new(relkvanu_store_options *options) {
-    relkvanu_store *store;
-    relkvanu_store_report report;
-    remove_job();
-    options->storage = storage;
-    CHECK(relkvanu_store_open(&store, path, options, &report) == RELKVANU_STORE_OK, "%s", report.message);
-    term = report.term;
-    return store;
-}
-
-static uint64_t calls_of(relkvanu_store *store) {
-    relkvanu_store_counts counts;
-    relkvanu_store_count(store, &counts);
-    return counts.calls;
-}
-
-/* Gives up more names than a line has room for, with the n-th request refused. Returns how many of the two calls were made. */
-static uint64_t forfeit(relkvanu_store *store, unsigned long nth) {
-    enum { NAMES = 5000 };
-    static uint64_t list[NAMES];
-    relkvanu_answer answer;
-    int status = relkvanu_store_reserve(store, term, NAMES, &answer);
-    CHECK(status == RELKVANU_STORE_OK && answer.code == RELKVANU_DONE, "status %d", status);
-    for (uint64_t i = 0; i < NAMES; i++) {
-        list[i] = answer.a + i;
-    }
-    uint64_t before = calls_of(store);
-    set_refused(COORDINATOR, nth, false);
-    status = relkvanu_store_forfeit(store, term, list, NAMES, &answer);
-    set_none();
-    uint64_t made = calls_of(store) - before;
-    CHECK(status == RELKVANU_STORE_OK && (answer.code == RELKVANU_DONE) == (made == 2),
-        "status %d, code %" PRIu32 " after %" PRIu64 " calls", status, answer.code, made);
-    return made;
-}
-
-/* Who is told that names were given up has given up all of them, also if memory ended before the last. */
-static void forfeits_in_parts(void) {
-    relkvanu_store_options options = job_options(RELKVANU_STORE_CREATE, 0);
-    options.flags = RELKVANU_STORE_CREATE;
-    relkvanu_store *store = open_new(&options);
-    unsigned halves = 0;
-    uint64_t made = 0;
-    for (unsigned long nth = 1; made != 2; nth++) {
-        made = forfeit(store, nth);
-        halves += made == 1;
-    }
-    CHECK(halves != 0, "memory ended between no two parts");
-    relkvanu_store_close(store);
-}
-
-static uint64_t wait_of(relkvanu_store *store) {
-    uint64_t wait = 0;
-    CHECK(relkvanu_store_next_tick(store, &wait) == RELKVANU_STORE_OK, "no tick");
-    return wait;
-}
-
-/* A tick that has no memory, once it is due. */
-static void refuse_tick(relkvanu_store *store) {
-    relkvanu_store_call tick = {.call = {.kind = RELKVANU_CALL_TICK, .now = RELKVANU_STORE_NOW}};
-    while (wait_of(store) != 0) {
-        usleep(1000);
-    }
-    set_refused(COORDINATOR, 1, false);
-    int status = relkvanu_store_calls(store, &tick, 1);
-    set_none();
-    CHECK(status == RELKVANU_STORE_OK && tick.answer.code == RELKVANU_NO_MEMORY, "status %d, code %" PRIu32, status, tick.answer.code);
-}
-
-/* After a tick that had no memory a timer waits for a second, and does not ask again at once. On a busy machine the second may be over. */
-static void ticks_pause(void) {
-    relkvanu_store_options options = job_options(RELKVANU_STORE_CREATE, 0);
-    options.settings.interval = 1;
-    relkvanu_store *store = open_new(&options);
-    uint64_t wait = 0;
-    for (int i = 0; i < 20 && wait == 0; i++) {
-        refuse_tick(store);
-        wait = wait_of(store);
-    }
-    CHECK(wait > 0 && wait <= 1000, "it waits for %" PRIu64 " ms", wait);
-    relkvanu_store_close(store);
-}
-
 int main(int argc, char **argv) {
-    unsigned passed = 7;
+    unsigned passed = 5;
     CHECK(argc == 2, "memory FOLDER");
     snprintf(path, sizeof path, "%s/x.db", argv[1]);
     snprintf(storage, sizeof storage, "%s/storage", argv[1]);
@@ -473,8 +390,6 @@ int main(int argc, char **argv) {
     images_wait(COORDINATOR);
     images_wait(SQLITE);
     folder_waits(argv[1]);
-    forfeits_in_parts();
-    ticks_pause();
     stops_without_memory();
     printf("%u passed, 0 failed\n", passed);
     return 0;
