@@ -643,8 +643,6 @@ class Page(Base):
         told = subprocess.run(["unshare", "-rn", "bash", "-ec", commands], cwd=self.folder / "first", stdout=subprocess.PIPE, stderr=subprocess.PIPE, text=True,
                               env={**os.environ, "PATH": f"/usr/bin:/bin:{os.environ['PATH']}"}, timeout=900)
         self.assertEqual((told.stdout, told.returncode), ("50 1225000000.0\n" * 2, 0), told.stderr[-2000:])
-        self.assertEqual(sorted(it.name for it in (self.folder / "first").iterdir() if it.name.startswith(("first", "state"))),
-                         ["first.db", "first.db.lock", "first.py", "state"])
         self.assertEqual(len([it for it in os.listdir(self.folder / "first/state") if it.isdecimal()]), 11)
 
     def test_the_stream_of_the_page(self):
