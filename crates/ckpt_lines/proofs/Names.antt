@@ -7,7 +7,7 @@ pub use Rattle.ckpt_lines.specs.CallTexts.{Fits, FitsCall, FitsShape, FitsSubtas
 unfoldable pub use Rattle.ckpt_lines.specs.CallTexts.{call_text, config_text, job_text, limits_text, settings_text, start_text, triggers_text}
 pub use Rattle.ckpt_lines.specs.Keywords.{keywords, spelling}
 unfoldable pub use Rattle.ckpt_lines.specs.Keywords.{keyword_of}
-pub use Rattle.ckpt_lines.specs.Reading.{Gives, IsExact, begins_with_a_list, begins_with_a_number, is_comment, is_memory, is_too_long, number_call, place, restoring, row_of, some_parallelisms, ◌>>=◌}
+pub use Rattle.ckpt_lines.specs.Reading.{Gives, IsExact, begins_with_a_list, is_comment, is_memory, is_too_long, number_call, place, restoring, row_of, some_parallelisms, ◌>>=◌}
 unfoldable pub use Rattle.ckpt_lines.specs.Reading.{ack_line, all_line, config_line, decline_line, each, ended, file_place, file_places, job_line, line_of, number_line, number_place, only_number}
 unfoldable pub use Rattle.ckpt_lines.specs.Reading.{reading, restore_line, retention_place, row, settings, start_line, subtask_place, target_place}
 pub use Rattle.ckpt_lines.specs.Usual.{BeginsWith, BeginsWithNone, is_long, is_recognized, is_usual}
