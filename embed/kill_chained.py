@@ -70,7 +70,7 @@ class Job:
             if told != total:
                 return f"source {source}: {number} with the sum {told}, which is {total}"
             next_numbers[source] += 1
-        return None if all(next_numbers) else "nothing was published"
+        return None
 
 
 def is_right(folder, text, kills, dice):
@@ -79,7 +79,7 @@ def is_right(folder, text, kills, dice):
         job.kill_one(dice)
     # on to a checkpoint behind all that was begun: nothing that was killed is left to publish
     status = job.start(max(job.published(), default=0) + 5).wait(SECONDS)
-    fault = f"status {status}" if status else job.fault()
+    fault = f"status {status}" if status else job.fault() if len(job.published()) > kills // 2 else "too little was published"
     print(f"{kills} kills: {fault or 'each number once'}")
     return fault is None
 

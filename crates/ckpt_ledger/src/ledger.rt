@@ -69,8 +69,8 @@ impl Ledger {
         Ledger::of(alloc, Vec::new(alloc))
     }
 
-    /// A ledger with these transactions, the oldest first: those of a snapshot, or all that a sink
-    /// finds prepared where it publishes.
+    /// A ledger with these transactions, the oldest first: those of the snapshot of the restored
+    /// record.
     pub fn of(alloc: Global, waiting: Vec<Transaction>) -> Ledger
         ensures { result ≡ record { waiting = waiting.items; open_one = [] } }
     {
