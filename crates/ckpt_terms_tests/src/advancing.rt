@@ -3,6 +3,7 @@ use crate::job::{Job, made, refused};
 use ckpt_ids::{CheckpointId, Choice, FileId, Refusal, Reply, TickEnd};
 use ckpt_terms::FencedAnswer::{Fenced, Reserved};
 use ckpt_terms::FencedRefusal::{BadName, OldTerm, Spent, TermsUsedUp};
+use std::alloc::Global;
 use std::process::Abort;
 use std::test::Fail;
 
@@ -18,8 +19,8 @@ fn restored(released: u64) -> Reply {
 }
 
 /// A job in term 1 with checkpoint 1, whose files are 5 and 6. The next name is 8, and 7 is held.
-fn older(rt: &HostRuntime) -> Result<Job, Fail> {
-    let mut job = Job::open(rt.alloc(), 1, 5)?;
+fn older(alloc: Global, rt: &impl Abort) -> Result<Job, Fail> {
+    let mut job = Job::open(alloc, 1, 5)?;
     job.reserve(rt, 1, 3, Reserved(FileId(5)))?;
     let end = TickEnd::Triggered(CheckpointId(1));
     job.tick(rt, 1000, made(1, Reply::Ticked { expired: 0, end }))?;
@@ -33,7 +34,7 @@ fn older(rt: &HostRuntime) -> Result<Job, Fail> {
 
 #[test]
 fn goes_on_above_what_was_told(rt: HostRuntime) -> Result<(), Fail> {
-    let mut job = older(&rt)?;
+    let mut job = older(rt.alloc(), &rt)?;
     job.has_garbage(&rt, 0b1_1111);
     job.advance(&rt, 9, 20, made(10, restored(0)))?;
     // 0 to 19, without 5 and 6
@@ -68,7 +69,7 @@ fn leaves_nothing_pending(rt: HostRuntime) -> Result<(), Fail> {
 /// A smaller term and a smaller name lower nothing.
 #[test]
 fn lowers_nothing(rt: HostRuntime) -> Result<(), Fail> {
-    let mut job = older(&rt)?;
+    let mut job = older(rt.alloc(), &rt)?;
     job.advance(&rt, 0, 1, made(2, restored(0)))?;
     job.reserve(&rt, 2, 1, Reserved(FileId(8)))?;
     job.advance(&rt, 2, 9, made(3, restored(0)))?;
@@ -78,7 +79,7 @@ fn lowers_nothing(rt: HostRuntime) -> Result<(), Fail> {
 
 #[test]
 fn is_refused_and_changes_nothing(rt: HostRuntime) -> Result<(), Fail> {
-    let mut job = older(&rt)?;
+    let mut job = older(rt.alloc(), &rt)?;
     job.advance(&rt, END, 0, Fenced(BadName))?;
     job.advance(&rt, 9, END + 1, Fenced(BadName))?;
     job.advance(&rt, END, 20, Fenced(TermsUsedUp))?;
@@ -95,7 +96,7 @@ fn is_refused_and_changes_nothing(rt: HostRuntime) -> Result<(), Fail> {
 
 #[test]
 fn reaches_the_last_term(rt: HostRuntime) -> Result<(), Fail> {
-    let mut job = older(&rt)?;
+    let mut job = older(rt.alloc(), &rt)?;
     job.advance(&rt, END - 1, END, made(END, restored(0)))?;
     job.advance(&rt, 1, 1, Fenced(TermsUsedUp))?;
     Ok(())
