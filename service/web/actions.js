@@ -10,6 +10,16 @@ function calls(job, call) {
   return { method: "POST", path: `/jobs/${job.name}/calls`, body: { calls: [call] } };
 }
 
+export function checkpoint(job) {
+  return {
+    title: `Trigger a checkpoint of ${job.name} now`,
+    question: "The job triggers a checkpoint now, whatever its interval and its pause. The interval counts from it.",
+    button: "Trigger it",
+    request: () => ({ method: "POST", path: `/jobs/${job.name}/checkpoints`, body: {} }),
+    outcome: (told) => [`Checkpoint ${told.id} is triggered, as call ${told.seq}.`, true],
+  };
+}
+
 export function savepoint(job) {
   return {
     title: `Trigger a savepoint of ${job.name}`,

@@ -62,7 +62,7 @@ function showJob(told, rows) {
   at("job-name").textContent = job.name;
   at("hint").textContent = views.hint(job);
   at("hint").hidden = at("hint").textContent === "";
-  at("do-savepoint").disabled = job.mode !== "running";
+  for (const id of ["do-checkpoint", "do-savepoint"]) at(id).disabled = job.mode !== "running";
   at("do-restore").disabled = at("do-cancel").disabled = job.mode === "cancelled";
   at("do-delete").disabled = job.mode === "running";
   at("do-term").hidden = !job.names;
@@ -194,6 +194,7 @@ at("file-form").addEventListener("submit", (event) => {
   event.preventDefault();
   lookUp(at("file-number").value);
 });
+at("do-checkpoint").addEventListener("click", () => act(actions.checkpoint(shown.told.job)));
 at("do-savepoint").addEventListener("click", () => act(actions.savepoint(shown.told.job)));
 at("do-restore").addEventListener("click", () => act(actions.restore(shown.told.job, shown.told.savepoints)));
 at("do-cancel").addEventListener("click", () => act(actions.cancel(shown.told.job)));

@@ -310,6 +310,8 @@ def _body(told):
             raise (OtherLog if said.get("reason") == "other_log" else Gone)(said)
         if "fenced" in said:
             raise _fenced(said["fenced"])
+        if "refused" in said:
+            raise Refused(said["refused"])
         raise Failed(told.status_code, said.get("error", told.text), said.get("field"))
     return body
 
@@ -416,6 +418,18 @@ class Job:
         end of all tasks and `begin`. Raises `Fenced` if the job has names, or a file of it has this number or a greater one."""
         key = uuid.uuid4().hex if key is None else key
         return self._service.request("POST", f"{self._path}/fence", {"first_name": str(first_name)}, key)
+
+    def checkpoint(self, key=None):
+        """Triggers a checkpoint now, whatever the interval and the pause; its number is the answer's `id`. Raises `Refused` if as many are
+        pending as may be, or the job does not run."""
+        key = uuid.uuid4().hex if key is None else key
+        return self._service.request("POST", f"{self._path}/checkpoints", {}, key)
+
+    def set(self, **settings):
+        """Changes settings of the job while it runs: those that are given, as `interval=30_000`. The answer has all that the job has then,
+        as `settings`. Raises `Failed` if one is not within its limits, and `Refused` if more checkpoints are pending than may be from then
+        on, or the job is cancelled."""
+        return self._service.request("PATCH", f"{self._path}/settings", settings)
 
     def garbage(self, files):
         """Those of these files that may be deleted, and those whose names were never given out, which nobody deletes: a file of another

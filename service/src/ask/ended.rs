@@ -25,10 +25,10 @@ pub enum Ended {
     NoJob(String),
     #[error("the service has no memory for it now")]
     NoMemory,
-    #[error("savepoint {0} ended before it was complete")]
-    Incomplete(u64),
-    #[error("savepoint {0} is not complete yet")]
-    Late(u64),
+    #[error("{0} {1} ended before it was complete")]
+    Incomplete(&'static str, u64),
+    #[error("{0} {1} is not complete yet")]
+    Late(&'static str, u64),
     #[error("{}: {why}", .path.display())]
     Folder { path: PathBuf, why: io::Error },
     #[error("no such record has all its files in the folder")]
@@ -49,10 +49,12 @@ impl Ended {
     /// 1 if the answer is no, 75 if another try may be answered otherwise, and 78 if somebody has to look first.
     pub fn status(&self) -> u8 {
         match self {
-            Ended::Refused(_) | Ended::Incomplete(_) | Ended::NoJob(_) => NO,
+            Ended::Refused(_) | Ended::Incomplete(..) | Ended::NoJob(_) => NO,
             Ended::Asked(Asked::Status { status: NOT_FOUND | CONFLICT, .. }) => NO,
-            Ended::NoneWhole | Ended::AtWork(_) | Ended::Asked(Asked::Fenced { .. } | Asked::OldTerm) => NO,
-            Ended::NoMemory | Ended::Late(_) | Ended::Asked(Asked::Status { status: NO_MEMORY, .. }) => START_AGAIN,
+            Ended::NoneWhole
+            | Ended::AtWork(_)
+            | Ended::Asked(Asked::Fenced { .. } | Asked::OldTerm | Asked::Refused(_)) => NO,
+            Ended::NoMemory | Ended::Late(..) | Ended::Asked(Asked::Status { status: NO_MEMORY, .. }) => START_AGAIN,
             Ended::Behind => START_AGAIN,
             Ended::Asked(error) if error.may_pass() => START_AGAIN,
             Ended::NoService(_) | Ended::Asked(_) | Ended::Output(_) => NOT_TO_START,

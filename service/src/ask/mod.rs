@@ -51,6 +51,8 @@ async fn asked(given: &Ask) -> Result<(), Ended> {
         Ask::Savepoints(given) => folder::savepoints(&service.job(&given.job), given).await,
         Ask::Orphans(given) => folder::orphans(&service.job(&given.job), given).await,
         Ask::Savepoint(given) => savepoint(&service.job(&given.job), given).await,
+        Ask::Checkpoint(given) => checkpoint(&service.job(&given.job), given).await,
+        Ask::Set(given) => set(&service.job(&given.job), given).await,
         Ask::Dispose(given) => {
             call(&service.job(&given.job), at.json, Call::Dispose { id: given.id }).await.map(|_| ())
         }
@@ -169,12 +171,29 @@ async fn savepoint(job: &Job, given: &words::Savepoint) -> Result<(), Ended> {
         return Ok(());
     }
     let (id, seq) = (reply["id"].as_u64().unwrap_or(0), reply["seq"].as_u64().unwrap_or(0));
-    complete(job, id, seq, began + Duration::from_secs(given.wait)).await?;
+    complete(job, "savepoint", id, seq, began + Duration::from_secs(given.wait)).await?;
     said(given.at.json, &json!({"completed": id}), |_| format!("savepoint {id} is complete\n"))
 }
 
+async fn checkpoint(job: &Job, given: &words::Checkpoint) -> Result<(), Ended> {
+    let began = Instant::now();
+    let reply = job.checkpoint().await?;
+    let (id, seq) = (reply["id"].as_u64().unwrap_or(0), reply["seq"].as_u64().unwrap_or(0));
+    said(given.at.json, &reply, |_| format!("checkpoint {id} is triggered\n"))?;
+    if given.wait == 0 {
+        return Ok(());
+    }
+    complete(job, "checkpoint", id, seq, began + Duration::from_secs(given.wait)).await?;
+    said(given.at.json, &json!({"completed": id}), |_| format!("checkpoint {id} is complete\n"))
+}
+
+async fn set(job: &Job, given: &words::Set) -> Result<(), Ended> {
+    let settings = Value::Object(given.settings.iter().cloned().collect());
+    said(given.at.json, &job.set(&settings).await?, tables::set)
+}
+
 /// Waits until a record is complete, by the events after its trigger.
-async fn complete(job: &Job, id: u64, seq: u64, until: Instant) -> Result<(), Ended> {
+async fn complete(job: &Job, kind: &'static str, id: u64, seq: u64, until: Instant) -> Result<(), Ended> {
     let mut after = seq;
     loop {
         let left = until.saturating_duration_since(Instant::now());
@@ -183,10 +202,10 @@ async fn complete(job: &Job, id: u64, seq: u64, until: Instant) -> Result<(), En
             return Ok(());
         }
         if events.iter().any(|event| ends(event, id)) {
-            return Err(Ended::Incomplete(id));
+            return Err(Ended::Incomplete(kind, id));
         }
         if left.is_zero() {
-            return Err(Ended::Late(id));
+            return Err(Ended::Late(kind, id));
         }
         if events.is_empty() && left < Duration::from_secs(1) {
             tokio::time::sleep(left).await;

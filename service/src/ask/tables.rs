@@ -36,15 +36,12 @@ pub fn jobs(jobs: &Value) -> String {
 /// The state of a job, and its live records.
 pub fn job(job: &Value) -> String {
     let files = &job["files"];
-    let settings = job["settings"].as_object().map(|settings| {
-        settings.iter().map(|(name, value)| format!("{name} {}", cell(value))).collect::<Vec<_>>().join(", ")
-    });
     let choice = &job["choice"];
     let mut rows = vec![
         format!("job\t{}", cell(&job["name"])),
         format!("mode\t{}", cell(&job["mode"])),
         format!("shape\t{}", list(&job["shape"])),
-        format!("settings\t{}", settings.unwrap_or_default()),
+        format!("settings\t{}", settings(&job["settings"])),
         format!("opened\t{}", at(&job["opened"])),
         format!("next checkpoint\t{}", at(&job["due"])),
         format!("last completed\t{}", at(&job["last_completed"])),
@@ -187,6 +184,21 @@ pub fn term(told: &Value) -> String {
 pub fn fenced(told: &Value) -> String {
     let (first, term) = (cell(&told["first_name"]), cell(&told["term"]));
     format!("the job gives out names, from {first} on; the term is {term}, until the restore with which its tasks start again\n")
+}
+
+/// The settings that a job has now.
+pub fn set(told: &Value) -> String {
+    let mut text = format!("the job has these settings now: {}", settings(&told["settings"]));
+    if told["dropped"].as_u64() > Some(0) {
+        let (dropped, released) = (cell(&told["dropped"]), cell(&told["released"]));
+        let _ = write!(text, "; dropped checkpoints: {dropped}; files that wait for deletion now: {released} more");
+    }
+    text + "\n"
+}
+
+fn settings(settings: &Value) -> String {
+    let settings = settings.as_object().into_iter().flatten();
+    settings.map(|(name, value)| format!("{name} {}", cell(value))).collect::<Vec<_>>().join(", ")
 }
 
 /// What a call did that a user made.

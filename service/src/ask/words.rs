@@ -2,6 +2,7 @@
 use crate::cli::job_name;
 use crate::discard::others::MARK;
 use clap::{Args, Subcommand};
+use serde_json::Value;
 use std::path::PathBuf;
 
 /// Commands that ask a service.
@@ -21,6 +22,10 @@ pub enum Ask {
     Orphans(Orphans),
     /// Trigger a savepoint
     Savepoint(Savepoint),
+    /// Trigger a checkpoint now, whatever the interval
+    Checkpoint(Checkpoint),
+    /// Change settings of a job while it runs
+    Set(Set),
     /// Dispose of a savepoint
     Dispose(Dispose),
     /// Begin a job again from its latest record, or from a savepoint
@@ -153,6 +158,38 @@ pub struct Savepoint {
 }
 
 #[derive(Args)]
+pub struct Checkpoint {
+    /// The job
+    #[arg(value_parser = job_name)]
+    pub job: String,
+    /// Wait so long until it is complete
+    #[arg(long, value_name = "SECONDS", default_value_t = 0)]
+    pub wait: u64,
+    #[command(flatten)]
+    pub at: At,
+}
+
+#[derive(Args)]
+pub struct Set {
+    /// The job
+    #[arg(value_parser = job_name)]
+    pub job: String,
+    /// A setting and its new value, as interval=30000
+    #[arg(value_name = "SETTING=VALUE", required = true, value_parser = setting)]
+    pub settings: Vec<(String, Value)>,
+    #[command(flatten)]
+    pub at: At,
+}
+
+/// A setting and its value. Which there are, and their limits, says the service.
+fn setting(text: &str) -> Result<(String, Value), String> {
+    let (name, value) = text.split_once('=').ok_or("is not as interval=30000")?;
+    let value = serde_json::from_str(value)
+        .map_err(|_| format!("{name}: {value:?} is no number, and neither true nor false"))?;
+    Ok((name.to_string(), value))
+}
+
+#[derive(Args)]
 pub struct Dispose {
     /// The job
     #[arg(value_parser = job_name)]
@@ -230,6 +267,8 @@ impl Ask {
             Ask::Savepoints(given) => &given.at,
             Ask::Orphans(given) => &given.at,
             Ask::Savepoint(given) => &given.at,
+            Ask::Checkpoint(given) => &given.at,
+            Ask::Set(given) => &given.at,
             Ask::Dispose(given) => &given.at,
             Ask::Restore(given) => &given.at,
             Ask::Term(given) => &given.at,
@@ -286,6 +325,16 @@ impl Names {
 #[cfg(test)]
 mod tests {
     use super::*;
+
+    #[test]
+    fn a_setting_has_a_name_and_a_value() {
+        let told = |text: &str| setting(text).map(|(name, value)| format!("{name} {value}"));
+        assert_eq!(told("interval=30000").as_deref(), Ok("interval 30000"));
+        assert_eq!(told("keep_on_cancel=true").as_deref(), Ok("keep_on_cancel true"));
+        for text in ["interval", "interval=", "interval=30s"] {
+            assert!(told(text).is_err(), "{text}");
+        }
+    }
 
     #[test]
     fn names_of_two_jobs_may_be_the_same() {

@@ -61,7 +61,7 @@ impl Follower {
         }
         let start = || Progress { upto: 0, at: 0, shape: opening.shape.clone() };
         let Progress { upto, at, shape } = progress.unwrap_or_else(start);
-        let mut records = Records::new(shape, opening.settings.timeout);
+        let mut records = Records::new(shape);
         records.pending = pending(tables, reader, job, upto)?;
         let outbox = Outbox::of(tables.runs(job)?);
         let whole = reader.summaries(job)?.into_iter().rfind(|one| one.bytes > 0);
@@ -95,7 +95,7 @@ impl Follower {
             tables.set_progress(self.job, seq, summary.at, &summary.shape).map_err(Error::from)
         })?;
         (self.upto, self.at) = (seq, summary.at);
-        self.records = Records::new(summary.shape, self.records.timeout);
+        self.records = Records::new(summary.shape);
         self.records.pending = pending(tables, reader, self.job, seq)?;
         self.outbox = Outbox::of(tables.runs(self.job)?);
         Ok(true)
@@ -111,7 +111,7 @@ impl Follower {
 
     fn take_over(&mut self, tables: &Tables, image: &Image, contents: &Contents) -> Result<(), Error> {
         tables.forget_unread(self.job, image.at, &contents.records)?;
-        self.records = Records::new(image.shape.clone(), self.records.timeout);
+        self.records = Records::new(image.shape.clone());
         for record in &contents.records {
             let pending = tables.saved_record(self.job, record)?;
             self.records.pending.extend((!record.is_done).then_some((record.id, pending)));

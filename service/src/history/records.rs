@@ -69,15 +69,14 @@ pub struct Ended {
 /// The records of one job.
 pub struct Records {
     pub shape: Vec<u64>,
-    pub timeout: u64,
     pub pending: BTreeMap<u64, Pending>,
     /// Pending records of which more is known than the tables have.
     changed: BTreeSet<u64>,
 }
 
 impl Records {
-    pub fn new(shape: Vec<u64>, timeout: u64) -> Records {
-        Records { shape, timeout, pending: BTreeMap::new(), changed: BTreeSet::new() }
+    pub fn new(shape: Vec<u64>) -> Records {
+        Records { shape, pending: BTreeMap::new(), changed: BTreeSet::new() }
     }
 
     /// The pending records, and the subtasks that have acknowledged each.
@@ -96,8 +95,8 @@ impl Records {
             }
             ended.extend(self.ack(tables, *id, *subtask, answer, entry)?);
         }
-        for id in entry.ended() {
-            ended.extend(self.end(tables, id, call, entry)?);
+        for (place, id) in entry.ended().into_iter().enumerate() {
+            ended.extend(self.end(tables, id, (place as u64) < expired(reply), call, entry)?);
         }
         if let Call::Restore { shape: Some(shape), .. } = call {
             self.shape.clone_from(shape);
@@ -137,10 +136,17 @@ impl Records {
     }
 
     /// A record is no longer live, because of a call for it or for another record.
-    fn end(&mut self, tables: &Tables, id: u64, call: &Call, entry: &Entry) -> rusqlite::Result<Option<Ended>> {
-        let how = match self.pending.get(&id) {
-            Some(pending) => how_pending_ended(call, entry, id, pending.started.saturating_add(self.timeout)),
-            None => how_done_ended(call),
+    fn end(
+        &mut self,
+        tables: &Tables,
+        id: u64,
+        is_expired: bool,
+        call: &Call,
+        entry: &Entry,
+    ) -> rusqlite::Result<Option<Ended>> {
+        let how = match self.pending.contains_key(&id) {
+            true => how_pending_ended(call, entry, id, is_expired),
+            false => how_done_ended(call),
         };
         let why = match call {
             Call::Decline { subtask, .. } if how == DECLINED => format!("{DECLINED} by {subtask}"),
@@ -183,9 +189,25 @@ pub fn is_late(answer: &Answer) -> bool {
     matches!(answer, Answer::AckLate { .. })
 }
 
-fn how_pending_ended(call: &Call, entry: &Entry, id: u64, expires: u64) -> &'static str {
+/// How many records a tick found too old. They are the first of those that it ended: what is triggered later expires later, whatever
+/// timeout the job has by then.
+fn expired(reply: &Reply) -> u64 {
+    use Answer as A;
+    match reply {
+        Reply::Answered(
+            A::Triggered { expired, .. }
+            | A::HeldInterval { expired }
+            | A::HeldAtOnce { expired }
+            | A::HeldPause { expired }
+            | A::Failed { expired },
+        ) => *expired,
+        _ => 0,
+    }
+}
+
+fn how_pending_ended(call: &Call, entry: &Entry, id: u64, is_expired: bool) -> &'static str {
     match call {
-        Call::Tick if expires <= entry.at => "expired",
+        Call::Tick if is_expired => "expired",
         Call::Decline { .. } if entry.record == Some(id) => DECLINED,
         Call::Tick | Call::Decline { .. } => "failed over",
         Call::Restore { .. } => "restored",

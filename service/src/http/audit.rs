@@ -3,7 +3,7 @@
 use super::reply::Reply;
 use super::route::Route;
 use crate::log;
-use crate::model::Call;
+use crate::model::{Call, Change, FIELDS};
 use hyper::Method;
 use serde_json::{json, Value};
 use std::sync::{Mutex, PoisonError};
@@ -33,6 +33,14 @@ impl Did {
         };
         let names: Vec<&str> = calls.iter().filter(|call| !is_tasks(call)).map(Call::name).collect();
         (!names.is_empty()).then(|| Did(names.join(" ")))
+    }
+
+    /// Other settings, each with its new value.
+    pub fn settings(change: &Change) -> Did {
+        let numbers = FIELDS.iter().zip(change.numbers).filter_map(|(field, number)| Some((field.name, number?)));
+        let mut words: Vec<String> = numbers.map(|(name, number)| format!("{name}={number}")).collect();
+        words.extend(change.keep_on_cancel.map(|keep| format!("keep_on_cancel={keep}")));
+        Did(format!("configure {}", words.join(" ")))
     }
 }
 
@@ -115,5 +123,7 @@ mod tests {
         let did = |calls: &[Call]| Did::of(calls).map(|Did(text)| text);
         assert_eq!(did(&[Call::Tick, Call::Take { most: 1 }, Call::Deleted { file: 1 }]), None);
         assert_eq!(did(&[Call::Savepoint, Call::Tick, Call::Cancel]).as_deref(), Some("savepoint cancel"));
+        let change = Change { keep_on_cancel: Some(true), numbers: [Some(30_000), None, None, None, None, Some(3)] };
+        assert_eq!(Did::settings(&change).0, "configure interval=30000 retained=3 keep_on_cancel=true");
     }
 }

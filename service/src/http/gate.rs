@@ -4,7 +4,7 @@ use super::members::PATH;
 use super::reply::{as_problem, error, text, wants_problems, with_header, Reply};
 use super::route::{NoRoute, Route};
 use super::seats::{Kind, Seat};
-use super::{names, others, page, reads, room, stream, trace, view, writes, App};
+use super::{names, operate, others, page, reads, room, stream, trace, view, writes, App};
 use crate::auth::Caller;
 use crate::log;
 use hyper::header::{HeaderMap, HeaderName, ALLOW, CONNECTION, CONTENT_TYPE, HOST, RETRY_AFTER, WWW_AUTHENTICATE};
@@ -113,6 +113,8 @@ async fn dispatch(app: &Arc<App>, route: Route, caller: &Caller, request: Reques
         Route::Calls(job) => writes::calls(app, caller, job, request).await,
         Route::Fence(job) => names::fence(app, caller, job, request).await,
         Route::Garbage(job) => names::garbage(app, caller, job, request).await,
+        Route::Checkpoint(job) => operate::checkpoint(app, caller, job, request).await,
+        Route::Settings(job) => operate::settings(app, caller, job, request).await,
         Route::Stream(job) => stream::answer(app, job, caller, &request).await,
         read => reads::answer(app, read, caller, request.uri().query().unwrap_or("")).await,
     }

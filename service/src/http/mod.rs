@@ -8,6 +8,7 @@ mod keys;
 mod lists;
 mod members;
 mod names;
+mod operate;
 mod others;
 mod page;
 mod places;

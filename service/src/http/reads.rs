@@ -47,6 +47,8 @@ pub async fn answer(app: &App, route: Route, caller: &Caller, query: &str) -> Re
         | Route::Calls(_)
         | Route::Fence(_)
         | Route::Garbage(_)
+        | Route::Checkpoint(_)
+        | Route::Settings(_)
         | Route::Jobs
         | Route::View(_)
         | Route::Stream(_) => Err(error(404, "is no read").into()),

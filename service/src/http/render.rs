@@ -34,7 +34,7 @@ pub fn job(state: &JobState, log: &str) -> Value {
     let (files, bytes) = (&state.files, &state.bytes);
     json!({
         "name": state.opening.name,
-        "settings": settings_json(&state.opening.settings),
+        "settings": settings_json(&state.settings),
         "shape": state.shape,
         "opened": state.opening.started,
         "mode": mode(state.mode),

@@ -23,6 +23,10 @@ pub enum Route {
     Term(String),
     /// Which of some files may be deleted.
     Garbage(String),
+    /// A checkpoint now.
+    Checkpoint(String),
+    /// Other settings of a job that is open.
+    Settings(String),
     Records(String),
     Record(String, u64),
     /// When each subtask acknowledged a record.
@@ -51,7 +55,7 @@ pub enum NoRoute {
 
 /// All routes of the API. The description must have each.
 #[cfg(test)]
-pub const API: [(&str, &str); 23] = [
+pub const API: [(&str, &str); 25] = [
     ("get", "/healthz"),
     ("get", "/readyz"),
     ("get", "/metrics"),
@@ -64,6 +68,8 @@ pub const API: [(&str, &str); 23] = [
     ("post", "/v1/jobs/{job}/fence"),
     ("get", "/v1/jobs/{job}/term"),
     ("post", "/v1/jobs/{job}/garbage"),
+    ("post", "/v1/jobs/{job}/checkpoints"),
+    ("patch", "/v1/jobs/{job}/settings"),
     ("get", "/v1/jobs/{job}/records"),
     ("get", "/v1/jobs/{job}/records/{id}"),
     ("get", "/v1/jobs/{job}/records/{id}/acks"),
@@ -109,10 +115,15 @@ impl Route {
             ["calls"] => Some(Route::Calls(name.clone())),
             ["fence"] => Some(Route::Fence(name.clone())),
             ["garbage"] => Some(Route::Garbage(name.clone())),
+            ["checkpoints"] => Some(Route::Checkpoint(name.clone())),
             _ => None,
         };
         if let Some(route) = posted {
             return if method == Method::POST { Ok(route) } else { Err(NoRoute::Method("POST")) };
+        }
+        if rest == ["settings"] {
+            let is_patch = method == Method::PATCH;
+            return if is_patch { Ok(Route::Settings(name)) } else { Err(NoRoute::Method("PATCH")) };
         }
         if rest.is_empty() && !is_get {
             let is_delete = method == Method::DELETE;
@@ -145,6 +156,7 @@ impl Route {
             Route::Asset(_) | Route::Health | Route::Ready => None,
             Route::NewJob | Route::Calls(_) | Route::DeleteJob(_) => Some(Access::Write),
             Route::Fence(_) | Route::Term(_) | Route::Garbage(_) => Some(Access::Write),
+            Route::Checkpoint(_) | Route::Settings(_) => Some(Access::Write),
             _ => Some(Access::Read),
         }
     }
@@ -156,6 +168,7 @@ impl Route {
             Route::Record(job, _) | Route::Acks(job, _) | Route::Files(job) | Route::File(job, _) => Some(job),
             Route::Log(job) | Route::Events(job) | Route::Stream(job) | Route::Samples(job) => Some(job),
             Route::Fence(job) | Route::Term(job) | Route::Garbage(job) => Some(job),
+            Route::Checkpoint(job) | Route::Settings(job) => Some(job),
             Route::View(job) => job.as_deref(),
             Route::Asset(_) | Route::Health | Route::Ready | Route::Metrics | Route::Jobs | Route::NewJob => None,
         }
@@ -164,6 +177,7 @@ impl Route {
     /// Whether it has a body of JSON. A page of another site can't send that type, nor a DELETE.
     pub fn has_body(&self) -> bool {
         matches!(self, Route::NewJob | Route::Calls(_) | Route::Fence(_) | Route::Garbage(_))
+            || matches!(self, Route::Checkpoint(_) | Route::Settings(_))
     }
 
     /// The kind of place that its connection takes.
@@ -196,6 +210,8 @@ impl Route {
             Route::Fence(_) => "fence",
             Route::Term(_) => "term",
             Route::Garbage(_) => "garbage",
+            Route::Checkpoint(_) => "checkpoint",
+            Route::Settings(_) => "settings",
             Route::Records(_) => "records",
             Route::Record(..) => "record",
             Route::Acks(..) => "acks",
@@ -273,9 +289,10 @@ mod tests {
         assert_eq!(Route::of(&Method::PUT, "/v1/jobs"), Err(NoRoute::Method("GET, POST")));
         assert_eq!(Route::of(&Method::PUT, "/v1/jobs/a"), Err(NoRoute::Method("GET, DELETE")));
         assert_eq!(Route::of(&Method::DELETE, "/v1/jobs/a/log"), Err(NoRoute::Method("GET")));
-        for path in ["/v1/jobs/a/calls", "/v1/jobs/a/fence", "/v1/jobs/a/garbage"] {
+        for path in ["/v1/jobs/a/calls", "/v1/jobs/a/fence", "/v1/jobs/a/garbage", "/v1/jobs/a/checkpoints"] {
             assert_eq!(Route::of(&Method::GET, path), Err(NoRoute::Method("POST")));
         }
         assert_eq!(Route::of(&Method::POST, "/v1/jobs/a/term"), Err(NoRoute::Method("GET")));
+        assert_eq!(Route::of(&Method::GET, "/v1/jobs/a/settings"), Err(NoRoute::Method("PATCH")));
     }
 }

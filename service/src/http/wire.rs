@@ -1,6 +1,6 @@
 //! Reads the bodies of requests. An error names the place of the bad value, such as `calls[3].fresh[0]`.
 use super::members::{each, invalid, items, read, shown, text, Checked, Members};
-use crate::model::{check_shape, settings_of, Call, Settings, Subtask, Target, FIELDS};
+use crate::model::{check_shape, settings_of, Call, Change, Settings, Subtask, Target, FIELDS};
 use serde_json::value::RawValue;
 
 /// The greatest number that every JSON reader keeps exactly.
@@ -154,6 +154,28 @@ pub fn garbage(bytes: &[u8]) -> Checked<Vec<u64>> {
     Ok(files)
 }
 
+/// Reads the body that changes settings of a job: those that it names, and at least one.
+pub fn change(bytes: &[u8]) -> Checked<Change> {
+    let mut members = Members::of_body(bytes)?;
+    let mut change = Change::default();
+    for (number, field) in change.numbers.iter_mut().zip(&FIELDS) {
+        if members.has(field.name) {
+            *number = Some(members.number(field.name, field.least, field.most)?);
+        }
+    }
+    change.keep_on_cancel = members.flag("keep_on_cancel")?;
+    members.finish()?;
+    if change.is_none() {
+        return Err(invalid("body", "names no setting"));
+    }
+    Ok(change)
+}
+
+/// Reads a body that says nothing.
+pub fn nothing(bytes: &[u8]) -> Checked<()> {
+    Members::of_body(bytes)?.finish()
+}
+
 fn settings(mut members: Members) -> Checked<Settings> {
     let mut numbers = [0; 6];
     for (number, field) in numbers.iter_mut().zip(&FIELDS) {
@@ -253,6 +275,26 @@ mod tests {
             Call::Restore { target: Target::Latest, shape: None },
         ];
         assert_eq!(calls(body.as_bytes(), 10), Ok(wanted));
+    }
+
+    #[test]
+    fn reads_a_change_of_settings() {
+        let read = |body: &str| change(body.as_bytes()).map_err(|invalid| invalid.field);
+        let mut wanted = Change { keep_on_cancel: Some(true), ..Change::default() };
+        wanted.numbers[0] = Some(30_000);
+        assert_eq!(read(r#"{"interval":30000,"keep_on_cancel":true}"#), Ok(wanted));
+        for (body, field) in [
+            ("{}", "body"),
+            ("[]", "body"),
+            (r#"{"interval":9}"#, "interval"),
+            (r#"{"interval":"30000"}"#, "interval"),
+            (r#"{"interval":null}"#, "interval"),
+            (r#"{"at_once":65}"#, "at_once"),
+            (r#"{"pause":0,"speed":1}"#, "speed"),
+            (r#"{"keep_on_cancel":1}"#, "keep_on_cancel"),
+        ] {
+            assert_eq!(read(body), Err(field.to_string()), "{body}");
+        }
     }
 
     #[test]

@@ -132,7 +132,7 @@ impl Gauges {
             _ => 0,
         };
         set(&self.mode, &[name], mode);
-        let settings = &job.opening.settings;
+        let settings = &job.settings;
         set_seconds(&self.interval, name, settings.interval.max(settings.pause));
         set_seconds(&self.timeout, name, settings.timeout);
         set_seconds(&self.completed, name, job.last_completed.unwrap_or(job.opening.started));

@@ -27,7 +27,7 @@ const ROWS: [f64; 8] = [1.0, 4.0, 16.0, 64.0, 256.0, 1024.0, 4096.0, 16384.0];
 const DURATIONS: [f64; 12] = [0.1, 0.25, 0.5, 1.0, 2.5, 5.0, 10.0, 30.0, 60.0, 120.0, 300.0, 600.0];
 
 /// The words of labels, by which the values of a job are found again. A deletion looks at these alone, and not at those of all jobs.
-const CALLS: [&str; 13] = [
+const CALLS: [&str; 15] = [
     "tick",
     "savepoint",
     "ack",
@@ -41,6 +41,8 @@ const CALLS: [&str; 13] = [
     "fence",
     "reserve",
     "forfeit",
+    "trigger",
+    "configure",
 ];
 const OUTCOMES: [&str; 5] = ["made", "fenced", "refused", "no_memory", "not_made"];
 const KINDS: [&str; 2] = Search::KINDS;
@@ -327,8 +329,8 @@ mod tests {
         let forms = api["components"]["schemas"]["Call"]["oneOf"].as_array().cloned().unwrap_or_default();
         let calls: BTreeSet<&str> =
             forms.iter().filter_map(|form| form["properties"]["call"]["enum"][0].as_str()).collect();
-        // the call that gives a job names has a path of its own
-        let known: BTreeSet<&str> = CALLS.into_iter().filter(|call| *call != "fence").collect();
+        // two calls have paths of their own
+        let known: BTreeSet<&str> = CALLS.into_iter().filter(|call| !["fence", "configure"].contains(call)).collect();
         assert_eq!(calls, known);
         Ok(())
     }

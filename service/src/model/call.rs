@@ -99,6 +99,10 @@ pub enum Call {
     Take {
         most: u64,
     },
+    /// From here on the job has these settings, as [`Settings::numbers`](relkvanu::Settings::numbers) gives them.
+    Configure {
+        numbers: [u64; 7],
+    },
     /// From here on the job gives out names, from this one on.
     Fence {
         first_name: u64,
@@ -132,6 +136,7 @@ impl Call {
             Call::Decline { .. } => "decline",
             Call::Restore { .. } => "restore",
             Call::Take { .. } => "take",
+            Call::Configure { .. } => "configure",
             Call::Fence { .. } => "fence",
             Call::Reserve { .. } => "reserve",
             Call::Forfeit { .. } => "forfeit",

@@ -2,7 +2,7 @@
 use super::call::Subtask;
 use super::parts::{parts, PART_BYTES};
 use super::settings::shape_words;
-use relkvanu::Kind;
+use relkvanu::{Kind, Settings};
 use serde::de::IgnoredAny;
 use serde::Deserialize;
 use sha2::{Digest, Sha256};
@@ -83,6 +83,13 @@ impl Image {
         format!("{:x}", hash.finalize())
     }
 
+    /// The settings that the job had then; `None` if it is no image.
+    pub fn settings(&self) -> Option<Settings> {
+        let Head { opening } = serde_json::from_str(&self.text).ok()?;
+        let Config { interval, pause, at_once, timeout, tolerable, retained, keep_on_cancel } = opening.config;
+        Some(Settings { interval, pause, at_once, timeout, tolerable, retained, keep_on_cancel })
+    }
+
     /// `None` if it is no image.
     pub fn contents(&self) -> Option<Contents> {
         let Saved { records, outbox } = serde_json::from_str(&self.text).ok()?;
@@ -96,6 +103,28 @@ impl Image {
 struct Saved {
     records: Vec<Record>,
     outbox: Waiting,
+}
+
+/// What an image says of the job's opening. Its settings are those of now.
+#[derive(Deserialize)]
+struct Head {
+    opening: Begun,
+}
+
+#[derive(Deserialize)]
+struct Begun {
+    config: Config,
+}
+
+#[derive(Deserialize)]
+struct Config {
+    interval: u64,
+    pause: u64,
+    at_once: u64,
+    timeout: u64,
+    tolerable: u64,
+    retained: u64,
+    keep_on_cancel: bool,
 }
 
 #[derive(Deserialize)]
@@ -147,6 +176,22 @@ mod tests {
     fn example() -> Image {
         let text = TEXT.to_string();
         Image { job: 1, seq: 9, at: 3010, shape: vec![2], last_completed: Some(2020), last_event: 8, text }
+    }
+
+    #[test]
+    fn tells_the_settings_of_its_job() {
+        let settings = Settings {
+            interval: 1000,
+            pause: 0,
+            at_once: 1,
+            timeout: 600_000,
+            tolerable: 0,
+            retained: 1,
+            keep_on_cancel: false,
+        };
+        assert_eq!(example().settings(), Some(settings));
+        let none = Image { text: "{}".to_string(), ..example() };
+        assert_eq!(none.settings(), None);
     }
 
     #[test]

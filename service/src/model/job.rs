@@ -12,7 +12,7 @@ use relkvanu::{Answer, Choice, Fault, Kind, Live as LiveRecord, Mode, Settings};
 use std::collections::HashSet;
 use std::ops::Range;
 
-/// What a job was opened with, which never changes.
+/// What a job was opened with, which never changes. A job may have other settings and another shape since.
 #[derive(Clone, Debug, PartialEq, Eq)]
 pub struct Opening {
     /// The job's number in the database.
@@ -61,6 +61,8 @@ pub struct Logged {
 
 pub struct Job {
     pub opening: Opening,
+    /// The settings that the job has now.
+    pub settings: Settings,
     /// The shape that the job has now.
     pub shape: Vec<u64>,
     /// How many calls were made.
@@ -92,9 +94,10 @@ impl Job {
         let (shape, at, kept) = (opening.shape.clone(), opening.started, Kept::default());
         let (live, sizes) = (Live::new(), Sizes::default());
         let (seq, last_event, ahead, is_deleted) = (0, 0, 0, false);
-        let bases = Bases::from(seq, Choice::Fresh);
+        let (bases, settings) = (Bases::from(seq, Choice::Fresh), opening.settings);
         Ok(Job {
             opening,
+            settings,
             shape,
             seq,
             at,
@@ -115,6 +118,7 @@ impl Job {
     pub fn resume(&mut self, image: &Image) -> Result<(), Fault> {
         self.engine = Lendable::of(Engine::of_image(&image.text)?);
         self.live = self.engine.live();
+        self.settings = image.settings().unwrap_or(self.settings);
         self.shape.clone_from(&image.shape);
         (self.seq, self.at) = (image.seq, image.at);
         (self.last_completed, self.last_event) = (image.last_completed, image.last_event);
@@ -224,6 +228,7 @@ impl Job {
     fn beside(&self, call: &Call) -> Beside {
         match call {
             Call::Reserve { count, .. } => Beside::Names(*count),
+            Call::Configure { .. } => Beside::Settings(self.settings),
             Call::Restore { .. } | Call::Cancel | Call::Fence { .. } => {
                 self.engine.term().map_or(Beside::Nothing, |now| Beside::Term(now.term))
             }
@@ -271,6 +276,9 @@ impl Job {
                 self.shape.clone_from(shape);
             }
         }
+        if let Call::Configure { numbers } = call {
+            self.settings = Settings::of_numbers(numbers).unwrap_or(self.settings);
+        }
         if reply.is_event() {
             self.last_event = self.seq;
         }
@@ -285,7 +293,7 @@ impl Job {
             return None;
         }
         let expiry = self.engine.oldest_expiry();
-        let has_room = self.pending(Kind::Checkpoint) < pending_limit(&self.opening.settings);
+        let has_room = self.pending(Kind::Checkpoint) < pending_limit(&self.settings);
         let due = has_room.then(|| self.engine.due());
         due.into_iter().chain(expiry).min().map(|moment| moment.saturating_sub(self.ahead))
     }

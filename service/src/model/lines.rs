@@ -39,6 +39,7 @@ impl Call {
                 C::Restore { now, savepoint: target.savepoint(), shape: shape.as_deref() }
             }
             Call::Take { most } => C::Take { most: *most },
+            Call::Configure { numbers } => C::Configure { now, settings: numbers },
             Call::Fence { first_name } => C::Fence { first_name: *first_name },
             Call::Reserve { term, count } => C::Reserve { term: *term, count: *count },
             Call::Forfeit { term, names } => C::Forfeit { term: *term, names },
@@ -97,11 +98,12 @@ fn changing(said: relkvanu::Call<'_>) -> Option<(u64, Call)> {
             (now, Call::Restore { target, shape: shape.map(<[u64]>::to_vec) })
         }
         C::Take { most } => (0, Call::Take { most }),
+        C::Configure { now, settings } => (now, Call::Configure { numbers: settings.try_into().ok()? }),
         C::Fence { first_name } => (0, Call::Fence { first_name }),
         C::Reserve { term, count } => (0, Call::Reserve { term, count }),
         C::Forfeit { term, names } => (0, Call::Forfeit { term, names: names.to_vec() }),
-        // The service takes no new settings and makes no advance, so no log of its jobs has them.
-        C::Advance { .. } | C::Show { .. } | C::Count { .. } | C::Configure { .. } => return None,
+        // The service makes no advance, so no log of its jobs has one.
+        C::Advance { .. } | C::Show { .. } | C::Count { .. } => return None,
     })
 }
 
@@ -145,6 +147,11 @@ mod tests {
             (Call::Cancel, "cancel 1234"),
             (Call::Dispose { id: 4 }, "dispose 4"),
             (Call::Take { most: 64 }, "take 64"),
+            (Call::Trigger, "trigger 1234"),
+            (
+                Call::Configure { numbers: [30_000, 0, 1, 600_000, 0, 1, 0] },
+                "configure 1234 30000 0 1 600000 0 1 delete",
+            ),
             (Call::Deleted { file: 9 }, "deleted 9"),
             (Call::Undeleted { file: 9 }, "undeleted 9"),
             (Call::Fence { first_name: 20 }, "fence 20"),
@@ -197,7 +204,7 @@ mod tests {
                 written.insert(call.name());
             }
         }
-        let in_logs_alone = ["fence", "reserve", "forfeit"];
+        let in_logs_alone = ["fence", "reserve", "forfeit", "trigger", "configure"];
         for (call, line) in lines() {
             assert!(written.contains(call.name()) || in_logs_alone.contains(&call.name()), "{line}");
         }

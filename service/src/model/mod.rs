@@ -31,7 +31,7 @@ pub use outcome::Beside;
 pub use outcome::{Outcome, Reply};
 pub use parts::parts;
 pub use relkvanu::{Answer, Choice, Fault, FileCounts, Garbage, Kind, Live as LiveRecord, Mode, RunningTerm, Settings};
-pub use settings::{check_shape, config_line, parse_config, settings_json, settings_of, shape_words, FIELDS};
+pub use settings::{check_shape, config_line, parse_config, settings_json, settings_of, shape_words, Change, FIELDS};
 pub use shards::{shard_of, Held, Shards, SHARDS};
 pub use sizes::{parse_sizes, sizes_text, AckBytes, Bytes, FileBytes};
 pub use starts::{length_in, lengths_text};

@@ -1,6 +1,7 @@
 //! The answer to a call: the script's text, which the log has, and the JSON of the API.
 use super::event::Event;
-use relkvanu::{Answer, Choice, Fault, LineFault, ParseError};
+use super::settings::settings_json;
+use relkvanu::{Answer, Choice, Fault, LineFault, ParseError, Settings};
 use serde_json::{json, Value};
 use std::fmt::Write;
 use std::str::FromStr;
@@ -35,6 +36,8 @@ pub enum Beside {
     Term(u64),
     /// How many names were reserved.
     Names(u64),
+    /// The settings that the job has now.
+    Settings(Settings),
 }
 
 impl Reply {
@@ -108,6 +111,9 @@ fn answer_json(answer: Answer) -> Value {
         Answer::Restored { from, released } => restored_json(from, released),
         Answer::Deleted(file) => json!({"deleted": file.to_string()}),
         Answer::Undeleted(file) => json!({"undeleted": file.to_string()}),
+        Answer::Configured { checkpoints, released } => {
+            json!({"configure": "configured", "dropped": checkpoints, "released": released})
+        }
         Answer::Counted { file, uses } => json!({"counted": file.to_string(), "uses": uses}),
         Answer::Named => json!({"fence": "named"}),
         Answer::Reserved(first) => json!({"reserve": "reserved", "first": first.to_string()}),
@@ -137,6 +143,7 @@ impl Outcome {
                     Beside::Nothing => {}
                     Beside::Term(term) => told["term"] = json!(term),
                     Beside::Names(count) => told["count"] = json!(count),
+                    Beside::Settings(settings) => told["settings"] = settings_json(settings),
                 }
                 told
             }

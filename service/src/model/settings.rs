@@ -34,6 +34,29 @@ fn numbers(it: &Settings) -> [u64; 6] {
     [it.interval, it.pause, it.at_once, it.timeout, it.tolerable, it.retained]
 }
 
+/// Other values of some settings.
+#[derive(Clone, Copy, Debug, Default, PartialEq, Eq)]
+pub struct Change {
+    /// In the order of [`FIELDS`].
+    pub numbers: [Option<u64>; 6],
+    pub keep_on_cancel: Option<bool>,
+}
+
+impl Change {
+    pub fn is_none(&self) -> bool {
+        self.keep_on_cancel.is_none() && self.numbers.iter().all(Option::is_none)
+    }
+
+    /// The settings that a job has after it.
+    pub fn of(&self, before: &Settings) -> Settings {
+        let mut after = numbers(before);
+        for (after, changed) in after.iter_mut().zip(self.numbers) {
+            *after = changed.unwrap_or(*after);
+        }
+        settings_of(after, self.keep_on_cancel.unwrap_or(before.keep_on_cancel))
+    }
+}
+
 /// The script's `config` line.
 pub fn config_line(settings: &Settings) -> String {
     let mut line = "config".to_string();
@@ -112,6 +135,17 @@ mod tests {
         assert_eq!(config_line(&settings), "config 1000 0 1 600000 0 1 keep");
         assert_eq!(parse_config(&config_line(&settings)), Some(settings));
         assert_eq!(parse_config("job 1 2"), None);
+    }
+
+    #[test]
+    fn a_change_keeps_what_it_does_not_name() {
+        let before = settings_of([1000, 0, 1, 600_000, 0, 1], true);
+        assert!(Change::default().is_none());
+        assert_eq!(Change::default().of(&before), before);
+        let mut change = Change { keep_on_cancel: Some(false), ..Change::default() };
+        change.numbers[0] = Some(30_000);
+        assert!(!change.is_none());
+        assert_eq!(change.of(&before), settings_of([30_000, 0, 1, 600_000, 0, 1], false));
     }
 
     #[test]

@@ -31,7 +31,7 @@ impl Lent {
 /// The job whose coordinator a message may need. The state of a job is there without it.
 fn needs(message: &Message) -> Option<&String> {
     match message {
-        Message::Calls { job, .. } | Message::Create { name: job, .. } => Some(job),
+        Message::Calls { job, .. } | Message::Configure { job, .. } | Message::Create { name: job, .. } => Some(job),
         Message::Delete(delete) => Some(&delete.job),
         Message::Read(read, _) => match read {
             Read::Record { job, .. } | Read::File { job, .. } | Read::Garbage { job, .. } => Some(job),

@@ -4,7 +4,7 @@ use super::imager::{Imaged, Returned};
 use super::moves::Adoption;
 use super::state::{JobState, RecordState};
 use crate::model::{
-    Call, Fault, FileCounts, Garbage, NoJob, Outcome, PastRecord, RunningTerm, Settings, Shards, SummaryPart,
+    Call, Change, Fault, FileCounts, Garbage, NoJob, Outcome, PastRecord, RunningTerm, Settings, Shards, SummaryPart,
 };
 use thiserror::Error;
 use tokio::sync::oneshot;
@@ -21,6 +21,12 @@ pub enum Message {
         job: String,
         calls: Vec<Call>,
         key: Option<Key>,
+        reply: oneshot::Sender<CallsDone>,
+    },
+    /// Other settings, over those that the job has when the call is made.
+    Configure {
+        job: String,
+        change: Change,
         reply: oneshot::Sender<CallsDone>,
     },
     Create {

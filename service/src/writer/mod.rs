@@ -33,7 +33,7 @@ pub use state::{JobState, RecordState};
 
 use crate::log;
 use crate::metrics::Metrics;
-use crate::model::{millis, nearer, Call, Clock, Keeping, Moment, Outcome};
+use crate::model::{millis, nearer, Call, Change, Clock, Keeping, Moment, Outcome};
 use crate::store::Store;
 use batch::{calls_of, Answered};
 use commit::lose;
@@ -251,6 +251,10 @@ impl Writer {
                 let created = round.create(&mut self.jobs, &name, settings, shape, names, self.clock.now());
                 round.created.push((created, reply));
             }
+            Message::Configure { job, change, reply } => {
+                let (number, done) = (self.jobs.number(&job), self.configure(round, &job, change));
+                round.done.push(Done { done, job: number, reply });
+            }
             Message::Calls { job, calls, key, reply } => {
                 let number = self.jobs.number(&job);
                 let done = match self.jobs.place(&job) {
@@ -289,6 +293,17 @@ impl Writer {
                 CallsDone::Known(answers)
             }
         }
+    }
+
+    /// Gives a job the settings that it has with this change. A repeat gives it the same.
+    fn configure(&mut self, round: &mut Round, job: &str, change: Change) -> CallsDone {
+        let Some(place) = self.jobs.place(job) else {
+            return CallsDone::NoJob;
+        };
+        let job = self.jobs.at(place);
+        let (number, numbers) = (job.opening.number, change.of(&job.settings).numbers());
+        let outcome = self.call(round, place, &Call::Configure { numbers });
+        CallsDone::Made(self.board.epoch_of(number), vec![outcome])
     }
 
     /// Makes calls in order. After one that found no memory, the others are not made.

@@ -88,9 +88,10 @@ impl Round {
         };
         if let Some(place) = jobs.place(name) {
             let job = jobs.at(place);
-            // an engine that has rescaled its job knows the shape of now
+            // an engine that has rescaled its job knows the shape of now, and one whose job has other settings may know these
             let has_shape = job.opening.shape == shape || job.shape == shape;
-            let (is_alike, has) = (job.opening.settings == settings && has_shape, job.engine().term().is_some());
+            let has_settings = job.opening.settings == settings || job.settings == settings;
+            let (is_alike, has) = (has_settings && has_shape, job.engine().term().is_some());
             return match names.wanted {
                 _ if !is_alike => Created::Other,
                 Some(wanted) if wanted != has => Created::OtherNames { names: has },

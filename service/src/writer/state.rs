@@ -1,11 +1,13 @@
 //! The state of a job, as reads return it between two commits.
 use super::jobs::Jobs;
 use super::message::{Read, ReadDone};
-use crate::model::{Bytes, Choice, FileCounts, Job, KeptImage, Kind, LiveRecord, Mode, Opening, RunningTerm};
+use crate::model::{Bytes, Choice, FileCounts, Job, KeptImage, Kind, LiveRecord, Mode, Opening, RunningTerm, Settings};
 
 #[derive(Clone, Debug)]
 pub struct JobState {
     pub opening: Opening,
+    /// The settings that the job has now.
+    pub settings: Settings,
     /// The shape that the job has now.
     pub shape: Vec<u64>,
     pub mode: Mode,
@@ -90,6 +92,7 @@ pub fn state(job: &mut Job, now: u64) -> JobState {
     let (choice, files, term) = (engine.choice(), engine.counts(), engine.term());
     JobState {
         opening: job.opening.clone(),
+        settings: job.settings,
         shape: job.shape.clone(),
         mode,
         seq: job.seq,

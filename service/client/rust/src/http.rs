@@ -142,6 +142,10 @@ impl Asked {
         Asked { method: Method::DELETE, ..Asked::get(path) }
     }
 
+    pub fn patch(path: String, body: &Value) -> Asked {
+        Asked { method: Method::PATCH, body: Some(body.to_string()), ..Asked::get(path) }
+    }
+
     pub fn post(path: String, body: &Value, key: Option<&str>) -> Asked {
         Asked { method: Method::POST, body: Some(body.to_string()), key: key.map(str::to_string), ..Asked::get(path) }
     }
@@ -285,6 +289,9 @@ impl Told {
         let text = |name: &str| value[name].as_str().map(str::to_string);
         if let Some(name) = text("fenced") {
             return Error::fenced(&name, None);
+        }
+        if let Some(name) = text("refused") {
+            return Error::Refused(name);
         }
         let whole = || String::from_utf8_lossy(&self.bytes).into_owned();
         Error::Status { status: self.status, text: text("error").unwrap_or_else(whole), field: text("field") }

@@ -162,6 +162,19 @@ impl Job {
         self.requests.body(&self.manner, Asked::post(format!("{}/fence", self.path), &body, Some(&new_key()))).await
     }
 
+    /// Triggers a checkpoint now, whatever the interval and the pause. Returns its number. Fails with [`Error::Refused`] if as many are
+    /// pending as may be, or the job does not run.
+    pub async fn checkpoint(&self) -> Result<Value, Error> {
+        let asked = Asked::post(format!("{}/checkpoints", self.path), &json!({}), Some(&new_key()));
+        self.requests.body(&self.manner, asked).await
+    }
+
+    /// Changes settings of the job, while it runs: those that are given, as `{"interval": 30000}`. Returns all that it has then, under
+    /// `settings`. Fails with [`Error::Refused`] if more checkpoints are pending than may be from then on, or the job is cancelled.
+    pub async fn set(&self, settings: &Value) -> Result<Value, Error> {
+        self.requests.body(&self.manner, Asked::patch(format!("{}/settings", self.path), settings)).await
+    }
+
     /// Of these files, at most 10,000, those that may be deleted, and those whose names were never given out, which nobody deletes. The
     /// first stay garbage for good, so they may be deleted at any time.
     pub async fn garbage(&self, files: &[u64]) -> Result<(Vec<u64>, Vec<u64>), Error> {

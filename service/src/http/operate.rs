@@ -1,0 +1,78 @@
+//! What an operator does to a job that is open: a checkpoint now, and other settings.
+use super::audit::Did;
+use super::reply::{error, invalid, json_reply, refusal, Reply};
+use super::writes::{key_name, key_used, read_body};
+use super::{no_job, wire, App};
+use crate::auth::Caller;
+use crate::model::{sha256, Call};
+use crate::writer::{CallsDone, Key, Message};
+use hyper::{Body, Request};
+use serde_json::{json, Value};
+
+/// Triggers a checkpoint, whatever the interval and the pause. Under a key it is triggered once.
+pub async fn checkpoint(app: &App, caller: &Caller, job: String, request: Request<Body>) -> Result<Reply, Box<Reply>> {
+    app.number(&job)?;
+    let name = key_name(request.headers())?;
+    let (bytes, _room) = read_body(app, caller, request.into_body()).await?;
+    wire::nothing(&bytes).map_err(|why| invalid(&why))?;
+    let key = name.map(|name| Key { name, digest: sha256(&bytes) });
+    let (at, calls) = (job.clone(), vec![Call::Trigger]);
+    let did = Did::of(&calls);
+    let done = app.ask(|reply| Message::Calls { job, calls, key, reply }).await?;
+    Ok(answered(app, &at, done, did))
+}
+
+/// Changes the settings that the body names. A repeat changes nothing more, so it needs no key.
+pub async fn settings(app: &App, caller: &Caller, job: String, request: Request<Body>) -> Result<Reply, Box<Reply>> {
+    app.number(&job)?;
+    let (bytes, _room) = read_body(app, caller, request.into_body()).await?;
+    let change = wire::change(&bytes).map_err(|why| invalid(&why))?;
+    let at = job.clone();
+    let done = app.ask(|reply| Message::Configure { job, change, reply }).await?;
+    Ok(answered(app, &at, done, Some(Did::settings(&change))))
+}
+
+fn answered(app: &App, job: &str, done: CallsDone, did: Option<Did>) -> Reply {
+    let mut reply = match done {
+        CallsDone::Made(epoch, outcomes) => turned(&app.board.answers(epoch, &outcomes)),
+        CallsDone::Known(answers) => turned(&answers),
+        CallsDone::KeyUsed => key_used(),
+        CallsDone::NoJob => no_job(job),
+    };
+    if let Some(did) = did {
+        reply.extensions_mut().insert(did);
+    }
+    reply
+}
+
+/// What the answer of the one call says. A refusal is an error here, since the request makes nothing else.
+fn turned(answers: &str) -> Reply {
+    let mut told: Value = serde_json::from_str(answers).unwrap_or_default();
+    let mut answer = told["answers"][0].take();
+    if let Some(why) = answer["refused"].as_str() {
+        return refusal(409, json!({"error": format!("the coordinator refuses it: {why}"), "refused": why}));
+    }
+    if answer["seq"].is_null() {
+        return error(507, "memory ran out");
+    }
+    answer["epoch"] = told["epoch"].take();
+    answer["log"] = told["log"].take();
+    json_reply(200, &answer)
+}
+
+#[cfg(test)]
+mod tests {
+    use super::*;
+
+    #[test]
+    fn each_answer_has_its_status() {
+        let status = |answer: Value| {
+            let told = json!({"epoch": 1, "log": "ab", "answers": [answer]});
+            turned(&told.to_string()).status().as_u16()
+        };
+        assert_eq!(status(json!({"tick": "triggered", "expired": 0, "id": 3, "seq": 7})), 200);
+        assert_eq!(status(json!({"configure": "configured", "dropped": 0, "released": 0, "seq": 7})), 200);
+        assert_eq!(status(json!({"refused": "AtOnce"})), 409);
+        assert_eq!(status(json!({"no_memory": true})), 507);
+    }
+}

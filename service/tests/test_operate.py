@@ -1,0 +1,167 @@
+"""What an operator does to a job that runs: a checkpoint now, and other settings, over the API, the client and the commands."""
+import json
+import subprocess
+
+from harness import COMMAND, PROGRAM, Server, caught_up, folder, served, until
+from relkvanu_service import Failed, Refused, Service, ack, cancel
+
+NEVER = 1 << 40
+DEFAULTS = {"pause": 0, "at_once": 1, "timeout": 600_000, "tolerable": 0, "retained": 1, "keep_on_cancel": False}
+
+
+def ran(server, *words, status=0):
+    told = subprocess.run([PROGRAM, *map(str, words), "--url", server.url], stdout=subprocess.PIPE, stderr=subprocess.PIPE, text=True, timeout=COMMAND, check=False)
+    assert told.returncode == status, (words, told)
+    return told.stdout + told.stderr
+
+
+def refused(make):
+    try:
+        make()
+    except Refused as told:
+        return told.name
+    return None
+
+
+def completed(job, file):
+    """The number of a checkpoint that was triggered now and completed with this file."""
+    made = job.checkpoint()["id"]
+    job.call(ack(made, "0.0", [file]))
+    return made
+
+
+def test_a_changed_interval_holds_without_a_restart():
+    with served() as server:
+        job = Service(server.url).open("orders", {"interval": NEVER}, [1])
+        assert job.state()["due"] > NEVER and not job.state()["live"]
+        told = job.set(interval=50)
+        assert told["settings"] == {**DEFAULTS, "interval": 50} == job.state()["settings"], told
+        assert (told["configure"], told["dropped"], told["released"], told["seq"]) == ("configured", 0, 0, 1), told
+        # the timer of the service triggers by it, again and again
+        for made in (1, 2, 3):
+            until(lambda: [one["id"] for one in job.state()["live"] if not one["done"]] == [made])
+            job.call(ack(made, "0.0", [10 + made]))
+        [first, *_] = job.log()
+        assert first["line"].split() == ["configure", str(first["at"]), "50", "0", "1", "600000", "0", "1", "delete"], first
+        assert "configure interval=50" in server.log(), server.log()
+        # an open finds the job by its first settings and by those of now
+        for settings, status in (({"interval": NEVER}, 200), ({"interval": 50}, 200), ({"interval": 51}, 409)):
+            assert server.request("POST", "/v1/jobs", {"name": "orders", "settings": settings, "shape": [1]})[0] == status, settings
+        return "3 checkpoints"
+
+
+def test_a_refused_change_changes_nothing():
+    with served() as server:
+        job = Service(server.url).open("orders", {"interval": NEVER}, [1])
+        bad = {"interval": 9, "pause": -1, "at_once": 65, "timeout": 0, "tolerable": 1001, "retained": 0, "keep_on_cancel": 1, "speed": 1}
+        for name, value in bad.items():
+            for body in ({name: value}, {"interval": 1000, name: value}):
+                status, _, told = server.request("PATCH", "/v1/jobs/orders/settings", body)
+                assert status == 400 and told["field"] == name and told["error"].startswith(name), (body, told)
+        for body, field in (({}, "body"), ([], "body"), ({"interval": None}, "interval")):
+            status, _, told = server.request("PATCH", "/v1/jobs/orders/settings", body)
+            assert (status, told["field"]) == (400, field), (body, told)
+        assert server.request("PATCH", "/v1/jobs/users/settings", {"interval": 1000})[0] == 404
+        assert server.request("POST", "/v1/jobs/orders/settings", {"interval": 1000})[0] == 405
+        assert server.request("POST", "/v1/jobs/orders/checkpoints", {"most": 1})[0] == 400
+        job.set(at_once=2)
+        assert [job.checkpoint()["id"], job.checkpoint()["id"], refused(job.checkpoint)] == [1, 2, "AtOnce"]
+        before = job.state()
+        status, _, told = server.request("PATCH", "/v1/jobs/orders/settings", {"at_once": 1})
+        assert (status, told["refused"]) == (409, "AtOnce"), told
+        assert refused(lambda: job.set(interval=1000, pause=1)) == "AtOnce"
+        after = job.state()
+        assert {**after, "now": 0} == {**before, "now": 0} and after["settings"]["at_once"] == 2, (before, after)
+        job.call(cancel())
+        assert [refused(lambda: job.set(interval=1000)), refused(job.checkpoint)] == ["NotRunning", "NotRunning"]
+        return f"{2 * len(bad) + 3} bad bodies, and refusals"
+
+
+def restarted(args):
+    """Settings that were changed before and after an image, and a service that is killed and started again."""
+    with folder() as at:
+        server = Server(at, args=args).start()
+        try:
+            job = Service(server.url).open("orders", {"interval": NEVER}, [1])
+            job.set(retained=3, tolerable=7)
+            for file in range(1, 41):
+                completed(job, file)
+            job.set(interval=NEVER - 1, keep_on_cancel=True)
+            wanted = {**DEFAULTS, "interval": NEVER - 1, "retained": 3, "tolerable": 7, "keep_on_cancel": True}
+            before = job.state()
+            for _ in range(2):
+                server.kill()
+                server.start()
+                after = job.state()
+                assert after["settings"] == wanted == before["settings"], after
+                assert (after["seq"], after["due"], after["live"]) == (before["seq"], before["due"], before["live"]), (before, after)
+            made = job.checkpoint()["id"]
+            assert refused(job.checkpoint) == "AtOnce"
+            return made, after["image"]
+        finally:
+            server.stop()
+
+
+def test_a_restart_keeps_the_settings():
+    made, image = restarted([])
+    assert (made, image) == (41, None), (made, image)
+    made, image = restarted(["--image-calls", "20", "--keep-calls", "20"])
+    assert made == 41 and image, (made, image)
+    return f"from the log, and from an image after call {image['seq']}"
+
+
+def test_a_smaller_number_retained_drops_checkpoints():
+    with served() as server:
+        job = Service(server.url).open("orders", {"interval": NEVER, "retained": 3}, [1])
+        assert [completed(job, file) for file in (11, 12, 13)] == [1, 2, 3]
+        told = job.set(retained=1)
+        assert (told["dropped"], told["released"]) == (2, 2), told
+        assert [one["id"] for one in job.state()["live"]] == [3] and sorted(job.take()) == [11, 12]
+        caught_up(job)
+        assert [job.record(made)["history"]["why"] for made in (1, 2)] == ["not retained"] * 2, job.record(1)
+        return "2 checkpoints dropped"
+
+
+def test_a_record_expires_by_the_timeout_of_now():
+    with served() as server:
+        job = Service(server.url).open("orders", {"interval": NEVER, "tolerable": 9}, [1])
+        job.checkpoint()
+        job.set(timeout=1)
+        until(lambda: not job.state()["live"])
+        caught_up(job)
+        assert job.record(1)["history"]["how"] == "expired", job.record(1)
+        return "1 record"
+
+
+def test_a_checkpoint_under_a_key_is_triggered_once():
+    with served() as server:
+        job = Service(server.url).open("orders", {"interval": NEVER, "at_once": 9}, [1])
+        told = [job.checkpoint("k"), job.checkpoint("k"), job.checkpoint("l")]
+        assert [one["id"] for one in told] == [1, 1, 2] and len(job.state()["live"]) == 2, told
+        assert server.request("POST", "/v1/jobs/orders/calls", {"calls": [{"call": "tick"}]}, headers={"Idempotency-Key": "k"})[0] == 422
+        return "2 checkpoints"
+
+
+def test_the_commands():
+    with served() as server:
+        job = Service(server.url).open("orders", {"interval": NEVER}, [1])
+        assert ran(server, "checkpoint", "orders") == "checkpoint 1 is triggered\n"
+        assert "the coordinator refuses it: AtOnce" in ran(server, "checkpoint", "orders", status=1)
+        job.call(ack(1, "0.0", [11]))
+        told = ran(server, "checkpoint", "orders", "--wait", 1, status=75)
+        assert told.startswith("checkpoint 2 is triggered\n") and "checkpoint 2 is not complete yet" in told, told
+        told = ran(server, "set", "orders", "interval=30000", "keep_on_cancel=true")
+        assert "interval 30000" in told and "keep_on_cancel true" in told and "retained 1" in told, told
+        assert json.loads(ran(server, "set", "orders", "retained=2", "--json"))["settings"] == {**DEFAULTS, "interval": 30_000, "retained": 2, "keep_on_cancel": True}
+        assert "interval is no whole number from 10 to" in ran(server, "set", "orders", "interval=9", status=78)
+        assert "speed is no field here" in ran(server, "set", "orders", "speed=9", status=78)
+        assert "is no number" in ran(server, "set", "orders", "interval=30s", status=2)
+        ran(server, "set", "orders", status=2)
+        assert "there is no job" in ran(server, "set", "users", "interval=30000", status=1)
+        try:
+            job.set(interval=9)
+        except Failed as failed:
+            assert (failed.status, failed.field) == (400, "interval")
+        else:
+            raise AssertionError("an interval of 9 is within no limits")
+        return "checkpoint and set"
