@@ -1,6 +1,10 @@
 """What an operator does to a job that runs: a checkpoint now, and other settings, over the API, the client and the commands."""
 import json
 import subprocess
+import threading
+import time
+
+import requests
 
 from harness import COMMAND, PROGRAM, Server, caught_up, folder, served, until
 from relkvanu_service import Failed, Refused, Service, ack, cancel
@@ -165,3 +169,122 @@ def test_the_commands():
         else:
             raise AssertionError("an interval of 9 is within no limits")
         return "checkpoint and set"
+
+
+class Tasks:
+    """The two subtasks of a job whose timer triggers at once. Each checkpoint has a new file of each, and that of the first one."""
+
+    def __init__(self, server, names, **settings):
+        self.job = Service(server.url).open("orders", {"interval": 10, "retained": 3, "tolerable": 1000, **settings}, [2], names=names)
+        self.files, self.count = {}, 0
+        self.take_over(self.job.begin())
+
+    def take_over(self, start):
+        """The tasks that were started with what a restore tells."""
+        self.start, self.task = start, start.session() if start.term else None
+
+    def number(self):
+        if self.task:
+            return self.task.name()
+        self.count += 1
+        return self.count
+
+    def pending(self):
+        return [one["id"] for one in self.job.state()["live"] if not one["done"] and one["kind"] == "checkpoint"]
+
+    def complete(self, first=None):
+        """Completes the checkpoint that is pending next, and returns its number."""
+        until(self.pending)
+        [made] = self.pending()
+        fresh = [self.number(), self.number()]
+        reused = [] if first is None else [first]
+        acks = [ack(made, "0.0", [fresh[0]], reused, term=self.start.term), ack(made, "0.1", [fresh[1]], term=self.start.term)]
+        self.files[made] = {"0.0": sorted([fresh[0], *reused]), "0.1": [fresh[1]]}
+        assert [list(one)[0] for one in self.job.calls(acks)] == ["ack", "ack"], made
+        return made
+
+    def held(self, record):
+        live = self.job.record(record)["live"]
+        return {part["subtask"]: sorted(int(file) for file in part["files"]) for part in live["acks"]}
+
+
+def back(names):
+    with folder() as at:
+        server = Server(at, names=names).start()
+        try:
+            tasks = Tasks(server, names)
+            job, made = tasks.job, [tasks.complete()]
+            first = tasks.files[made[0]]["0.0"][0]
+            made += [tasks.complete(first), tasks.complete(first)]
+            old = tasks.start
+            told = server.request("POST", "/v1/jobs/orders/calls", {"calls": [{"call": "restore", "from": {"checkpoint": made[1]}}]})
+            assert told[0] == 400 and told[2]["field"] == "calls[0].accept_published" and "not taken back" in told[2]["error"], told
+            assert "--accept-published" in ran(server, "restore", "orders", "--checkpoint", made[1], status=2)
+            assert "NoSuchCheckpoint" in ran(server, "restore", "orders", "--checkpoint", 99, "--accept-published", status=1)
+            assert [one["id"] for one in job.state()["live"] if one["done"]] == made
+            tasks.take_over(job.go_back(made[1], accept_published=True))
+            assert tasks.start.kind == "savepoint" and (tasks.start.term is not None) == names, tasks.start
+            copy = tasks.start.id
+            # a savepoint with the files of that checkpoint, and nothing else is left
+            assert tasks.held(copy) == tasks.files[made[1]] and [one["id"] for one in job.state()["live"] if one["done"]] == [copy]
+            kept = {file for files in tasks.files[made[1]].values() for file in files}
+            every = {file for files in tasks.files.values() for part in files.values() for file in part}
+            assert set(job.take(1000)) == every - kept, (every, kept)
+            if names:
+                assert job.calls([ack(copy + 1, "0.0", term=old.term)])[0] == {"fenced": "OldTerm"}
+            server.kill()
+            server.start()
+            assert tasks.held(copy) == tasks.files[made[1]] and job.state()["choice"] == {"kind": "savepoint", "id": copy}
+            # the job goes on from there
+            assert tasks.complete(first) > copy and refused(lambda: job.go_back(made[0], True)) == refused(lambda: job.go_back(copy, True)) == "NoSuchCheckpoint"
+            last = tasks.complete(first)
+            # the latest needs no savepoint
+            assert job.go_back(last, True).kind == "checkpoint"
+            tasks.take_over(job.begin(shape=[1]))
+            assert refused(lambda: job.go_back(last - 1, True)) == "OtherShape"
+            job.call(cancel())
+            assert refused(lambda: job.go_back(last, True)) in ("NoSuchCheckpoint", "NotRunning")
+            assert server.stop() == 0
+            told = subprocess.run([PROGRAM, "check", "--database", server.database], stdout=subprocess.PIPE, stderr=subprocess.STDOUT, text=True, timeout=COMMAND, check=False)
+            assert told.returncode == 0, told
+        finally:
+            server.stop()
+
+
+def test_back_to_an_older_checkpoint():
+    for names in (False, True):
+        back(names)
+    return "without names and with them"
+
+
+def test_a_kill_leaves_all_of_the_way_back_or_nothing():
+    with folder() as at:
+        server = Server(at).start()
+        try:
+            tasks, whole = Tasks(server, False), 0
+            job, kills = tasks.job, 25
+            for turn in range(kills):
+                until(lambda: tasks.complete() and len([one for one in job.state()["live"] if one["done"] and one["kind"] == "checkpoint"]) > 1)
+                older = next(one["id"] for one in job.state()["live"] if one["done"] and one["kind"] == "checkpoint")
+                going = threading.Thread(target=gone_back, args=(job.within(0.1), older))
+                going.start()
+                time.sleep(turn * 0.0008)
+                server.kill()
+                going.join()
+                server.start()
+                lines = [one["line"].split() for one in job.log()]
+                copies = [one["record"] for one in job.log() if one["line"].startswith("savepoint ")]
+                restores = [int(words[2]) for words in lines if words[0] == "restore" and words[2] != "latest"]
+                assert copies == restores, (turn, copies, restores)
+                whole = len(copies)
+            assert 0 < whole < kills, f"{whole} of {kills} were made"
+            return f"{whole} of {kills} were made, and the others left nothing"
+        finally:
+            server.stop()
+
+
+def gone_back(job, older):
+    try:
+        job.go_back(older, True)
+    except (Failed, requests.RequestException):
+        pass  # the service was killed

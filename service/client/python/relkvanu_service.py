@@ -403,6 +403,14 @@ class Job:
         told = self._make([restore(start, shape)], key)
         return Start(self, _made(told["answers"][0]), told.get("log"))
 
+    def go_back(self, checkpoint, accept_published, shape=None, key=None):
+        """The same from an older checkpoint that is retained, by a savepoint that the service makes of its files. What sinks published for
+        records after it is not taken back: `accept_published` has to be true. Raises `Refused` if no such checkpoint is retained, it has
+        another shape than the job, or the job does not run."""
+        call = {**restore({"checkpoint": checkpoint}, shape), "accept_published": accept_published}
+        told = self._make([call], key)
+        return Start(self, _made(told["answers"][0]), told.get("log"))
+
     def session(self, term, block=_RESERVED):
         """A task of the start that has this term. It reserves `block` names at a time."""
         return Session(self, term, block)

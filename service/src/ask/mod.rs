@@ -57,7 +57,11 @@ async fn asked(given: &Ask) -> Result<(), Ended> {
             call(&service.job(&given.job), at.json, Call::Dispose { id: given.id }).await.map(|_| ())
         }
         Ask::Restore(given) => {
-            let restore = Call::Restore { savepoint: given.savepoint, shape: given.shape.clone() };
+            let shape = given.shape.clone();
+            let restore = match given.checkpoint {
+                Some(checkpoint) => Call::GoBack { checkpoint, shape },
+                None => Call::Restore { savepoint: given.savepoint, shape },
+            };
             call(&service.job(&given.job), at.json, restore).await.map(|_| ())
         }
         Ask::Term(given) => said(at.json, &service.job(&given.job).term().await?, tables::term),

@@ -208,6 +208,12 @@ pub struct Restore {
     /// A savepoint [default: the latest record]
     #[arg(long, value_name = "ID")]
     pub savepoint: Option<u64>,
+    /// An older checkpoint that is retained, by a savepoint that the service makes of its files
+    #[arg(long, value_name = "ID", conflicts_with = "savepoint", requires = "accept_published")]
+    pub checkpoint: Option<u64>,
+    /// Accept that what sinks published for records after the checkpoint is not taken back
+    #[arg(long, requires = "checkpoint")]
+    pub accept_published: bool,
     /// A new shape: the parallelism of each vertex
     #[arg(long, value_name = "N,N..", value_delimiter = ',')]
     pub shape: Option<Vec<u64>>,

@@ -223,7 +223,7 @@ fn call(mut members: Members, term: u64) -> Checked<Call> {
         // embed/bindings: end
         "ack" => ack(&mut members, term)?,
         "decline" => Call::Decline { term: members.term(term)?, id: members.id()?, subtask: members.subtask()? },
-        "restore" => Call::Restore { target: target(&mut members)?, shape: members.shape()? },
+        "restore" => restore(&mut members)?,
         "take" => Call::Take { most: members.number("most", 1, MOST_TAKEN)? },
         "reserve" => Call::Reserve { term: members.term(term)?, count: members.number("count", 1, MOST_RESERVED)? },
         "forfeit" => Call::Forfeit { term: members.term(term)?, names: members.some_files("names", MOST_FORFEITED)? },
@@ -243,10 +243,30 @@ fn ack(members: &mut Members, term: u64) -> Checked<Call> {
     Ok(Call::Ack { term, id, subtask, fresh, reused, bytes })
 }
 
+/// A restore. To an older checkpoint it needs the consent that what sinks published since then stays published.
+fn restore(members: &mut Members) -> Checked<Call> {
+    let (target, accepts) = (target(members)?, members.flag("accept_published")?);
+    match (target, accepts) {
+        (Target::Checkpoint(_), Some(true)) | (Target::Latest | Target::Savepoint(_), None) => {}
+        (Target::Checkpoint(_), _) => {
+            let why = "is not true: what sinks published for records after the checkpoint is not taken back";
+            return Err(members.wrong("accept_published", why));
+        }
+        _ => return Err(members.wrong("accept_published", "is no field here")),
+    }
+    Ok(Call::Restore { target, shape: members.shape()? })
+}
+
 fn target(members: &mut Members) -> Checked<Target> {
     let value = members.wanted("from")?;
     if text(value).is_some_and(|text| text == "latest") {
         return Ok(Target::Latest);
+    }
+    if value.get().starts_with('{') {
+        let mut from = Members::of(&members.field("from"), value)?;
+        let id = from.number("checkpoint", 1, GREATEST)?;
+        from.finish()?;
+        return Ok(Target::Checkpoint(id));
     }
     let id = read::<u64>(value).filter(|id| (1..=GREATEST).contains(id));
     let wrong = || members.wrong("from", "is neither \"latest\" nor the number of a savepoint");
@@ -275,6 +295,24 @@ mod tests {
             Call::Restore { target: Target::Latest, shape: None },
         ];
         assert_eq!(calls(body.as_bytes(), 10), Ok(wanted));
+    }
+
+    #[test]
+    fn a_restore_to_an_older_checkpoint_needs_consent() {
+        let body = |rest: &str| format!(r#"{{"calls":[{{"call":"restore","from":{rest}}}]}}"#);
+        let wanted = Call::Restore { target: Target::Checkpoint(3), shape: None };
+        let told = calls(body(r#"{"checkpoint":3},"accept_published":true"#).as_bytes(), 10);
+        assert_eq!(told, Ok(vec![wanted]));
+        for (rest, field) in [
+            (r#"{"checkpoint":3}"#, "calls[0].accept_published"),
+            (r#"{"checkpoint":3},"accept_published":false"#, "calls[0].accept_published"),
+            (r#"{"checkpoint":0},"accept_published":true"#, "calls[0].from.checkpoint"),
+            (r#"{"checkpoint":3,"term":1},"accept_published":true"#, "calls[0].from.term"),
+            (r#"3,"accept_published":true"#, "calls[0].accept_published"),
+            (r#""latest","accept_published":true"#, "calls[0].accept_published"),
+        ] {
+            assert_eq!(field_of(&body(rest)), field, "{rest}");
+        }
     }
 
     #[test]

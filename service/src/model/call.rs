@@ -48,14 +48,16 @@ impl From<(u16, u16)> for Subtask {
 pub enum Target {
     Latest,
     Savepoint(u64),
+    /// An older checkpoint that is retained. The job makes several calls of it ([`Job::go_back`](super::job::Job::go_back)).
+    Checkpoint(u64),
 }
 
 impl Target {
-    /// The savepoint, as the library has it; `None` for the latest record.
+    /// The savepoint, as the library has it; `None` for the latest record. It refuses a checkpoint, which is no savepoint.
     pub fn savepoint(self) -> Option<NonZeroU64> {
         match self {
             Target::Latest => None,
-            Target::Savepoint(id) => NonZeroU64::new(id),
+            Target::Savepoint(id) | Target::Checkpoint(id) => NonZeroU64::new(id),
         }
     }
 }

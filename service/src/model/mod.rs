@@ -1,4 +1,5 @@
 //! Jobs and their calls: the decisions of the proved coordinator, in the words of the log and of the API.
+mod back;
 mod bases;
 mod call;
 mod clock;

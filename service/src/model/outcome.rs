@@ -21,10 +21,30 @@ pub enum Outcome {
     Made { seq: Option<u64>, reply: Reply, beside: Beside },
     /// The coordinator refused the call, or the term or the names did, or the library does not take it: nothing changed.
     Refused(Fault),
+    /// The service refuses it, which knows that the coordinator would: nothing changed.
+    Unable(Unable),
     /// Memory ran out: nothing changed.
     NoMemory,
     /// A call before it in the same request found no memory.
     NotMade,
+}
+
+/// Why a job can't go back to a checkpoint.
+#[derive(Clone, Copy, Debug, PartialEq, Eq)]
+pub enum Unable {
+    /// No checkpoint with this number is retained.
+    NoSuchCheckpoint,
+    /// It has another shape than the job has now.
+    OtherShape,
+}
+
+impl Unable {
+    pub fn name(self) -> &'static str {
+        match self {
+            Unable::NoSuchCheckpoint => "NoSuchCheckpoint",
+            Unable::OtherShape => "OtherShape",
+        }
+    }
 }
 
 /// What an answer tells beside the text that the log has of it.
@@ -154,6 +174,7 @@ impl Outcome {
                 }
                 told
             }
+            Outcome::Unable(why) => json!({"refused": why.name()}),
             Outcome::NoMemory => json!({"no_memory": true}),
             Outcome::NotMade => json!({"not_made": true}),
         }
@@ -164,7 +185,7 @@ impl Outcome {
         match self {
             Outcome::Made { .. } => "made",
             Outcome::Refused(Fault::Fenced(_)) => "fenced",
-            Outcome::Refused(_) => "refused",
+            Outcome::Refused(_) | Outcome::Unable(_) => "refused",
             Outcome::NoMemory => "no_memory",
             Outcome::NotMade => "not_made",
         }

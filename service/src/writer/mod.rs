@@ -33,7 +33,7 @@ pub use state::{JobState, RecordState};
 
 use crate::log;
 use crate::metrics::Metrics;
-use crate::model::{millis, nearer, Call, Change, Clock, Keeping, Moment, Outcome};
+use crate::model::{millis, nearer, Call, Change, Clock, Keeping, Moment, Outcome, Target};
 use crate::store::Store;
 use batch::{calls_of, Answered};
 use commit::lose;
@@ -321,11 +321,16 @@ impl Writer {
 
     fn call(&mut self, round: &mut Round, place: usize, call: &Call) -> Outcome {
         let job = self.jobs.at(place);
-        let (outcome, logged) = job.call(call, job.moment(self.clock.now()));
+        let now = job.moment(self.clock.now());
+        let (outcome, logged) = match call {
+            Call::Restore { target: Target::Checkpoint(id), shape } => job.go_back(*id, shape.as_deref(), now),
+            call => {
+                let (outcome, logged) = job.call(call, now);
+                (outcome, logged.into_iter().collect())
+            }
+        };
         self.metrics.call(&job.opening.name, call.name(), &outcome);
-        if let Some(logged) = logged {
-            round.group.log(logged);
-        }
+        logged.into_iter().for_each(|logged| round.group.log(logged));
         round.touched.insert(place);
         outcome
     }

@@ -44,6 +44,12 @@ pub enum Call {
         savepoint: Option<u64>,
         shape: Option<Vec<u64>>,
     },
+    /// From an older checkpoint that is retained, by a savepoint that the service makes of its files. What sinks published for records
+    /// after it is not taken back: this call accepts that.
+    GoBack {
+        checkpoint: u64,
+        shape: Option<Vec<u64>>,
+    },
     Take {
         most: u64,
     },
@@ -92,6 +98,10 @@ impl Call {
                 json!({"call": "ack", "id": id, "subtask": subtask(of), "fresh": fresh, "reused": reused, "bytes": bytes})
             }
             Call::Decline { id, subtask: of } => json!({"call": "decline", "id": id, "subtask": subtask(of)}),
+            Call::GoBack { checkpoint, shape } => {
+                let from = json!({"checkpoint": checkpoint});
+                json!({"call": "restore", "from": from, "accept_published": true, "shape": shape})
+            }
             Call::Restore { savepoint, shape } => {
                 json!({"call": "restore", "from": savepoint.map_or(json!("latest"), |id| json!(id)), "shape": shape})
             }

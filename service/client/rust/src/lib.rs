@@ -143,6 +143,14 @@ impl Job {
         Start::of(self, &told).await
     }
 
+    /// The same from an older checkpoint that is retained, by a savepoint that the service makes of its files. **What sinks published for
+    /// records after it is not taken back.** Fails with [`Error::Refused`] if no such checkpoint is retained, it has another shape than
+    /// the job, or the job does not run.
+    pub async fn go_back(&self, checkpoint: u64, shape: Option<Vec<u64>>) -> Result<Start, Error> {
+        let told = self.made(&[Call::GoBack { checkpoint, shape }], &new_key()).await?;
+        Start::of(self, &told).await
+    }
+
     /// A task of the start that has this term.
     #[must_use]
     pub fn session(&self, term: u64) -> Session {

@@ -1,0 +1,176 @@
+//! The way back to an older checkpoint that is retained: a savepoint of its own files, and the restore to that savepoint.
+use super::call::{Call, Subtask, Target};
+use super::job::{Job, Logged};
+use super::outcome::{Outcome, Reply, Unable};
+use relkvanu::{Answer, Choice, Kind};
+use serde::Deserialize;
+
+/// The metadata of a done checkpoint.
+#[derive(Deserialize)]
+struct Record {
+    shape: Vec<u64>,
+    acks: Vec<Part>,
+}
+
+#[derive(Deserialize)]
+struct Part {
+    subtask: String,
+    files: Vec<u64>,
+}
+
+impl Job {
+    /// Restores the job to a checkpoint that is retained, in a new shape if one is given. Returns the answer of the restore, and the rows of
+    /// all calls, which are for one commit. A refusal of one of them takes back what was done before it, so no file is lost.
+    pub fn go_back(&mut self, checkpoint: u64, shape: Option<&[u64]>, now: u64) -> (Outcome, Vec<Logged>) {
+        let mut made = Vec::new();
+        let outcome = match self.parts(checkpoint) {
+            Err(outcome) => outcome,
+            Ok(_) if self.engine().choice() == Choice::Checkpoint(checkpoint) => {
+                self.step(&Call::Restore { target: Target::Latest, shape: shape.map(<[u64]>::to_vec) }, now, &mut made)
+            }
+            Ok(parts) => self.restore_copy(&parts, shape, now, &mut made),
+        };
+        (outcome, made)
+    }
+
+    /// What each subtask has in a checkpoint, if the job can go back to it.
+    fn parts(&mut self, checkpoint: u64) -> Result<Vec<(Subtask, Vec<u64>)>, Outcome> {
+        let is_there = |live: &relkvanu::Live| live.done && live.kind == Kind::Checkpoint;
+        if !self.live().get(&checkpoint).is_some_and(is_there) {
+            return Err(Outcome::Unable(Unable::NoSuchCheckpoint));
+        }
+        let text = self.engine().show(checkpoint).ok_or(Outcome::NoMemory)?;
+        let record: Record = serde_json::from_str(&text).map_err(|_| Outcome::NoMemory)?;
+        if record.shape != self.shape {
+            return Err(Outcome::Unable(Unable::OtherShape));
+        }
+        let parts = record.acks.into_iter().map(|part| Some((part.subtask.parse().ok()?, part.files)));
+        parts.collect::<Option<Vec<_>>>().ok_or(Outcome::NoMemory)
+    }
+
+    /// Makes a savepoint of these parts, and restores the job to it.
+    fn restore_copy(
+        &mut self,
+        parts: &[(Subtask, Vec<u64>)],
+        shape: Option<&[u64]>,
+        now: u64,
+        made: &mut Vec<Logged>,
+    ) -> Outcome {
+        let id = match self.step(&Call::Savepoint, now, made) {
+            Outcome::Made { reply: Reply::Answered(Answer::SavepointTriggered(id)), .. } => id,
+            other => return other,
+        };
+        let term = self.engine().term().map_or(0, |now| now.term);
+        for (subtask, files) in parts {
+            let (subtask, reused) = (*subtask, files.clone());
+            let ack = Call::Ack { term, id, subtask, fresh: vec![], reused, bytes: vec![] };
+            let outcome = self.step(&ack, now, made);
+            if !matches!(outcome, Outcome::Made { .. }) {
+                self.step(&Call::Decline { term, id, subtask }, now, made);
+                return outcome;
+            }
+        }
+        let restore = Call::Restore { target: Target::Savepoint(id), shape: shape.map(<[u64]>::to_vec) };
+        let outcome = self.step(&restore, now, made);
+        if !matches!(outcome, Outcome::Made { .. }) {
+            self.step(&Call::Dispose { id }, now, made);
+        }
+        outcome
+    }
+
+    fn step(&mut self, call: &Call, now: u64, made: &mut Vec<Logged>) -> Outcome {
+        let (outcome, logged) = self.call(call, now);
+        made.extend(logged);
+        outcome
+    }
+}
+
+#[cfg(test)]
+mod tests {
+    use super::super::outcome::Beside;
+    use super::super::{Opening, Settings};
+    use super::*;
+    use std::error::Error;
+
+    const SETTINGS: Settings = Settings {
+        interval: 10,
+        pause: 0,
+        at_once: 1,
+        timeout: 5000,
+        tolerable: 0,
+        retained: 3,
+        keep_on_cancel: false,
+    };
+
+    /// A job of two subtasks with three checkpoints, of which each has a file of each subtask and the first file of all.
+    fn with_three() -> Result<Job, Box<dyn Error>> {
+        let opening = Opening { number: 1, name: "orders".to_string(), settings: SETTINGS, shape: vec![2], started: 0 };
+        let mut job = Job::open(opening)?;
+        for id in 1..=3 {
+            job.call(&Call::Tick, id * 10);
+            for index in 0..2 {
+                let subtask = Subtask { vertex: 0, index };
+                let (fresh, reused) = (vec![id * 10 + u64::from(index)], if id > 1 { vec![10] } else { vec![] });
+                let is_first = index == 0;
+                let reused = if is_first { reused } else { vec![] };
+                job.call(&Call::Ack { term: 0, id, subtask, fresh, reused, bytes: vec![] }, id * 10);
+            }
+        }
+        assert_eq!(job.live().values().filter(|live| live.done).count(), 3);
+        Ok(job)
+    }
+
+    #[test]
+    fn an_older_checkpoint_is_one_to_go_back_to() -> Result<(), Box<dyn Error>> {
+        let mut job = with_three()?;
+        let before = job.engine().counts().in_use;
+        assert_eq!(before, 6);
+        let (outcome, made) = job.go_back(2, None, 40);
+        let lines: Vec<&str> = made.iter().map(|one| one.entry.line.as_str()).collect();
+        assert_eq!(lines, ["savepoint 40", "ack 40 4 0.0 =10 =20", "ack 40 4 0.1 =21", "restore 40 4"]);
+        assert!(matches!(outcome, Outcome::Made { beside: Beside::Nothing, .. }), "{outcome:?}");
+        // the savepoint alone is left, with the files of checkpoint 2 alone
+        assert_eq!(job.live().keys().copied().collect::<Vec<_>>(), [4]);
+        assert_eq!((job.engine().choice(), job.engine().counts().in_use), (Choice::Savepoint(4), 3));
+        Ok(())
+    }
+
+    #[test]
+    fn the_latest_needs_no_savepoint() -> Result<(), Box<dyn Error>> {
+        let mut job = with_three()?;
+        let (_, made) = job.go_back(3, None, 40);
+        let lines: Vec<&str> = made.iter().map(|one| one.entry.line.as_str()).collect();
+        assert_eq!((lines, job.live().len()), (vec!["restore 40 latest"], 3));
+        Ok(())
+    }
+
+    #[test]
+    fn what_can_not_be_begun_from_changes_nothing() -> Result<(), Box<dyn Error>> {
+        let mut job = with_three()?;
+        let (seq, image) = (job.seq, job.engine().image());
+        for id in [0, 4, 9] {
+            let (outcome, made) = job.go_back(id, None, 40);
+            assert_eq!((outcome, made.len()), (Outcome::Unable(Unable::NoSuchCheckpoint), 0));
+        }
+        assert_eq!((job.seq, job.engine().image()), (seq, image));
+        job.call(&Call::Restore { target: Target::Latest, shape: Some(vec![1]) }, 50);
+        let (seq, image) = (job.seq, job.engine().image());
+        let (outcome, made) = job.go_back(2, None, 60);
+        assert_eq!((outcome, made.len()), (Outcome::Unable(Unable::OtherShape), 0));
+        assert_eq!((job.seq, job.engine().image()), (seq, image));
+        Ok(())
+    }
+
+    #[test]
+    fn a_savepoint_that_is_refused_changes_nothing() -> Result<(), Box<dyn Error>> {
+        let mut job = with_three()?;
+        job.call(&Call::Tick, 50);
+        job.call(&Call::Decline { term: 0, id: 4, subtask: Subtask { vertex: 0, index: 0 } }, 51);
+        // no failed checkpoint is tolerated, so the job has failed
+        let (seq, image) = (job.seq, job.engine().image());
+        let (outcome, made) = job.go_back(1, None, 60);
+        assert_eq!((outcome.json()["refused"].as_str(), made.len()), (Some("NotRunning"), 0));
+        assert_eq!((job.seq, job.engine().image()), (seq, image));
+        Ok(())
+    }
+}
