@@ -164,6 +164,7 @@ pub fn sha256(bytes: &[u8]) -> String {
 
 #[cfg(test)]
 mod tests {
+    use super::super::Engine;
     use super::*;
 
     /// The example of docs/IMAGE.md.
@@ -179,7 +180,7 @@ mod tests {
     }
 
     #[test]
-    fn tells_the_settings_of_its_job() {
+    fn tells_the_settings_of_its_job() -> Result<(), Box<dyn std::error::Error>> {
         let settings = Settings {
             interval: 1000,
             pause: 0,
@@ -187,11 +188,12 @@ mod tests {
             timeout: 600_000,
             tolerable: 0,
             retained: 1,
-            keep_on_cancel: false,
+            keep_on_cancel: true,
         };
-        assert_eq!(example().settings(), Some(settings));
-        let none = Image { text: "{}".to_string(), ..example() };
-        assert_eq!(none.settings(), None);
+        let text = Engine::open(&settings, &[1], 5)?.image().ok_or("no memory")?;
+        assert_eq!(Image { text, ..example() }.settings(), Some(settings));
+        assert_eq!(Image { text: "{}".to_string(), ..example() }.settings(), None);
+        Ok(())
     }
 
     #[test]
