@@ -144,9 +144,10 @@ impl Records {
         call: &Call,
         entry: &Entry,
     ) -> rusqlite::Result<Option<Ended>> {
-        let how = match self.pending.contains_key(&id) {
-            true => how_pending_ended(call, entry, id, is_expired),
-            false => how_done_ended(call),
+        let how = if self.pending.contains_key(&id) {
+            how_pending_ended(call, entry, id, is_expired)
+        } else {
+            how_done_ended(call)
         };
         let why = match call {
             Call::Decline { subtask, .. } if how == DECLINED => format!("{DECLINED} by {subtask}"),

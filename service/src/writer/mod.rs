@@ -330,7 +330,9 @@ impl Writer {
             }
         };
         self.metrics.call(&job.opening.name, call.name(), &outcome);
-        logged.into_iter().for_each(|logged| round.group.log(logged));
+        for logged in logged {
+            round.group.log(logged);
+        }
         round.touched.insert(place);
         outcome
     }
