@@ -154,9 +154,9 @@ typedef struct {
  *
  * With options.storage NULL none of this is there: no marker (a folder that is not mounted is not noticed), no refusal of an older copy, no
  * refusal to begin a new job over old files (RELKVANU_STORE_CREATE after PATH was lost begins at epoch 1, gives out names from 1 on, and without
- * names its sweep deletes all), and no sync of the folder in relkvanu_store_discard. The engine does each of them itself (docs/DURABLE.md, A storage for state files,
- * which has all but the refusal of an older copy: never put one back). A
- * job over a storage of the engine's own that has files is made with RELKVANU_STORE_PLAIN, and gets names above all of these by a fence. */
+ * names its sweep deletes all), and no sync of the folder in relkvanu_store_discard. The engine does each of them itself (docs/DURABLE-STORAGE.md, A storage
+ * for state files, which has all but the refusal of an older copy: never put one back). A job over a storage of the engine's own that has
+ * files is made with RELKVANU_STORE_PLAIN, and gets names above all of these by a fence. */
 int relkvanu_store_open(relkvanu_store **store, const char *path, const relkvanu_store_options *options, relkvanu_store_report *report);
 
 /* What the job is: the settings that it was made with, and its shape now. *shape_len is the places of shape, and then how many vertices there are,
@@ -323,7 +323,7 @@ typedef bool (*relkvanu_store_delete_some)(void *with, const uint64_t *files, si
 int relkvanu_store_discard_for(relkvanu_store *store, size_t batch, uint64_t longest, relkvanu_store_delete_some delete_files, void *with);
 
 /* State files in the folder options.storage, by their numbers: file 7 has the name 7, and 7.part while it is not whole. A task in another process,
- * which has no store, makes them in the same way (docs/DURABLE.md, Tasks in other processes). An engine may name
+ * which has no store, makes them in the same way (docs/DURABLE-STORAGE.md, Tasks in other processes). An engine may name
  * its files otherwise, and then makes and deletes them itself. Several threads may put, delete and commit at once. Without a folder:
  * RELKVANU_STORE_BAD_ARGUMENT, and no file counts as gone. */
 
@@ -400,7 +400,7 @@ void relkvanu_store_stop(relkvanu_store *store);
  * the storage, so another store over this folder puts and deletes nothing more, and the file that was the job before is refused. It gives
  * out each name up to the greatest that options.storage has a file of, and is refused (RELKVANU_STORE_STORAGE) if that is 2^24 or more above
  * the names of the backup; without options.storage the engine reserves so many before its restore. Then the engine restores a record whose
- * files are all there, and sweeps. Read docs/DURABLE.md, A backup, first: its steps prepare the file over a folder of its own, so that nothing has
+ * files are all there, and sweeps. Read docs/DURABLE-BACKUP.md, A backup, first: its steps prepare the file over a folder of its own, so that nothing has
  * changed if no record is whole, and their limit is 2^32. */
 int relkvanu_store_backup(relkvanu_store *store, const char *path, char *message, size_t message_len);
 

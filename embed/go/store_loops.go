@@ -210,7 +210,7 @@ func (s *Store) Put(file uint64, contents []byte) error {
 // wraps why: errors.Is(err, syscall.ENOSPC).
 //
 // A backup lacks the calls since it was made. StoreOptions.Backup opens it, once, after all processes and tasks of the job have ended, and then the
-// engine restores a record whose files are all there: docs/DURABLE.md, A backup. Without that option the opening is refused as StoreStorage.
+// engine restores a record whose files are all there: docs/DURABLE-BACKUP.md, A backup. Without that option the opening is refused as StoreStorage.
 func (s *Store) Backup(path string) error {
 	if err := s.enter(); err != nil {
 		return err

@@ -725,7 +725,7 @@ class Store:
         "NotNow" (another backup writes it) or "NotPut" (a full disk, say): then there is none, and the store goes on.
 
         A BACKUP LACKS THE CALLS SINCE IT WAS MADE. Store(.., backup=True) opens it, once, after all processes and tasks of the job have ended, and then
-        the engine restores a record whose files are all there: docs/DURABLE.md, A backup. Without that it raises StoreError("Storage")."""
+        the engine restores a record whose files are all there: docs/DURABLE-BACKUP.md, A backup. Without that it raises StoreError("Storage")."""
         message, name = ctypes.create_string_buffer(512), _bytes(path)
 
         def work(store: ctypes.c_void_p) -> Tuple[int, int]:

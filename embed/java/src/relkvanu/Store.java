@@ -553,7 +553,7 @@ public final class Store implements AutoCloseable {
      * there is none, and the store goes on.
      *
      * <p><b>A backup lacks the calls since it was made.</b> {@link StoreOptions#withBackup} opens it, once, after all processes and tasks of the job
-     * have ended, and then the engine restores a record whose files are all there: docs/DURABLE.md, A backup. Without that option the
+     * have ended, and then the engine restores a record whose files are all there: docs/DURABLE-BACKUP.md, A backup. Without that option the
      * opening is refused with {@code STORAGE}.
      *
      * @param path the new file

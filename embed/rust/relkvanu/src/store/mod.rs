@@ -381,7 +381,7 @@ impl Store {
     /// backup writes it) or `NotPut` (a full disk, say): then there is none, and the store goes on.
     ///
     /// **A backup lacks the calls since it was made.** [`Options::backup`] opens it, once, after all processes and tasks of the job have ended, and
-    /// then the engine restores a record whose files are all there: docs/DURABLE.md, A backup. Without that option the opening is refused.
+    /// then the engine restores a record whose files are all there: docs/DURABLE-BACKUP.md, A backup. Without that option the opening is refused.
     pub fn backup(&self, path: &Path) -> Result<(), StoreError> {
         self.outside()?;
         let path = c_path(path)?;
