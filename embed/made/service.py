@@ -72,7 +72,7 @@ def with_own_reply() -> List[Tuple[Call, Number]]:
 
 
 # Calls that the service does not take.
-NOT_TAKEN = ("configure",)
+NOT_TAKEN = ("configure", "advance")
 
 
 def names() -> str:

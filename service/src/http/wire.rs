@@ -11,7 +11,8 @@ const LONGEST_NAME: usize = 64;
 const MOST_VERTICES: usize = 1 << 16;
 pub const NO_NAME: &str = "is no name: 1 to 64 of a-z, A-Z, 0-9, '-', '_' and '.', and a letter or digit first";
 // embed/bindings makes the names of calls
-const CALLS: &str = "ack, decline, tick, savepoint, dispose, restore, cancel, take, deleted, undeleted, reserve, forfeit, trigger and advance";
+const CALLS: &str =
+    "ack, decline, tick, savepoint, dispose, restore, cancel, take, deleted, undeleted, reserve, forfeit and trigger";
 // embed/bindings: end
 /// How many names a task reserves at once, and gives up.
 const MOST_RESERVED: u64 = 65_536;
