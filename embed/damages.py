@@ -130,7 +130,7 @@ DAMAGES = [
     (with_an_answer_changed, "is damaged"),
     (with_a_checksum_changed, "is damaged"),
     (without_a_line, "lacks call"),
-    (with_a_page_changed, "malformed"),
+    (with_a_page_changed, "is damaged"),
     (with_a_call_that_is_refused, "the coordinator answers"),
     (not_mounted, "has no marker"),
 ]

@@ -11,6 +11,8 @@ from test_metrics import scraped
 
 # Of these another test compares two values of a running service.
 ELSEWHERE = {
+    "relkvanu_backup_timestamp_seconds": "under_systemd",
+    "relkvanu_certificate_until_timestamp_seconds": "test_security",
     "relkvanu_clock_ahead_seconds": "test_clocks",
     "relkvanu_discard_files_total": "test_discard_folder",
     "relkvanu_followed_timestamp_seconds": "test_lease_lengths",
@@ -19,6 +21,7 @@ ELSEWHERE = {
     "relkvanu_image_failing": "test_put_off",
     "relkvanu_keys_behind_seconds": "test_upkeep",
     "relkvanu_leader": "test_lease_lengths",
+    "relkvanu_oldest_file_age_seconds": "test_limits",
     "relkvanu_samples_behind_seconds": "test_upkeep",
     "relkvanu_shards": "test_lease_lengths",
     "relkvanu_sweep_files_total": "test_sweep",
@@ -102,7 +105,10 @@ def test_metrics_of_alerts_move():
         service.job("orders").calls([{"call": "tick"}] * 1000)
         values = seen.look()
         service.job("orders").call(cancel())
-        here = {without_buckets(name) for name in named() if name not in ELSEWHERE and name not in OF_SETTINGS}
+        size = os.statvfs(server.folder)
+        sizes = [value for key, value in values.items() if key.partition("{")[0] == "relkvanu_disk_size_bytes"]
+        assert sizes and all(it == size.f_frsize * size.f_blocks for it in sizes), sizes
+        here = {without_buckets(name) for name in named() - {"relkvanu_disk_size_bytes"} if name not in ELSEWHERE and name not in OF_SETTINGS}
         until(lambda: seen.look() and not still(seen, here), told=lambda: still(seen, here))
         for name, (orders, timed) in OF_SETTINGS.items():
             told = [values[f'{name}{{job_name="{job}"}}'] for job in ("orders", "timed")]

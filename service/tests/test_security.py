@@ -89,16 +89,28 @@ def test_tokens_are_read_again():
         return "a new one, an old one and a bad file"
 
 
-def certificate(at, name):
+def certificate(at, name, days=2):
     """A new certificate for 127.0.0.1, which signs itself, over the old one."""
     words = ["-newkey", "rsa:2048", "-nodes", "-keyout", f"{at}/key.pem", "-out", f"{at}/certificate.pem", "-subj", f"/CN={name}"]
-    more = ["-days", "2", "-addext", "subjectAltName=IP:127.0.0.1"]
+    more = ["-days", str(days), "-addext", "subjectAltName=IP:127.0.0.1"]
     subprocess.run(["openssl", "req", "-x509", *words, *more], check=True, stderr=subprocess.DEVNULL)
 
 
 def name_of(server):
     text = ssl.get_server_certificate(("127.0.0.1", server.port))
     return subprocess.run(["openssl", "x509", "-noout", "-subject"], input=text, stdout=subprocess.PIPE, text=True, check=True).stdout.strip()
+
+
+def ends(at):
+    """When the certificate ends, in seconds since 1970, as openssl says it."""
+    words = ["openssl", "x509", "-noout", "-enddate", "-in", f"{at}/certificate.pem"]
+    told = subprocess.run(words, stdout=subprocess.PIPE, text=True, check=True).stdout
+    return ssl.cert_time_to_seconds(told.strip().partition("=")[2])
+
+
+def told_end(server):
+    """The same, as a metric says it."""
+    return [float(it) for it in re.findall(r"^relkvanu_certificate_until_timestamp_seconds (\S+)$", server.get("/metrics")[2], re.M)]
 
 
 class TlsServer(Server):
@@ -135,8 +147,10 @@ def test_tls_of_its_own():
         with socket.create_connection(("127.0.0.1", server.port), timeout=COMMAND) as silent:
             assert silent.recv(10) == b""
         first = name_of(server)
-        certificate(at, "second")
+        until(lambda: told_end(server) == [ends(at)], told=lambda: (told_end(server), ends(at)))
+        certificate(at, "second", days=5)
         told_again(server, "the certificate is read again")
+        until(lambda: told_end(server) == [ends(at)], told=lambda: (told_end(server), ends(at)))
         assert "first" in first and "second" in name_of(server), (first, name_of(server))
         assert server.get("/readyz")[0] == 200
         written(f"{at}/key.pem", "no key")

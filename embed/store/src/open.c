@@ -106,7 +106,9 @@ static int check_pages(relkvanu_store *s) {
     }
     const char *code = strstr(found, "error code=");
     bool is_read = code == NULL || (atoi(code + strlen("error code=")) & 255) == SQLITE_CORRUPT;
-    return told(s, is_read ? RELKVANU_STORE_DAMAGED : RELKVANU_STORE_FAILED, found);
+    char text[104];
+    snprintf(text, sizeof text, "the file %s: %.78s", is_read ? "is damaged" : "can't be read", found);
+    return told(s, is_read ? RELKVANU_STORE_DAMAGED : RELKVANU_STORE_FAILED, text);
 }
 
 static int read_job(relkvanu_store *s, struct job *job) {
