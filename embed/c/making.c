@@ -192,7 +192,7 @@ static size_t try_script(const char *path, size_t *refused) {
 static void try_order(void) {
     static uint64_t many[ITEMS * 2];
     relkvanu closed = {NULL}, job = plain();
-    struct call none = {.of = {.kind = 0}}, last = {.of = {.kind = 16}};
+    struct call none = {.of = {.kind = 0}}, last = {.of = {.kind = UINT32_MAX}};
     struct call shapeless = {.of = {.kind = RELKVANU_CALL_RESTORE}, .first = (uint64_t[]){0}, .first_len = 1};
     struct call late = {.of = {.kind = RELKVANU_CALL_DECLINE, .now = 5, .number = 7}};
     struct call full = {.of = {.kind = RELKVANU_CALL_ACK, .now = 5, .number = 7}, .first = many, .first_len = ITEMS * 2};

@@ -251,6 +251,7 @@ static bool try_line(const char *text, size_t len) {
         bool is_no_call =
             begins(text, len, past(text, len, 0, ""), "in ") && is_answer(it.answer, RELKVANU_BAD_LINE, RELKVANU_FAULT_NO_CALL, 0, 0);
         CHECK(text, is_call || is_no_call || is_answer(it.answer, RELKVANU_BAD_ARGUMENT, RELKVANU_BAD_SHAPE, 0, 0) ||
+                        is_answer(it.answer, RELKVANU_BAD_ARGUMENT, RELKVANU_BAD_CONFIG, 0, 0) ||
                         is_answer(it.answer, RELKVANU_REFUSED, RELKVANU_NO_SUCH_SAVEPOINT, 0, 0));
     } else if (told.what == RELKVANU_LINE_SKIP) {
         CHECK(text, is_answer(it.answer, RELKVANU_DONE, RELKVANU_SKIPPED, 0, 0));

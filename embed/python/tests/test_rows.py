@@ -110,7 +110,7 @@ class Rows(unittest.TestCase):
                     self.assertEqual(calls.line_call(call.line().encode()), call, line)
                     self.assertEqual(lines.line_says(line), lines.Call())
                     found.add(type(call))
-        self.assertEqual(found, set(calls.Call.__args__) - {calls.Fence, calls.Reserve, calls.Forfeit, calls.Trigger, calls.Configure})  # no script has these
+        self.assertEqual(found, set(calls.Call.__args__) - {calls.Fence, calls.Reserve, calls.Forfeit, calls.Advance})  # no row has these
 
     def test_calls_of_one_number_are_those_of_their_lines(self):
         """Each method of the coordinator and each function of lines that is made of the header."""

@@ -143,6 +143,7 @@ mod tests {
             (A::Restored { from: Choice::Savepoint(9), released: 0 }, "restored savepoint 9 0"),
             (A::Restored { from: Choice::Fresh, released: 30 }, "restored fresh 30"),
             (A::Cancelled { dropped: 1, released: 2 }, "cancelled 1 2"),
+            (A::Configured { checkpoints: 3, released: 12 }, "configured 3 12"),
             (A::Deleted(u64::MAX), "deleted 18446744073709551615"),
             (A::Undeleted(11), "undeleted 11"),
             (A::Counted { file: 31, uses: 2 }, "count 31 2"),
