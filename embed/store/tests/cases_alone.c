@@ -130,7 +130,7 @@ static void sweep_that_fails(void) {
     CHECK(relkvanu_store_sweep_storage(store, &storage, &left) == RELKVANU_STORE_OK, "no sweep");
     check_unissued(store, "a whole sweep");
     is_cut = true;
-    CHECK(relkvanu_store_sweep_storage(store, &storage, &left) == RELKVANU_STORE_STORAGE, "a sweep that fails");
+    CHECK(relkvanu_store_sweep_storage(store, &storage, &left) == RELKVANU_STORE_NOT_DONE, "a sweep that fails");
     check_unissued(store, "one that failed");
     relkvanu_store_close(store);
 }

@@ -46,7 +46,7 @@ static void bad_arguments(void) {
     bad(store, (relkvanu_store_call){.call = {.kind = 0}}, 1);
     bad(store, (relkvanu_store_call){.call = {.kind = RELKVANU_CALL_SHOW}}, 1);
     bad(store, (relkvanu_store_call){.call = {.kind = RELKVANU_CALL_COUNT}}, 1);
-    bad(store, (relkvanu_store_call){.call = {.kind = 16}}, 1);
+    bad(store, (relkvanu_store_call){.call = {.kind = UINT32_MAX}}, 1);
     bad(store, (relkvanu_store_call){.call = {.kind = RELKVANU_CALL_TICK}, .reserved = {0, 1}}, 1);
     bad(store, (relkvanu_store_call){.call = {.kind = RELKVANU_CALL_TAKE, .number = 5}, .files = places, .files_len = 4}, 1);
     bad(store, (relkvanu_store_call){.call = {.kind = RELKVANU_CALL_TICK}}, 0);
