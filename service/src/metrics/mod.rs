@@ -340,10 +340,14 @@ mod tests {
         let metrics = Metrics::new()?;
         for job in ["gone", "stays"] {
             for outcome in [Outcome::NoMemory, Outcome::NotMade, Outcome::Refused(Fault::Memory)] {
-                CALLS.iter().for_each(|call| metrics.call(job, call, &outcome));
+                for call in CALLS {
+                    metrics.call(job, call, &outcome);
+                }
             }
             for kind in KINDS {
-                Search::HOWS.iter().for_each(|how| metrics.record(job, kind, how, 1.0));
+                for how in Search::HOWS {
+                    metrics.record(job, kind, how, 1.0);
+                }
                 metrics.sizes.record(job, kind, (1, 2));
             }
             metrics.history(job, 1);
