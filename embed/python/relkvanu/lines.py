@@ -67,8 +67,8 @@ def line_says(line: bytes) -> Line:
 
 def settings_of(numbers: Sequence[int]) -> Settings:
     """The settings of seven numbers, in the order of their fields; the last is 0 or 1."""
-    *values, keep = numbers
-    return Settings(*values, keep_on_cancel=bool(keep))
+    interval, pause, at_once, timeout, tolerable, retained, keep = numbers
+    return Settings(interval, pause, at_once, timeout, tolerable, retained, bool(keep))
 
 
 def _numbers(settings: Settings) -> Tuple[int, ...]:
