@@ -108,27 +108,36 @@ pub struct State {
     /// Those that the writer has given up, and that are not free yet, and since when.
     to_free: Vec<Held>,
     given_up: Option<Moment>,
+    /// How many turns in a row have failed.
+    failed: u32,
 }
 
 impl Sharer {
     /// Shares until the process stops. If the database fails, the writer ends the process.
     pub fn run(mut self) {
         while !self.board.is_stopping() {
-            if let Err(why) = self.turn() {
-                log::warn(&format!("the shards stay as they are: {why}"));
-                self.end_with_unfree_shards();
-                if let Err(why) = self.shares.connect_again() {
-                    log::warn(&format!("the other processes are not known: {why}"));
-                }
+            match self.turn() {
+                Ok(()) => self.state.failed = 0,
+                Err(why) => self.try_anew(&why),
             }
             std::thread::sleep(LOOK_EACH);
         }
     }
 
-    /// Ends the process if it could not free its shards for the length of its lease, as without a connection of its own: the writer goes on,
-    /// so nobody else would get them. Its end frees them.
+    fn try_anew(&mut self, why: &DbError) {
+        log::warn(&format!("the shards stay as they are: {why}"));
+        self.state.failed += 1;
+        self.end_with_unfree_shards();
+        if let Err(why) = self.shares.connect_again() {
+            log::warn(&format!("the other processes are not known: {why}"));
+        }
+    }
+
+    /// Ends the process if it could not free its shards for the length of its lease, by another connection too: the writer goes on, so nobody
+    /// else would get them. Its end frees them.
     fn end_with_unfree_shards(&self) {
-        if self.state.given_up.is_some_and(|since| since.elapsed() >= self.shares.lease()) {
+        let was_tried_anew = self.state.failed > 1;
+        if was_tried_anew && self.state.given_up.is_some_and(|since| since.elapsed() >= self.shares.lease()) {
             log::error("the shards that this process gave up can't be made free: it ends, so that others get them");
             exit::now(exit::START_AGAIN);
         }
