@@ -1,6 +1,7 @@
 //! Acknowledgements of records that are pending.
-ghost use Rattle.std.specs.Prelude.{◌≡◌, ◌<◌, ◌≤◌, ◌+◌, ◌++◌, ◌==◌, find, length, IfOk, OnOk, OnErr, IsSome, true, IfErr};
+ghost use Rattle.std.specs.Prelude.{◌≡◌, ◌<◌, ◌≤◌, ◌+◌, ◌++◌, ◌==◌, find, length, IfOk, OnOk, OnErr, IsSome, true, IfErr, ◌^◌};
 ghost use Rattle.ckpt_ids.specs.declared.call.Call.TheVariants as call;
+ghost use Rattle.ckpt_memory.specs.Refusals.{one_more};
 ghost use Rattle.ckpt_model.specs.declared.faults.CoreFault.TheVariants.{Memory};
 ghost use Rattle.ckpt_model.specs.Coordinator.{may_want_memory};
 ghost use Rattle.ckpt_core.specs.Inside.Completing.{IsMissing};
@@ -13,25 +14,33 @@ ghost use Rattle.ckpt_store.specs.Storing.{id_of};
 
 use crate::parts::Parts;
 use ckpt_ids::{CheckpointId, FileId, Files, MOST_FILES, Reply, SubtaskId};
+use ckpt_memory::{Meter, list};
 use ckpt_model::CoreFault;
 use std::alloc::{AllocError, Global};
 
 /// The files of an acknowledgement, fresh and reused together.
 ///
 /// Condition: they are at most [`MOST_FILES`].
-fn joined(alloc: Global, fresh: &Files, reused: &Files) -> Result<Files, AllocError>
+fn joined(
+    meter: &mut Meter,
+    alloc: Global,
+    fresh: &Files,
+    reused: &Files,
+) -> Result<Files, AllocError>
     requires { length fresh.now + length reused.now ≤ MOST_FILES }
-    ensures { IfOk result (λ files. files ≡ ascending (fresh.now ++ reused.now)) }
+    ensures files { IfOk result (λ files. files ≡ ascending (fresh.now ++ reused.now)) }
+    ensures none { OnOk result (meter.new ≡ meter.old) }
+    ensures refused { OnErr result (meter.new ≡ one_more meter.old) }
 {
     // The contract of a slice says that the files are in ascending order, so a copy is too.
     let written = fresh.as_slice();
     if reused.is_empty() {
-        return fresh.copy();
+        return fresh.copy_metered(meter);
     }
-    let mut files = Vec::with_capacity(alloc, fresh.len() + reused.len())?;
+    let mut files = list::with_capacity(meter, alloc, fresh.len() + reused.len())?;
     // Files that were there before mostly have the smaller numbers, so this order leaves the least to sort.
-    files.extend_from_slice(reused.as_slice())?;
-    files.extend_from_slice(written)?;
+    list::extend_from_slice(meter, &mut files, reused.as_slice())?;
+    list::extend_from_slice(meter, &mut files, written)?;
     Ok(Files::of(files))
 }
 
@@ -50,6 +59,7 @@ impl Parts {
     #[inline(never)]
     pub(crate) fn ack(
         &mut self,
+        meter: &mut Meter,
         now: u64,
         id: CheckpointId,
         place: usize,
@@ -64,15 +74,17 @@ impl Parts {
         ensures err { OnErr result (Stays self.old self.new) }
         ensures fault { IfErr result (λ fault. fault ≡ Memory) }
         ensures memory { OnErr result (may_want_memory (state_of self.old) (call.Ack now id subtask fresh.now reused.now) ≡ true) }
+        ensures none { OnOk result (meter.new ≡ meter.old) }
+        ensures refused { OnErr result (meter.new ≡ one_more meter.old) }
     {
         self.recall_store();
         self.pending.recall();
         let missing = self.pending.at(place).missing();
         // each answer is the last expression, so it needs no place beside the result
         if missing > 1 {
-            self.ack_waiting(now, id, place, subtask, fresh, reused, missing)
+            self.ack_waiting(meter, now, id, place, subtask, fresh, reused, missing)
         } else {
-            self.ack_last(now, id, place, subtask, fresh, reused)
+            self.ack_last(meter, now, id, place, subtask, fresh, reused)
         }
     }
 
@@ -82,6 +94,7 @@ impl Parts {
     /// `missing` acknowledgements, more than one.
     fn ack_waiting(
         &mut self,
+        meter: &mut Meter,
         now: u64,
         id: CheckpointId,
         place: usize,
@@ -98,21 +111,30 @@ impl Parts {
         ensures ok { IfOk result (Answers self.old self.new (call.Ack now id subtask fresh.now reused.now)) }
         ensures err { OnErr result (Stays self.old self.new) }
         ensures fault { IfErr result (λ fault. fault ≡ Memory) }
+        ensures none { OnOk result (meter.new ≡ meter.old) }
+        ensures refused { OnErr result (meter.new ≡ one_more meter.old) }
     {
-        self.make_room_for_files(fresh.len())?;
-        self.take_ack(now, id, place, subtask, fresh, reused)?;
+        self.make_room_for_files(meter, fresh.len())?;
+        self.take_ack(meter, now, id, place, subtask, fresh, reused)?;
         Ok(Reply::AckPending(missing - 1))
     }
 
     /// Makes room in the outbox for the files that are in use and this many more.
-    pub(crate) fn make_room_for_files(&mut self, more: usize) -> Result<(), AllocError>
+    ///
+    /// Condition: `more` is below 2^63.
+    pub(crate) fn make_room_for_files(
+        &mut self,
+        meter: &mut Meter,
+        more: usize,
+    ) -> Result<(), AllocError>
+        requires { more < 2 ^ 63 }
         ensures ok { OnOk result (self.new ≡ with_room self.old more) }
         ensures err { OnErr result (self.new ≡ self.old) }
+        ensures none { OnOk result (meter.new ≡ meter.old) }
+        ensures refused { OnErr result (meter.new ≡ one_more meter.old) }
     {
-        let Some(files) = self.registry.present().checked_add(more as u64) else {
-            return Err(AllocError);
-        };
-        self.outbox.reserve(files)
+        let files = self.registry.present() + more as u64;
+        self.outbox.reserve_metered(meter, files)
     }
 
     /// Adds an acknowledgement to its pending record, and its files to the registry. Fails only if
@@ -121,6 +143,7 @@ impl Parts {
     /// Conditions: the parts are sound, the call is accepted, and the record is at this place.
     pub(crate) fn take_ack(
         &mut self,
+        meter: &mut Meter,
         now: u64,
         id: CheckpointId,
         place: usize,
@@ -137,12 +160,17 @@ impl Parts {
         ensures pending { (r : Record) → IsIn r self.old.pending → IsPending r }
         ensures in_order { IsInOrder id_before self.old.pending }
         ensures stored { IsStored self.old.store }
+        ensures none { OnOk result (meter.new ≡ meter.old) }
+        ensures refused { OnErr result (meter.new ≡ one_more meter.old) }
     {
         self.recall_store();
         self.pending.recall();
-        let files = joined(self.alloc, fresh, reused)?;
-        self.pending.ack(place, subtask, files)?;
-        if let Err(error) = self.registry.use_files(id, subtask, fresh, reused) {
+        let files = joined(meter, self.alloc, fresh, reused)?;
+        self.pending.ack(meter, place, subtask, files)?;
+        if let Err(error) = self
+            .registry
+            .use_files_metered(meter, id, subtask, fresh, reused)
+        {
             self.pending.retract(place, subtask);
             return Err(error);
         }

@@ -1,8 +1,9 @@
 //! The last acknowledgement of a record, which completes it.
-ghost use Rattle.std.specs.Prelude.{◌≡◌, ◌<◌, ◌≤◌, ◌+◌, ◌^◌, ◌++◌, ℕ, length, slice_get, [], IfOk, OnErr, Some, true, false, vec_capacity, vec_len, IfErr};
+ghost use Rattle.std.specs.Prelude.{◌≡◌, ◌<◌, ◌≤◌, ◌+◌, ◌^◌, ◌++◌, ℕ, length, slice_get, [], IfOk, OnErr, Some, true, false, vec_capacity, vec_len, IfErr, OnOk};
 ghost use Rattle.ckpt_ids.specs.declared.call.Call.TheVariants as call;
 ghost use Rattle.ckpt_ids.specs.declared.numbers.Kind.TheVariants as kind;
 ghost use Rattle.ckpt_ids.specs.declared.reply.Reply.TheVariants as reply;
+ghost use Rattle.ckpt_memory.specs.Refusals.{one_more};
 ghost use Rattle.ckpt_model.specs.declared.faults.CoreFault.TheVariants.{Memory};
 ghost use Rattle.ckpt_core.specs.Inside.Completing.{IsMissing, superseded_ids, surplus};
 ghost use Rattle.ckpt_core.specs.Inside.Moving.{checkpoint_completed, completion, savepoint_completed, with_checkpoint, without_pending};
@@ -15,6 +16,7 @@ ghost use Rattle.ckpt_store.specs.Storing.{id_of};
 
 use crate::parts::Parts;
 use ckpt_ids::{CheckpointId, Files, Kind, Reply, SubtaskId};
+use ckpt_memory::Meter;
 use ckpt_model::CoreFault;
 use ckpt_pending::Done;
 
@@ -25,6 +27,7 @@ impl Parts {
     /// one acknowledgement.
     pub(crate) fn ack_last(
         &mut self,
+        meter: &mut Meter,
         now: u64,
         id: CheckpointId,
         place: usize,
@@ -39,10 +42,12 @@ impl Parts {
         ensures ok { IfOk result (Answers self.old self.new (call.Ack now id subtask fresh.now reused.now)) }
         ensures err { OnErr result (Stays self.old self.new) }
         ensures fault { IfErr result (λ fault. fault ≡ Memory) }
+        ensures none { OnOk result (meter.new ≡ meter.old) }
+        ensures refused { OnErr result (meter.new ≡ one_more meter.old) }
     {
-        self.make_room_for_files(fresh.len())?;
-        self.store.reserve()?;
-        self.take_ack(now, id, place, subtask, fresh, reused)?;
+        self.make_room_for_files(meter, fresh.len())?;
+        self.store.reserve_metered(meter)?;
+        self.take_ack(meter, now, id, place, subtask, fresh, reused)?;
         let done = self.finish(place);
         match done.kind() {
             Kind::Checkpoint => {

@@ -1,8 +1,9 @@
 //! The coordinator as callers see it: how it is opened, and the call that makes all others.
-ghost use Rattle.std.specs.Prelude.{◌≡◌, ◌↔◌, true, false, Some, Err, IfOk, OnErr, IfErr};
+ghost use Rattle.std.specs.Prelude.{◌≡◌, ◌↔◌, true, false, Some, Err, IfOk, OnErr, IfErr, OnOk};
 ghost use Rattle.std.specs.Result.{result_err};
 ghost use Rattle.ckpt_ids.specs.declared.reply.Answer.TheVariants.{Done};
 ghost use Rattle.ckpt_ids.specs.declared.reply.Refusal.{Refusal};
+ghost use Rattle.ckpt_memory.specs.Refusals.{one_more};
 ghost use Rattle.ckpt_model.specs.declared.faults.CoreFault.TheVariants.{Memory};
 ghost use Rattle.ckpt_model.specs.Coordinator.{IsCall, may_want_memory, open_fault, opened, refusal, step};
 ghost use Rattle.ckpt_core.specs.Inside.Parts.{Answers, AreSound, IsAccepted, IsPlaceIn, Stays, never_fails, state_of, tests_itself};
@@ -11,6 +12,7 @@ use crate::parts::Parts;
 use crate::triggers::Ticked;
 use ckpt_hash::Secret;
 use ckpt_ids::{Call, Config, MOMENTS_END, NUMBERS_END, Refusal, Reply, Shape};
+use ckpt_memory::Meter;
 use ckpt_model::{CoreFault, OpenFault};
 use std::alloc::Global;
 use std::marker::Model;
@@ -105,6 +107,21 @@ impl Core {
         ensures unchanged { OnErr result (self.new ≡ self.old) }
         ensures shape { IsCall call.now }
     {
+        self.apply_metered(&mut Meter::new(), call)
+    }
+
+    /// [`Core::apply`], which answers [`CoreFault::Memory`] exactly if one more request for memory was
+    /// refused.
+    pub fn apply_metered(&mut self, meter: &mut Meter, call: &Call) -> Result<Reply, CoreFault>
+        ensures done { IfOk result (λ reply. step self.old call.now ≡ (self.new, Done reply)) }
+        ensures refused { (why : Refusal) → (result ≡ Err (CoreFault.Refused why)) ↔ (refusal self.old call.now ≡ Some why) }
+        ensures memory { result ≡ Err CoreFault.Memory → may_want_memory self.old call.now ≡ true }
+        ensures unchanged { OnErr result (self.new ≡ self.old) }
+        ensures shape { IsCall call.now }
+        ensures none { OnOk result (meter.new ≡ meter.old) }
+        ensures cause { result ≡ Err CoreFault.Memory → meter.new ≡ one_more meter.old }
+        ensures kept { (why : Refusal) → result ≡ Err (CoreFault.Refused why) → meter.new ≡ meter.old }
+    {
         recall_call(call);
         let place = match self.parts.test(call) {
             Ok(place) => place,
@@ -113,10 +130,10 @@ impl Core {
         // These are not tested first: each looks its record or file up anyway, and refuses it then.
         match call {
             Call::Dispose { id } => self.parts.dispose(*id),
-            Call::Show { id } => self.parts.show(*id),
+            Call::Show { id } => self.parts.show(meter, *id),
             Call::Deleted { file } => self.parts.deleted(*file).map_err(CoreFault::Refused),
             Call::Undeleted { file } => self.parts.undeleted(*file).map_err(CoreFault::Refused),
-            _ => self.parts.answer(call, place),
+            _ => self.parts.answer(meter, call, place),
         }
     }
 }
@@ -146,7 +163,12 @@ impl Parts {
     ///
     /// Conditions: the parts are sound, the call is accepted, and the pending record that it names is at
     /// this place. If there is no place, no pending record has its number.
-    fn answer(&mut self, call: &Call, place: Option<usize>) -> Result<Reply, CoreFault>
+    fn answer(
+        &mut self,
+        meter: &mut Meter,
+        call: &Call,
+        place: Option<usize>,
+    ) -> Result<Reply, CoreFault>
         requires sound { AreSound self.old }
         requires accepted { IsAccepted self.old call.now }
         requires other { tests_itself call.now ≡ false }
@@ -155,13 +177,15 @@ impl Parts {
         ensures err { OnErr result (Stays self.old self.new) }
         ensures fault { IfErr result (λ fault. fault ≡ Memory) }
         ensures memory { OnErr result (may_want_memory (state_of self.old) call.now ≡ true) }
+        ensures none { OnOk result (meter.new ≡ meter.old) }
+        ensures refused { OnErr result (meter.new ≡ one_more meter.old) }
     {
         match call {
             Call::Tick { now } => {
-                let Ticked { expired, end } = self.tick(*now)?;
+                let Ticked { expired, end } = self.tick(meter, *now)?;
                 Ok(Reply::Ticked { expired, end })
             }
-            Call::Savepoint { now } => self.savepoint(*now),
+            Call::Savepoint { now } => self.savepoint(meter, *now),
             Call::Ack {
                 now,
                 id,
@@ -169,16 +193,16 @@ impl Parts {
                 fresh,
                 reused,
             } => match place {
-                Some(place) => self.ack(*now, *id, place, *subtask, fresh, reused),
-                None => self.ack_late(*now, *id, *subtask, fresh, reused),
+                Some(place) => self.ack(meter, *now, *id, place, *subtask, fresh, reused),
+                None => self.ack_late(meter, *now, *id, *subtask, fresh, reused),
             },
             Call::Restore {
                 now,
                 target,
                 shape: Some(shape),
-            } => self.restore_in(*now, *target, shape),
-            Call::Take { most } => self.take(*most),
-            Call::Trigger { now } => self.trigger_now(*now),
+            } => self.restore_in(meter, *now, *target, shape),
+            Call::Take { most } => self.take(meter, *most),
+            Call::Trigger { now } => self.trigger_now(meter, *now),
             _ => Ok(self.answer_in_place(call, place)),
         }
     }

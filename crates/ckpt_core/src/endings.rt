@@ -1,8 +1,9 @@
 //! Calls that end records: declines, disposals, restores and the cancellation of the job.
-ghost use Rattle.std.specs.Prelude.{◌≡◌, ◌≢◌, ◌↔◌, ℕ, ◌||◌, true, [], length, Some, None, Err, IfOk, OnErr, IfErr};
+ghost use Rattle.std.specs.Prelude.{◌≡◌, ◌≢◌, ◌↔◌, ℕ, ◌||◌, true, [], length, Some, None, Err, IfOk, OnErr, IfErr, OnOk};
 ghost use Rattle.ckpt_ids.specs.declared.call.Target.TheVariants.{Savepoint};
 ghost use Rattle.ckpt_ids.specs.declared.call.Call.TheVariants as call;
 ghost use Rattle.ckpt_ids.specs.declared.reply.Refusal.{Refusal};
+ghost use Rattle.ckpt_memory.specs.Refusals.{one_more};
 ghost use Rattle.ckpt_model.specs.declared.faults.CoreFault.TheVariants.{Memory};
 ghost use Rattle.ckpt_core.specs.Inside.Parts.{Answers, AreSound, AreTied, Drops, IsAccepted, IsPlaceOf, Stays, records_in, state_of};
 ghost use Rattle.ckpt_core.specs.Inside.RecordFacts.{IsInOrder, id_before, is_done_checkpoint, is_pending};
@@ -12,6 +13,7 @@ ghost use Rattle.ckpt_model.specs.Steps.{cancelled, dropped_by, failed_over, rol
 
 use crate::parts::Parts;
 use ckpt_ids::{CheckpointId, Choice, Kind, Refusal, Reply, Shape, SubtaskId, Target};
+use ckpt_memory::Meter;
 use ckpt_model::{CoreFault, Mode};
 use ckpt_store::DisposeFault;
 
@@ -164,6 +166,7 @@ impl Parts {
     #[inline(never)]
     pub(crate) fn restore_in(
         &mut self,
+        meter: &mut Meter,
         now: u64,
         target: Target,
         shape: &Shape,
@@ -173,8 +176,10 @@ impl Parts {
         ensures ok { IfOk result (Answers self.old self.new (call.Restore now target (Some shape.now))) }
         ensures err { OnErr result (Stays self.old self.new) }
         ensures fault { IfErr result (λ fault. fault ≡ Memory) }
+        ensures none { OnOk result (meter.new ≡ meter.old) }
+        ensures refused { OnErr result (meter.new ≡ one_more meter.old) }
     {
-        let shape = shape.copy()?;
+        let shape = shape.copy_metered(meter)?;
         let reply = self.restore(now, target);
         self.reshaped = Some(shape);
         Ok(reply)

@@ -1,10 +1,12 @@
 //! What is saved of a coordinator. One that is made from it answers as the saved one would.
-ghost use Rattle.std.specs.Prelude.{◌≡◌, Err, IfOk, OnOk};
+ghost use Rattle.std.specs.Prelude.{◌≡◌, Err, IfOk, OnOk, OnErr};
+ghost use Rattle.ckpt_memory.specs.Refusals.{one_more};
 ghost use Rattle.ckpt_model.specs.Images.{CanHold, HasSoundNumbers, settled, state_in};
 
 use crate::coordinator::Core;
 use crate::parts::Parts;
 use ckpt_hash::Secret;
+use ckpt_memory::Meter;
 use ckpt_model::Image;
 use std::alloc::{AllocError, Global};
 use thiserror::Error;
@@ -38,7 +40,17 @@ impl Core {
         ensures value { IfOk result (λ image. state_in image ≡ settled self.now) }
         ensures good { IfOk result (λ image. CanHold (state_in image)) }
     {
-        self.parts.image()
+        self.image_metered(&mut Meter::new())
+    }
+
+    /// [`Core::image`], which fails exactly if one more request for memory was refused.
+    pub fn image_metered(&self, meter: &mut Meter) -> Result<Image, AllocError>
+        ensures value { IfOk result (λ image. state_in image ≡ settled self.now) }
+        ensures good { IfOk result (λ image. CanHold (state_in image)) }
+        ensures none { OnOk result (meter.new ≡ meter.old) }
+        ensures refused { OnErr result (meter.new ≡ one_more meter.old) }
+    {
+        self.parts.image(meter)
     }
 
     /// A coordinator in the state of the image. It hashes file numbers under a secret, as that of
@@ -54,7 +66,25 @@ impl Core {
         ensures damaged { result ≡ Err ImageFault.Damaged → CanHold (state_in image.now) → ⊥ }
         ensures memory { result ≡ Err ImageFault.Memory → HasSoundNumbers (state_in image.now) }
     {
-        let parts = Parts::of_image(alloc, image, secret)?;
+        Core::from_image_metered(&mut Meter::new(), alloc, image, secret)
+    }
+
+    /// [`Core::from_image`], which answers [`ImageFault::Memory`] only if one more request for
+    /// memory was refused.
+    pub fn from_image_metered(
+        meter: &mut Meter,
+        alloc: Global,
+        image: &Image,
+        secret: Secret,
+    ) -> Result<Core, ImageFault>
+        ensures value { IfOk result (λ core. core ≡ state_in image.now) }
+        ensures sound { OnOk result (CanHold (state_in image.now)) }
+        ensures damaged { result ≡ Err ImageFault.Damaged → CanHold (state_in image.now) → ⊥ }
+        ensures memory { result ≡ Err ImageFault.Memory → HasSoundNumbers (state_in image.now) }
+        ensures none { OnOk result (meter.new ≡ meter.old) }
+        ensures cause { result ≡ Err ImageFault.Memory → meter.new ≡ one_more meter.old }
+    {
+        let parts = Parts::of_image(meter, alloc, image, secret)?;
         Ok(Core { parts })
     }
 }

@@ -1,12 +1,13 @@
 //! Makes a coordinator from an image.
 
-ghost use Rattle.std.specs.Prelude.{◌≡◌, ◌↔◌, ℕ, ◌<◌, ◌≤◌, ◌^◌, ◌-◌, ◌+◌, [], ◌∷◌, ◌++◌, false, map, length, Err, None, IfOk, OnOk, IsTrue};
+ghost use Rattle.std.specs.Prelude.{◌≡◌, ◌↔◌, ℕ, ◌<◌, ◌≤◌, ◌^◌, ◌-◌, ◌+◌, [], ◌∷◌, ◌++◌, false, map, length, Err, None, IfOk, OnOk, IsTrue, OnErr};
 ghost use Rattle.ckpt_ids.specs.declared.ack.Acked.{Acked};
 ghost use Rattle.ckpt_ids.specs.declared.numbers.Kind.TheVariants as kind;
 ghost use Rattle.ckpt_ids.specs.Ascending.{IsAscendingSet};
 ghost use Rattle.ckpt_ids.specs.Ordered.{IsIn, IsInOrder};
 ghost use Rattle.ckpt_ids.specs.Records.{Record, Use, count, use_before, uses};
 ghost use Rattle.ckpt_pending.specs.Acknowledging.{pending_record};
+ghost use Rattle.ckpt_memory.specs.Refusals.{one_more};
 ghost use Rattle.ckpt_model.specs.Images.{record_in};
 ghost use Rattle.ckpt_core.specs.Inside.Loading.{AreOfShape, HaveSoundRecords, IsMade, JoinsParts, MayJoinParts, uses_held};
 ghost use Rattle.ckpt_core.specs.Inside.Moving.{with_done, with_pending};
@@ -19,6 +20,7 @@ use crate::parts::Parts;
 use crate::recall::{recall_done, recall_limits, recall_pending};
 use crate::refusals::repeats;
 use ckpt_ids::{Acks, CheckpointId, Files, Kind, MOMENTS_END, MOST_SAVEPOINTS, Metadata};
+use ckpt_memory::Meter;
 use ckpt_model::Saved;
 use ckpt_pending::{AckFault, Done, Pending};
 use ckpt_registry::Registry;
@@ -30,6 +32,7 @@ use std::alloc::{AllocError, Global};
 /// Conditions: the uses that are there are in order and of older records, no list names a file
 /// twice, and no file gets more than 2^32 - 2 uses.
 pub(crate) fn register(
+    meter: &mut Meter,
     registry: &mut Registry,
     id: CheckpointId,
     acks: &Acks,
@@ -40,31 +43,40 @@ pub(crate) fn register(
     requires files { (a : Acked) → IsIn a acks.now → IsAscendingSet a.files }
     requires pins { IsAscendingSet pins.now }
     requires below { (f : ℕ) → count (registry.old ++ uses_held id acks.now pins.now) f < 2 ^ 32 - 1 }
-    ensures { OnOk result (registry.new ≡ registry.old ++ uses_held id acks.now pins.now) }
+    ensures ok { OnOk result (registry.new ≡ registry.old ++ uses_held id acks.now pins.now) }
+    ensures none { OnOk result (meter.new ≡ meter.old) }
+    ensures refused { OnErr result (meter.new ≡ one_more meter.old) }
 {
     for acked in acks.as_slice() {
-        registry.hold_files(id, acked.subtask, &acked.files)?;
+        registry.hold_files_metered(meter, id, acked.subtask, &acked.files)?;
     }
     if pins.is_empty() {
         return Ok(());
     }
-    registry.pin_files(id, pins)
+    registry.pin_files_metered(meter, id, pins)
 }
 
 /// The record with its acknowledgements, as if it were pending.
-pub(crate) fn acknowledged(alloc: Global, metadata: &Metadata) -> Result<Pending, ImageFault>
+pub(crate) fn acknowledged(
+    meter: &mut Meter,
+    alloc: Global,
+    metadata: &Metadata,
+) -> Result<Pending, ImageFault>
     ensures ok { IfOk result (λ made. made ≡ pending_record metadata.now.id metadata.now.kind metadata.now.shape metadata.now.started metadata.now.acks) }
     ensures damaged { result ≡ Err ImageFault.Damaged → AreOfShape metadata.now.shape metadata.now.acks → ⊥ }
+    ensures none { OnOk result (meter.new ≡ meter.old) }
+    ensures cause { result ≡ Err ImageFault.Memory → meter.new ≡ one_more meter.old }
 {
-    let shape = metadata.shape.copy()?;
+    let shape = metadata.shape.copy_metered(meter)?;
     let mut pending = Pending::new(alloc, metadata.id, metadata.kind, shape, metadata.started);
     for acked in metadata.acks.as_slice() {
-        let files = acked.files.copy()?;
-        match pending.ack(acked.subtask, files) {
+        let files = acked.files.copy_metered(meter)?;
+        match pending.ack_metered(meter, acked.subtask, files) {
             Ok(()) => {}
             Err(AckFault::UnknownSubtask) => return Err(ImageFault::Damaged),
             // In subtask order none comes twice.
-            Err(_) => return Err(ImageFault::Memory),
+            Err(AckFault::AlreadyAcknowledged) => unreachable!(),
+            Err(AckFault::Memory) => return Err(ImageFault::Memory),
         }
     }
     Ok(pending)
@@ -78,6 +90,7 @@ impl Parts {
     /// 2^32 - 2 uses.
     pub(crate) fn load_pending(
         &mut self,
+        meter: &mut Meter,
         pending: Pending,
         acks: &Acks,
         pins: &Files,
@@ -93,12 +106,14 @@ impl Parts {
         ensures tied { OnOk result (AreTied self.new) }
         ensures rest { OnOk result (self.new ≡ with_pending self.old self.new) }
         ensures noted { OnOk result (self.new.ended.items ≡ self.old.ended.items) }
+        ensures none { OnOk result (meter.new ≡ meter.old) }
+        ensures refused { OnErr result (meter.new ≡ one_more meter.old) }
     {
         self.recall_uses();
-        self.make_room()?;
-        register(&mut self.registry, pending.id(), acks, pins)?;
-        self.pending.add(pending)?;
-        self.make_room_for_files(0)
+        self.make_room(meter)?;
+        register(meter, &mut self.registry, pending.id(), acks, pins)?;
+        self.pending.add(meter, pending)?;
+        self.make_room_for_files(meter, 0)
     }
 
     /// Adds a done checkpoint. Fails only if memory runs out.
@@ -106,7 +121,12 @@ impl Parts {
     /// Conditions: the parts are tied and without a base, and have fewer than 2^32 records, all of
     /// them older, and fewer checkpoints than are retained. The record is a checkpoint with these
     /// acknowledgements. None of them names a file twice, and no file gets more than 2^32 - 2 uses.
-    pub(crate) fn load_checkpoint(&mut self, done: Done, acks: &Acks) -> Result<(), AllocError>
+    pub(crate) fn load_checkpoint(
+        &mut self,
+        meter: &mut Meter,
+        done: Done,
+        acks: &Acks,
+    ) -> Result<(), AllocError>
         requires tied { AreTied self.old }
         requires newest { (r : Record) → IsIn r (records_in self.old) → r.id < done.id }
         requires checkpoint { done.kind ≡ kind.Checkpoint }
@@ -120,14 +140,16 @@ impl Parts {
         ensures tied { OnOk result (AreTied self.new) }
         ensures rest { OnOk result (self.new ≡ with_done self.old self.new) }
         ensures noted { OnOk result (self.new.ended.items ≡ self.old.ended.items) }
+        ensures none { OnOk result (meter.new ≡ meter.old) }
+        ensures refused { OnErr result (meter.new ≡ one_more meter.old) }
     {
         self.recall_uses();
-        self.make_room()?;
-        self.store.reserve()?;
+        self.make_room(meter)?;
+        self.store.reserve_metered(meter)?;
         let none = Files::of(Vec::new(self.alloc));
-        register(&mut self.registry, done.id(), acks, &none)?;
+        register(meter, &mut self.registry, done.id(), acks, &none)?;
         let _ = self.store.complete(done);
-        self.make_room_for_files(0)
+        self.make_room_for_files(meter, 0)
     }
 
     /// Adds a done savepoint. Fails only if memory runs out.
@@ -135,7 +157,12 @@ impl Parts {
     /// Conditions: the parts are tied, and have fewer than 2^32 records, all of them older, and
     /// fewer than 2^32 - 1 done savepoints. The record is a savepoint with these acknowledgements.
     /// None of them names a file twice, and no file gets more than 2^32 - 2 uses.
-    pub(crate) fn load_savepoint(&mut self, done: Done, acks: &Acks) -> Result<(), AllocError>
+    pub(crate) fn load_savepoint(
+        &mut self,
+        meter: &mut Meter,
+        done: Done,
+        acks: &Acks,
+    ) -> Result<(), AllocError>
         requires tied { AreTied self.old }
         requires newest { (r : Record) → IsIn r (records_in self.old) → r.id < done.id }
         requires savepoint { done.kind ≡ kind.Savepoint }
@@ -148,14 +175,16 @@ impl Parts {
         ensures tied { OnOk result (AreTied self.new) }
         ensures rest { OnOk result (self.new ≡ with_done self.old self.new) }
         ensures noted { OnOk result (self.new.ended.items ≡ self.old.ended.items) }
+        ensures none { OnOk result (meter.new ≡ meter.old) }
+        ensures refused { OnErr result (meter.new ≡ one_more meter.old) }
     {
         self.recall_uses();
-        self.make_room()?;
-        self.store.reserve()?;
+        self.make_room(meter)?;
+        self.store.reserve_metered(meter)?;
         let none = Files::of(Vec::new(self.alloc));
-        register(&mut self.registry, done.id(), acks, &none)?;
+        register(meter, &mut self.registry, done.id(), acks, &none)?;
         self.store.add_savepoint(done);
-        self.make_room_for_files(0)
+        self.make_room_for_files(meter, 0)
     }
 }
 
@@ -242,7 +271,7 @@ impl Parts {
     /// Adds a record behind those that are there. Tests what needs no memory first.
     ///
     /// Conditions: the parts are tied and without a base, and their records are sound.
-    pub(crate) fn load(&mut self, saved: &Saved) -> Result<(), ImageFault>
+    pub(crate) fn load(&mut self, meter: &mut Meter, saved: &Saved) -> Result<(), ImageFault>
         requires tied { AreTied self.old }
         requires sound { HaveSoundRecords self.old }
         requires base { self.old.store.base ≡ None }
@@ -252,6 +281,8 @@ impl Parts {
         ensures joins { OnOk result (JoinsParts self.old (record_in saved.now)) }
         ensures damaged { result ≡ Err ImageFault.Damaged → JoinsParts self.old (record_in saved.now) → ⊥ }
         ensures memory { result ≡ Err ImageFault.Memory → MayJoinParts self.old (record_in saved.now) }
+        ensures none { OnOk result (meter.new ≡ meter.old) }
+        ensures cause { result ≡ Err ImageFault.Memory → meter.new ≡ one_more meter.old }
     {
         if !self.may_join(saved) {
             return Err(ImageFault::Damaged);
@@ -259,8 +290,8 @@ impl Parts {
         if !names_each_once(saved) {
             return Err(ImageFault::Damaged);
         }
-        let pending = acknowledged(self.alloc, &saved.metadata)?;
-        self.load_acknowledged(pending, saved)
+        let pending = acknowledged(meter, self.alloc, &saved.metadata)?;
+        self.load_acknowledged(meter, pending, saved)
     }
 
     /// Adds a record, which has its acknowledgements.
@@ -268,7 +299,12 @@ impl Parts {
     /// Conditions: those of [`Parts::load`]. `pending` has the acknowledgements of the saved
     /// record, which names no file twice in a list, and may follow the others if it is sound by
     /// itself.
-    fn load_acknowledged(&mut self, pending: Pending, saved: &Saved) -> Result<(), ImageFault>
+    fn load_acknowledged(
+        &mut self,
+        meter: &mut Meter,
+        pending: Pending,
+        saved: &Saved,
+    ) -> Result<(), ImageFault>
         requires tied { AreTied self.old }
         requires sound { HaveSoundRecords self.old }
         requires base { self.old.store.base ≡ None }
@@ -281,6 +317,8 @@ impl Parts {
         ensures joins { OnOk result (JoinsParts self.old (record_in saved.now)) }
         ensures damaged { result ≡ Err ImageFault.Damaged → IsRecord (record_in saved.now) → ⊥ }
         ensures memory { result ≡ Err ImageFault.Memory → JoinsParts self.old (record_in saved.now) }
+        ensures none { OnOk result (meter.new ≡ meter.old) }
+        ensures cause { result ≡ Err ImageFault.Memory → meter.new ≡ one_more meter.old }
     {
         recall_limits(&self.opened.config);
         recall_pending(&pending);
@@ -293,13 +331,13 @@ impl Parts {
                     return Err(ImageFault::Damaged);
                 }
                 recall_done(&done);
-                self.load_done(done, saved)?;
+                self.load_done(meter, done, saved)?;
             }
             Err(pending) => {
                 if saved.metadata.done {
                     return Err(ImageFault::Damaged);
                 }
-                self.load_pending(pending, &saved.metadata.acks, &saved.pins)?;
+                self.load_pending(meter, pending, &saved.metadata.acks, &saved.pins)?;
             }
         }
         Ok(())
@@ -308,7 +346,7 @@ impl Parts {
     /// Adds a done record. Fails only if memory runs out.
     ///
     /// Conditions: those of [`Parts::load`]. `done` is the saved record, and may follow the others.
-    fn load_done(&mut self, done: Done, saved: &Saved) -> Result<(), AllocError>
+    fn load_done(&mut self, meter: &mut Meter, done: Done, saved: &Saved) -> Result<(), AllocError>
         requires tied { AreTied self.old }
         requires sound { HaveSoundRecords self.old }
         requires base { self.old.store.base ≡ None }
@@ -317,20 +355,26 @@ impl Parts {
         ensures state { OnOk result (state_of self.new ≡ record (state_of self.old) { records = records_in self.old ++ record_in saved.now ∷ [] }) }
         ensures tied { OnOk result (AreTied self.new) }
         ensures noted { OnOk result (self.new.ended.items ≡ self.old.ended.items) }
+        ensures none { OnOk result (meter.new ≡ meter.old) }
+        ensures refused { OnErr result (meter.new ≡ one_more meter.old) }
     {
         recall_limits(&self.opened.config);
         self.recall_groups();
         recall_done(&done);
         match saved.metadata.kind {
-            Kind::Checkpoint => self.load_checkpoint(done, &saved.metadata.acks),
-            Kind::Savepoint => self.load_savepoint(done, &saved.metadata.acks),
+            Kind::Checkpoint => self.load_checkpoint(meter, done, &saved.metadata.acks),
+            Kind::Savepoint => self.load_savepoint(meter, done, &saved.metadata.acks),
         }
     }
 
     /// Adds records, one after the other.
     ///
     /// Conditions: the parts are tied, and have no record and no base.
-    pub(crate) fn load_all(&mut self, records: &[Saved]) -> Result<(), ImageFault>
+    pub(crate) fn load_all(
+        &mut self,
+        meter: &mut Meter,
+        records: &[Saved],
+    ) -> Result<(), ImageFault>
         requires tied { AreTied self.old }
         requires none { records_in self.old ≡ [] }
         requires base { self.old.store.base ≡ None }
@@ -339,9 +383,11 @@ impl Parts {
         ensures noted { OnOk result (self.new.ended.items ≡ self.old.ended.items) }
         ensures sound { OnOk result (AreSoundRecords (opening_of self.old.opened) self.old.next (map record_in records.now)) }
         ensures damaged { result ≡ Err ImageFault.Damaged → AreSoundRecords (opening_of self.old.opened) self.old.next (map record_in records.now) → ⊥ }
+        ensures none { OnOk result (meter.new ≡ meter.old) }
+        ensures cause { result ≡ Err ImageFault.Memory → meter.new ≡ one_more meter.old }
     {
         for saved in records {
-            self.load(saved)?;
+            self.load(meter, saved)?;
         }
         Ok(())
     }

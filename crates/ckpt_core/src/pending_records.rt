@@ -4,6 +4,7 @@ ghost use Rattle.std.specs.Prelude.{Some, IfSome, IfNone, OnOk, OnErr, option_co
 ghost use Rattle.std.specs.List.{list_any};
 ghost use Rattle.ckpt_core.specs.Inside.PendingRecords.{acked, retracted};
 ghost use Rattle.ckpt_core.specs.Inside.RecordFacts.{IsIn, IsInOrder, IsPending, Record, has_acknowledged, id_before, is_checkpoint};
+ghost use Rattle.ckpt_memory.specs.Refusals.{one_more};
 ghost use Rattle.ckpt_model.specs.Reads.{has_come, live_of};
 ghost use Rattle.ckpt_ids.specs.Places.{LiesAt};
 ghost use Rattle.ckpt_pending.specs.Acknowledging.{Expects};
@@ -12,6 +13,7 @@ ghost use Rattle.ckpt_store.specs.Storing.{has_id, id_of};
 use crate::queries::{Live, live_pending};
 use crate::recall::recall_pending;
 use ckpt_ids::{CheckpointId, Files, Kind, SubtaskId, place_of, take_out};
+use ckpt_memory::{Meter, queue};
 use ckpt_pending::Pending;
 use std::alloc::{AllocError, Global};
 use std::collections::VecDeque;
@@ -98,14 +100,16 @@ impl PendingRecords {
     /// Adds a record. Fails only if memory runs out, and then adds none.
     ///
     /// Condition: its number is greater than all others.
-    pub(crate) fn add(&mut self, pending: Pending) -> Result<(), AllocError>
+    pub(crate) fn add(&mut self, meter: &mut Meter, pending: Pending) -> Result<(), AllocError>
         requires newest { (r : Record) → IsIn r self.old → r.id < pending.id }
         ensures ok { OnOk result (self.new ≡ self.old ++ pending ∷ []) }
         ensures err { OnErr result (self.new ≡ self.old) }
+        ensures none { OnOk result (meter.new ≡ meter.old) }
+        ensures refused { OnErr result (meter.new ≡ one_more meter.old) }
     {
         recall_pending(&pending);
         let added = usize::from(is_checkpoint(&pending));
-        self.records.push_back(pending)?;
+        queue::push_back(meter, &mut self.records, pending)?;
         self.checkpoints += added;
         Ok(())
     }
@@ -116,6 +120,7 @@ impl PendingRecords {
     /// Conditions: there is one, its shape has the subtask, and it lacks this acknowledgement.
     pub(crate) fn ack(
         &mut self,
+        meter: &mut Meter,
         place: usize,
         subtask: SubtaskId,
         files: Files,
@@ -124,8 +129,10 @@ impl PendingRecords {
         requires expected { (r : Record) → slice_get self.old place ≡ Some r → Expects r subtask }
         ensures ok { (id : ℕ) → LiesAt id_of id self.old place → OnOk result (self.new ≡ acked id subtask files self.old) }
         ensures err { OnErr result (self.new ≡ self.old) }
+        ensures none { OnOk result (meter.new ≡ meter.old) }
+        ensures refused { OnErr result (meter.new ≡ one_more meter.old) }
     {
-        self.records[place].ack_expected(subtask, files)
+        self.records[place].ack_expected_metered(meter, subtask, files)
     }
 
     /// Takes back the acknowledgement of a subtask in the record at this place. Takes no memory.

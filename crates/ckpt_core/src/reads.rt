@@ -1,8 +1,9 @@
 //! Calls that take, report, show and count.
-ghost use Rattle.std.specs.Prelude.{◌≡◌, ◌↔◌, true, Some, Err, IsSome, IfOk, IfErr, OnErr, option_map};
+ghost use Rattle.std.specs.Prelude.{◌≡◌, ◌↔◌, true, Some, Err, IsSome, IfOk, IfErr, OnErr, option_map, OnOk};
 ghost use Rattle.ckpt_ids.specs.Records.{metadata_of};
 ghost use Rattle.ckpt_ids.specs.declared.call.Call.TheVariants as call;
 ghost use Rattle.ckpt_ids.specs.declared.reply.Refusal.{Refusal};
+ghost use Rattle.ckpt_memory.specs.Refusals.{one_more};
 ghost use Rattle.ckpt_model.specs.declared.faults.CoreFault.TheVariants.{Memory};
 ghost use Rattle.ckpt_model.specs.Coordinator.{may_want_memory};
 ghost use Rattle.ckpt_core.specs.Inside.Parts.{Answers, AreSound, IsAccepted, Stays, records_in, state_of};
@@ -12,6 +13,7 @@ ghost use Rattle.ckpt_model.specs.State.{record_of};
 
 use crate::parts::Parts;
 use ckpt_ids::{CheckpointId, FileId, Metadata, Refusal, Reply};
+use ckpt_memory::Meter;
 use ckpt_model::CoreFault;
 use std::alloc::AllocError;
 
@@ -20,14 +22,16 @@ impl Parts {
     ///
     /// Conditions: the parts are sound, and the call is accepted.
     #[inline(never)]
-    pub(crate) fn take(&mut self, most: u64) -> Result<Reply, CoreFault>
+    pub(crate) fn take(&mut self, meter: &mut Meter, most: u64) -> Result<Reply, CoreFault>
         requires sound { AreSound self.old }
         requires accepted { IsAccepted self.old (call.Take most) }
         ensures ok { IfOk result (Answers self.old self.new (call.Take most)) }
         ensures err { OnErr result (Stays self.old self.new) }
         ensures fault { IfErr result (λ fault. fault ≡ Memory) }
+        ensures none { OnOk result (meter.new ≡ meter.old) }
+        ensures refused { OnErr result (meter.new ≡ one_more meter.old) }
     {
-        Ok(Reply::Taken(self.outbox.take(most)?))
+        Ok(Reply::Taken(self.outbox.take_metered(meter, most)?))
     }
 
     /// A fetched file is deleted. Refuses exactly if the file is not taken.
@@ -66,13 +70,16 @@ impl Parts {
     ///
     /// Condition: the parts are sound.
     #[inline(never)]
-    pub(crate) fn show(&self, id: CheckpointId) -> Result<Reply, CoreFault>
+    pub(crate) fn show(&self, meter: &mut Meter, id: CheckpointId) -> Result<Reply, CoreFault>
         requires { AreSound self.now }
         ensures ok { IfOk result (Answers self.now self.now (call.Show id)) }
         ensures refused { (why : Refusal) → (result ≡ Err (CoreFault.Refused why)) ↔ (refusal (state_of self.now) (call.Show id) ≡ Some why) }
         ensures memory { result ≡ Err CoreFault.Memory → may_want_memory (state_of self.now) (call.Show id) ≡ true }
+        ensures none { OnOk result (meter.new ≡ meter.old) }
+        ensures cause { result ≡ Err CoreFault.Memory → meter.new ≡ one_more meter.old }
+        ensures kept { (why : Refusal) → result ≡ Err (CoreFault.Refused why) → meter.new ≡ meter.old }
     {
-        match self.metadata(id) {
+        match self.metadata(meter, id) {
             Ok(Some(metadata)) => Ok(Reply::Shown(metadata)),
             Ok(None) => Err(CoreFault::Refused(Refusal::NoSuchRecord)),
             Err(_) => Err(CoreFault::Memory),
@@ -95,16 +102,22 @@ impl Parts {
     /// is one and memory runs out.
     ///
     /// Condition: the records are in rising number.
-    pub(crate) fn metadata(&self, id: CheckpointId) -> Result<Option<Metadata>, AllocError>
+    pub(crate) fn metadata(
+        &self,
+        meter: &mut Meter,
+        id: CheckpointId,
+    ) -> Result<Option<Metadata>, AllocError>
         requires { IsInOrder id_before (records_in self.now) }
         ensures value { IfOk result (λ metadata. metadata ≡ option_map metadata_of (record_of (state_of self.now) id)) }
         ensures memory { OnErr result (IsSome (record_of (state_of self.now) id)) }
+        ensures none { OnOk result (meter.new ≡ meter.old) }
+        ensures refused { OnErr result (meter.new ≡ one_more meter.old) }
     {
         if let Some(record) = self.pending.get(id) {
-            return Ok(Some(record.metadata()?));
+            return Ok(Some(record.metadata_metered(meter)?));
         }
         match self.store.get(id) {
-            Some(record) => Ok(Some(record.metadata()?)),
+            Some(record) => Ok(Some(record.metadata_metered(meter)?)),
             None => Ok(None),
         }
     }

@@ -2,11 +2,12 @@
 //! which files a record has, and which wait for deletion or were fetched for it. None of it changes
 //! anything, and only `pins_of` and `taken_files`, which sort what they return, take memory.
 
-ghost use Rattle.std.specs.Prelude.{◌≡◌, find, nat_le, option_copied, option_map, slice_get, IfOk, IsSome, OnErr};
+ghost use Rattle.std.specs.Prelude.{◌≡◌, find, nat_le, option_copied, option_map, slice_get, IfOk, IsSome, OnErr, OnOk};
 ghost use Rattle.std.specs.Option.{option_and_then};
 ghost use Rattle.ckpt_ids.specs.Ascending.{ascending};
 ghost use Rattle.ckpt_pending.specs.Acknowledging.{files_from};
 ghost use Rattle.ckpt_core.specs.Inside.Parts.{AreSound, records_in, state_of};
+ghost use Rattle.ckpt_memory.specs.Refusals.{one_more};
 ghost use Rattle.ckpt_model.specs.Reads.{live_of, pins_in, standing, standing_without};
 ghost use Rattle.ckpt_model.specs.Refusals.{pending_of};
 ghost use Rattle.ckpt_model.specs.State.{record_of};
@@ -14,6 +15,7 @@ ghost use Rattle.ckpt_model.specs.State.{record_of};
 use crate::coordinator::Core;
 use crate::parts::Parts;
 use ckpt_ids::{CheckpointId, FileId, Files, SubtaskId};
+use ckpt_memory::Meter;
 use ckpt_model::Live;
 pub use ckpt_model::Standing;
 use std::alloc::AllocError;
@@ -53,7 +55,18 @@ impl Core {
         ensures value { IfOk result (λ files. files ≡ pins_in (pending_of self.now.records id)) }
         ensures memory { OnErr result (IsSome (pending_of self.now.records id)) }
     {
-        self.parts.pins_of_pending(id)
+        self.pins_of_metered(&mut Meter::new(), id)
+    }
+
+    /// [`Core::pins_of`], which fails exactly if one more request for memory was refused.
+    #[tactic(auto, unfolding(crate::specs::Inside::Parts::state_of))]
+    pub fn pins_of_metered(&self, meter: &mut Meter, id: CheckpointId) -> Result<Files, AllocError>
+        ensures value { IfOk result (λ files. files ≡ pins_in (pending_of self.now.records id)) }
+        ensures memory { OnErr result (IsSome (pending_of self.now.records id)) }
+        ensures none { OnOk result (meter.new ≡ meter.old) }
+        ensures refused { OnErr result (meter.new ≡ one_more meter.old) }
+    {
+        self.parts.pins_of_pending(meter, id)
     }
 
     /// The file at this place among those that wait for deletion, or `None` past the last. The
@@ -71,7 +84,17 @@ impl Core {
     pub fn taken_files(&self) -> Result<Files, AllocError>
         ensures { IfOk result (λ files. files ≡ ascending self.now.taken) }
     {
-        self.parts.outbox.taken_files()
+        self.taken_files_metered(&mut Meter::new())
+    }
+
+    /// [`Core::taken_files`], which fails exactly if one more request for memory was refused.
+    #[tactic(auto, unfolding(crate::specs::Inside::Parts::state_of))]
+    pub fn taken_files_metered(&self, meter: &mut Meter) -> Result<Files, AllocError>
+        ensures files { IfOk result (λ files. files ≡ ascending self.now.taken) }
+        ensures none { OnOk result (meter.new ≡ meter.old) }
+        ensures refused { OnErr result (meter.new ≡ one_more meter.old) }
+    {
+        self.parts.outbox.taken_files_metered(meter)
     }
 }
 
@@ -116,14 +139,16 @@ impl Parts {
     }
 
     /// Condition: the parts are sound.
-    fn pins_of_pending(&self, id: CheckpointId) -> Result<Files, AllocError>
+    fn pins_of_pending(&self, meter: &mut Meter, id: CheckpointId) -> Result<Files, AllocError>
         requires { AreSound self.now }
         ensures value { IfOk result (λ files. files ≡ pins_in (pending_of (records_in self.now) id)) }
         ensures memory { OnErr result (IsSome (pending_of (records_in self.now) id)) }
+        ensures none { OnOk result (meter.new ≡ meter.old) }
+        ensures refused { OnErr result (meter.new ≡ one_more meter.old) }
     {
         if self.pending_record(id).is_none() {
             return Ok(Files::of(Vec::new(self.alloc)));
         }
-        self.registry.pins(id)
+        self.registry.pins_metered(meter, id)
     }
 }

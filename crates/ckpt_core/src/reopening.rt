@@ -1,9 +1,10 @@
 //! The parts of a coordinator, made from an image.
 
-ghost use Rattle.std.specs.Prelude.{◌≡◌, ◌≢◌, ◌<◌, ◌≤◌, ◌↔◌, ◌++◌, ℕ, [], true, false, length, Err, None, IfOk, IfErr, OnOk, IsTrue};
+ghost use Rattle.std.specs.Prelude.{◌≡◌, ◌≢◌, ◌<◌, ◌≤◌, ◌↔◌, ◌++◌, ℕ, [], true, false, length, Err, None, IfOk, IfErr, OnOk, IsTrue, OnErr};
 ghost use Rattle.ckpt_ids.specs.declared.limits.TheConstants.{MOMENTS_END, NUMBERS_END};
 ghost use Rattle.ckpt_ids.specs.Ordered.{AreDistinct, IsIn};
 ghost use Rattle.ckpt_ids.specs.Records.{Record, is_present};
+ghost use Rattle.ckpt_memory.specs.Refusals.{one_more};
 ghost use Rattle.ckpt_model.specs.declared.mode.Mode.TheVariants.{Running};
 ghost use Rattle.ckpt_model.specs.Images.{CanHold, HasSoundMoments, HasSoundNumbers, state_in};
 ghost use Rattle.ckpt_core.specs.Inside.Loading.{AreFilesApart, HasBase, MayWait, emptied, with_more_waiting};
@@ -15,6 +16,7 @@ use crate::pending_records::PendingRecords;
 use crate::recall::recall_limits;
 use ckpt_hash::Secret;
 use ckpt_ids::{CheckpointId, FileId, Files, Handed, LONGEST_DURATION, MOMENTS_END, NUMBERS_END};
+use ckpt_memory::Meter;
 use ckpt_model::{Image, Mode};
 use ckpt_outbox::Outbox;
 use ckpt_registry::Registry;
@@ -62,15 +64,22 @@ impl Parts {
     /// out.
     ///
     /// Condition: its moments, numbers and failures are within their limits.
-    pub(crate) fn begun(alloc: Global, image: &Image, secret: Secret) -> Result<Parts, AllocError>
+    pub(crate) fn begun(
+        meter: &mut Meter,
+        alloc: Global,
+        image: &Image,
+        secret: Secret,
+    ) -> Result<Parts, AllocError>
         requires { HasSoundNumbers (state_in image.now) }
         ensures state { IfOk result (λ parts. state_of parts ≡ emptied (state_in image.now)) }
         ensures tied { IfOk result (λ parts. AreTied parts) }
         ensures none_ended { IfOk result (λ parts. parts.ended.items ≡ []) }
+        ensures none { OnOk result (meter.new ≡ meter.old) }
+        ensures refused { OnErr result (meter.new ≡ one_more meter.old) }
     {
         let config = image.config;
-        let shape = image.first_shape.copy()?;
-        let reshaped = image.shape.copy()?;
+        let shape = image.first_shape.copy_metered(meter)?;
+        let reshaped = image.shape.copy_metered(meter)?;
         let mut failures = Failures::new(config.tolerable());
         failures.add(image.failures);
         Ok(Parts {
@@ -156,7 +165,12 @@ impl Parts {
     /// loaded.
     ///
     /// Conditions: the parts are tied, and the outbox is empty.
-    pub(crate) fn load_files(&mut self, waiting: &Handed, taken: &Files) -> Result<(), ImageFault>
+    pub(crate) fn load_files(
+        &mut self,
+        meter: &mut Meter,
+        waiting: &Handed,
+        taken: &Files,
+    ) -> Result<(), ImageFault>
         requires tied { AreTied self.old }
         requires none_waits { self.old.outbox.waiting ≡ [] }
         requires none_taken { self.old.outbox.taken ≡ [] }
@@ -165,18 +179,21 @@ impl Parts {
         ensures noted { OnOk result (self.new.ended.items ≡ self.old.ended.items) }
         ensures apart { OnOk result (AreFilesApart self.old.registry (waiting.now ++ taken.now)) }
         ensures damaged { result ≡ Err ImageFault.Damaged → AreFilesApart self.old.registry (waiting.now ++ taken.now) → ⊥ }
+        ensures none { OnOk result (meter.new ≡ meter.old) }
+        ensures cause { result ≡ Err ImageFault.Memory → meter.new ≡ one_more meter.old }
     {
-        self.outbox.reserve(taken.len() as u64)?;
+        self.outbox.reserve_metered(meter, taken.len() as u64)?;
         self.put_back(taken.as_slice())?;
-        self.outbox.take(taken.len() as u64)?;
-        self.outbox.reserve(waiting.len() as u64)?;
+        self.outbox.take_metered(meter, taken.len() as u64)?;
+        self.outbox.reserve_metered(meter, waiting.len() as u64)?;
         self.put_back(waiting.as_slice())?;
-        self.make_room_for_files(0)?;
+        self.make_room_for_files(meter, 0)?;
         Ok(())
     }
 
     /// The parts of an image.
     pub(crate) fn of_image(
+        meter: &mut Meter,
         alloc: Global,
         image: &Image,
         secret: Secret,
@@ -186,6 +203,8 @@ impl Parts {
         ensures held { OnOk result (CanHold (state_in image.now)) }
         ensures damaged { result ≡ Err ImageFault.Damaged → CanHold (state_in image.now) → ⊥ }
         ensures memory { result ≡ Err ImageFault.Memory → HasSoundNumbers (state_in image.now) }
+        ensures none { OnOk result (meter.new ≡ meter.old) }
+        ensures cause { result ≡ Err ImageFault.Memory → meter.new ≡ one_more meter.old }
     {
         recall_limits(&image.config);
         image.first_shape.recall();
@@ -193,13 +212,13 @@ impl Parts {
         if !has_sound_numbers(image) {
             return Err(ImageFault::Damaged);
         }
-        let mut parts = Parts::begun(alloc, image, secret)?;
-        parts.load_all(&image.records)?;
+        let mut parts = Parts::begun(meter, alloc, image, secret)?;
+        parts.load_all(meter, &image.records)?;
         parts.load_base(image.base)?;
         if !parts.is_idle() {
             return Err(ImageFault::Damaged);
         }
-        parts.load_files(&image.waiting, &image.taken)?;
+        parts.load_files(meter, &image.waiting, &image.taken)?;
         Ok(parts)
     }
 }

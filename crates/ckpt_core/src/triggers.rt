@@ -3,6 +3,7 @@ ghost use Rattle.std.specs.Prelude.{◌≡◌, ℕ, ◌<◌, ◌^◌, ◌≤◌,
 ghost use Rattle.ckpt_ids.specs.declared.call.Call.TheVariants as call;
 ghost use Rattle.ckpt_ids.specs.declared.reply.Answer.TheVariants as answer;
 ghost use Rattle.ckpt_ids.specs.declared.reply.Reply.TheVariants as reply;
+ghost use Rattle.ckpt_memory.specs.Refusals.{one_more};
 ghost use Rattle.ckpt_model.specs.declared.faults.CoreFault.TheVariants.{Memory};
 ghost use Rattle.ckpt_model.specs.declared.mode.Mode.TheVariants.{Running};
 ghost use Rattle.ckpt_model.specs.Coordinator.{IsSound, answer_wants, may_want_memory};
@@ -12,6 +13,7 @@ ghost use Rattle.ckpt_core.specs.Inside.Starting.{Go, HasNoUse, IsIn, IsInOrder,
 
 use crate::parts::Parts;
 use ckpt_ids::{CheckpointId, Choice, Kind, Reply, Shape, TickEnd};
+use ckpt_memory::{Meter, list};
 use ckpt_model::CoreFault;
 use ckpt_pending::Pending;
 use ckpt_rules::{Failures, Hold};
@@ -53,7 +55,7 @@ impl Parts {
     ///
     /// Conditions: the parts are tied, their state is sound, and a number is left.
     #[inline(never)]
-    fn trigger(&mut self, kind: Kind) -> Result<CheckpointId, AllocError>
+    fn trigger(&mut self, meter: &mut Meter, kind: Kind) -> Result<CheckpointId, AllocError>
         requires tied { AreTied self.old }
         requires sound { IsSound (state_of self.old) }
         requires next { self.old.next < NUMBERS_END }
@@ -62,17 +64,24 @@ impl Parts {
         ensures err { OnErr result (state_of self.new ≡ state_of self.old) }
         ensures tied { AreTied self.new }
         ensures noted { self.new.ended.items ≡ self.old.ended.items }
+        ensures none { OnOk result (meter.new ≡ meter.old) }
+        ensures refused { OnErr result (meter.new ≡ one_more meter.old) }
     {
-        let shape = self.shape().copy()?;
-        self.make_room()?;
-        self.add(kind, shape)
+        let shape = self.shape().copy_metered(meter)?;
+        self.make_room(meter)?;
+        self.add(meter, kind, shape)
     }
 
     /// Adds a pending record with the next number, which pins the files of the choice.
     ///
     /// Conditions: the parts are tied, their state is sound, a number is left, the shape is that of the
     /// job, and there is room for the number among those that end.
-    fn add(&mut self, kind: Kind, shape: Shape) -> Result<CheckpointId, AllocError>
+    fn add(
+        &mut self,
+        meter: &mut Meter,
+        kind: Kind,
+        shape: Shape,
+    ) -> Result<CheckpointId, AllocError>
         requires tied { AreTied self.old }
         requires sound { IsSound (state_of self.old) }
         requires next { self.old.next < NUMBERS_END }
@@ -83,14 +92,16 @@ impl Parts {
         ensures err { OnErr result (state_of self.new ≡ state_of self.old) }
         ensures tied { AreTied self.new }
         ensures noted { self.new.ended.items ≡ self.old.ended.items }
+        ensures none { OnOk result (meter.new ≡ meter.old) }
+        ensures refused { OnErr result (meter.new ≡ one_more meter.old) }
     {
         self.recall_uses();
         let choice = self.choice();
         let id = CheckpointId(self.next);
         let started = self.clock.read(0);
         self.pending
-            .add(Pending::new(self.alloc, id, kind, shape, started))?;
-        if let Err(error) = self.pin(id, choice) {
+            .add(meter, Pending::new(self.alloc, id, kind, shape, started))?;
+        if let Err(error) = self.pin(meter, id, choice) {
             self.pending.remove(id);
             return Err(error);
         }
@@ -102,16 +113,18 @@ impl Parts {
     ///
     /// Conditions: the uses are in order, record `id` has no pins yet, and each file of the choice has at
     /// most 2^32 - 2 uses.
-    fn pin(&mut self, id: CheckpointId, choice: Choice) -> Result<(), AllocError>
+    fn pin(&mut self, meter: &mut Meter, id: CheckpointId, choice: Choice) -> Result<(), AllocError>
         requires below { (f : ℕ) → IsIn f (files_chosen choice self.old.registry) → count self.old.registry f < 2 ^ 32 - 1 }
         requires unpinned { HasNoUse self.old.registry id Pin }
         requires in_order { IsInOrder use_before self.old.registry }
         ensures ok { OnOk result (self.new ≡ pinned self.old id (files_chosen choice self.old.registry)) }
         ensures err { OnErr result (self.new ≡ self.old) }
+        ensures none { OnOk result (meter.new ≡ meter.old) }
+        ensures refused { OnErr result (meter.new ≡ one_more meter.old) }
     {
         match choice {
-            Choice::Checkpoint(chosen) => self.registry.pin_record(id, chosen),
-            Choice::Savepoint(chosen) => self.registry.pin_record(id, chosen),
+            Choice::Checkpoint(chosen) => self.registry.pin_record_metered(meter, id, chosen),
+            Choice::Savepoint(chosen) => self.registry.pin_record_metered(meter, id, chosen),
             Choice::Fresh => Ok(()),
         }
     }
@@ -119,35 +132,39 @@ impl Parts {
     /// Makes room for the number of one more live record among those that end.
     ///
     /// Condition: fewer than 2^32 records live.
-    pub(crate) fn make_room(&mut self) -> Result<(), AllocError>
+    pub(crate) fn make_room(&mut self, meter: &mut Meter) -> Result<(), AllocError>
         requires { length (records_in self.old) < 2 ^ 32 }
         ensures room { OnOk result (length (records_in self.old) + 1 ≤ vec_capacity self.new.ended) }
         ensures parts { self.new ≡ record self.old { ended = self.new.ended } }
         ensures state { state_of self.new ≡ state_of self.old }
         ensures noted { self.new.ended.items ≡ self.old.ended.items }
         ensures capacity { vec_capacity self.old.ended ≤ vec_capacity self.new.ended }
+        ensures none { OnOk result (meter.new ≡ meter.old) }
+        ensures refused { OnErr result (meter.new ≡ one_more meter.old) }
     {
         let live = self.pending.len()
             + self.store.checkpoints() as usize
             + self.store.savepoints() as usize;
         let noted = self.ended.len();
-        self.ended.reserve(live + 1 - noted.min(live))
+        list::reserve(meter, &mut self.ended, live + 1 - noted.min(live))
     }
 
     /// Triggers a savepoint.
     ///
     /// Conditions: the parts are sound, and the call is accepted.
     #[inline(never)]
-    pub(crate) fn savepoint(&mut self, now: u64) -> Result<Reply, CoreFault>
+    pub(crate) fn savepoint(&mut self, meter: &mut Meter, now: u64) -> Result<Reply, CoreFault>
         requires sound { AreSound self.old }
         requires accepted { IsAccepted self.old (call.Savepoint now) }
         ensures ok { IfOk result (Answers self.old self.new (call.Savepoint now)) }
         ensures err { OnErr result (Stays self.old self.new) }
         ensures fault { IfErr result (λ fault. fault ≡ Memory) }
+        ensures none { OnOk result (meter.new ≡ meter.old) }
+        ensures refused { OnErr result (meter.new ≡ one_more meter.old) }
     {
         let before = self.clock;
         self.clock.see(now);
-        match self.trigger(Kind::Savepoint) {
+        match self.trigger(meter, Kind::Savepoint) {
             Ok(id) => Ok(Reply::SavepointTriggered(id)),
             Err(error) => {
                 self.clock = before;
@@ -161,16 +178,18 @@ impl Parts {
     ///
     /// Conditions: the parts are sound, and the call is accepted.
     #[inline(never)]
-    pub(crate) fn trigger_now(&mut self, now: u64) -> Result<Reply, CoreFault>
+    pub(crate) fn trigger_now(&mut self, meter: &mut Meter, now: u64) -> Result<Reply, CoreFault>
         requires sound { AreSound self.old }
         requires accepted { IsAccepted self.old (call.Trigger now) }
         ensures ok { IfOk result (Answers self.old self.new (call.Trigger now)) }
         ensures err { OnErr result (Stays self.old self.new) }
         ensures fault { IfErr result (λ fault. fault ≡ Memory) }
+        ensures none { OnOk result (meter.new ≡ meter.old) }
+        ensures refused { OnErr result (meter.new ≡ one_more meter.old) }
     {
         let before = self.clock;
         self.clock.see(now);
-        match self.trigger(Kind::Checkpoint) {
+        match self.trigger(meter, Kind::Checkpoint) {
             Ok(id) => {
                 let moment = self.clock.read(0);
                 self.clock.triggered(&self.opened.config, moment);
@@ -188,16 +207,18 @@ impl Parts {
     /// holds it back. Only a trigger takes memory. If memory runs out, nothing has changed.
     ///
     /// Conditions: the parts are sound, and the call is accepted.
-    pub(crate) fn tick(&mut self, now: u64) -> Result<Ticked, AllocError>
+    pub(crate) fn tick(&mut self, meter: &mut Meter, now: u64) -> Result<Ticked, AllocError>
         requires sound { AreSound self.old }
         requires accepted { IsAccepted self.old (call.Tick now) }
         ensures ok { IfOk result (λ ticked. Answers self.old self.new (call.Tick now) (reply.Ticked ticked.expired ticked.end)) }
         ensures err { OnErr result (Stays self.old self.new) }
         ensures memory { OnErr result (may_want_memory (state_of self.old) (call.Tick now) ≡ true) }
+        ensures none { OnOk result (meter.new ≡ meter.old) }
+        ensures refused { OnErr result (meter.new ≡ one_more meter.old) }
     {
         let before = self.clock;
         self.clock.see(now);
-        let ticked = self.expire();
+        let ticked = self.expire(meter);
         if ticked.is_err() {
             self.clock = before;
         }
@@ -207,7 +228,7 @@ impl Parts {
     /// What a tick does once the moment is seen.
     ///
     /// Conditions: the parts are sound, the job runs, and a number is left.
-    fn expire(&mut self) -> Result<Ticked, AllocError>
+    fn expire(&mut self, meter: &mut Meter) -> Result<Ticked, AllocError>
         requires sound { AreSound self.old }
         requires running { self.old.mode ≡ Running }
         requires next { self.old.next < NUMBERS_END }
@@ -216,12 +237,14 @@ impl Parts {
         ensures memory { OnErr result (answer_wants (call.Tick 0) (tick (state_of self.old)).1 ≡ true) }
         ensures tied { AreTied self.new }
         ensures none_ended { self.new.ended.items ≡ [] }
+        ensures none { OnOk result (meter.new ≡ meter.old) }
+        ensures refused { OnErr result (meter.new ≡ one_more meter.old) }
     {
         let expiry = self.note_expired();
         if expiry.intolerable {
             return Ok(self.fail_expired(expiry));
         }
-        self.start_and_drop(expiry)
+        self.start_and_drop(meter, expiry)
     }
 
     /// Notes the numbers of the records that have expired, and returns what follows from them.
@@ -278,7 +301,7 @@ impl Parts {
     ///
     /// Conditions: the parts are tied, their state is sound, a number is left, and this is the
     /// expiry of the noted records, after which the job does not fail over.
-    fn start_and_drop(&mut self, expiry: Expiry) -> Result<Ticked, AllocError>
+    fn start_and_drop(&mut self, meter: &mut Meter, expiry: Expiry) -> Result<Ticked, AllocError>
         requires tied { AreTied self.old }
         requires sound { IsSound (state_of self.old) }
         requires next { self.old.next < NUMBERS_END }
@@ -289,8 +312,10 @@ impl Parts {
         ensures memory { OnErr result (answer_wants (call.Tick 0) (tick (state_of self.old)).1 ≡ true) }
         ensures tied { AreTied self.new }
         ensures none_ended { self.new.ended.items ≡ [] }
+        ensures none { OnOk result (meter.new ≡ meter.old) }
+        ensures refused { OnErr result (meter.new ≡ one_more meter.old) }
     {
-        match self.start_or_hold(expiry.left) {
+        match self.start_or_hold(meter, expiry.left) {
             Ok(end) => {
                 self.recall_groups();
                 self.drop_noted();
@@ -308,7 +333,7 @@ impl Parts {
     /// Triggers a checkpoint if nothing holds it back while this many are pending.
     ///
     /// Conditions: the parts are tied, their state is sound, and a number is left.
-    fn start_or_hold(&mut self, pending: u32) -> Result<TickEnd, AllocError>
+    fn start_or_hold(&mut self, meter: &mut Meter, pending: u32) -> Result<TickEnd, AllocError>
         requires tied { AreTied self.old }
         requires sound { IsSound (state_of self.old) }
         requires next { self.old.next < NUMBERS_END }
@@ -317,6 +342,8 @@ impl Parts {
         ensures memory { OnErr result (held_at (state_of self.old) pending ≡ Go) }
         ensures tied { AreTied self.new }
         ensures noted { self.new.ended.items ≡ self.old.ended.items }
+        ensures none { OnOk result (meter.new ≡ meter.old) }
+        ensures refused { OnErr result (meter.new ≡ one_more meter.old) }
     {
         let moment = self.clock.read(0);
         match self.clock.held(&self.opened.config, moment, pending) {
@@ -324,7 +351,7 @@ impl Parts {
             Hold::AtOnce => Ok(TickEnd::HeldAtOnce),
             Hold::Pause => Ok(TickEnd::HeldPause),
             Hold::Go => {
-                let id = self.trigger(Kind::Checkpoint)?;
+                let id = self.trigger(meter, Kind::Checkpoint)?;
                 self.clock.triggered(&self.opened.config, moment);
                 Ok(TickEnd::Triggered(id))
             }

@@ -1,11 +1,13 @@
 //! A coordinator with names whose answers are told only once their calls outlive a crash.
 
 ghost use Rattle.std.specs.Prelude.{◌≡◌, ◌<◌, ◌≤◌, ◌⊎◌, ℕ, true, false, take, ◌++◌, ◌∷◌, [], Some, None, IfOk, IfErr, IfSome, OnOk, length};
+ghost use Rattle.ckpt_memory.specs.Refusals.{one_more};
 ghost use Rattle.ckpt_terms.specs.Fencing.{fenced_replay};
 ghost use Rattle.ckpt_terms.specs.FencedLaws.{IsFencedCall};
 ghost use Rattle.ckpt_durable.specs.Crashes.{Committed, Crashed, Life, Made, lives};
 
 use crate::journal::Journal;
+use ckpt_memory::{Meter, list};
 use ckpt_terms::{FencedAnswer, FencedCall, Terms};
 use std::alloc::{AllocError, Global};
 use std::marker::Model;
@@ -136,6 +138,26 @@ impl<J: Journal> Durable<J> {
         ensures shape { IfOk result (λ r. IfSome r.1 (λ n. IsFencedCall call.now)) }
         ensures loose { IfErr result (λ j. (J.loose j ≡ self.life.loose) ⊎ (J.loose j ≡ self.life.loose ++ call.now ∷ [])) }
     {
+        self.make_metered(&mut Meter::new(), call)
+    }
+
+    /// [`Durable::make`], which makes no call exactly if one more request for memory was refused.
+    pub fn make_metered(
+        self,
+        meter: &mut Meter,
+        call: &FencedCall,
+    ) -> Result<(Durable<J>, Option<usize>), J>
+        ensures begin { IfOk result (λ r. r.0.begin ≡ self.begin) }
+        ensures made { IfOk result (λ r. IfSome r.1 (λ n. (r.0.life ≡ lives self.begin self.life (Made call.now)) × (n ≡ length self.life.waiting))) }
+        ensures unchanged { IfOk result (λ r. r.1 ≡ None → r.0 ≡ self) }
+        ensures unsynced { IfOk result (λ r. IfSome r.1 (λ n. r.0.is_synced ≡ false)) }
+        ensures counted { IfOk result (λ r. self.faults ≤ r.0.faults) }
+        ensures fault { IfErr result (λ j. self.faults < J.faults j) }
+        ensures kept { IfErr result (λ j. J.kept j ≡ self.life.kept) }
+        ensures shape { IfOk result (λ r. IfSome r.1 (λ n. IsFencedCall call.now)) }
+        ensures loose { IfErr result (λ j. (J.loose j ≡ self.life.loose) ⊎ (J.loose j ≡ self.life.loose ++ call.now ∷ [])) }
+        ensures cause { IfOk result (λ r. r.1 ≡ None → meter.new ≡ one_more meter.old) }
+    {
         let Durable {
             mut terms,
             mut journal,
@@ -144,7 +166,7 @@ impl<J: Journal> Durable<J> {
             is_synced,
         } = self;
         let number = waiting.len();
-        if waiting.reserve(1).is_err() {
+        if list::reserve(meter, &mut waiting, 1).is_err() {
             let same = Durable {
                 terms,
                 journal,
@@ -154,7 +176,7 @@ impl<J: Journal> Durable<J> {
             };
             return Ok((same, None));
         }
-        match terms.apply(call) {
+        match terms.apply_metered(meter, call) {
             Err(_) => {
                 let same = Durable {
                     terms,

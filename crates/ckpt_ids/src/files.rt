@@ -1,11 +1,13 @@
 //! The files of an acknowledgement, in ascending order.
 
-ghost use Rattle.std.specs.Prelude.{◌≡◌, ◌↔◌, [], IsTrue, IfOk, length, slice_get};
+ghost use Rattle.std.specs.Prelude.{◌≡◌, ◌↔◌, [], IsTrue, IfOk, OnOk, OnErr, length, slice_get};
 ghost use Rattle.std.specs.Iterator.Adapters.{IterYieldsInOrder, IterYieldsInReverse};
 ghost use Rattle.std.specs.Slice.Iter.{iter_rest};
 ghost use Rattle.ckpt_ids.specs.Ascending.{IsAscending, ascending};
+ghost use Rattle.ckpt_memory.specs.Refusals.{one_more};
 
 use crate::numbers::FileId;
+use ckpt_memory::{Meter, list};
 use std::alloc::AllocError;
 use std::marker::Model;
 use std::slice::Iter;
@@ -88,9 +90,18 @@ impl Files {
     pub fn copy(&self) -> Result<Files, AllocError>
         ensures { IfOk result (λ files. files ≡ self.now) }
     {
-        Ok(Files {
-            numbers: self.numbers.clone()?,
-        })
+        self.copy_metered(&mut Meter::new())
+    }
+
+    /// [`Files::copy`], which fails exactly if one more request for memory was refused.
+    pub fn copy_metered(&self, meter: &mut Meter) -> Result<Files, AllocError>
+        ensures value { IfOk result (λ files. files ≡ self.now) }
+        ensures none { OnOk result (meter.new ≡ meter.old) }
+        ensures refused { OnErr result (meter.new ≡ one_more meter.old) }
+    {
+        let alloc = *self.numbers.allocator();
+        let numbers = list::from_slice(meter, alloc, &self.numbers)?;
+        Ok(Files { numbers })
     }
 
     /// Does nothing. Its contract says that the files are in ascending order.

@@ -1,13 +1,15 @@
 //! The shape of a job: the parallelism of each vertex.
 
-ghost use Rattle.std.specs.Prelude.{◌≡◌, ℕ, ◌↔◌, false, Err, IfOk, sum, length, nat_le, slice_get};
+ghost use Rattle.std.specs.Prelude.{◌≡◌, ℕ, ◌↔◌, false, Err, IfOk, OnOk, OnErr, sum, length, nat_le, slice_get};
 ghost use Rattle.std.specs.Iterator.Adapters.{IterYieldsInOrder, IterYieldsInReverse};
 ghost use Rattle.std.specs.List.{list_all};
 ghost use Rattle.std.specs.Slice.Iter.{iter_rest};
 ghost use Rattle.ckpt_ids.specs.Shapes.{IsShape, is_shape, is_subtask, subtasks};
+ghost use Rattle.ckpt_memory.specs.Refusals.{one_more};
 
 use crate::limits::{MOST_SUBTASKS, MOST_VERTICES};
 use crate::subtask::SubtaskId;
+use ckpt_memory::{Meter, list, shared};
 use std::alloc::{AllocError, Global};
 use std::marker::Model;
 use std::slice::Iter;
@@ -77,17 +79,28 @@ impl Shape {
         ensures refused { (result ≡ Err ShapeFault.BadShape) ↔ (is_shape list.now ≡ false) }
         ensures value { IfOk result (λ shape. shape ≡ list.now) }
     {
+        Shape::new_metered(&mut Meter::new(), alloc, list)
+    }
+
+    /// [`Shape::new`], which answers [`ShapeFault::Memory`] exactly if one more request for memory
+    /// was refused.
+    pub fn new_metered(meter: &mut Meter, alloc: Global, list: &[u64]) -> Result<Shape, ShapeFault>
+        ensures bad_shape { (result ≡ Err ShapeFault.BadShape) ↔ (is_shape list.now ≡ false) }
+        ensures value { IfOk result (λ shape. shape ≡ list.now) }
+        ensures none { OnOk result (meter.new ≡ meter.old) }
+        ensures refused { result ≡ Err ShapeFault.Memory → meter.new ≡ one_more meter.old }
+    {
         if !is_shape(list) {
             return Err(ShapeFault::BadShape);
         }
-        let mut parallelisms = Vec::with_capacity(alloc, list.len())?;
+        let mut parallelisms = list::with_capacity(meter, alloc, list.len())?;
         let mut size = 0;
         for parallelism in list {
             let parallelism = *parallelism as u32;
-            parallelisms.push(parallelism).map_err(AllocError::from)?;
+            parallelisms.push_reserved(parallelism);
             size += parallelism;
         }
-        let parallelisms = ArcSlice::from_vec(parallelisms)?;
+        let parallelisms = shared::from_vec(meter, parallelisms)?;
         Ok(Shape { parallelisms, size })
     }
 
@@ -161,9 +174,18 @@ impl Shape {
     pub fn copy(&self) -> Result<Shape, AllocError>
         ensures { IfOk result (λ shape. shape ≡ self.now) }
     {
+        self.copy_metered(&mut Meter::new())
+    }
+
+    /// [`Shape::copy`], which fails exactly if one more request for memory was refused.
+    pub fn copy_metered(&self, meter: &mut Meter) -> Result<Shape, AllocError>
+        ensures value { IfOk result (λ shape. shape ≡ self.now) }
+        ensures none { OnOk result (meter.new ≡ meter.old) }
+        ensures refused { OnErr result (meter.new ≡ one_more meter.old) }
+    {
         let Shape { parallelisms, size } = self;
         Ok(Shape {
-            parallelisms: parallelisms.clone()?,
+            parallelisms: shared::clone(meter, parallelisms)?,
             size: *size,
         })
     }

@@ -1,11 +1,13 @@
 //! The book: a coordinator and the log of all its calls.
 
-ghost use Rattle.std.specs.Prelude.{◌≡◌, ◌↔◌, ℕ, [], length, min, IsTrue, IfOk, IfErr, OnOk, OnErr};
+ghost use Rattle.std.specs.Prelude.{◌≡◌, ◌↔◌, ℕ, ◌+◌, ◌^◌, ◌<◌, [], length, min, IsTrue, IfOk, IfErr, OnOk, OnErr};
+ghost use Rattle.ckpt_memory.specs.Refusals.{one_more};
 ghost use Rattle.ckpt_model.specs.Soundness.{IsSound};
 
 use crate::recent::Recent;
 use ckpt_core::{Core, CoreFault, OpenFault, Secret, laws};
 use ckpt_ids::{Answer, Call, Config, Shape};
+use ckpt_memory::Meter;
 use std::alloc::{AllocError, Global};
 use std::marker::Model;
 
@@ -125,10 +127,30 @@ impl Book {
         ensures returned { IfErr result (λ back. back ≡ call) }
         ensures unchanged { OnErr result (self.new ≡ self.old) }
     {
-        if self.entries.make_room().is_err() {
+        self.apply_metered(&mut Meter::new(), seat, call)
+    }
+
+    /// [`Book::apply`], which returns the call exactly if one more request for memory was refused,
+    /// or at 2^64 - 1 entries.
+    #[inline(always)]
+    pub fn apply_metered(
+        &mut self,
+        meter: &mut Meter,
+        seat: u32,
+        call: Call,
+    ) -> Result<Answer, Call>
+        ensures entered { OnOk result (self.new ≡ entered self.old seat call) }
+        ensures answer { IfOk result (λ answer. answer ≡ answer_to self.old call) }
+        ensures count { (file : ℕ) → call ≡ Count file → IfOk result (λ answer. answer ≡ counted self.old file) }
+        ensures returned { IfErr result (λ back. back ≡ call) }
+        ensures unchanged { OnErr result (self.new ≡ self.old) }
+        ensures none { OnOk result (meter.new ≡ meter.old) }
+        ensures refused { length self.old.entries + 1 < 2 ^ 64 → OnErr result (meter.new ≡ one_more meter.old) }
+    {
+        if self.entries.make_room(meter).is_err() {
             return Err(call);
         }
-        match self.core.apply(&call) {
+        match self.core.apply_metered(meter, &call) {
             Ok(reply) => {
                 self.entries.push_reserved(Entry { seat, call });
                 Ok(Answer::Done(reply))

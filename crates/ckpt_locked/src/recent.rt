@@ -3,10 +3,12 @@
 //! Contracts see the whole list, and a program can read its end. So a book that runs for years forgets
 //! its old entries, and its promises are still about all entries.
 
-ghost use Rattle.std.specs.Prelude.{◌≡◌, ◌≢◌, ◌↔◌, ◌+◌, ◌-◌, ◌^◌, ◌<◌, [], ◌∷◌, ◌++◌, length, IsTrue, OnOk, min};
+ghost use Rattle.std.specs.Prelude.{◌≡◌, ◌≢◌, ◌↔◌, ◌+◌, ◌-◌, ◌^◌, ◌<◌, [], ◌∷◌, ◌++◌, length, IsTrue, OnOk, OnErr, min};
 ghost use Rattle.std.specs.Option.{option_copied};
+ghost use Rattle.ckpt_memory.specs.Refusals.{one_more};
 
 use crate::past::Past;
+use ckpt_memory::{Meter, queue};
 use std::alloc::{AllocError, Global};
 use std::collections::VecDeque;
 use std::marker::Model;
@@ -68,11 +70,13 @@ impl<T: Drop> Recent<T> {
     /// Makes room for one item. A growth at least doubles the room.
     ///
     /// Fails only if memory runs out, and at 2^64 - 1 items.
-    pub(crate) fn make_room(&mut self) -> Result<(), AllocError>
+    pub(crate) fn make_room(&mut self, meter: &mut Meter) -> Result<(), AllocError>
         ensures items { self.new.items ≡ self.old.items }
         ensures keep { self.new.keep ≡ self.old.keep }
         ensures room { OnOk result (0 < self.new.room) }
         ensures few { OnOk result (length self.new.items + 1 < 2 ^ 64) }
+        ensures none { OnOk result (meter.new ≡ meter.old) }
+        ensures refused { length self.old.items + 1 < 2 ^ 64 → OnErr result (meter.new ≡ one_more meter.old) }
     {
         if self.len() == u64::MAX {
             return Err(AllocError);
@@ -81,7 +85,7 @@ impl<T: Drop> Recent<T> {
         if held < self.kept.capacity() {
             return Ok(());
         }
-        self.kept.reserve(cmp::max(held, FIRST_ROOM))
+        queue::reserve(meter, &mut self.kept, cmp::max(held, FIRST_ROOM))
     }
 
     /// Puts an item at the end, into reserved room. Takes no memory.

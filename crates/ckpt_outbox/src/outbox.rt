@@ -2,12 +2,14 @@
 ghost use Rattle.std.specs.Prelude.{◌≡◌, ◌≤◌, ◌<◌, ◌+◌, ◌-◌, ◌↔◌, ◌++◌, ◌∷◌, ℕ, [], true, false, max, length, take, drop, slice_get, IsErr, IfOk, OnOk, OnErr};
 ghost use Rattle.std.specs.VecDeque.{deque_capacity};
 ghost use Rattle.ckpt_ids.specs.Ascending.{ascending};
+ghost use Rattle.ckpt_memory.specs.Refusals.{one_more};
 ghost use Rattle.ckpt_outbox.specs.Queues.{AreDistinct, Queues, is_in, is_known, is_taken, without};
 
 use crate::places::{Index, draw_again, is_taken, next_ticket, note, taken_in, waiting_in};
 use crate::taken::Taken;
 use ckpt_hash::Secret;
 use ckpt_ids::{FileId, Files, Handed};
+use ckpt_memory::{Meter, list, map, queue};
 use std::alloc::{AllocError, Global};
 use std::collections::{HashMap, VecDeque};
 use std::marker::Model;
@@ -58,17 +60,23 @@ impl Model for Outbox {
 /// Makes room for this many more files. A growth at least doubles the room. The queue's own growth
 /// may stop at the requested size, and would copy the queue for each file that is taken and not
 /// reported.
-fn grow(queue: &mut VecDeque<FileId>, additional: usize) -> Result<(), AllocError>
-    ensures items { queue.new.items ≡ queue.old.items }
-    ensures ok { OnOk result (length queue.new.items + additional ≤ deque_capacity queue.new) }
-    ensures capacity { deque_capacity queue.old ≤ deque_capacity queue.new }
+fn grow(
+    meter: &mut Meter,
+    waiting: &mut VecDeque<FileId>,
+    additional: usize,
+) -> Result<(), AllocError>
+    ensures items { waiting.new.items ≡ waiting.old.items }
+    ensures ok { OnOk result (length waiting.new.items + additional ≤ deque_capacity waiting.new) }
+    ensures capacity { deque_capacity waiting.old ≤ deque_capacity waiting.new }
+    ensures none { OnOk result (meter.new ≡ meter.old) }
+    ensures refused { OnErr result (meter.new ≡ one_more meter.old) }
 {
-    let free = queue.capacity() - queue.len();
+    let free = waiting.capacity() - waiting.len();
     if additional <= free {
         return Ok(());
     }
-    let doubling = free.saturating_add(queue.capacity());
-    queue.reserve(additional.max(doubling))
+    let doubling = free.saturating_add(waiting.capacity());
+    queue::reserve(meter, waiting, additional.max(doubling))
 }
 
 impl Outbox {
@@ -102,12 +110,22 @@ impl Outbox {
         ensures ok { OnOk result (self.new ≡ record self.old { spare = max n self.old.spare }) }
         ensures err { OnErr result (self.new ≡ self.old) }
     {
+        self.reserve_metered(&mut Meter::new(), n)
+    }
+
+    /// [`Outbox::reserve`], which fails exactly if one more request for memory was refused.
+    pub fn reserve_metered(&mut self, meter: &mut Meter, n: u64) -> Result<(), AllocError>
+        ensures ok { OnOk result (self.new ≡ record self.old { spare = max n self.old.spare }) }
+        ensures err { OnErr result (self.new ≡ self.old) }
+        ensures none { OnOk result (meter.new ≡ meter.old) }
+        ensures refused { OnErr result (meter.new ≡ one_more meter.old) }
+    {
         if n <= self.spare {
             return Ok(());
         }
         let room = self.taken.len().saturating_add(n as usize);
-        grow(&mut self.waiting, room)?;
-        self.index.reserve(n as usize)?;
+        grow(meter, &mut self.waiting, room)?;
+        map::reserve(meter, &mut self.index, n as usize)?;
         self.spare = n;
         Ok(())
     }
@@ -167,8 +185,19 @@ impl Outbox {
         ensures ok { OnOk result (self.new ≡ record self.old { waiting = drop most self.old.waiting; taken = self.old.taken ++ take most self.old.waiting }) }
         ensures err { OnErr result (self.new ≡ self.old) }
     {
+        self.take_metered(&mut Meter::new(), most)
+    }
+
+    /// [`Outbox::take`], which fails exactly if one more request for memory was refused.
+    pub fn take_metered(&mut self, meter: &mut Meter, most: u64) -> Result<Handed, AllocError>
+        ensures files { IfOk result (λ files. files ≡ take most self.old.waiting) }
+        ensures ok { OnOk result (self.new ≡ record self.old { waiting = drop most self.old.waiting; taken = self.old.taken ++ take most self.old.waiting }) }
+        ensures err { OnErr result (self.new ≡ self.old) }
+        ensures none { OnOk result (meter.new ≡ meter.old) }
+        ensures refused { OnErr result (meter.new ≡ one_more meter.old) }
+    {
         let count = self.waiting.len().min(most as usize);
-        let mut files = Vec::with_capacity(self.alloc, count)?;
+        let mut files = list::with_capacity(meter, self.alloc, count)?;
         for _ in 0..count {
             files.push_reserved(self.take_one());
         }
@@ -220,7 +249,16 @@ impl Outbox {
     pub fn waiting_files(&self) -> Result<Handed, AllocError>
         ensures { IfOk result (λ files. files ≡ self.now.waiting) }
     {
-        let files = waiting_in(self.alloc, &self.waiting)?;
+        self.waiting_files_metered(&mut Meter::new())
+    }
+
+    /// [`Outbox::waiting_files`], which fails exactly if one more request for memory was refused.
+    pub fn waiting_files_metered(&self, meter: &mut Meter) -> Result<Handed, AllocError>
+        ensures files { IfOk result (λ files. files ≡ self.now.waiting) }
+        ensures none { OnOk result (meter.new ≡ meter.old) }
+        ensures refused { OnErr result (meter.new ≡ one_more meter.old) }
+    {
+        let files = waiting_in(meter, self.alloc, &self.waiting)?;
         Ok(Handed::of(files))
     }
 
@@ -229,7 +267,16 @@ impl Outbox {
     pub fn taken_files(&self) -> Result<Files, AllocError>
         ensures { IfOk result (λ files. files ≡ ascending self.now.taken) }
     {
-        let files = taken_in(self.alloc, &self.index, &self.waiting, self.front)?;
+        self.taken_files_metered(&mut Meter::new())
+    }
+
+    /// [`Outbox::taken_files`], which fails exactly if one more request for memory was refused.
+    pub fn taken_files_metered(&self, meter: &mut Meter) -> Result<Files, AllocError>
+        ensures files { IfOk result (λ files. files ≡ ascending self.now.taken) }
+        ensures none { OnOk result (meter.new ≡ meter.old) }
+        ensures refused { OnErr result (meter.new ≡ one_more meter.old) }
+    {
+        let files = taken_in(meter, self.alloc, &self.index, &self.waiting, self.front)?;
         Ok(Files::of(files))
     }
 

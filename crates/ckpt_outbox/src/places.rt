@@ -1,12 +1,14 @@
 //! The index of an outbox: the ticket of each file, and what the ticket says.
-ghost use Rattle.std.specs.Prelude.{◌≡◌, ◌<◌, ◌≤◌, ◌+◌, ℕ, false, filter, length, get_or, IfOk, IsTrue, OnOk, Some, is_some, nat_eq};
+ghost use Rattle.std.specs.Prelude.{◌≡◌, ◌<◌, ◌≤◌, ◌+◌, ℕ, false, filter, length, get_or, IfOk, IsTrue, OnOk, OnErr, Some, is_some, nat_eq};
 ghost use Rattle.std.specs.HashMap as hash;
 ghost use Rattle.std.specs.HashMap.{IsUnchanged, Updates, spare};
+ghost use Rattle.ckpt_memory.specs.Refusals.{one_more};
 ghost use Rattle.ckpt_outbox.specs.Queues.{is_in};
 ghost use Rattle.ckpt_outbox.specs.Places.{IsTicketed, is_apart, ticket};
 
 use ckpt_hash::Secret;
 use ckpt_ids::FileId;
+use ckpt_memory::{Meter, list};
 use std::alloc::{AllocError, Global};
 use std::collections::{HashMap, VecDeque};
 
@@ -92,6 +94,7 @@ pub(crate) fn draw_again(
 ///
 /// Condition: each file that waits has the ticket of its place.
 pub(crate) fn taken_in(
+    meter: &mut Meter,
     alloc: Global,
     index: &Index,
     waiting: &VecDeque<FileId>,
@@ -101,11 +104,13 @@ pub(crate) fn taken_in(
     ensures files { IfOk result (λ files. files.items ≡ filter (is_apart (hash.get nat_eq index.now) waiting.now.items) (hash.keys index.now)) }
     ensures unique { OnOk result (hash.IsUnique nat_eq index.now) }
     ensures has { OnOk result ((file : ℕ) → is_some (hash.get nat_eq index.now file) ≡ is_in file (hash.keys index.now)) }
+    ensures none { OnOk result (meter.new ≡ meter.old) }
+    ensures refused { OnErr result (meter.new ≡ one_more meter.old) }
 {
     let mut files = Vec::new(alloc);
     for file in index.keys() {
         if is_taken(index, waiting, front, *file) {
-            files.push(*file)?;
+            list::push(meter, &mut files, *file)?;
         }
     }
     Ok(files)
@@ -113,14 +118,17 @@ pub(crate) fn taken_in(
 
 /// The waiting files, in their order. Fails only if memory runs out.
 pub(crate) fn waiting_in(
+    meter: &mut Meter,
     alloc: Global,
     waiting: &VecDeque<FileId>,
 ) -> Result<Vec<FileId>, AllocError>
-    ensures { IfOk result (λ files. files.items ≡ waiting.now.items) }
+    ensures files { IfOk result (λ files. files.items ≡ waiting.now.items) }
+    ensures none { OnOk result (meter.new ≡ meter.old) }
+    ensures refused { OnErr result (meter.new ≡ one_more meter.old) }
 {
-    let mut files = Vec::with_capacity(alloc, waiting.len())?;
+    let mut files = list::with_capacity(meter, alloc, waiting.len())?;
     for file in waiting {
-        files.push(*file)?;
+        list::push(meter, &mut files, *file)?;
     }
     Ok(files)
 }

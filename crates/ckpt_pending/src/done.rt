@@ -1,12 +1,14 @@
 //! A record that all its subtasks have acknowledged.
 
-ghost use Rattle.std.specs.Prelude.{◌≡◌, ◌∷◌, [], true, map, option_copied, IfOk};
+ghost use Rattle.std.specs.Prelude.{◌≡◌, ◌∷◌, [], true, map, option_copied, IfOk, OnOk, OnErr};
 ghost use Rattle.ckpt_ids.specs.Ascending.{ascending_set};
 ghost use Rattle.ckpt_ids.specs.Records.{Record, missing, metadata_of, uses};
+ghost use Rattle.ckpt_memory.specs.Refusals.{one_more};
 ghost use Rattle.ckpt_pending.specs.Acknowledging.{IsDone, IsPending, files_from};
 
 use crate::pending::Pending;
 use ckpt_ids::{CheckpointId, FileId, Files, Keyed, Kind, Metadata, SubtaskId};
+use ckpt_memory::Meter;
 use std::alloc::AllocError;
 use std::marker::Model;
 
@@ -81,7 +83,16 @@ impl Done {
     pub fn metadata(&self) -> Result<Metadata, AllocError>
         ensures { IfOk result (λ metadata. metadata ≡ metadata_of self.now) }
     {
-        let mut metadata = self.record.metadata()?;
+        self.metadata_metered(&mut Meter::new())
+    }
+
+    /// [`Done::metadata`], which fails exactly if one more request for memory was refused.
+    pub fn metadata_metered(&self, meter: &mut Meter) -> Result<Metadata, AllocError>
+        ensures value { IfOk result (λ metadata. metadata ≡ metadata_of self.now) }
+        ensures none { OnOk result (meter.new ≡ meter.old) }
+        ensures refused { OnErr result (meter.new ≡ one_more meter.old) }
+    {
+        let mut metadata = self.record.metadata_metered(meter)?;
         metadata.done = true;
         Ok(metadata)
     }
@@ -99,6 +110,15 @@ impl Done {
     pub fn files(&self) -> Result<Files, AllocError>
         ensures { IfOk result (λ files. files ≡ ascending_set (map (λ u. u.file) (uses (self.now ∷ [])))) }
     {
-        self.record.files()
+        self.files_metered(&mut Meter::new())
+    }
+
+    /// [`Done::files`], which fails exactly if one more request for memory was refused.
+    pub fn files_metered(&self, meter: &mut Meter) -> Result<Files, AllocError>
+        ensures files { IfOk result (λ files. files ≡ ascending_set (map (λ u. u.file) (uses (self.now ∷ [])))) }
+        ensures none { OnOk result (meter.new ≡ meter.old) }
+        ensures refused { OnErr result (meter.new ≡ one_more meter.old) }
+    {
+        self.record.files(meter)
     }
 }

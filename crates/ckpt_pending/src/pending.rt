@@ -5,12 +5,14 @@ ghost use Rattle.std.specs.List.{flat_map, insert};
 ghost use Rattle.ckpt_ids.specs.Ascending.{ascending_set};
 ghost use Rattle.ckpt_ids.specs.Records.{Record, acknowledged, has_acknowledged, missing, metadata_of};
 ghost use Rattle.ckpt_ids.specs.Shapes.{is_subtask};
+ghost use Rattle.ckpt_memory.specs.Refusals.{one_more};
 ghost use Rattle.ckpt_pending.specs.Acknowledging.{Expects, HasAlready, IsPending, files_from, without_ack};
 
 use crate::done::Done;
 use ckpt_ids::{
     Acked, Acks, CheckpointId, FileId, Files, Keyed, Kind, Metadata, Shape, SubtaskId, place_of,
 };
+use ckpt_memory::{Meter, list, queue};
 use std::alloc::{AllocError, Global};
 use std::collections::VecDeque;
 use std::marker::Model;
@@ -122,13 +124,33 @@ impl Pending {
         ensures undone_by_retract { OnOk result (without_ack subtask self.new ≡ self.old) }
         ensures err { OnErr result (self.new ≡ self.old) }
     {
+        self.ack_metered(&mut Meter::new(), subtask, files)
+    }
+
+    /// [`Pending::ack`], which answers [`AckFault::Memory`] exactly if one more request for memory
+    /// was refused.
+    pub fn ack_metered(
+        &mut self,
+        meter: &mut Meter,
+        subtask: SubtaskId,
+        files: Files,
+    ) -> Result<(), AckFault>
+        ensures unknown { (result ≡ Err AckFault.UnknownSubtask) ↔ (is_subtask self.old.shape subtask ≡ false) }
+        ensures already { (result ≡ Err AckFault.AlreadyAcknowledged) ↔ HasAlready self.old subtask }
+        ensures ok { OnOk result (self.new ≡ acknowledged self.old subtask files) }
+        ensures one_less { OnOk result (missing self.new + 1 ≡ missing self.old) }
+        ensures undone_by_retract { OnOk result (without_ack subtask self.new ≡ self.old) }
+        ensures err { OnErr result (self.new ≡ self.old) }
+        ensures none { OnOk result (meter.new ≡ meter.old) }
+        ensures refused { result ≡ Err AckFault.Memory → meter.new ≡ one_more meter.old }
+    {
         if !self.expects(subtask) {
             return Err(AckFault::UnknownSubtask);
         }
         if self.has(subtask) {
             return Err(AckFault::AlreadyAcknowledged);
         }
-        match self.ack_expected(subtask, files) {
+        match self.ack_expected_metered(meter, subtask, files) {
             Ok(()) => Ok(()),
             Err(_) => Err(AckFault::Memory),
         }
@@ -145,8 +167,28 @@ impl Pending {
         ensures undone_by_retract { OnOk result (without_ack subtask self.new ≡ self.old) }
         ensures err { OnErr result (self.new ≡ self.old) }
     {
+        self.ack_expected_metered(&mut Meter::new(), subtask, files)
+    }
+
+    /// [`Pending::ack_expected`], which fails exactly if one more request for memory was refused.
+    ///
+    /// Condition: the shape has the subtask, and it has not acknowledged.
+    pub fn ack_expected_metered(
+        &mut self,
+        meter: &mut Meter,
+        subtask: SubtaskId,
+        files: Files,
+    ) -> Result<(), AllocError>
+        requires { Expects self.old subtask }
+        ensures ok { OnOk result (self.new ≡ acknowledged self.old subtask files) }
+        ensures one_less { OnOk result (missing self.new + 1 ≡ missing self.old) }
+        ensures undone_by_retract { OnOk result (without_ack subtask self.new ≡ self.old) }
+        ensures err { OnErr result (self.new ≡ self.old) }
+        ensures none { OnOk result (meter.new ≡ meter.old) }
+        ensures refused { OnErr result (meter.new ≡ one_more meter.old) }
+    {
         let place = place_of(&self.acks, subtask).unwrap_err();
-        add(&mut self.acks, place, Acked { subtask, files })?;
+        add(meter, &mut self.acks, place, Acked { subtask, files })?;
         self.missing -= 1;
         Ok(())
     }
@@ -229,8 +271,17 @@ impl Pending {
     pub fn metadata(&self) -> Result<Metadata, AllocError>
         ensures { IfOk result (λ metadata. metadata ≡ metadata_of self.now) }
     {
-        let acks = copies(self.alloc, &self.acks)?;
-        let shape = self.shape.copy()?;
+        self.metadata_metered(&mut Meter::new())
+    }
+
+    /// [`Pending::metadata`], which fails exactly if one more request for memory was refused.
+    pub fn metadata_metered(&self, meter: &mut Meter) -> Result<Metadata, AllocError>
+        ensures value { IfOk result (λ metadata. metadata ≡ metadata_of self.now) }
+        ensures none { OnOk result (meter.new ≡ meter.old) }
+        ensures refused { OnErr result (meter.new ≡ one_more meter.old) }
+    {
+        let acks = copies(meter, self.alloc, &self.acks)?;
+        let shape = self.shape.copy_metered(meter)?;
         Ok(Metadata {
             id: self.id,
             kind: self.kind,
@@ -243,10 +294,12 @@ impl Pending {
 
     /// The files of all acknowledgements, in ascending order, each once. Fails only if memory runs
     /// out.
-    pub(crate) fn files(&self) -> Result<Files, AllocError>
-        ensures { IfOk result (λ files. files ≡ ascending_set (flat_map (λ a. a.files) self.now.acks)) }
+    pub(crate) fn files(&self, meter: &mut Meter) -> Result<Files, AllocError>
+        ensures files { IfOk result (λ files. files ≡ ascending_set (flat_map (λ a. a.files) self.now.acks)) }
+        ensures none { OnOk result (meter.new ≡ meter.old) }
+        ensures refused { OnErr result (meter.new ≡ one_more meter.old) }
     {
-        let mut all = all_files(self.alloc, &self.acks)?;
+        let mut all = all_files(meter, self.alloc, &self.acks)?;
         all.sort_unstable();
         all.dedup();
         Ok(Files::of(all))
@@ -270,39 +323,58 @@ impl Pending {
 /// Adds an acknowledgement at this place. Fails only if memory runs out, and then adds nothing.
 ///
 /// Condition: the place is not past the end.
-fn add(acks: &mut VecDeque<Acked>, place: usize, acked: Acked) -> Result<(), AllocError>
+fn add(
+    meter: &mut Meter,
+    acks: &mut VecDeque<Acked>,
+    place: usize,
+    acked: Acked,
+) -> Result<(), AllocError>
     requires { place ≤ length acks.old.items }
     ensures ok { OnOk result (acks.new.items ≡ insert acks.old.items place acked) }
     ensures err { OnErr result (acks.new.items ≡ acks.old.items) }
+    ensures none { OnOk result (meter.new ≡ meter.old) }
+    ensures refused { OnErr result (meter.new ≡ one_more meter.old) }
 {
     if place == acks.len() {
-        acks.push_back(acked)?;
+        queue::push_back(meter, acks, acked)
     } else {
-        acks.insert(place, acked)?;
+        queue::insert(meter, acks, place, acked)
     }
-    Ok(())
 }
 
-fn copies(alloc: Global, acks: &VecDeque<Acked>) -> Result<Vec<Acked>, AllocError>
-    ensures { IfOk result (λ copies. copies.items ≡ acks.now.items) }
+fn copies(
+    meter: &mut Meter,
+    alloc: Global,
+    acks: &VecDeque<Acked>,
+) -> Result<Vec<Acked>, AllocError>
+    ensures items { IfOk result (λ copies. copies.items ≡ acks.now.items) }
+    ensures none { OnOk result (meter.new ≡ meter.old) }
+    ensures refused { OnErr result (meter.new ≡ one_more meter.old) }
 {
-    let mut copies = Vec::with_capacity(alloc, acks.len())?;
+    let mut copies = list::with_capacity(meter, alloc, acks.len())?;
     for acked in acks {
-        let files = acked.files.copy()?;
-        copies.push(Acked {
+        let files = acked.files.copy_metered(meter)?;
+        let copy = Acked {
             subtask: acked.subtask,
             files,
-        })?;
+        };
+        list::push(meter, &mut copies, copy)?;
     }
     Ok(copies)
 }
 
-fn all_files(alloc: Global, acks: &VecDeque<Acked>) -> Result<Vec<FileId>, AllocError>
-    ensures { IfOk result (λ all. all.items ≡ flat_map (λ a. a.files) acks.now.items) }
+fn all_files(
+    meter: &mut Meter,
+    alloc: Global,
+    acks: &VecDeque<Acked>,
+) -> Result<Vec<FileId>, AllocError>
+    ensures items { IfOk result (λ all. all.items ≡ flat_map (λ a. a.files) acks.now.items) }
+    ensures none { OnOk result (meter.new ≡ meter.old) }
+    ensures refused { OnErr result (meter.new ≡ one_more meter.old) }
 {
     let mut all = Vec::new(alloc);
     for acked in acks {
-        all.extend_from_slice(acked.files.as_slice())?;
+        list::extend_from_slice(meter, &mut all, acked.files.as_slice())?;
     }
     Ok(all)
 }

@@ -1,12 +1,14 @@
 //! The acknowledgements of each record: a row of records, each with its parts.
 ghost use Rattle.std.specs.Prelude.{◌≡◌, ℕ, ◌≤◌, ◌==◌, [], filter, insert, length, not, IfNone, IfSome, OnErr, OnOk};
 ghost use Rattle.ckpt_ids.specs.Counting.{times};
+ghost use Rattle.ckpt_memory.specs.Refusals.{one_more};
 ghost use Rattle.ckpt_registry.specs.Counters.{counter, AreInRange, AreLowered, HasRoom};
 ghost use Rattle.ckpt_registry.specs.Holdings.{Adds, AreRising, Extends, parts_of, uses_in, uses_of_ack};
 
 use crate::counters::{Counts, lower};
 use crate::record_parts::RecordParts;
 use ckpt_ids::{CheckpointId, FileId, Files, Keyed, SubtaskId, place_of, take_out};
+use ckpt_memory::{Meter, queue};
 use std::alloc::AllocError;
 use std::collections::VecDeque;
 use std::mem::replace;
@@ -91,17 +93,23 @@ pub(crate) fn remove(acknowledged: &mut Acknowledged, id: CheckpointId) -> Optio
 ///
 /// Condition: the place is not past the end.
 #[inline(always)]
-fn add(acknowledged: &mut Acknowledged, place: usize, holding: Holding) -> Result<(), AllocError>
+fn add(
+    meter: &mut Meter,
+    acknowledged: &mut Acknowledged,
+    place: usize,
+    holding: Holding,
+) -> Result<(), AllocError>
     requires { place ≤ length acknowledged.old.items }
     ensures ok { OnOk result (acknowledged.new.items ≡ insert acknowledged.old.items place holding) }
     ensures err { OnErr result (acknowledged.new.items ≡ acknowledged.old.items) }
+    ensures none { OnOk result (meter.new ≡ meter.old) }
+    ensures refused { OnErr result (meter.new ≡ one_more meter.old) }
 {
     if place == acknowledged.len() {
-        acknowledged.push_back(holding)?;
+        queue::push_back(meter, acknowledged, holding)
     } else {
-        acknowledged.insert(place, holding)?;
+        queue::insert(meter, acknowledged, place, holding)
     }
-    Ok(())
 }
 
 /// Adds the part of a subtask to a record. A new record uses the spare room. Fails only if memory
@@ -109,6 +117,7 @@ fn add(acknowledged: &mut Acknowledged, place: usize, holding: Holding) -> Resul
 ///
 /// Conditions: the numbers of the records rise, and the spare parts are empty.
 pub(crate) fn hold(
+    meter: &mut Meter,
     acknowledged: &mut Acknowledged,
     spare: &mut RecordParts,
     id: CheckpointId,
@@ -123,20 +132,24 @@ pub(crate) fn hold(
     ensures extends { Extends acknowledged.old acknowledged.new }
     ensures ok { OnOk result (Adds (uses_in acknowledged.old.items) (uses_of_ack id subtask fresh.now reused.now) (uses_in acknowledged.new.items)) }
     ensures err { OnErr result (uses_in acknowledged.new.items ≡ uses_in acknowledged.old.items) }
+    ensures none { OnOk result (meter.new ≡ meter.old) }
+    ensures refused { OnErr result (meter.new ≡ one_more meter.old) }
 {
     if fresh.is_empty() && reused.is_empty() {
         return Ok(());
     }
     match place_of(acknowledged, id) {
         Ok(place) => {
-            acknowledged[place].parts.push(subtask, fresh, reused)?;
+            acknowledged[place]
+                .parts
+                .push(meter, subtask, fresh, reused)?;
             Ok(())
         }
         Err(place) => {
-            spare.push(subtask, fresh, reused)?;
+            spare.push(meter, subtask, fresh, reused)?;
             let alloc = *acknowledged.allocator();
             let parts = replace(spare, RecordParts::new(alloc));
-            add(acknowledged, place, Holding { id, parts })?;
+            add(meter, acknowledged, place, Holding { id, parts })?;
             Ok(())
         }
     }

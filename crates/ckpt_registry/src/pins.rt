@@ -1,11 +1,12 @@
 //! The pins of records: files that they keep present, or a live record whose files they keep
 //! present.
-ghost use Rattle.std.specs.Prelude.{◌≡◌, ℕ, ◌+◌, ◌<◌, ◌≤◌, ◌^◌, [], ◌++◌, filter, not, length, IfOk};
+ghost use Rattle.std.specs.Prelude.{◌≡◌, ℕ, ◌+◌, ◌<◌, ◌≤◌, ◌^◌, [], ◌++◌, filter, not, length, IfOk, OnOk, OnErr};
 ghost use Rattle.std.specs.Vec.{vec_capacity};
 ghost use Rattle.indexmap.specs.IndexMap.{index_map_len};
 ghost use Rattle.ckpt_ids.specs.Ascending.{ascending_set};
 ghost use Rattle.ckpt_ids.specs.Counting.{times};
 ghost use Rattle.ckpt_ids.specs.Ordered.{IsIn};
+ghost use Rattle.ckpt_memory.specs.Refusals.{one_more};
 ghost use Rattle.ckpt_registry.specs.Counters.{counter, AreInRange, AreLowered, HasRoom};
 ghost use Rattle.ckpt_registry.specs.Holdings.{Acknowledged, AreRising, parts_of};
 ghost use Rattle.ckpt_registry.specs.RecordParts.{files_in};
@@ -17,6 +18,7 @@ use crate::holdings::{Acknowledged, lower_each, parts_held};
 use crate::record_parts::{MOST_FILES, RecordParts, emptied, write};
 use crate::sorting::sort;
 use ckpt_ids::{CheckpointId, FileId};
+use ckpt_memory::{Meter, list};
 use std::alloc::{AllocError, Global};
 use std::mem::replace;
 
@@ -205,6 +207,7 @@ pub(crate) fn pin_all(
 ///
 /// Conditions: the numbers of the records rise, and each record that is pinned still has its parts.
 pub(crate) fn files_pinned(
+    meter: &mut Meter,
     alloc: Global,
     acknowledged: &Acknowledged,
     pinned: &[Pinner],
@@ -212,12 +215,14 @@ pub(crate) fn files_pinned(
 ) -> Result<Vec<FileId>, AllocError>
     requires rising { AreRising acknowledged.now.items }
     requires kept { AreKept acknowledged.now pinned.now }
-    ensures { IfOk result (λ all. all.items ≡ named_by acknowledged.now id pinned.now) }
+    ensures items { IfOk result (λ all. all.items ≡ named_by acknowledged.now id pinned.now) }
+    ensures none { OnOk result (meter.new ≡ meter.old) }
+    ensures refused { OnErr result (meter.new ≡ one_more meter.old) }
 {
     let mut all = Vec::new(alloc);
     for one in pinned {
         if one.id == id {
-            all.extend_from_slice(one.pins.files(acknowledged))?;
+            list::extend_from_slice(meter, &mut all, one.pins.files(acknowledged))?;
         }
     }
     Ok(all)

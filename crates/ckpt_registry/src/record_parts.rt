@@ -3,9 +3,11 @@ ghost use Rattle.std.specs.Prelude.{◌≡◌, ◌+◌, ◌≤◌, [], ◌∷◌
 ghost use Rattle.std.specs.Vec.{vec_capacity};
 ghost use Rattle.std.specs.List.{between};
 ghost use Rattle.ckpt_ids.specs.Counting.{times};
+ghost use Rattle.ckpt_memory.specs.Refusals.{one_more};
 ghost use Rattle.ckpt_registry.specs.RecordParts.{IsCutAt, files_in};
 
 use ckpt_ids::{FileId, Files, SubtaskId};
+use ckpt_memory::{Meter, list};
 use std::alloc::{AllocError, Global};
 use std::marker::Model;
 
@@ -102,20 +104,20 @@ impl RecordParts {
     /// Adds the part of a subtask. Fails only if memory runs out, and then adds nothing.
     pub(crate) fn push(
         &mut self,
+        meter: &mut Meter,
         subtask: SubtaskId,
         fresh: &Files,
         reused: &Files,
     ) -> Result<(), AllocError>
         ensures ok { OnOk result (self.new ≡ self.old ++ record { subtask = subtask; fresh = fresh.now; reused = reused.now } ∷ []) }
         ensures err { OnErr result (self.new ≡ self.old) }
+        ensures none { OnOk result (meter.new ≡ meter.old) }
+        ensures refused { OnErr result (meter.new ≡ one_more meter.old) }
     {
         let fresh = fresh.as_slice();
         let reused = reused.as_slice();
-        let Some(more) = fresh.len().checked_add(reused.len()) else {
-            return Err(AllocError);
-        };
-        self.files.reserve(more)?;
-        self.cuts.reserve(1)?;
+        list::reserve(meter, &mut self.files, fresh.len() + reused.len())?;
+        list::reserve(meter, &mut self.cuts, 1)?;
         write(&mut self.files, fresh);
         let middle = self.files.len();
         write(&mut self.files, reused);

@@ -4,6 +4,7 @@ ghost use Rattle.std.specs.Borrow.{sem};
 ghost use Rattle.ckpt_ids.specs.Ordered.{IsIn, IsInOrder, in_order_once};
 ghost use Rattle.ckpt_ids.specs.Ascending.{IsAscendingSet, ascending_set};
 ghost use Rattle.ckpt_ids.specs.Records.{Subtask, Pin, count, is_present, released, use_before};
+ghost use Rattle.ckpt_memory.specs.Refusals.{one_more};
 ghost use Rattle.ckpt_registry.specs.Uses.{IsEachOnce, HasNoUse, after_end, files_by, pins_by, triples, without};
 
 use crate::counters::{count_each, count_fresh, count_reused};
@@ -14,6 +15,7 @@ use crate::releases::{Uses, release_each};
 use crate::sorting::sort;
 use ckpt_hash::Secret;
 use ckpt_ids::{CheckpointId, FileId, Files, SubtaskId};
+use ckpt_memory::{Meter, index, list};
 use indexmap::IndexMap;
 use std::alloc::{AllocError, Global};
 use std::collections::VecDeque;
@@ -126,12 +128,39 @@ impl Registry {
         ensures ok { OnOk result (self.new ≡ in_order_once use_before (self.old ++ triples id (Subtask subtask) (fresh.now ++ reused.now))) }
         ensures err { OnErr result (self.new ≡ self.old) }
     {
+        self.use_files_metered(&mut Meter::new(), id, subtask, fresh, reused)
+    }
+
+    /// [`Registry::use_files`], which fails exactly if one more request for memory was refused.
+    ///
+    /// Conditions: the fresh files have no use yet, each reused one has 1 to 2^32 - 2, and no file
+    /// is named twice. The subtask has not acknowledged this record.
+    pub fn use_files_metered(
+        &mut self,
+        meter: &mut Meter,
+        id: CheckpointId,
+        subtask: SubtaskId,
+        fresh: &Files,
+        reused: &Files,
+    ) -> Result<(), AllocError>
+        requires fresh_absent { (f : ℕ) → IsIn f fresh.now → is_present self.old f ≡ false }
+        requires reused_present { (f : ℕ) → IsIn f reused.now → is_present self.old f ≡ true }
+        requires each_once { IsEachOnce (fresh.now ++ reused.now) }
+        requires below { (f : ℕ) → IsIn f reused.now → count self.old f < 2 ^ 32 - 1 }
+        requires unused { HasNoUse self.old id (Subtask subtask) }
+        ensures ok { OnOk result (self.new ≡ in_order_once use_before (self.old ++ triples id (Subtask subtask) (fresh.now ++ reused.now))) }
+        ensures err { OnErr result (self.new ≡ self.old) }
+        ensures none { OnOk result (meter.new ≡ meter.old) }
+        ensures refused { OnErr result (meter.new ≡ one_more meter.old) }
+    {
         // Everything that may run out of memory comes first. A released file has a counter, so room
         // for as many files as counters is enough.
-        self.uses.counts.reserve(fresh.len())?;
+        index::reserve(meter, &mut self.uses.counts, fresh.len())?;
         self.released.clear();
-        self.released.reserve(self.uses.counts.capacity())?;
+        let room = self.uses.counts.capacity();
+        list::reserve(meter, &mut self.released, room)?;
         hold(
+            meter,
             &mut self.uses.acknowledged,
             &mut self.spare,
             id,
@@ -163,11 +192,35 @@ impl Registry {
         ensures ok { OnOk result (self.new ≡ in_order_once use_before (self.old ++ triples id (Subtask subtask) files.now)) }
         ensures err { OnErr result (self.new ≡ self.old) }
     {
-        self.uses.counts.reserve(files.len())?;
+        self.hold_files_metered(&mut Meter::new(), id, subtask, files)
+    }
+
+    /// [`Registry::hold_files`], which fails exactly if one more request for memory was refused.
+    ///
+    /// Conditions: no file is named twice, and each has at most 2^32 - 2 uses. The subtask has not
+    /// acknowledged this record.
+    pub fn hold_files_metered(
+        &mut self,
+        meter: &mut Meter,
+        id: CheckpointId,
+        subtask: SubtaskId,
+        files: &Files,
+    ) -> Result<(), AllocError>
+        requires each_once { IsEachOnce files.now }
+        requires below { (f : ℕ) → IsIn f files.now → count self.old f < 2 ^ 32 - 1 }
+        requires unused { HasNoUse self.old id (Subtask subtask) }
+        ensures ok { OnOk result (self.new ≡ in_order_once use_before (self.old ++ triples id (Subtask subtask) files.now)) }
+        ensures err { OnErr result (self.new ≡ self.old) }
+        ensures none { OnOk result (meter.new ≡ meter.old) }
+        ensures refused { OnErr result (meter.new ≡ one_more meter.old) }
+    {
+        index::reserve(meter, &mut self.uses.counts, files.len())?;
         self.released.clear();
-        self.released.reserve(self.uses.counts.capacity())?;
+        let room = self.uses.counts.capacity();
+        list::reserve(meter, &mut self.released, room)?;
         let none = Files::of(Vec::new(*self.released.allocator()));
         hold(
+            meter,
             &mut self.uses.acknowledged,
             &mut self.spare,
             id,
@@ -192,14 +245,36 @@ impl Registry {
         ensures ok { OnOk result (self.new ≡ in_order_once use_before (self.old ++ triples id Pin files.now)) }
         ensures err { OnErr result (self.new ≡ self.old) }
     {
+        self.pin_files_metered(&mut Meter::new(), id, files)
+    }
+
+    /// [`Registry::pin_files`], which fails exactly if one more request for memory was refused.
+    ///
+    /// Conditions: each file is named once and has at most 2^32 - 2 uses, and the record has no pins
+    /// yet.
+    pub fn pin_files_metered(
+        &mut self,
+        meter: &mut Meter,
+        id: CheckpointId,
+        files: &Files,
+    ) -> Result<(), AllocError>
+        requires ascending { IsAscendingSet files.now }
+        requires below { (f : ℕ) → IsIn f files.now → count self.old f < 2 ^ 32 - 1 }
+        requires unpinned { HasNoUse self.old id Pin }
+        ensures ok { OnOk result (self.new ≡ in_order_once use_before (self.old ++ triples id Pin files.now)) }
+        ensures err { OnErr result (self.new ≡ self.old) }
+        ensures none { OnOk result (meter.new ≡ meter.old) }
+        ensures refused { OnErr result (meter.new ≡ one_more meter.old) }
+    {
         let alloc = *self.released.allocator();
-        self.uses.counts.reserve(files.len())?;
+        index::reserve(meter, &mut self.uses.counts, files.len())?;
         self.released.clear();
-        self.released.reserve(self.uses.counts.capacity())?;
+        let room = self.uses.counts.capacity();
+        list::reserve(meter, &mut self.released, room)?;
         let files = files.as_slice();
-        let own = Vec::from_slice(alloc, files)?;
+        let own = list::from_slice(meter, alloc, files)?;
         let pins = Pins::Files(own);
-        self.uses.pinned.push(Pinner { id, pins })?;
+        list::push(meter, &mut self.uses.pinned, Pinner { id, pins })?;
         count_each(&mut self.uses.counts, files);
         Ok(())
     }
@@ -217,14 +292,34 @@ impl Registry {
         ensures ok { OnOk result (self.new ≡ in_order_once use_before (self.old ++ triples id Pin (files_by chosen self.old))) }
         ensures err { OnErr result (self.new ≡ self.old) }
     {
+        self.pin_record_metered(&mut Meter::new(), id, chosen)
+    }
+
+    /// [`Registry::pin_record`], which fails exactly if one more request for memory was refused.
+    ///
+    /// Conditions: record `id` has no pins yet, and each file of the other record has at most
+    /// 2^32 - 2 uses. The other record may have no use.
+    pub fn pin_record_metered(
+        &mut self,
+        meter: &mut Meter,
+        id: CheckpointId,
+        chosen: CheckpointId,
+    ) -> Result<(), AllocError>
+        requires below { (f : ℕ) → IsIn f (files_by chosen self.old) → count self.old f < 2 ^ 32 - 1 }
+        requires unpinned { HasNoUse self.old id Pin }
+        ensures ok { OnOk result (self.new ≡ in_order_once use_before (self.old ++ triples id Pin (files_by chosen self.old))) }
+        ensures err { OnErr result (self.new ≡ self.old) }
+        ensures none { OnOk result (meter.new ≡ meter.old) }
+        ensures refused { OnErr result (meter.new ≡ one_more meter.old) }
+    {
         let Some(parts) = parts_held(&self.uses.acknowledged, chosen) else {
             return Ok(());
         };
         let alloc = *self.released.allocator();
         // Room for the files. They are written if the other record is dropped first, since a drop
         // may take no memory. Until then nothing touches this room.
-        self.room.reserve(parts.files().len())?;
-        self.uses.pinned.reserve(1)?;
+        list::reserve(meter, &mut self.room, parts.files().len())?;
+        list::reserve(meter, &mut self.uses.pinned, 1)?;
         let room = replace(&mut self.room, Vec::new(alloc));
         let pins = pin_all(
             &mut self.uses.counts,
@@ -241,8 +336,17 @@ impl Registry {
     pub fn pins(&self, id: CheckpointId) -> Result<Files, AllocError>
         ensures { IfOk result (λ files. files ≡ pins_by id self.now) }
     {
+        self.pins_metered(&mut Meter::new(), id)
+    }
+
+    /// [`Registry::pins`], which fails exactly if one more request for memory was refused.
+    pub fn pins_metered(&self, meter: &mut Meter, id: CheckpointId) -> Result<Files, AllocError>
+        ensures files { IfOk result (λ files. files ≡ pins_by id self.now) }
+        ensures none { OnOk result (meter.new ≡ meter.old) }
+        ensures refused { OnErr result (meter.new ≡ one_more meter.old) }
+    {
         let alloc = *self.released.allocator();
-        let mut all = files_pinned(alloc, &self.uses.acknowledged, &self.uses.pinned, id)?;
+        let mut all = files_pinned(meter, alloc, &self.uses.acknowledged, &self.uses.pinned, id)?;
         all.sort_unstable();
         all.dedup();
         Ok(Files::of(all))
@@ -311,11 +415,12 @@ impl Registry {
         self.uses.counts.contains_key(&file)
     }
 
-    /// The number of files that are present.
+    /// The number of files that are present, below 2^63.
     pub fn present(&self) -> u64
         ensures value { result ≡ length (ascending_set (map (λ u. u.file) self.now)) }
         ensures in_order { IsInOrder use_before self.now }
         ensures below { (f : ℕ) → count self.now f < 2 ^ 32 }
+        ensures few { result < 2 ^ 63 }
     {
         self.uses.counts.len() as u64
     }

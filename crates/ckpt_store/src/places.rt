@@ -1,11 +1,13 @@
 //! Where a record belongs in a row, and room for it.
 
-ghost use Rattle.std.specs.Prelude.{◌≡◌, ◌≤◌, ◌+◌, true, false, nat_lt, length, OnOk};
+ghost use Rattle.std.specs.Prelude.{◌≡◌, ◌≤◌, ◌+◌, true, false, nat_lt, length, OnOk, OnErr};
 ghost use Rattle.std.specs.List.Sorted.{IsPartitionPoint};
 ghost use Rattle.std.specs.VecDeque.{deque_len, deque_capacity};
+ghost use Rattle.ckpt_memory.specs.Refusals.{one_more};
 ghost use Rattle.ckpt_store.specs.Storing.{AreRising};
 
 use ckpt_ids::CheckpointId;
+use ckpt_memory::{Meter, queue};
 use ckpt_pending::Done;
 use std::alloc::AllocError;
 use std::collections::VecDeque;
@@ -29,14 +31,17 @@ pub(crate) fn place_for(queue: &VecDeque<Done>, id: CheckpointId) -> usize
 }
 
 /// Makes room for one more record. A growth at least doubles the room.
-pub(crate) fn make_room(queue: &mut VecDeque<Done>) -> Result<(), AllocError>
-    ensures items { queue.new.items ≡ queue.old.items }
-    ensures len { deque_len queue.new ≡ deque_len queue.old }
-    ensures ok { OnOk result (deque_len queue.new + 1 ≤ deque_capacity queue.new) }
-    ensures capacity { deque_capacity queue.old ≤ deque_capacity queue.new }
+pub(crate) fn make_room(meter: &mut Meter, row: &mut VecDeque<Done>) -> Result<(), AllocError>
+    ensures items { row.new.items ≡ row.old.items }
+    ensures len { deque_len row.new ≡ deque_len row.old }
+    ensures ok { OnOk result (deque_len row.new + 1 ≤ deque_capacity row.new) }
+    ensures capacity { deque_capacity row.old ≤ deque_capacity row.new }
+    ensures none { OnOk result (meter.new ≡ meter.old) }
+    ensures refused { OnErr result (meter.new ≡ one_more meter.old) }
 {
-    if queue.len() < queue.capacity() {
+    if row.len() < row.capacity() {
         return Ok(());
     }
-    queue.reserve(queue.capacity().max(FIRST_ROOM))
+    let more = row.capacity().max(FIRST_ROOM);
+    queue::reserve(meter, row, more)
 }

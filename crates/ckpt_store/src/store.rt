@@ -5,10 +5,12 @@ ghost use Rattle.std.specs.List.{find};
 ghost use Rattle.std.specs.Option.{option_copied};
 ghost use Rattle.ckpt_ids.specs.declared.numbers.Kind.TheVariants as kind;
 ghost use Rattle.ckpt_ids.specs.Ordered.{put};
+ghost use Rattle.ckpt_memory.specs.Refusals.{one_more};
 ghost use Rattle.ckpt_store.specs.Storing.{Stored, IsStored, IsAbove, by_id, has_savepoint, completing, past_retained, lowest, choice_of, record_of};
 
 use crate::places::{make_room, place_for};
 use ckpt_ids::{CheckpointId, Choice, place_of};
+use ckpt_memory::Meter;
 use ckpt_pending::Done;
 use std::alloc::{AllocError, Global};
 use std::collections::VecDeque;
@@ -82,8 +84,19 @@ impl Store {
         ensures kept { self.new ≡ record self.old { spare = self.new.spare } }
         ensures room { self.old.spare ≤ self.new.spare }
     {
-        make_room(&mut self.checkpoints)?;
-        make_room(&mut self.savepoints)
+        self.reserve_metered(&mut Meter::new())
+    }
+
+    /// [`Store::reserve`], which fails exactly if one more request for memory was refused.
+    pub fn reserve_metered(&mut self, meter: &mut Meter) -> Result<(), AllocError>
+        ensures ok { OnOk result (1 ≤ self.new.spare) }
+        ensures kept { self.new ≡ record self.old { spare = self.new.spare } }
+        ensures room { self.old.spare ≤ self.new.spare }
+        ensures none { OnOk result (meter.new ≡ meter.old) }
+        ensures refused { OnErr result (meter.new ≡ one_more meter.old) }
+    {
+        make_room(meter, &mut self.checkpoints)?;
+        make_room(meter, &mut self.savepoints)
     }
 
     /// Adds a completed checkpoint. From then on there is no base. If there are now more

@@ -112,6 +112,15 @@ rises_behind [] ys a = a
 rises_behind (x ∷ xs) ys a = rises_behind xs ys a.1
 
 -- an added range
+-- numbers that rise from a base on and stay below an end are no more than lie between
+pub few_between : (xs : List ℕ) (base end : ℕ) → base ≤ end → IsAscendingSet xs → ((x : ℕ) → IsIn x xs → (base ≤ x) × (x < end)) → base + length xs ≤ end
+few_between [] base end order rises h = omega (arith, order)
+few_between (x ∷ xs) base end order rises h =
+    let here : (base ≤ x) × (x < end) = h x (inl refl) in
+    let rest : x + 1 + length xs ≤ end = few_between xs (x + 1) end (omega (arith, here.1)) (rises_behind (x ∷ []) xs rises)
+    (λ y k. (omega (arith, append_rises (x ∷ []) xs x y rises (inl refl) k), (h y (inr k)).1)) in
+    omega (arith, here.0, rest)
+
 pub added_rises : (spans : List Span) (first count : ℕ) → IsAscendingSet (names_of spans) → ((f : ℕ) → IsIn f (names_of spans) → f < first)
     → IsAscendingSet (names_of (spans ++ span first (first + count) ∷ []))
 added_rises spans first count a above =

@@ -1,9 +1,10 @@
 //! What is saved of a coordinator whose tasks reserve the names of their files. One that is made from
 //! it answers as the saved one would.
 
-ghost use Rattle.std.specs.Prelude.{◌≡◌, ◌↔◌, ◌<◌, ℕ, true, length, Err, None, IfOk, IfSome, IsTrue, OnOk};
+ghost use Rattle.std.specs.Prelude.{◌≡◌, ◌↔◌, ◌<◌, ℕ, true, length, Err, None, IfOk, IfSome, IsTrue, OnOk, OnErr};
 ghost use Rattle.std.specs.List.{list_all};
 ghost use Rattle.ckpt_ids.specs.Ordered.{IsIn};
+ghost use Rattle.ckpt_memory.specs.Refusals.{one_more};
 ghost use Rattle.ckpt_model.specs.Images.{HasSoundNumbers, record_in, state_in};
 ghost use Rattle.ckpt_model.specs.Refusals.{is_cancelled};
 ghost use Rattle.ckpt_model.specs.Soundness.{IsSound};
@@ -17,6 +18,7 @@ use crate::names::{Names, Span, hold};
 use crate::terms::Terms;
 use ckpt_core::{Core, Image, ImageFault, Mode, Saved, Secret};
 use ckpt_ids::{Acked, Acks, FileId};
+use ckpt_memory::Meter;
 use std::alloc::{AllocError, Global};
 
 /// The state of a coordinator with names as plain data.
@@ -44,9 +46,20 @@ impl Terms {
         ensures good { IfOk result (λ image. CanOpenFenced image) }
         ensures fewest { IfOk result (λ image. image.unspent.items ≡ ranges_of self.now.unspent) }
     {
+        self.image_metered(&mut Meter::new())
+    }
+
+    /// [`Terms::image`], which fails exactly if one more request for memory was refused.
+    pub fn image_metered(&self, meter: &mut Meter) -> Result<TermsImage, AllocError>
+        ensures value { IfOk result (λ image. fenced_in image ≡ fenced_settled self.now) }
+        ensures good { IfOk result (λ image. CanOpenFenced image) }
+        ensures fewest { IfOk result (λ image. image.unspent.items ≡ ranges_of self.now.unspent) }
+        ensures none { OnOk result (meter.new ≡ meter.old) }
+        ensures refused { OnErr result (meter.new ≡ one_more meter.old) }
+    {
         let term = self.term();
-        let core = self.core().image()?;
-        let unspent = self.names().copied_ranges()?;
+        let core = self.core().image_metered(meter)?;
+        let unspent = self.names().copied_ranges_metered(meter)?;
         Ok(TermsImage {
             core,
             term,
@@ -74,11 +87,30 @@ impl Terms {
         ensures numbers { result ≡ Err ImageFault.Memory → HasSoundNumbers (state_in image.now.core) }
         ensures names { result ≡ Err ImageFault.Memory → IsSound (state_in image.now.core) → IsFenced (fenced_in image.now) }
     {
+        Terms::from_image_metered(&mut Meter::new(), alloc, image, secret)
+    }
+
+    /// [`Terms::from_image`], which answers [`ImageFault::Memory`] only if one more request for
+    /// memory was refused.
+    pub fn from_image_metered(
+        meter: &mut Meter,
+        alloc: Global,
+        image: &TermsImage,
+        secret: Secret,
+    ) -> Result<Terms, ImageFault>
+        ensures value { IfOk result (λ terms. terms ≡ fenced_in image.now) }
+        ensures sound { OnOk result (CanOpenFenced image.now) }
+        ensures damaged { result ≡ Err ImageFault.Damaged → CanOpenFenced image.now → ⊥ }
+        ensures numbers { result ≡ Err ImageFault.Memory → HasSoundNumbers (state_in image.now.core) }
+        ensures names { result ≡ Err ImageFault.Memory → IsSound (state_in image.now.core) → IsFenced (fenced_in image.now) }
+        ensures none { OnOk result (meter.new ≡ meter.old) }
+        ensures cause { result ≡ Err ImageFault.Memory → meter.new ≡ one_more meter.old }
+    {
         let Some(held) = sound_names(image) else {
             return Err(ImageFault::Damaged);
         };
-        let core = Core::from_image(alloc, &image.core, secret)?;
-        let unspent = Names::of(alloc, &image.unspent, held)?;
+        let core = Core::from_image_metered(meter, alloc, &image.core, secret)?;
+        let unspent = Names::of(meter, alloc, &image.unspent, held)?;
         Ok(Terms::of(alloc, core, image.term, image.next_name, unspent))
     }
 }

@@ -2,6 +2,7 @@
 
 ghost use Rattle.std.specs.Prelude.{◌≡◌, ◌≢◌, true, Some, None, Err, IfOk, IfSome, OnOk, OnErr};
 ghost use Rattle.std.specs.Result.{result_err};
+ghost use Rattle.ckpt_memory.specs.Refusals.{one_more};
 ghost use Rattle.ckpt_model.specs.Memory.{may_want_memory};
 ghost use Rattle.ckpt_model.specs.Steps.{step};
 ghost use Rattle.ckpt_terms.specs.Fencing.{Fenced};
@@ -16,6 +17,7 @@ use crate::scan::has_known_from;
 use crate::terms::Terms;
 use ckpt_core::{Core, CoreFault};
 use ckpt_ids::{Answer, Call};
+use ckpt_memory::Meter;
 use core::mem::replace_with;
 use std::alloc::{AllocError, Global};
 
@@ -75,9 +77,25 @@ impl Machine {
         ensures memory { OnErr result (may_want_memory (core_in self.old) call.now ≡ true) }
         ensures unchanged { OnErr result (self.new ≡ self.old) }
     {
+        self.apply_metered(&mut Meter::new(), call)
+    }
+
+    /// [`Machine::apply`], which fails exactly if one more request for memory was refused.
+    pub fn apply_metered(
+        &mut self,
+        meter: &mut Meter,
+        call: &Call,
+    ) -> Result<FencedAnswer, AllocError>
+        ensures done { IfOk result (λ answer. machine_step self.old call.now ≡ (self.new, answer)) }
+        ensures passes { IfOk result (λ answer. passes (names_in self.old) call.now ≡ true → MakesStep self.old self.new call.now answer) }
+        ensures memory { OnErr result (may_want_memory (core_in self.old) call.now ≡ true) }
+        ensures unchanged { OnErr result (self.new ≡ self.old) }
+        ensures none { OnOk result (meter.new ≡ meter.old) }
+        ensures refused { OnErr result (meter.new ≡ one_more meter.old) }
+    {
         match self {
-            Machine::Plain(core) => make(core, call),
-            Machine::Fenced(terms) => terms.make(0, call),
+            Machine::Plain(core) => make(meter, core, call),
+            Machine::Fenced(terms) => terms.make_metered(meter, 0, call),
         }
     }
 
@@ -92,7 +110,22 @@ impl Machine {
         ensures memory { OnErr result (may_want_memory (core_in self.old) call.now ≡ true) }
         ensures unchanged { OnErr result (self.new ≡ self.old) }
     {
-        match self.apply(call)? {
+        self.pass_metered(&mut Meter::new(), call)
+    }
+
+    /// [`Machine::pass`], which fails exactly if one more request for memory was refused.
+    ///
+    /// Condition: it is no acknowledgement, decline, restore or cancel.
+    pub fn pass_metered(&mut self, meter: &mut Meter, call: &Call) -> Result<Answer, AllocError>
+        requires { is_free call.now ≡ true }
+        ensures done { IfOk result (λ answer. step (core_in self.old) call.now ≡ (core_in self.new, answer)) }
+        ensures names { names_in self.new ≡ names_in self.old }
+        ensures memory { OnErr result (may_want_memory (core_in self.old) call.now ≡ true) }
+        ensures unchanged { OnErr result (self.new ≡ self.old) }
+        ensures none { OnOk result (meter.new ≡ meter.old) }
+        ensures refused { OnErr result (meter.new ≡ one_more meter.old) }
+    {
+        match self.apply_metered(meter, call)? {
             FencedAnswer::Made { term: _, answer } => Ok(answer),
             FencedAnswer::Reserved(_) | FencedAnswer::Forfeited | FencedAnswer::Fenced(_) => {
                 unreachable!()
@@ -114,30 +147,52 @@ impl Machine {
         ensures sound { OnOk result (IsFenced (fenced_of (core_in self.old) (first_names first_name))) }
         ensures unchanged { OnErr result (self.new ≡ self.old) }
     {
-        self.can_fence(first_name)?;
+        self.fence_metered(&mut Meter::new(), alloc, first_name)
+    }
+
+    /// [`Machine::fence`], which answers [`FenceFault::Memory`] only if one more request for memory
+    /// was refused.
+    pub fn fence_metered(
+        &mut self,
+        meter: &mut Meter,
+        alloc: Global,
+        first_name: u64,
+    ) -> Result<(), FenceFault>
+        ensures fault { result_err result ≢ Some fault.Memory → result_err result ≡ fence_fault self.old first_name }
+        ensures memory { result ≡ Err fault.Memory → names_in self.old ≡ None }
+        ensures in_limits { result ≡ Err fault.Memory → IsFirstName first_name }
+        ensures done { OnOk result (self.new ≡ machine_of (core_in self.old) (Some (first_names first_name))) }
+        ensures sound { OnOk result (IsFenced (fenced_of (core_in self.old) (first_names first_name))) }
+        ensures unchanged { OnErr result (self.new ≡ self.old) }
+        ensures cause { result ≡ Err fault.Memory → meter.new ≡ one_more meter.old }
+    {
+        self.can_fence(meter, first_name)?;
         replace_with(self, (alloc, first_name), with_names);
         Ok(())
     }
 
-    fn can_fence(&self, first_name: u64) -> Result<(), FenceFault>
+    fn can_fence(&self, meter: &mut Meter, first_name: u64) -> Result<(), FenceFault>
         ensures fault { result_err result ≢ Some fault.Memory → result_err result ≡ fence_fault self.now first_name }
         ensures memory { result ≡ Err fault.Memory → names_in self.now ≡ None }
         ensures in_limits { result ≡ Err fault.Memory → IsFirstName first_name }
+        ensures cause { result ≡ Err fault.Memory → meter.new ≡ one_more meter.old }
     {
         match self {
-            Machine::Plain(core) => test_name(core, first_name),
+            Machine::Plain(core) => test_name(meter, core, first_name),
             Machine::Fenced(_) => Err(FenceFault::HasNames),
         }
     }
 }
 
 /// Makes a call of a coordinator without names.
-fn make(core: &mut Core, call: &Call) -> Result<FencedAnswer, AllocError>
+fn make(meter: &mut Meter, core: &mut Core, call: &Call) -> Result<FencedAnswer, AllocError>
     ensures done { IfOk result (λ answer. machine_step (machine.Plain core.old) call.now ≡ (machine.Plain core.new, answer)) }
     ensures memory { OnErr result (may_want_memory core.old call.now ≡ true) }
     ensures unchanged { OnErr result (core.new ≡ core.old) }
+    ensures none { OnOk result (meter.new ≡ meter.old) }
+    ensures refused { OnErr result (meter.new ≡ one_more meter.old) }
 {
-    match core.apply(call) {
+    match core.apply_metered(meter, call) {
         Ok(reply) => Ok(FencedAnswer::Made {
             term: 0,
             answer: Answer::Done(reply),
@@ -150,14 +205,15 @@ fn make(core: &mut Core, call: &Call) -> Result<FencedAnswer, AllocError>
     }
 }
 
-fn test_name(core: &Core, first_name: u64) -> Result<(), FenceFault>
+fn test_name(meter: &mut Meter, core: &Core, first_name: u64) -> Result<(), FenceFault>
     ensures fault { result_err result ≢ Some fault.Memory → result_err result ≡ fence_fault (machine.Plain core.now) first_name }
     ensures in_limits { result ≡ Err fault.Memory → IsFirstName first_name }
+    ensures cause { result ≡ Err fault.Memory → meter.new ≡ one_more meter.old }
 {
     if first_name == 0 || first_name > NAMES_END {
         return Err(FenceFault::BadName);
     }
-    let Ok(image) = core.image() else {
+    let Ok(image) = core.image_metered(meter) else {
         return Err(FenceFault::Memory);
     };
     if has_known_from(&image, first_name) {

@@ -4,10 +4,12 @@ ghost use Rattle.std.specs.Prelude.{◌≡◌, ◌<◌, ◌≤◌, ◌+◌, ◌^
 ghost use Rattle.std.specs.List.{list_any, range_with_len};
 ghost use Rattle.std.specs.Prelude.{◌==◌};
 ghost use Rattle.ckpt_ids.specs.Ordered.{IsIn};
+ghost use Rattle.ckpt_memory.specs.Refusals.{one_more};
 ghost use Rattle.ckpt_terms.specs.Fencing.{without_all};
 ghost use Rattle.ckpt_terms.specs.Spans.{AreRanges, HasAt, IsCut, in_span, joined, names_of, ranges_of};
 
 use ckpt_ids::{FileId, Files};
+use ckpt_memory::{Meter, list};
 use std::alloc::{AllocError, Global};
 use std::marker::Model;
 
@@ -78,13 +80,20 @@ impl Names {
     /// The names in these ranges, of which there are this many. Fails only if memory runs out.
     ///
     /// Condition: the ranges are in ascending order, and none is empty.
-    pub(crate) fn of(alloc: Global, ranges: &[Span], held: u64) -> Result<Names, AllocError>
+    pub(crate) fn of(
+        meter: &mut Meter,
+        alloc: Global,
+        ranges: &[Span],
+        held: u64,
+    ) -> Result<Names, AllocError>
         requires ranges { AreRanges ranges.now }
         requires held { length (names_of ranges.now) ≡ held }
-        ensures { IfOk result (λ names. names ≡ names_of ranges.now) }
+        ensures names { IfOk result (λ names. names ≡ names_of ranges.now) }
+        ensures none { OnOk result (meter.new ≡ meter.old) }
+        ensures refused { OnErr result (meter.new ≡ one_more meter.old) }
     {
-        let mut spans = copy_of(alloc, ranges)?;
-        make_room(&mut spans, held)?;
+        let mut spans = list::from_slice(meter, alloc, ranges)?;
+        make_room(meter, &mut spans, held)?;
         Ok(Names { alloc, spans, held })
     }
 
@@ -103,7 +112,18 @@ impl Names {
         ensures ranges { IfOk result (λ spans. AreRanges spans.items) }
         ensures fewest { IfOk result (λ spans. spans.items ≡ ranges_of self.now) }
     {
-        fewest(self.alloc, &self.spans)
+        self.copied_ranges_metered(&mut Meter::new())
+    }
+
+    /// [`Names::copied_ranges`], which fails exactly if one more request for memory was refused.
+    pub fn copied_ranges_metered(&self, meter: &mut Meter) -> Result<Vec<Span>, AllocError>
+        ensures names { IfOk result (λ spans. names_of spans.items ≡ self.now) }
+        ensures ranges { IfOk result (λ spans. AreRanges spans.items) }
+        ensures fewest { IfOk result (λ spans. spans.items ≡ ranges_of self.now) }
+        ensures none { OnOk result (meter.new ≡ meter.old) }
+        ensures refused { OnErr result (meter.new ≡ one_more meter.old) }
+    {
+        fewest(meter, self.alloc, &self.spans)
     }
 
     /// Whether the name is one of them. Makes a binary search among the ranges.
@@ -137,13 +157,30 @@ impl Names {
         ensures ok { OnOk result (self.new ≡ self.old ++ range_with_len first count) }
         ensures err { OnErr result (self.new ≡ self.old) }
     {
+        self.add_metered(&mut Meter::new(), first, count)
+    }
+
+    /// [`Names::add`], which fails exactly if one more request for memory was refused.
+    ///
+    /// Conditions: all names are below `first`, and the new ones at most 2^62.
+    pub fn add_metered(
+        &mut self,
+        meter: &mut Meter,
+        first: u64,
+        count: u64,
+    ) -> Result<(), AllocError>
+        requires room { first + count ≤ 2 ^ 62 }
+        requires above { (f : ℕ) → IsIn f self.old → f < first }
+        ensures ok { OnOk result (self.new ≡ self.old ++ range_with_len first count) }
+        ensures err { OnErr result (self.new ≡ self.old) }
+        ensures none { OnOk result (meter.new ≡ meter.old) }
+        ensures refused { OnErr result (meter.new ≡ one_more meter.old) }
+    {
         if count == 0 {
             return Ok(());
         }
-        let Some(held) = self.held.checked_add(count) else {
-            return Err(AllocError);
-        };
-        make_room(&mut self.spans, held)?;
+        let held = self.held + count;
+        make_room(meter, &mut self.spans, held)?;
         join(
             &mut self.spans,
             Span {
@@ -181,25 +218,18 @@ impl Names {
     }
 }
 
-/// A list of these ranges. Fails only if memory runs out.
-fn copy_of(alloc: Global, ranges: &[Span]) -> Result<Vec<Span>, AllocError>
-    ensures { IfOk result (λ spans. spans.items ≡ ranges.now) }
-{
-    let mut spans = Vec::new(alloc);
-    spans.extend_from_slice(ranges)?;
-    Ok(spans)
-}
-
 /// The ranges of the names of these, as few as can be. Fails only if memory runs out.
 ///
 /// Condition: the ranges are in ascending order, and none is empty.
-fn fewest(alloc: Global, ranges: &[Span]) -> Result<Vec<Span>, AllocError>
+fn fewest(meter: &mut Meter, alloc: Global, ranges: &[Span]) -> Result<Vec<Span>, AllocError>
     requires { AreRanges ranges.now }
     ensures names { IfOk result (λ spans. names_of spans.items ≡ names_of ranges.now) }
     ensures ranges { IfOk result (λ spans. AreRanges spans.items) }
     ensures fewest { IfOk result (λ spans. spans.items ≡ ranges_of (names_of ranges.now)) }
+    ensures none { OnOk result (meter.new ≡ meter.old) }
+    ensures refused { OnErr result (meter.new ≡ one_more meter.old) }
 {
-    let mut spans = Vec::with_capacity(alloc, ranges.len())?;
+    let mut spans = list::with_capacity(meter, alloc, ranges.len())?;
     for span in ranges {
         join(&mut spans, *span);
     }
@@ -282,14 +312,17 @@ fn range_with(spans: &[Span], name: u64) -> Option<(usize, Span)>
 
 /// Makes room for one more range, and for as many as this many names can be split into. A growth at
 /// least doubles the room. Fails only if memory runs out.
-fn make_room(spans: &mut Vec<Span>, held: u64) -> Result<(), AllocError>
+fn make_room(meter: &mut Meter, spans: &mut Vec<Span>, held: u64) -> Result<(), AllocError>
     ensures items { spans.new.items ≡ spans.old.items }
     ensures len { vec_len spans.new ≡ vec_len spans.old }
     ensures capacity { vec_capacity spans.old ≤ vec_capacity spans.new }
     ensures room { OnOk result (held + vec_len spans.old + 1 ≤ vec_capacity spans.new + vec_capacity spans.new) }
+    ensures none { OnOk result (meter.new ≡ meter.old) }
+    ensures refused { OnErr result (meter.new ≡ one_more meter.old) }
 {
     let room = held as usize / 2 + spans.len() / 2 + 2;
-    spans.reserve(room.saturating_sub(spans.len()))
+    let more = room.saturating_sub(spans.len());
+    list::reserve(meter, spans, more)
 }
 
 /// Takes a name out of the range at this place, which may split it.

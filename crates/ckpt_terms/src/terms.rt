@@ -1,7 +1,8 @@
 //! A coordinator whose tasks reserve the names of their files.
 
-ghost use Rattle.std.specs.Prelude.{◌≡◌, IfOk, OnErr, find, not, true};
+ghost use Rattle.std.specs.Prelude.{◌≡◌, IfOk, OnOk, OnErr, find, not, true};
 ghost use Rattle.std.specs.Result.{result_err};
+ghost use Rattle.ckpt_memory.specs.Refusals.{one_more};
 ghost use Rattle.ckpt_model.specs.Soundness.{IsCall};
 ghost use Rattle.ckpt_terms.specs.declared.call.FencedCall.TheVariants.{Reserve, Forfeit, Make, Advance};
 ghost use Rattle.ckpt_terms.specs.Fencing.{fence, fenced, fenced_step, fresh_of, is_garbage, is_unspent, not_held, not_reserved};
@@ -17,6 +18,7 @@ use crate::spending::{
 };
 use ckpt_core::{Core, CoreFault, Mode, OpenFault, Secret};
 use ckpt_ids::{Answer, Call, Config, FileId, Files, Shape};
+use ckpt_memory::Meter;
 use std::alloc::{AllocError, Global};
 use std::marker::Model;
 
@@ -96,24 +98,47 @@ impl Terms {
         ensures unchanged { OnErr result (self.new ≡ self.old) }
         ensures shape { IsFencedCall call.now }
     {
+        self.apply_metered(&mut Meter::new(), call)
+    }
+
+    /// [`Terms::apply`], which fails exactly if one more request for memory was refused.
+    pub fn apply_metered(
+        &mut self,
+        meter: &mut Meter,
+        call: &FencedCall,
+    ) -> Result<FencedAnswer, AllocError>
+        ensures done { IfOk result (λ answer. fenced_step self.old call.now ≡ (self.new, answer)) }
+        ensures memory { OnErr result (wants_memory self.old call.now ≡ true) }
+        ensures unchanged { OnErr result (self.new ≡ self.old) }
+        ensures shape { IsFencedCall call.now }
+        ensures none { OnOk result (meter.new ≡ meter.old) }
+        ensures refused { OnErr result (meter.new ≡ one_more meter.old) }
+    {
         match call {
-            FencedCall::Reserve { term, count } => self.reserve(*term, *count),
+            FencedCall::Reserve { term, count } => self.reserve(meter, *term, *count),
             FencedCall::Forfeit { term, names } => Ok(self.forfeit(*term, names)),
-            FencedCall::Make { term, call } => self.make(*term, call),
+            FencedCall::Make { term, call } => self.make_metered(meter, *term, call),
             FencedCall::Advance { now, term, first } => Ok(self.advance(*now, *term, *first)),
         }
     }
 
-    fn reserve(&mut self, term: u64, count: u64) -> Result<FencedAnswer, AllocError>
+    fn reserve(
+        &mut self,
+        meter: &mut Meter,
+        term: u64,
+        count: u64,
+    ) -> Result<FencedAnswer, AllocError>
         ensures done { IfOk result (λ answer. fenced_step self.old (Reserve term count) ≡ (self.new, answer)) }
         ensures memory { OnErr result (wants_memory self.old (Reserve term count) ≡ true) }
         ensures unchanged { OnErr result (self.new ≡ self.old) }
+        ensures none { OnOk result (meter.new ≡ meter.old) }
+        ensures refused { OnErr result (meter.new ≡ one_more meter.old) }
     {
         if let Some(why) = self.refuses_reserve(term, count) {
             return Ok(FencedAnswer::Fenced(why));
         }
         let first = self.next_name;
-        self.unspent.add(first, count)?;
+        self.unspent.add_metered(meter, first, count)?;
         self.next_name = first + count;
         Ok(FencedAnswer::Reserved(FileId(first)))
     }
@@ -179,11 +204,28 @@ impl Terms {
         ensures unchanged { OnErr result (self.new ≡ self.old) }
         ensures shape { IsCall call.now }
     {
+        self.make_metered(&mut Meter::new(), term, call)
+    }
+
+    /// [`Terms::make`], which fails exactly if one more request for memory was refused.
+    pub fn make_metered(
+        &mut self,
+        meter: &mut Meter,
+        term: u64,
+        call: &Call,
+    ) -> Result<FencedAnswer, AllocError>
+        ensures done { IfOk result (λ answer. fenced_step self.old (Make term call.now) ≡ (self.new, answer)) }
+        ensures memory { OnErr result (wants_memory self.old (Make term call.now) ≡ true) }
+        ensures unchanged { OnErr result (self.new ≡ self.old) }
+        ensures shape { IsCall call.now }
+        ensures none { OnOk result (meter.new ≡ meter.old) }
+        ensures refused { OnErr result (meter.new ≡ one_more meter.old) }
+    {
         recall_call(call);
         if let Some(why) = self.refuses_make(term, call) {
             return Ok(FencedAnswer::Fenced(why));
         }
-        match self.core.apply(call) {
+        match self.core.apply_metered(meter, call) {
             Ok(reply) => {
                 // Nothing may fail once the coordinator has changed, and this takes no memory.
                 spend(&mut self.unspent, self.alloc, call);

@@ -1,7 +1,9 @@
 -- The lemmas that the proofs use.
 pub mod BoxWords
 pub mod Given
+pub mod InputBytes
 pub mod Openings
+pub mod Saves
 pub mod SayingLemmas
 pub mod Unmade
 pub mod Words

@@ -1,5 +1,5 @@
 -- The text that is saved for a handle's coordinator, and the coordinator that a handle is opened with.
-use Rattle.std.specs.Prelude.{◌≡◌, ◌≢◌, ℕ, nat_lt, if◌then◌else◌, List, length, Option, Some, None}
+use Rattle.std.specs.Prelude.{◌≡◌, ◌≢◌, ℕ, nat_lt, if◌then◌else◌, List, length, take, Option, Some, None}
 use Rattle.core.specs.Str.{IsUtf8}
 use Rattle.ckpt_model.specs.Images.{CanHold, settled}
 use Rattle.ckpt_model.specs.State.{State}
@@ -8,7 +8,7 @@ use Rattle.ckpt_names_image.specs.Named.{Fenced, Named, Plain, Saved, named_byte
 use Rattle.ckpt_terms.specs.declared.machine.Machine.{Machine}
 use Rattle.ckpt_terms.specs.declared.machine.Machine.TheVariants as machine
 use Rattle.ckpt_terms.specs.Fencing as fencing
-use Rattle.ckpt_terms.specs.Machines.{Issued, core_in, fenced_of, names_in}
+use Rattle.ckpt_terms.specs.Machines.{Issued, core_in, fenced_of, machine_of, names_in}
 use Rattle.ckpt_terms.specs.Spans as spans
 use Rattle.ckpt_terms.specs.TermsImages.{CanHoldFenced, fenced_settled}
 use Rattle.relkvanu.specs.declared.answer.Answer.{Answer}
@@ -36,12 +36,22 @@ fenced_from i = record { core = i.core; term = i.term; next_name = i.next_name; 
 abbrev pub IsImageOf : fencing.Fenced → Named → Type 0
 IsImageOf m i = (fenced_from i ≡ fenced_settled m) × spans.AreRanges i.unspent
 
--- A save of a coordinator with names writes the text of such an image to the start of the buffer, and returns its length, or how
+-- the image that is saved of a coordinator with names: the fetched files in ascending order, and the names as few ranges as can be
+abbrev pub image_with : State → Issued → Named
+image_with m names = record { core = settled m; term = names.term; next_name = names.next_name; unspent = spans.ranges_of names.unspent }
+
+-- the image that is saved of a coordinator, with names or without
+abbrev pub image_by : State → Option Issued → Saved
+image_by m None = Plain (settled m)
+image_by m (Some names) = Fenced (image_with m names)
+
+-- A save of a coordinator with names writes the text of this image to the start of the buffer, and returns its length, or how
 -- many places the buffer needs; unless memory ran out.
 abbrev pub IsNamedSave : State → Issued → List ℕ → List ℕ → Answer → Type 0
 IsNamedSave m names old new answer =
+    let i : Named = image_with m names in
     answer.code ≢ no_memory
-    → (i : Named) × (answer ≡ saved_told (named_bytes i) (length old)) × (answer.code ≡ 0 → StandsInFront (named_bytes i) old new)
+    → (answer ≡ saved_told (named_bytes i) (length old)) × (answer.code ≡ 0 → StandsInFront (named_bytes i) old new)
     × IsImageOf (fenced_of m names) i
 
 -- a coordinator can be made from the image: its state is one that an image may have, and its names are ranges in ascending order,
@@ -58,6 +68,12 @@ opened_with (Fenced i) = machine.Fenced (fenced_from i)
 -- the bytes are the text of an image from which a coordinator can be made
 abbrev pub Tells : List ℕ → Saved → Type 0
 Tells bytes s = IsUtf8 bytes × (saved_read bytes ≡ Some s) × CanBeOpened s
+
+-- What a save wrote, as many bytes as it says, is the text of such an image. It has the coordinator's state, with the fetched files
+-- in ascending order, and the names. So an opening with these bytes brings both back.
+abbrev pub OpensAgain : State → Option Issued → List ℕ → Answer → Type 0
+OpensAgain m names new answer =
+    answer.code ≡ 0 → Tells (take answer.a new) (image_by m names) × (opened_with (image_by m names) ≡ machine_of (settled m) names)
 
 -- the bytes are no such text
 abbrev pub TellsNothing : List ℕ → Type 0

@@ -1,4 +1,5 @@
 -- The definitions that contracts cite.
+pub mod Aligning
 pub mod Asking
 pub mod Buffers
 pub mod Calls

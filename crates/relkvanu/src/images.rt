@@ -1,6 +1,6 @@
 //! Saves a coordinator into a caller's buffer, and opens a handle with an image.
 
-ghost use Rattle.std.specs.Prelude.{◌≡◌, ◌≢◌, None, Some, IfOk, IfErr, OnOk, length, string_bytes};
+ghost use Rattle.std.specs.Prelude.{◌≡◌, ◌≢◌, None, Some, IfOk, IfErr, OnOk, length, string_bytes, take};
 ghost use Rattle.core.specs.Str.{IsUtf8};
 ghost use Rattle.ckpt_model.specs.Images.{settled, state_in};
 ghost use Rattle.ckpt_model.specs.State.{State};
@@ -9,13 +9,14 @@ ghost use Rattle.ckpt_names_image.specs.Named.{Fenced, Plain, Saved, named_bytes
 ghost use Rattle.relkvanu.specs.Buffers.{StandsInFront};
 ghost use Rattle.relkvanu.specs.Calls.{HasNoNumbers, StaysAsItWas, StaysClosed};
 ghost use Rattle.relkvanu.specs.Images.{BringsImage, CanBeOpened, IsNamedSave, IsNotOpenedSaved, IsOpenedSaved, IsSaveTold, IsWhyNotOpened};
-ghost use Rattle.relkvanu.specs.Images.{IsWhyNotSaved, SavedWantsMemory, Tells, TellsNothing, opened_with, saved_told};
+ghost use Rattle.relkvanu.specs.Images.{IsWhyNotSaved, OpensAgain, SavedWantsMemory, Tells, TellsNothing, image_by, opened_with, saved_told};
 ghost use Rattle.relkvanu.specs.Opening.{StaysOpen};
 ghost use Rattle.relkvanu.specs.Told.{bad_argument, bad_image, no_memory, out_of_memory};
 ghost use Rattle.ckpt_core.specs.declared.image.ImageFault.TheVariants as fault;
 ghost use Rattle.ckpt_logged.specs.Chronicles.{begun};
 ghost use Rattle.ckpt_logged.specs.Events.{IsWell};
 ghost use Rattle.ckpt_terms.specs.Machines.{Issued, core_in, issued_by, names_in};
+ghost use Rattle.ckpt_terms.specs.TermsImages.{CanOpenFenced};
 
 use crate::answer::Answer;
 use crate::handle::Handle;
@@ -35,7 +36,8 @@ const BAD_IMAGE: u32 = 7;
 /// Writes the image of the coordinator as JSON to the start of the buffer, with its names if it has
 /// some.
 ///
-/// If the buffer is too short, the answer says how many bytes the image has: call again. Takes
+/// If the buffer is too short, the answer says how many bytes the image has: call again. Otherwise
+/// the bytes that it counts open a closed handle in the same state, with the same names. Takes
 /// memory.
 #[unsafe(no_mangle)]
 pub extern "C" fn relkvanu_save(alloc: Global, handle: &mut Handle, image: &mut [u8]) -> Answer
@@ -43,6 +45,7 @@ pub extern "C" fn relkvanu_save(alloc: Global, handle: &mut Handle, image: &mut 
     ensures answered { (m : State) → handle.old.value ≡ Some m → handle.old.names ≡ None → IsSaveTold m (length image.old) result }
     ensures front { (m : State) → handle.old.value ≡ Some m → handle.old.names ≡ None → BringsImage m image.old image.new result }
     ensures named { (m : State) (n : Issued) → handle.old.value ≡ Some m → handle.old.names ≡ Some n → IsNamedSave m n image.old image.new result }
+    ensures opens { (m : State) → handle.old.value ≡ Some m → OpensAgain m handle.old.names image.new result }
     ensures kept { result.code ≢ 0 → image.new ≡ image.old }
     ensures numbers { HasNoNumbers result }
     ensures unchanged { handle.new.value ≡ handle.old.value }
@@ -100,6 +103,7 @@ fn save_machine(alloc: Global, machine: &Machine, image: &mut [u8]) -> Answer
     ensures told { names_in machine.now ≡ None → IsSaveTold (core_in machine.now) (length image.old) result }
     ensures front { names_in machine.now ≡ None → BringsImage (core_in machine.now) image.old image.new result }
     ensures named { (n : Issued) → names_in machine.now ≡ Some n → IsNamedSave (core_in machine.now) n image.old image.new result }
+    ensures opens { OpensAgain (core_in machine.now) (names_in machine.now) image.new result }
     ensures kept { result.code ≢ 0 → image.new ≡ image.old }
     ensures numbers { HasNoNumbers result }
 {
@@ -112,6 +116,7 @@ fn save_machine(alloc: Global, machine: &Machine, image: &mut [u8]) -> Answer
 fn save_from(alloc: Global, core: &Core, image: &mut [u8]) -> Answer
     ensures told { IsSaveTold core.now (length image.old) result }
     ensures front { BringsImage core.now image.old image.new result }
+    ensures opens { OpensAgain core.now None image.new result }
     ensures kept { result.code ≢ 0 → image.new ≡ image.old }
     ensures numbers { HasNoNumbers result }
 {
@@ -122,7 +127,8 @@ fn save_from(alloc: Global, core: &Core, image: &mut [u8]) -> Answer
 }
 
 fn text_of(alloc: Global, core: &Core) -> Result<String, AllocError>
-    ensures { IfOk result (λ text. string_bytes text ≡ image_bytes (settled core.now)) }
+    ensures text { IfOk result (λ text. string_bytes text ≡ image_bytes (settled core.now)) }
+    ensures tells { IfOk result (λ text. Tells (string_bytes text) (image_by core.now None)) }
 {
     let image = core.image()?;
     image_text(alloc, &image)
@@ -130,6 +136,7 @@ fn text_of(alloc: Global, core: &Core) -> Result<String, AllocError>
 
 fn save_terms(alloc: Global, terms: &Terms, image: &mut [u8]) -> Answer
     ensures named { IsNamedSave terms.now.core (issued_by terms.now) image.old image.new result }
+    ensures opens { OpensAgain terms.now.core (Some (issued_by terms.now)) image.new result }
     ensures kept { result.code ≢ 0 → image.new ≡ image.old }
     ensures numbers { HasNoNumbers result }
 {
@@ -142,6 +149,7 @@ fn save_terms(alloc: Global, terms: &Terms, image: &mut [u8]) -> Answer
 fn save_image(alloc: Global, saved: &TermsImage, image: &mut [u8]) -> Answer
     ensures told { result.code ≢ no_memory → result ≡ saved_told (named_bytes (named_in saved.now)) (length image.old) }
     ensures front { result.code ≡ 0 → StandsInFront (named_bytes (named_in saved.now)) image.old image.new }
+    ensures tells { result.code ≡ 0 → CanOpenFenced saved.now → Tells (take result.a image.new) (Fenced (named_in saved.now)) }
     ensures kept { result.code ≢ 0 → image.new ≡ image.old }
     ensures numbers { HasNoNumbers result }
 {
@@ -155,6 +163,7 @@ fn save_image(alloc: Global, saved: &TermsImage, image: &mut [u8]) -> Answer
 fn write_text(text: &str, image: &mut [u8]) -> Answer
     ensures told { result ≡ saved_told text.now (length image.old) }
     ensures front { result.code ≡ 0 → StandsInFront text.now image.old image.new }
+    ensures tells { (s : Saved) → result.code ≡ 0 → Tells text.now s → Tells (take result.a image.new) s }
     ensures kept { result.code ≢ 0 → image.new ≡ image.old }
 {
     let bytes = text.as_bytes();

@@ -3,9 +3,10 @@
 //! A C program holds a [`Handle`](handle::Handle): one pointer, null if the handle is closed.
 //! `relkvanu_open` gives it a coordinator, the calls go through it, and `relkvanu_close` drops the
 //! coordinator. Each call returns an [`Answer`](answer::Answer) by value, and no memory leaves the
-//! handle. [`reads`] return the same, take no memory and change nothing.
+//! handle. [`reads`] return the same, take no memory and change nothing. [`aligning`] needs no handle.
 #![tactic(auto)]
 
+mod aligning;
 mod answer;
 mod asked;
 mod buffers;

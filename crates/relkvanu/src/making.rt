@@ -131,6 +131,7 @@ fn make_fitting(
     ensures files { BringsMade (core_in machine.old.now) (asked_if_fits asked.now text.now (length line.old)) files.old files.new result }
     ensures line { result.code ≡ 0 → StandsInFront text.now line.old line.new }
     ensures short { result.code ≡ 0 → length text.now ≤ LONGEST_LINE }
+    ensures lack { result.code ≡ no_memory → length text.now ≤ LONGEST_LINE }
     ensures made { Reports (length text.now) (core_in machine.old.now) (core_in machine.new.now) made.new result }
     ensures kept { result.code ≢ 0 → (files.new ≡ files.old) × (line.new ≡ line.old) × (made.new ≡ made.old) }
     ensures numbers { HasNoNumbers result }

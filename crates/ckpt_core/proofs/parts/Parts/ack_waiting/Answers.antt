@@ -1,7 +1,13 @@
 -- Making room leaves the state as it is, and so does what fails; what was taken is the step.
 use Rattle.ckpt_core.proofs.{◌+◌, ◌≤◌, sym, subst, length, arith, LiesAt, id_of, Parts, Stays, present_in, on_each_error, made_room, room_made, roomier_accepted, roomier_sound, roomier_stays}
 use Rattle.ckpt_core.proofs.{taking_from, waiting_answers}
+use Rattle.ckpt_core.proofs.{accepted_ack, state_of}
 use Rattle.ckpt_core.proofs.parts.Parts.ack_waiting.Goals as goal
+
+pub make_room_for_files-requires : goal.make_room_for_files-requires
+make_room_for_files-requires c =
+    let few = (accepted_ack (state_of c.args.self.now) c.args.now c.args.id c.args.subtask c.args.fresh.now c.args.reused.now c.requires.accepted).few in
+    omega (arith, few, c.len.ensures)
 
 pub take_ack-requires-clause-sound : goal.take_ack-requires-clause-sound
 take_ack-requires-clause-sound c = roomier_sound (made_room c.args.self.now c.make_room_for_files.new.self c.len.result c.in_ok-make_room_for_files.ensures.ok) c.requires.sound

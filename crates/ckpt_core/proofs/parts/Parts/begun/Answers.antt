@@ -12,8 +12,8 @@ counted before after tolerable failures new add = omega (arith, ap (λ (f : Fail
 pub returns-clause-state : goal.returns-clause-state
 unfolding state_of
 returns-clause-state c =
-    state_same _ _ (ap (λ (s : List ℕ). record { config = c.args.image.now.config; shape = s; start = c.args.image.now.start; first = c.args.image.now.first }) c.in_ok-shape.ensures)
-    c.in_ok-reshaped.ensures refl (ap (λ (m : Moments). m.latest) c.of.ensures) (ap (λ (m : Moments). m.due) c.of.ensures) (ap (λ (m : Moments). m.completed) c.of.ensures)
+    state_same _ _ (ap (λ (s : List ℕ). record { config = c.args.image.now.config; shape = s; start = c.args.image.now.start; first = c.args.image.now.first }) c.in_ok-shape.ensures.value)
+    c.in_ok-reshaped.ensures.value refl (ap (λ (m : Moments). m.latest) c.of.ensures) (ap (λ (m : Moments). m.due) c.of.ensures) (ap (λ (m : Moments). m.completed) c.of.ensures)
     (counted c.new-failures.result c.add.new.self c.tolerable.result c.args.image.now.failures c.new-failures.ensures c.add.ensures.number) refl (ap (λ (s : Stored). s.base) c.new.ensures)
     (no_records c.keyed.result c.new-2.result c.new.result c.new-2.ensures (ap (λ (s : Stored). s.checkpoints) c.new.ensures) (ap (λ (s : Stored). s.savepoints) c.new.ensures))
     (ap (λ (q : Queues). q.waiting) c.keyed-2.ensures) (ap (λ (q : Queues). q.taken) c.keyed-2.ensures)

@@ -6,8 +6,8 @@ pub returns-clause-value : goal.returns-clause-value
 unfolding state_of
 returns-clause-value c =
     state_same _ _ (ap (λ (s : List ℕ). record { config = c.args.self.now.opened.config; shape = s; start = c.args.self.now.opened.start; first = c.args.self.now.opened.first })
-    c.in_ok-first_shape.ensures) (c.in_ok-shape.ensures ∙ c.shape.ensures) refl c.latest.ensures.value c.interval_ends.ensures c.last_completion.ensures c.number.ensures refl c.base.ensures.value
-    c.in_ok-records.ensures c.in_ok-waiting.ensures c.in_ok-taken.ensures
+    c.in_ok-first_shape.ensures.value) (c.in_ok-shape.ensures.value ∙ c.shape.ensures) refl c.latest.ensures.value c.interval_ends.ensures c.last_completion.ensures c.number.ensures refl c.base.ensures.value
+    c.in_ok-records.ensures.saved c.in_ok-waiting.ensures.files c.in_ok-taken.ensures.files
 
 pub returns-clause-good : goal.returns-clause-good
 unfolding state_of

@@ -14,7 +14,7 @@ split_at xs i s within at =
     (drop (i + 1) xs)) ∙ map-append record_in (take i xs) (s ∷ drop (i + 1) xs)
 
 pub loop-saved-init : goal.loop-saved-init
-loop-saved-init c = record { state = beside_itself c.args.self.now [] c.requires.none; tied = c.requires.tied; noted = refl; sound = no_records_sound _ _ }
+loop-saved-init c = record { state = beside_itself c.args.self.now [] c.requires.none; tied = c.requires.tied; none = refl; noted = refl; sound = no_records_sound _ _ }
 
 pub load-requires-clause-tied : goal.load-requires-clause-tied
 load-requires-clause-tied c = c.loop-saved.invariant.tied
@@ -39,6 +39,7 @@ loop-saved-preserved c =
     record {
       state = more_beside p q c.load.new.self rs (record_in s) c.loop-saved.invariant.state c.in_ok-load.ensures.state ∙ ap (λ ys. record (state_of p) { records = ys }) (sym next);
       tied = c.in_ok-load.ensures.tied;
+      none = c.in_ok-load.ensures.none ∙ c.loop-saved.invariant.none;
       noted = c.in_ok-load.ensures.noted ∙ c.loop-saved.invariant.noted;
       sound = subst S (sym next) (joined_records c.loop-saved.invariant.sound (joins_beside (record_in s) (beside p q rs c.loop-saved.invariant.state) c.in_ok-load.ensures.joins));
     }

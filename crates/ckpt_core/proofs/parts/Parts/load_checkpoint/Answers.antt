@@ -15,14 +15,14 @@ pub complete-requires-clause-above : goal.complete-requires-clause-above
 complete-requires-clause-above c = λ r h.
     above_groups c.args.self.now c.args.done.id c.requires.newest r
     (IsIn-append_right r (map (with_pins c.args.self.now.registry) c.args.self.now.pending) (c.args.self.now.store.checkpoints ++ c.args.self.now.store.savepoints)
-    (IsIn-append_left r c.args.self.now.store.checkpoints c.args.self.now.store.savepoints (rw (c.in_ok-reserve.ensures.kept, c.in_ok-make_room.ensures.parts) at h)))
+    (IsIn-append_left r c.args.self.now.store.checkpoints c.args.self.now.store.savepoints (rw (c.in_ok-reserve_metered.ensures.kept, c.in_ok-make_room.ensures.parts) at h)))
 
 more : (c : goal.After-drop-none-2) → OnOk c.make_room_for_files.result (HasLoaded c.args.self.now c.make_room_for_files.new.self c.args.done)
 more c =
     on_ok_weaker c.make_room_for_files.result (has_loaded c.args.self.now _ c.make_room_for_files.new.self c.args.done c.make_room.new.self.pending c.complete.new.self _ _ _ _
     c.in_ok-make_room.ensures.parts c.in_ok-make_room.ensures.room c.id.ensures.value c.requires.acks (none_pinned c.args.done _ _ c.of-none.ensures c.new.ensures.items c.id.ensures.done.no_pins)
-    c.in_ok-register.ensures (rw (c.complete.ensures.value, c.in_ok-reserve.ensures.kept, c.in_ok-make_room.ensures.parts) refl) (checkpoint_loaded c.args.self.now _ _ _ c.args.done
-    c.in_ok-make_room.ensures.parts c.in_ok-reserve.ensures.kept c.complete.ensures.value c.requires.fewer c.requires.newest)) c.make_room_for_files.ensures.ok
+    c.in_ok-register.ensures.ok (rw (c.complete.ensures.value, c.in_ok-reserve_metered.ensures.kept, c.in_ok-make_room.ensures.parts) refl) (checkpoint_loaded c.args.self.now _ _ _ c.args.done
+    c.in_ok-make_room.ensures.parts c.in_ok-reserve_metered.ensures.kept c.complete.ensures.value c.requires.fewer c.requires.newest)) c.make_room_for_files.ensures.ok
 
 pub returns-clause-records : goal.returns-clause-records
 returns-clause-records c = on_ok_weaker c.make_room_for_files.result (λ (m : HasLoaded c.args.self.now c.make_room_for_files.new.self c.args.done). m.records) (more c)

@@ -12,9 +12,9 @@ pub returns-in_err-put_back-clause-damaged : goal.returns-in_err-put_back-clause
 returns-in_err-put_back-clause-damaged c =
     λ h a.
     let bad : c.put_back.result ≡ Err Damaged = search rules in
-    let empty : c.reserve.new.self.waiting ≡ [] = ap (λ (q : Queues). q.waiting) c.in_ok-reserve.ensures.ok ∙ c.requires.none_waits in
-    let none : c.reserve.new.self.taken ≡ [] = ap (λ (q : Queues). q.taken) c.in_ok-reserve.ensures.ok ∙ c.requires.none_taken in
-    c.put_back.ensures.damaged bad (rw (alone c.reserve.new.self.waiting c.as_slice.result.now c.reserve.new.self.taken c.args.taken.now empty none c.as_slice.ensures.files)
+    let empty : c.reserve_metered.new.self.waiting ≡ [] = ap (λ (q : Queues). q.waiting) c.in_ok-reserve_metered.ensures.ok ∙ c.requires.none_waits in
+    let none : c.reserve_metered.new.self.taken ≡ [] = ap (λ (q : Queues). q.taken) c.in_ok-reserve_metered.ensures.ok ∙ c.requires.none_taken in
+    c.put_back.ensures.damaged bad (rw (alone c.reserve_metered.new.self.waiting c.as_slice.result.now c.reserve_metered.new.self.taken c.args.taken.now empty none c.as_slice.ensures.files)
     (apart_behind c.args.waiting.now c.args.taken.now a))
 
 -- the queues after the fetched files were put and taken again
@@ -35,19 +35,19 @@ abbrev taken_in : Parts → List ℕ
 taken_in p = p.outbox.taken
 
 -- the outbox once both lists were put
-taken_once : (c : goal.In_ok-make_room_for_files) → (c.take.new.self.waiting ≡ []) × (c.take.new.self.taken ≡ c.args.taken.now)
+taken_once : (c : goal.In_ok-make_room_for_files) → (c.take_metered.new.self.waiting ≡ []) × (c.take_metered.new.self.taken ≡ c.args.taken.now)
 taken_once c =
-    after_take c.reserve.new.self c.put_back.new.self.outbox c.take.new.self c.as_slice.result.now c.args.taken.now c.len-2.result
-    (ap (λ (q : Queues). q.waiting) c.in_ok-reserve.ensures.ok ∙ c.requires.none_waits) (ap (λ (q : Queues). q.taken) c.in_ok-reserve.ensures.ok ∙ c.requires.none_taken)
-    c.as_slice.ensures.files c.len-2.ensures (ap waiting_in c.in_ok-put_back.ensures.parts) (ap taken_in c.in_ok-put_back.ensures.parts) c.in_ok-take.ensures.ok
+    after_take c.reserve_metered.new.self c.put_back.new.self.outbox c.take_metered.new.self c.as_slice.result.now c.args.taken.now c.len-2.result
+    (ap (λ (q : Queues). q.waiting) c.in_ok-reserve_metered.ensures.ok ∙ c.requires.none_waits) (ap (λ (q : Queues). q.taken) c.in_ok-reserve_metered.ensures.ok ∙ c.requires.none_taken)
+    c.as_slice.ensures.files c.len-2.ensures (ap waiting_in c.in_ok-put_back.ensures.parts) (ap taken_in c.in_ok-put_back.ensures.parts) c.in_ok-take_metered.ensures.ok
 
 waits : (c : goal.In_ok-make_room_for_files) → waiting_in c.put_back-2.new.self ≡ c.args.waiting.now
 waits c =
-    ap waiting_in c.in_ok-put_back-2.ensures.parts ∙ ap (λ (q : Queues). q.waiting ++ c.as_slice-2.result.now) c.in_ok-reserve-2.ensures.ok ∙ ap (λ (xs : List ℕ). xs ++ c.as_slice-2.result.now)
+    ap waiting_in c.in_ok-put_back-2.ensures.parts ∙ ap (λ (q : Queues). q.waiting ++ c.as_slice-2.result.now) c.in_ok-reserve_metered-2.ensures.ok ∙ ap (λ (xs : List ℕ). xs ++ c.as_slice-2.result.now)
     (taken_once c).0 ∙ c.as_slice-2.ensures
 
 takes : (c : goal.In_ok-make_room_for_files) → taken_in c.put_back-2.new.self ≡ c.args.taken.now
-takes c = ap taken_in c.in_ok-put_back-2.ensures.parts ∙ ap (λ (q : Queues). q.taken) c.in_ok-reserve-2.ensures.ok ∙ (taken_once c).1
+takes c = ap taken_in c.in_ok-put_back-2.ensures.parts ∙ ap (λ (q : Queues). q.taken) c.in_ok-reserve_metered-2.ensures.ok ∙ (taken_once c).1
 
 pub returns-clause-state : goal.returns-clause-state
 returns-clause-state c =

@@ -25,7 +25,7 @@ more c =
     let made : Parts = c.make_room.new.self in
     let parts = c.in_ok-make_room.ensures.parts in
     on_ok_weaker c.make_room_for_files.result (has_loaded c.args.self.now _ c.make_room_for_files.new.self (record c.args.pending { pins = c.args.pins.now }) c.add.new.self made.store _ _ _ _ parts
-    c.in_ok-make_room.ensures.room c.id.ensures.value c.requires.acks refl c.in_ok-register.ensures (ap (λ (q : Parts). q.store.retained) parts)
+    c.in_ok-make_room.ensures.room c.id.ensures.value c.requires.acks refl c.in_ok-register.ensures.ok (ap (λ (q : Parts). q.store.retained) parts)
     (pending_loaded c.args.self.now _ c.args.pending _ c.args.pins.now parts c.requires.tied c.requires.newest c.in_ok-add.ensures.ok)) c.make_room_for_files.ensures.ok
 
 pub returns-clause-records : goal.returns-clause-records

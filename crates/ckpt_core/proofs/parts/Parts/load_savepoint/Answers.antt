@@ -14,18 +14,18 @@ register-requires-clause-below c =
 pub add_savepoint-requires-clause-new : goal.add_savepoint-requires-clause-new
 add_savepoint-requires-clause-new c =
     let p : Parts = c.args.self.now in
-    rw (c.in_ok-reserve.ensures.kept, c.in_ok-make_room.ensures.parts) (absent_newest c.args.done.id p.store.savepoints (λ r h. above_groups p c.args.done.id c.requires.newest r
+    rw (c.in_ok-reserve_metered.ensures.kept, c.in_ok-make_room.ensures.parts) (absent_newest c.args.done.id p.store.savepoints (λ r h. above_groups p c.args.done.id c.requires.newest r
     (IsIn-append_right r (map (with_pins p.registry) p.pending) (p.store.checkpoints ++ p.store.savepoints) (IsIn-append_right r p.store.checkpoints p.store.savepoints h))))
 
 pub add_savepoint-requires-clause-few : goal.add_savepoint-requires-clause-few
-add_savepoint-requires-clause-few c = rw (c.in_ok-reserve.ensures.kept, c.in_ok-make_room.ensures.parts) c.requires.fewer
+add_savepoint-requires-clause-few c = rw (c.in_ok-reserve_metered.ensures.kept, c.in_ok-make_room.ensures.parts) c.requires.fewer
 
 more : (c : goal.After-drop-none-2) → OnOk c.make_room_for_files.result (HasLoaded c.args.self.now c.make_room_for_files.new.self c.args.done)
 more c =
     on_ok_weaker c.make_room_for_files.result (has_loaded c.args.self.now _ c.make_room_for_files.new.self c.args.done c.make_room.new.self.pending c.add_savepoint.new.self _ _ _ _
     c.in_ok-make_room.ensures.parts c.in_ok-make_room.ensures.room c.id.ensures.value c.requires.acks (none_pinned c.args.done _ _ c.of-none.ensures c.new.ensures.items c.id.ensures.done.no_pins)
-    c.in_ok-register.ensures (rw (c.add_savepoint.ensures.value, c.in_ok-reserve.ensures.kept, c.in_ok-make_room.ensures.parts) refl) (savepoint_loaded c.args.self.now _ _ _ c.args.done
-    c.in_ok-make_room.ensures.parts c.in_ok-reserve.ensures.kept c.add_savepoint.ensures.value c.requires.newest)) c.make_room_for_files.ensures.ok
+    c.in_ok-register.ensures.ok (rw (c.add_savepoint.ensures.value, c.in_ok-reserve_metered.ensures.kept, c.in_ok-make_room.ensures.parts) refl) (savepoint_loaded c.args.self.now _ _ _ c.args.done
+    c.in_ok-make_room.ensures.parts c.in_ok-reserve_metered.ensures.kept c.add_savepoint.ensures.value c.requires.newest)) c.make_room_for_files.ensures.ok
 
 pub returns-clause-records : goal.returns-clause-records
 returns-clause-records c = on_ok_weaker c.make_room_for_files.result (λ (m : HasLoaded c.args.self.now c.make_room_for_files.new.self c.args.done). m.records) (more c)

@@ -17,4 +17,4 @@ returns-clause-room c =
     on_ok_weaker c.reserve.result (λ h. omega (arith, length-records_of p.registry p.pending p.store.checkpoints p.store.savepoints, h)) c.reserve.ensures.ok
 
 pub returns-clause-state : goal.returns-clause-state
-returns-clause-state c = state-ended c.args.self.now c.reserve.new.self
+returns-clause-state c = state-ended c.args.self.now c.reserve.new.list

@@ -2,11 +2,11 @@
 use Rattle.ckpt_core.proofs.{◌≡◌, List, [], ◌++◌, sym, ap, ◌∙◌, append-nil, in_order_once, Use, Pin, use_before, triples, files_chosen, Using.Order.in_order_once-itself}
 use Rattle.ckpt_core.proofs.parts.Parts.pin.Goals as goal
 
-pub pin_record-requires-clause-below : goal.pin_record-requires-clause-below
-pin_record-requires-clause-below c = λ f h. c.requires.below f (rw c.in-Checkpoint.is h)
+pub pin_record_metered-requires-clause-below : goal.pin_record_metered-requires-clause-below
+pin_record_metered-requires-clause-below c = λ f h. c.requires.below f (rw c.in-Checkpoint.is h)
 
-pub pin_record-requires-in-Savepoint-clause-below : goal.pin_record-requires-in-Savepoint-clause-below
-pin_record-requires-in-Savepoint-clause-below c = λ f h. c.requires.below f (rw c.in-Savepoint.is h)
+pub pin_record_metered-requires-in-Savepoint-clause-below : goal.pin_record_metered-requires-in-Savepoint-clause-below
+pin_record_metered-requires-in-Savepoint-clause-below c = λ f h. c.requires.below f (rw c.in-Savepoint.is h)
 
 pub returns-in-Fresh-clause-ok : goal.returns-in-Fresh-clause-ok
 returns-in-Fresh-clause-ok c =

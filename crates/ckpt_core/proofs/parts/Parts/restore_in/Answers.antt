@@ -8,4 +8,4 @@ restore-reply-requires-clause-accepted c = same_refusal (state_of c.args.self.no
 
 pub returns-clause-ok : goal.returns-clause-ok
 returns-clause-ok c =
-    rw c.in_ok-shape.ensures (reshaped_answers c.args.self.now c.restore-reply.new.self c.args.now c.args.target c.args.shape.now c.restore-reply.result c.requires.accepted c.restore-reply.ensures)
+    rw c.in_ok-shape.ensures.value (reshaped_answers c.args.self.now c.restore-reply.new.self c.args.now c.args.target c.args.shape.now c.restore-reply.result c.requires.accepted c.restore-reply.ensures)

@@ -6,14 +6,14 @@ use Rattle.ckpt_core.proofs.parts.Parts.take_ack.Goals as goal
 pub joined-requires : goal.joined-requires
 joined-requires c = (can_take _ _ _ _ _ _ c.requires.sound c.requires.accepted c.recall.ensures.pending c.recall_store.ensures c.requires.there).few
 
-taken : (c : goal.After-ack-arg-1) → CanTake c.args.self.now c.args.now c.args.id c.args.subtask c.args.fresh.now c.args.reused.now
+taken : (c : goal.After-ack-arg-2-1) → CanTake c.args.self.now c.args.now c.args.id c.args.subtask c.args.fresh.now c.args.reused.now
 taken c = can_take _ _ _ _ _ _ c.requires.sound c.requires.accepted c.recall.ensures.pending c.recall_store.ensures c.requires.there
 
 pub ack-requires-clause-expected : goal.ack-requires-clause-expected
 ack-requires-clause-expected c = λ r e. (taken c).expected r (sym (find-place c.args.id c.args.self.now.pending c.args.place c.recall.ensures.in_order c.requires.place) ∙ e)
 
-pub use_files-requires : goal.use_files-requires
-use_files-requires c =
+pub use_files_metered-requires : goal.use_files_metered-requires
+use_files_metered-requires c =
     let t = can_take _ _ _ _ _ _ c.requires.sound c.requires.accepted c.recall.ensures.pending c.recall_store.ensures c.requires.there in
     record { fresh_absent = t.fresh_absent; reused_present = t.reused_present; each_once = t.each_once; below = t.below; unused = t.unused }
 
@@ -41,7 +41,7 @@ returns-in-Err-clause-err c =
     let acked_is = c.in_ok-ack.ensures.ok c.args.id c.requires.place in
     let back : c.retract.new.self ≡ p.pending = c.retract.ensures c.args.id (lies_in_new c.args.id c.args.subtask c.in_ok-files.files p.pending c.ack.new.self c.args.place c.requires.place acked_is)
     ∙ ap (retracted c.args.id c.args.subtask) acked_is ∙ retracted-acked c.args.id c.args.subtask c.in_ok-files.files p.pending c.recall.ensures.in_order (λ q h. (t.expected q h).1) in
-    ap (λ ps. record p { pending = ps; registry = c.use_files.new.self }) back ∙ ap (λ us. record p { registry = us }) c.in-Err.ensures.err
+    ap (λ ps. record p { pending = ps; registry = c.use_files_metered.new.self }) back ∙ ap (λ us. record p { registry = us }) c.in-Err.ensures.err
 
 pub see-requires : goal.see-requires
 see-requires c = (can_take _ _ _ _ _ _ c.requires.sound c.requires.accepted c.recall.ensures.pending c.recall_store.ensures c.requires.there).moment
@@ -49,5 +49,5 @@ see-requires c = (can_take _ _ _ _ _ _ c.requires.sound c.requires.accepted c.re
 pub returns-clause-ok : goal.returns-clause-ok
 returns-clause-ok c =
     let taken : c.ack.new.self ≡ (taken_in c.args.self.now c.args.now c.args.id c.args.subtask c.args.fresh.now c.args.reused.now).pending =
-    c.in_ok-ack.ensures.ok c.args.id c.requires.place ∙ ap (λ fs. acked c.args.id c.args.subtask fs c.args.self.now.pending) c.in_ok-files.ensures in
+    c.in_ok-ack.ensures.ok c.args.id c.requires.place ∙ ap (λ fs. acked c.args.id c.args.subtask fs c.args.self.now.pending) c.in_ok-files.ensures.files in
     rw (taken) (search rules)

@@ -14,7 +14,7 @@ pub invariant_of-self-2 : goal.invariant_of-self-2
 invariant_of-self-2 c =
     let m : Fenced = layer c.self.inside.core c.self.inside.term c.self.inside.next_name c.self.inside.unspent in
     let P : Fenced → Type 0 = λ m. fence m (Reserve c.args.term c.args.count) ≡ None in
-    reserve_fenced m c.args.term c.args.count c.add.new.self (subst P (sym c.self.view_is) (sym c.refuses_reserve.ensures ∙ c.in_default.is)) c.in_ok-add.ensures.ok c.self.invariant
+    reserve_fenced m c.args.term c.args.count c.add_metered.new.self (subst P (sym c.self.view_is) (sym c.refuses_reserve.ensures ∙ c.in_default.is)) c.in_ok-add_metered.ensures.ok c.self.invariant
 
 pub returns-clause-done : goal.returns-clause-done
 returns-clause-done c =
@@ -22,5 +22,5 @@ returns-clause-done c =
     let P : Fenced → Type 0 = λ m. fence m (Reserve c.args.term c.args.count) ≡ None in
     let Q : Fenced → Type 0 =
     λ m. fenced_step m (Reserve c.args.term c.args.count) ≡
-    (layer c.self.inside.core c.self.inside.term (c.self.inside.next_name + c.args.count) c.add.new.self, answer.Reserved c.self.inside.next_name) in
-    subst Q c.self.view_is (reserve_on m c.args.term c.args.count c.add.new.self (subst P (sym c.self.view_is) (sym c.refuses_reserve.ensures ∙ c.in_default.is)) c.in_ok-add.ensures.ok)
+    (layer c.self.inside.core c.self.inside.term (c.self.inside.next_name + c.args.count) c.add_metered.new.self, answer.Reserved c.self.inside.next_name) in
+    subst Q c.self.view_is (reserve_on m c.args.term c.args.count c.add_metered.new.self (subst P (sym c.self.view_is) (sym c.refuses_reserve.ensures ∙ c.in_default.is)) c.in_ok-add_metered.ensures.ok)

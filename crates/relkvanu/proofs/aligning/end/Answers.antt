@@ -1,0 +1,15 @@
+-- Answers the goals of `end`.
+use Rattle.std.proofs.Common.{◌≡◌, ◌∙◌, ap, List, Ok}
+use Rattle.ckpt_align.specs.Alignment.{Alignment, with_input}
+use Rattle.ckpt_align.specs.Steps.{settled}
+use Rattle.ckpt_align.specs.declared.input.Input.{Input}
+use Rattle.ckpt_align.specs.declared.input.Input.TheVariants.{Ended}
+use Rattle.relkvanu.specs.Aligning.{alignment_in}
+use Rattle.relkvanu.proofs.InputBytes.{set_in}
+use Rattle.relkvanu.proofs.aligning.end.Goals as goal
+
+pub returns-clause-state : goal.returns-clause-state
+returns-clause-state c = c.settle.ensures.state ∙ ap (λ (a : Alignment). (settled a).0) (ap (λ (inputs : List Input). record { inputs = inputs; latest = c.args.aligner.now.latest }) (set_in c.args.inputs.now c.args.input 2))
+
+pub returns-clause-answer : goal.returns-clause-answer
+returns-clause-answer c = c.settle.ensures.answer ∙ ap (λ (a : Alignment). (settled a).1) (ap (λ (inputs : List Input). record { inputs = inputs; latest = c.args.aligner.now.latest }) (set_in c.args.inputs.now c.args.input 2))

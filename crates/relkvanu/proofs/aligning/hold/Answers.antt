@@ -1,0 +1,8 @@
+-- Answers the goals of `hold`.
+use Rattle.std.proofs.Common.{ap, List}
+use Rattle.ckpt_align.specs.declared.input.Input.{Input}
+use Rattle.relkvanu.proofs.InputBytes.{set_in}
+use Rattle.relkvanu.proofs.aligning.hold.Goals as goal
+
+pub returns : goal.returns
+returns c = ap (λ (inputs : List Input). record { inputs = inputs; latest = c.args.id }) (set_in c.args.inputs.now c.args.input 1)

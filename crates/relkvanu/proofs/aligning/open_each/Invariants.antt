@@ -1,0 +1,13 @@
+-- The loop invariant of `open_each`.
+use Rattle.std.proofs.Common.{◌≡◌, map, take, length}
+use Rattle.std.specs.Prelude.{replicate}
+use Rattle.ckpt_align.specs.declared.input.Input.TheVariants.{Open}
+use Rattle.relkvanu.specs.Aligning.{input_of}
+use Rattle.relkvanu.proofs.aligning.open_each.Given as goal
+
+-- the inputs so far are open
+abbrev pub invariant-loop-input : goal.invariant-loop-input
+invariant-loop-input l = record {
+  done : map input_of (take l.input-index l.inputs) ≡ replicate l.input-index Open;
+  as_long : length l.inputs ≡ length l.fn.inputs;
+}

@@ -1,0 +1,12 @@
+-- The loop invariant of `release`.
+use Rattle.std.proofs.Common.{◌≡◌, map, take, drop}
+use Rattle.ckpt_align.specs.Alignment.{released}
+use Rattle.relkvanu.specs.Aligning.{input_of}
+use Rattle.relkvanu.proofs.aligning.release.Given as goal
+
+-- the inputs so far are released, and the bytes that are left are as they were
+abbrev pub invariant-loop-input : goal.invariant-loop-input
+invariant-loop-input l = record {
+  done : map input_of (take l.input-index l.inputs) ≡ map released (map input_of (take l.input-index l.fn.inputs));
+  left : drop l.input-index l.inputs ≡ drop l.input-index l.fn.inputs;
+}
