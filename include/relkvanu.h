@@ -110,6 +110,17 @@ typedef struct {
     uint64_t taken;   /* files that were fetched, and are not yet reported */
 } relkvanu_made;
 
+/* The alignment of a task, beside the bytes of its inputs. Plain memory of the caller, which relkvanu_align_open fills. */
+typedef struct {
+    uint64_t latest; /* the greatest record that an alignment began for; 0 before the first */
+} relkvanu_aligner;
+
+/* What an engine does next, of the functions relkvanu_align_... */
+typedef struct {
+    uint32_t what; /* one of RELKVANU_STEP_PROCESS to RELKVANU_STEP_BAD_INPUTS */
+    uint64_t id;   /* the record of a cut or of an abandon, otherwise 0 */
+} relkvanu_step;
+
 /* code */
 #define RELKVANU_DONE 0u         /* the call was made: what is a reply */
 #define RELKVANU_REFUSED 1u      /* nothing has changed: what is a refusal */
@@ -261,6 +272,21 @@ typedef struct {
 #define RELKVANU_CALL_TRIGGER 16u
 #define RELKVANU_CALL_CONFIGURE 17u
 #define RELKVANU_CALL_ADVANCE 18u /* relkvanu_advance */
+
+/* what of a step */
+#define RELKVANU_STEP_PROCESS 1u       /* process the element now */
+#define RELKVANU_STEP_HOLD 2u          /* leave the element, and all behind it, on its input, until the next cut or abandon */
+#define RELKVANU_STEP_NOTHING 3u       /* nothing is to be done: no record is being aligned */
+#define RELKVANU_STEP_WAIT 4u          /* go on: an open input has not delivered the barrier yet */
+#define RELKVANU_STEP_LATE 5u          /* drop the barrier and go on: the record was cut or given up before */
+#define RELKVANU_STEP_CUT 6u           /* take the snapshot for record id now, and then send its barrier on each output, before anything else */
+#define RELKVANU_STEP_ABANDON 7u       /* decline record id: it can no longer be cut */
+#define RELKVANU_STEP_UNKNOWN_INPUT 8u /* nothing has changed: the task has no input with this number */
+#define RELKVANU_STEP_HELD_INPUT 9u    /* nothing has changed: the barrier or the end has to wait until the input is released */
+#define RELKVANU_STEP_ENDED_INPUT 10u  /* nothing has changed: the input has ended */
+#define RELKVANU_STEP_BAD_INPUTS 11u   /* nothing has changed: a task has 1 to RELKVANU_MOST_INPUTS inputs */
+
+#define RELKVANU_MOST_INPUTS 4096 /* the most inputs of a task */
 
 /* The same numbers as types, for debuggers, and for a compiler that warns of a switch which lacks one: switch ((enum relkvanu_refusal)
  * answer.what). A later version may give others. The packages of other languages and relkvanu_answer_text are made from these, and from the
@@ -420,6 +446,21 @@ enum relkvanu_call_kind {
     relkvanu_call_kind_trigger = RELKVANU_CALL_TRIGGER,
     relkvanu_call_kind_configure = RELKVANU_CALL_CONFIGURE,
     relkvanu_call_kind_advance = RELKVANU_CALL_ADVANCE
+};
+
+/* What an engine does next. */
+enum relkvanu_step_kind {
+    relkvanu_step_kind_process = RELKVANU_STEP_PROCESS,
+    relkvanu_step_kind_hold = RELKVANU_STEP_HOLD,
+    relkvanu_step_kind_nothing = RELKVANU_STEP_NOTHING,
+    relkvanu_step_kind_wait = RELKVANU_STEP_WAIT,
+    relkvanu_step_kind_late = RELKVANU_STEP_LATE,
+    relkvanu_step_kind_cut = RELKVANU_STEP_CUT,
+    relkvanu_step_kind_abandon = RELKVANU_STEP_ABANDON,
+    relkvanu_step_kind_unknown_input = RELKVANU_STEP_UNKNOWN_INPUT,
+    relkvanu_step_kind_held_input = RELKVANU_STEP_HELD_INPUT,
+    relkvanu_step_kind_ended_input = RELKVANU_STEP_ENDED_INPUT,
+    relkvanu_step_kind_bad_inputs = RELKVANU_STEP_BAD_INPUTS
 };
 
 /* Opens a coordinator in a closed handle, from the moment now on. Its first record has the number first, 1 to 2^62 - 1.
@@ -778,6 +819,42 @@ RELKVANU_NODISCARD relkvanu_answer relkvanu_garbage(relkvanu *handle, const uint
 
 /* relkvanu_refusal_text for the numbers of RELKVANU_FENCED, such as "OldTerm". */
 size_t relkvanu_fenced_text(uint32_t what, uint8_t *text, size_t text_len);
+
+/* Alignment, for engines: which element a task with several inputs may take next, and when it takes its snapshot. docs/ALIGNMENT.md says what
+ * an engine does after each step.
+ *
+ * An alignment has no handle. It is memory of the caller, an aligner and a byte for each input, which only these functions write: 0 of an
+ * open input, 1 of a held one, otherwise it has ended. Each such memory is an alignment. Make one call at a time for each. No call takes
+ * memory from the library, and none fails for lack of it. relkvanu_align_element takes a few instructions. The others may visit each input. */
+
+/* Begins the alignment of a task with this many inputs, 1 to RELKVANU_MOST_INPUTS: all are open. A task begins one when it starts, also after
+ * a restore.
+ *
+ * RELKVANU_STEP_NOTHING; or RELKVANU_STEP_BAD_INPUTS. */
+RELKVANU_NODISCARD relkvanu_step relkvanu_align_open(relkvanu_aligner *aligner, uint8_t *inputs, size_t inputs_len);
+
+/* An element is next on this input, from 0: whether the task may process it now. Changes nothing.
+ *
+ * RELKVANU_STEP_PROCESS or RELKVANU_STEP_HOLD; or RELKVANU_STEP_UNKNOWN_INPUT, RELKVANU_STEP_ENDED_INPUT. */
+RELKVANU_NODISCARD relkvanu_step relkvanu_align_element(const relkvanu_aligner *aligner, const uint8_t *inputs, size_t inputs_len, uint32_t input);
+
+/* The barrier of record id is next on this input.
+ *
+ * RELKVANU_STEP_WAIT, RELKVANU_STEP_LATE, RELKVANU_STEP_CUT, or RELKVANU_STEP_ABANDON of an earlier record, whose place this one takes; or
+ * RELKVANU_STEP_UNKNOWN_INPUT, RELKVANU_STEP_HELD_INPUT, RELKVANU_STEP_ENDED_INPUT. A cut and an abandon release all held inputs; after an
+ * abandon this input alone is held. */
+RELKVANU_NODISCARD relkvanu_step relkvanu_align_barrier(relkvanu_aligner *aligner, uint8_t *inputs, size_t inputs_len, uint32_t input, uint64_t id);
+
+/* Nothing more comes on this input. It counts as one that has delivered every barrier.
+ *
+ * RELKVANU_STEP_NOTHING, RELKVANU_STEP_WAIT or RELKVANU_STEP_CUT; or RELKVANU_STEP_UNKNOWN_INPUT, RELKVANU_STEP_HELD_INPUT,
+ * RELKVANU_STEP_ENDED_INPUT. */
+RELKVANU_NODISCARD relkvanu_step relkvanu_align_end(relkvanu_aligner *aligner, uint8_t *inputs, size_t inputs_len, uint32_t input);
+
+/* The coordinator or the task gives record id up.
+ *
+ * RELKVANU_STEP_ABANDON if this record is being aligned, and all held inputs are released; otherwise RELKVANU_STEP_NOTHING. */
+RELKVANU_NODISCARD relkvanu_step relkvanu_align_give_up(relkvanu_aligner *aligner, uint8_t *inputs, size_t inputs_len, uint64_t id);
 
 /* clang-format on */
 

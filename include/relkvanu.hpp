@@ -434,6 +434,118 @@ template <class Write> text_answer written(Write write) {
     return text;
 }
 
+/* What an engine does next, if it is no cut and no abandon; or why a step is refused, and then nothing has changed. relkvanu.h says what each
+ * means. */
+enum class step : std::uint32_t {
+    process = RELKVANU_STEP_PROCESS,
+    hold = RELKVANU_STEP_HOLD,
+    nothing = RELKVANU_STEP_NOTHING,
+    wait = RELKVANU_STEP_WAIT,
+    late = RELKVANU_STEP_LATE,
+    unknown_input = RELKVANU_STEP_UNKNOWN_INPUT,
+    held_input = RELKVANU_STEP_HELD_INPUT,
+    ended_input = RELKVANU_STEP_ENDED_INPUT,
+    bad_inputs = RELKVANU_STEP_BAD_INPUTS,
+    unknown = 0, /* The library is of another version. */
+};
+
+/* The cut of a record at a task: take the snapshot for it now, and then send its barrier on each output, before anything else. Only an aligner
+ * gives one out, at the cut, and none can be copied. A task that acknowledges by ack_cut and ack_cut_in alone acknowledges no record that it
+ * has not cut. */
+class cut {
+public:
+    cut(cut &&) noexcept = default;
+    cut &operator=(cut &&) noexcept = default;
+    cut(const cut &) = delete;
+    cut &operator=(const cut &) = delete;
+
+    std::uint64_t id() const noexcept { return id_; }
+
+private:
+    friend class aligner;
+    explicit cut(std::uint64_t id) noexcept : id_(id) {}
+
+    std::uint64_t id_;
+};
+
+/* Decline this record: it can no longer be cut. */
+struct abandon {
+    std::uint64_t id;
+};
+
+using step_answer = std::variant<step, cut, abandon>;
+
+/* The alignment of a task with several inputs. A task begins a new one when it starts, also after a restore. docs/ALIGNMENT.md says what an
+ * engine does after each step. Make one call at a time. */
+class aligner {
+public:
+    /* The alignment of a task with this many inputs, all open; step::bad_inputs unless there are 1 to RELKVANU_MOST_INPUTS. */
+    [[nodiscard]] static std::variant<aligner, step> open(std::size_t inputs) {
+        if (inputs > RELKVANU_MOST_INPUTS) {
+            return step::bad_inputs;
+        }
+        aligner made(inputs);
+        relkvanu_step told = relkvanu_align_open(&made.aligner_, made.inputs_.data(), inputs);
+        if (told.what != RELKVANU_STEP_NOTHING) {
+            return plain(told.what);
+        }
+        return std::variant<aligner, step>(std::move(made));
+    }
+
+    aligner(aligner &&) noexcept = default;
+    aligner &operator=(aligner &&) noexcept = default;
+    aligner(const aligner &) = delete;
+    aligner &operator=(const aligner &) = delete;
+
+    /* An element is next on this input, from 0: process or hold. */
+    [[nodiscard]] step element(std::uint32_t input) const noexcept {
+        return plain(relkvanu_align_element(&aligner_, inputs_.data(), inputs_.size(), input).what);
+    }
+
+    /* The barrier of this record is next on this input: wait, late, a cut, or the abandon of an earlier record, whose place it takes. */
+    [[nodiscard]] step_answer barrier(std::uint32_t input, std::uint64_t id) noexcept {
+        return answer(relkvanu_align_barrier(&aligner_, inputs_.data(), inputs_.size(), input, id));
+    }
+
+    /* Nothing more comes on this input: nothing, wait or a cut. */
+    [[nodiscard]] step_answer end(std::uint32_t input) noexcept {
+        return answer(relkvanu_align_end(&aligner_, inputs_.data(), inputs_.size(), input));
+    }
+
+    /* The coordinator or the task gives this record up: an abandon if it is being aligned, otherwise nothing. */
+    [[nodiscard]] step_answer give_up(std::uint64_t id) noexcept {
+        return answer(relkvanu_align_give_up(&aligner_, inputs_.data(), inputs_.size(), id));
+    }
+
+private:
+    relkvanu_aligner aligner_{};
+    std::vector<std::uint8_t> inputs_;
+
+    explicit aligner(std::size_t inputs) : inputs_(inputs) {}
+
+    static step plain(std::uint32_t what) noexcept {
+        switch (what) {
+        case RELKVANU_STEP_PROCESS:
+        case RELKVANU_STEP_HOLD:
+        case RELKVANU_STEP_NOTHING:
+        case RELKVANU_STEP_WAIT:
+        case RELKVANU_STEP_LATE:
+        case RELKVANU_STEP_UNKNOWN_INPUT:
+        case RELKVANU_STEP_HELD_INPUT:
+        case RELKVANU_STEP_ENDED_INPUT:
+        case RELKVANU_STEP_BAD_INPUTS: return static_cast<step>(what);
+        default: return step::unknown;
+        }
+    }
+
+    static step_answer answer(relkvanu_step told) noexcept {
+        if (told.what == RELKVANU_STEP_CUT) {
+            return cut(told.id);
+        }
+        return told.what == RELKVANU_STEP_ABANDON ? step_answer(abandon{told.id}) : step_answer(plain(told.what));
+    }
+};
+
 /* The coordinator of one job. After a move the old one is closed: its calls are refused as error::closed, and a read of it aborts the
  * process. */
 class Coordinator {
@@ -546,6 +658,12 @@ public:
         return ack_of(relkvanu_ack(&handle_, now, id, vertex, index, fresh.data(), fresh.size(), reused.data(), reused.size()));
     }
 
+    /* ack of the record that a task has cut. */
+    [[nodiscard]] ack_answer ack_cut(
+        std::uint64_t now, const cut &of, std::uint16_t vertex, std::uint16_t index, files fresh, files reused = {}) noexcept {
+        return ack(now, of.id(), vertex, index, fresh, reused);
+    }
+
     decline_answer decline(std::uint64_t now, std::uint64_t id, std::uint16_t vertex, std::uint16_t index) noexcept {
         if (is_ahead(now)) {
             return too_large();
@@ -609,6 +727,12 @@ public:
             return too_large();
         }
         return ack_of(relkvanu_ack_in(&handle_, term, now, id, vertex, index, fresh.data(), fresh.size(), reused.data(), reused.size()));
+    }
+
+    /* ack_in of the record that a task has cut. */
+    [[nodiscard]] ack_answer ack_cut_in(std::uint64_t term, std::uint64_t now, const cut &of, std::uint16_t vertex, std::uint16_t index,
+        files fresh, files reused = {}) noexcept {
+        return ack_in(term, now, of.id(), vertex, index, fresh, reused);
     }
 
     /* decline of a task of this term. */

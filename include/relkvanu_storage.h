@@ -115,6 +115,20 @@ int relkvanu_storage_open_folder(relkvanu_storage *storage, const relkvanu_stora
  * is passed over. */
 void relkvanu_storage_close_folder(relkvanu_storage *storage);
 
+/* Opens the folder of a store (options.storage of relkvanu_store.h) for a task in another process, which was told job and epoch when it was
+ * started: the store's report.job and report.epoch. put and get are those of the store, check and each put look at the store's marker, and
+ * delete_files and list are NULL: a task deletes nothing. The folder stays open, so no file goes into one that is mounted over it. Its
+ * file system has to be able to sync a folder: a put fails otherwise.
+ *
+ * RELKVANU_STORAGE_NO_MEMORY; RELKVANU_STORAGE_NOT_THERE: there is no folder, or no marker of a store in it; RELKVANU_STORAGE_OTHER_JOB:
+ * the folder is another job's, or a later opening has it, so the task ends; RELKVANU_STORAGE_FAILED: errno says why. After each of them
+ * nothing is open, and storage->with is NULL. check and put return the same later. */
+int relkvanu_storage_open_task(relkvanu_storage *storage, const char *path, const uint64_t job[2], uint64_t epoch);
+
+/* Closes what relkvanu_storage_open_task opened, after the last call of each thread. One that was not opened, or is closed, is passed
+ * over. */
+void relkvanu_storage_close_task(relkvanu_storage *storage);
+
 /* clang-format on */
 
 #ifdef __cplusplus

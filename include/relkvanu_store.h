@@ -61,11 +61,13 @@ typedef struct relkvanu_store relkvanu_store;
 #define RELKVANU_STORE_CLOSED 10      /* an earlier commit failed */
 #define RELKVANU_STORE_FORKED 11      /* this process is a child of the one that opened the store */
 #define RELKVANU_STORE_TIMED_OUT 12   /* await, discard: the time is up */
-#define RELKVANU_STORE_NOT_NOW 13     /* unknown: no sweep of a job without names is safe now; discard: another thread discards; backup: another one writes this file */
+#define RELKVANU_STORE_NOT_NOW 13     /* unknown: no sweep of a job without names is safe now; discard: another thread discards; backup: another one writes this file; stop_job, begin_job: the phase of the job does not allow it */
 #define RELKVANU_STORE_STOPPED 14     /* await, discard: relkvanu_store_stop was called */
 #define RELKVANU_STORE_NOT_PUT 15     /* put, backup: the file was not made, and errno says why */
 #define RELKVANU_STORE_NOT_RUNNING 21 /* await: the job has failed or was cancelled, so no tick is due */
 #define RELKVANU_STORE_NOT_DONE 22    /* sweep: part of it was not done, and errno and relkvanu_store_why say why: the same again later */
+#define RELKVANU_STORE_JOB_STOPPED 23 /* await: the job is stopped (relkvanu_store_stop_job), so no tick is due until it begins again */
+#define RELKVANU_STORE_NOT_STOPPED 24 /* await: a stop of the job has failed, and relkvanu_store_phase says why: tasks that hold go on */
 /* What failed at an opening, or in a commit, which closes the store: these five do, and no other. */
 #define RELKVANU_STORE_FAILED 16        /* a read, write or sync */
 #define RELKVANU_STORE_FULL 17          /* the disk is full */
@@ -84,6 +86,7 @@ typedef struct relkvanu_store relkvanu_store;
 #define RELKVANU_STORE_EARLIER_IMAGE 8u /* begins with the image before the last one, which is damaged. The log after it is whole. The pages of the file are not checked */
 #define RELKVANU_STORE_PLAIN 16u        /* a job that is made has no names: the engine gives out the numbers of files, and sweeps only when no task runs */
 #define RELKVANU_STORE_BACKUP 32u       /* PATH is a backup: READ relkvanu_store_backup FIRST. Makes no job */
+#define RELKVANU_STORE_MANIFESTS 64u    /* the folder of the storage gets a manifest of each complete record, for relkvanu_store_recover. With each opening, or not at all */
 
 /* A moment of a call: that of the store's clock. The clock goes on from the greatest moment of the log, and does not follow the wall clock. A call
  * with a moment ahead of it sets it forward. */
@@ -99,7 +102,7 @@ typedef struct {
     uint64_t image_calls;       /* an image after so many calls; 0: 10000. RELKVANU_STORE_NO_IMAGES: none, and the log is never cut */
     uint64_t most_ahead;        /* a moment may be so many ms ahead of the greatest one, or of what a timer waits for; 0: one day */
     const char *storage;        /* the folder of the state files, which has to exist; NULL: see relkvanu_store_open */
-    relkvanu_settings settings; /* of a new job, within the limits of relkvanu.h (interval: 10 or more). A recovered job keeps its own; report.settings_differ compares them */
+    relkvanu_settings settings; /* of a new job, within the limits of relkvanu.h (interval: 10 or more). A recovered job keeps its own, which relkvanu_store_configure changes; report.settings_differ compares them */
     const uint64_t *shape;
     size_t shape_len;
     uint64_t reserved[4]; /* 0 */
@@ -115,12 +118,12 @@ typedef struct {
     is there, before the sweep: an opening does not. If one is missing, end the process, and sweep nothing */
 #define RELKVANU_STORE_SWEEP 3u       /* relkvanu_store_sweep; or delete the files that relkvanu_store_unknown returns */
 #define RELKVANU_STORE_START_TASKS 4u /* start tasks, a timer (relkvanu_store_await_tick) and a discarder (relkvanu_store_discard) */
-#define RELKVANU_STORE_DISCARD 5u     /* start a discarder alone: the job is cancelled */
+#define RELKVANU_STORE_DISCARD 5u     /* start a discarder alone: the job is cancelled, or stopped (report.phase) */
 #define RELKVANU_STORE_MOST_STEPS 8
 
 typedef struct {
     bool is_recovered;    /* false: it is a new job */
-    bool settings_differ; /* the job was made with other settings or another shape, and keeps them */
+    bool settings_differ; /* the job has other settings, or was made with another shape, and keeps them */
     uint32_t steps[RELKVANU_STORE_MOST_STEPS];
     size_t steps_len;
     uint64_t epoch;       /* 1 for a new job, and 1 more at each opening, not at a restore: it fences openings only. See docs/PROTOCOL.md, rule 3 */
@@ -133,7 +136,8 @@ typedef struct {
     char message[RELKVANU_STORE_MESSAGE]; /* what went wrong and where, if the status is not RELKVANU_STORE_OK; otherwise empty */
     uint64_t term;      /* that runs: of a new job, its tasks are started with it. 0: the job has no names */
     uint64_t next_name; /* that will be given out; 0: the job has no names */
-    uint64_t reserved[2];
+    uint32_t phase, stop_failed; /* as in relkvanu_store_job_phase */
+    uint64_t savepoint;
 } relkvanu_store_report;
 
 /* Makes or recovers the job at path. A recovery opens the last image, makes the calls after it again, and compares each answer. PATH.lock names
@@ -159,7 +163,7 @@ typedef struct {
  * files is made with RELKVANU_STORE_PLAIN, and gets names above all of these by a fence. */
 int relkvanu_store_open(relkvanu_store **store, const char *path, const relkvanu_store_options *options, relkvanu_store_report *report);
 
-/* What the job is: the settings that it was made with, and its shape now. *shape_len is the places of shape, and then how many vertices there are,
+/* What the job is: its settings and its shape now. *shape_len is the places of shape, and then how many vertices there are,
  * at most 256. RELKVANU_STORE_BAD_ARGUMENT: there are more than places. Makes an image of the job for it: it is for after an opening
  * (report.settings_differ), and not for each call. */
 int relkvanu_store_job(relkvanu_store *store, relkvanu_settings *settings, uint64_t *shape, size_t *shape_len);
@@ -269,13 +273,98 @@ uint64_t relkvanu_store_now(const relkvanu_store *store);
 int relkvanu_store_next_tick(relkvanu_store *store, uint64_t *wait);
 
 /* A timer, as a loop in a thread of the engine: sleeps until a tick is due, at most longest ms, and makes it. A commit wakes it only if another
- * moment is due.
+ * moment is due, or if there is something to hand over: what relkvanu_store_trigger, _stop_job, _begin_job and _go_back have made comes from here
+ * too, once, with its answer, choice and term (see relkvanu_store_trigger).
  * RELKVANU_STORE_TIMED_OUT: no tick was due. RELKVANU_STORE_STOPPED.
  * RELKVANU_STORE_NOT_RUNNING, with the answer RELKVANU_REFUSED, RELKVANU_NOT_RUNNING: the job is not running, so no tick is due. It comes
  * at once when the job has failed or was cancelled, to one caller (the a of the answer is 1), and then after longest. Read the mode: a failed job is restored. A cancelled one is
  * swept, and its discarder runs until no file waits or is taken (relkvanu_file_counts).
- * If a decline fails the job just before the tick, the status is RELKVANU_STORE_OK and the answer RELKVANU_REFUSED, RELKVANU_NOT_RUNNING: call again. */
+ * If a decline fails the job just before the tick, the status is RELKVANU_STORE_OK and the answer RELKVANU_REFUSED, RELKVANU_NOT_RUNNING: call again.
+ * RELKVANU_STORE_JOB_STOPPED, with the same answer: the job is stopped. At once to one caller, and then after longest. RELKVANU_STORE_NOT_STOPPED:
+ * a stop has failed. At once, to one caller. */
 int relkvanu_store_await_tick(relkvanu_store *store, uint64_t longest, relkvanu_store_call *tick);
+
+/* What an operator wants of a job that runs. Any thread may call these at any time, also while another one waits for a tick: so an engine passes
+ * a command on to them from the handler of a request, and its loop over relkvanu_store_await_tick does the rest (docs/DURABLE-COMMANDS.md has
+ * one). Each is one commit: after a crash at any moment all of it was done, or nothing. In call is the answer, and in call->term the term that begins. Nobody acts on it unless the status is RELKVANU_STORE_OK and its code is RELKVANU_DONE.
+ *
+ * THE TIMER HANDS OVER: who waits in relkvanu_store_await_tick gets the same answer there, once, with the status RELKVANU_STORE_OK, and acts on it:
+ * - RELKVANU_TICK_TRIGGERED: sends the barrier of the checkpoint, as after a tick.
+ * - RELKVANU_SAVEPOINT_TRIGGERED: the job is being stopped. Sends the barrier of this savepoint, and each task holds after its acknowledgement.
+ * - RELKVANU_RESTORED_CHECKPOINT, _SAVEPOINT or _FRESH: the job begins here, as after a restore of its own. Ends all tasks, loads the files of that
+ *   record, sweeps, tells the sinks and starts the tasks with the term of this answer.
+ * A record that has ended meanwhile is not handed over, nor what came before a restore. An engine that does not call relkvanu_store_await_tick
+ * acts on call. After a crash nothing is handed over: the steps of the report have it all. A RELKVANU_CALL_TRIGGER of a list is handed over too. */
+
+/* A checkpoint now, whatever the interval and the pause: as relkvanu_trigger. The interval counts from it.
+ *
+ * RELKVANU_TICK_TRIGGERED. RELKVANU_REFUSED with RELKVANU_NOT_RUNNING (also while the job is being stopped, or is stopped), RELKVANU_IDS_USED_UP
+ * or RELKVANU_AT_ONCE. */
+int relkvanu_store_trigger(relkvanu_store *store, relkvanu_store_call *call);
+
+/* Other settings, of a job that runs, has failed or is stopped: as relkvanu_configure. They hold from the next tick on, and a timer that waits
+ * learns of them at once. Done checkpoints above the new number retained go in the same commit. The job keeps them after a reopening, whatever the
+ * options say.
+ *
+ * RELKVANU_CONFIGURED. RELKVANU_STORE_BAD_ARGUMENT: a value is outside its limits, and relkvanu_store_why says which. RELKVANU_REFUSED with
+ * RELKVANU_NOT_RUNNING (cancelled) or RELKVANU_AT_ONCE: more are pending than may be from then on; later. */
+int relkvanu_store_configure(relkvanu_store *store, const relkvanu_settings *settings, relkvanu_store_call *call);
+
+/* The phase of a job. relkvanu_store_job_phase.phase. */
+#define RELKVANU_STORE_PHASE_RUNNING 0u  /* the job runs, has failed or was cancelled: its mode says which */
+#define RELKVANU_STORE_PHASE_STOPPING 1u /* its savepoint is pending */
+#define RELKVANU_STORE_PHASE_STOPPED 2u  /* its savepoint is done, and the job goes on from it when it begins */
+
+/* Why the last stop has failed. relkvanu_store_job_phase.stop_failed; 0: it has not. */
+#define RELKVANU_STORE_STOP_EXPIRED 1u   /* its savepoint was not done within timeout */
+#define RELKVANU_STORE_STOP_DECLINED 2u  /* a task has declined it */
+#define RELKVANU_STORE_STOP_RESTORED 3u  /* the job was restored before, as after a crash */
+#define RELKVANU_STORE_STOP_CANCELLED 4u /* the job was cancelled, before it was stopped or afterwards */
+#define RELKVANU_STORE_STOP_FAILED 5u    /* the job has failed */
+
+typedef struct {
+    uint32_t phase, stop_failed; /* the second: in the phase running, until the next stop */
+    uint64_t savepoint;          /* of the stop; 0: there was none, or the job has begun since */
+    uint64_t term;               /* of a job with names that is stopped: the one that began when it was, of which no task has been told */
+    uint64_t reserved[2];
+} relkvanu_store_job_phase;
+
+/* Stops the job with a savepoint: RELKVANU_SAVEPOINT_TRIGGERED. From then on the timer rests: no tick comes but at the expiry of this savepoint, so
+ * nothing else expires or fails, and a tick, a trigger and a savepoint of a caller are RELKVANU_REFUSED with RELKVANU_NOT_RUNNING. With the last
+ * acknowledgement of the savepoint the store itself makes the restore to it, in the same commit: the job is stopped, its term has ended, and
+ * relkvanu_store_await_tick returns RELKVANU_STORE_JOB_STOPPED. Then the engine ends its tasks and tells its sinks that the savepoint is the choice:
+ * they publish what they prepared for it. It may end, or wait in relkvanu_store_await_tick. The phase is in the job's file: the next opening reports it.
+ *
+ * If the savepoint ends otherwise, relkvanu_store_await_tick returns RELKVANU_STORE_NOT_STOPPED: the tasks that hold go on, the timer too, and the
+ * phase says why. A process that ends before the job is stopped leaves a job that goes on from its last checkpoint, after the next restore.
+ *
+ * RELKVANU_STORE_NOT_NOW: the job is being stopped, or is stopped. RELKVANU_REFUSED as relkvanu_savepoint. */
+int relkvanu_store_stop_job(relkvanu_store *store, relkvanu_store_call *call);
+
+/* A job that is stopped goes on: a restore to the latest record in the shape that the job has, RELKVANU_RESTORED_SAVEPOINT mostly, and
+ * call->term is the term of its tasks. A RELKVANU_CALL_RESTORE (to another savepoint, or in another shape) and relkvanu_store_go_back may come before: the
+ * job stays stopped. RELKVANU_STORE_NOT_NOW: the job is not stopped. */
+int relkvanu_store_begin_job(relkvanu_store *store, relkvanu_store_call *call);
+
+/* The phase, of what is committed. Never waits for a commit. */
+int relkvanu_store_phase(relkvanu_store *store, relkvanu_store_job_phase *phase);
+
+/* Of relkvanu_store_go_back: what sinks have published for records after the checkpoint is not taken back, and the job will publish it again. */
+#define RELKVANU_STORE_ACCEPT_PUBLISHED 1u
+
+/* Goes back to a done checkpoint that is retained, in the shape that the job has: a savepoint of the checkpoint's own files, of which no task is
+ * told, and the restore to it. All checkpoints are dropped then; the savepoint stays, and is disposed of as others are. To the latest checkpoint it is
+ * a restore. A job that is stopped stays so; a failed job runs again. Makes a copy of the coordinator: all callers wait for two images of it.
+ *
+ * RELKVANU_RESTORED_SAVEPOINT or RELKVANU_RESTORED_CHECKPOINT. RELKVANU_STORE_BAD_ARGUMENT: flags is not RELKVANU_STORE_ACCEPT_PUBLISHED.
+ * RELKVANU_REFUSED with RELKVANU_NO_SUCH_RECORD: no done checkpoint has this number; RELKVANU_BAD_ARGUMENT with RELKVANU_BAD_SHAPE: the job has
+ * another shape than the checkpoint had; RELKVANU_REFUSED with RELKVANU_NOT_RUNNING (cancelled), RELKVANU_TOO_MANY_SAVEPOINTS, RELKVANU_FILE_GONE or
+ * RELKVANU_IDS_USED_UP. None of these changes anything. */
+int relkvanu_store_go_back(relkvanu_store *store, uint64_t checkpoint, uint32_t flags, relkvanu_store_call *call);
+
+/* Begins a job with names again that lacks its last calls, as one of a backup does, in place of the first restore: as relkvanu_advance. term is the
+ * greatest that any task was told, and names are given out from first_name on. call->term is the term of the tasks. It is not handed over. */
+int relkvanu_store_advance(relkvanu_store *store, uint64_t term, uint64_t first_name, relkvanu_store_call *call);
 
 /* The term that runs, and the next name: RELKVANU_TERM, of what is committed. RELKVANU_FENCED with RELKVANU_NO_NAMES. Whoever starts tasks takes the term
  * from the answer to its own restore: another restore may have ended that one. A task never asks. */
@@ -404,6 +493,96 @@ void relkvanu_store_stop(relkvanu_store *store);
  * changed if no record is whole, and their limit is 2^32. */
 int relkvanu_store_backup(relkvanu_store *store, const char *path, char *message, size_t message_len);
 
+/* Manifests. With RELKVANU_STORE_MANIFESTS the folder of the storage gets a file record-ID.manifest once a record is complete: after the commit, and before
+ * anybody is told of it. It has what a job needs to go on from that record without PATH: settings, shape, and the files of each subtask with their
+ * lengths. The log stays the truth. A manifest is never ahead of it, and those that should be there are written again at an opening. If the folder is
+ * full, the calls go on: failed_manifests counts it. Manifests of records that ended are deleted, also by relkvanu_store_sweep, which deletes all of them if
+ * this opening has not the flag. docs/DURABLE-RECOVERY.md has their format. */
+
+/* A record, as its manifest says it. */
+typedef struct {
+    uint64_t id;
+    uint32_t status;   /* RELKVANU_STORE_OK; RELKVANU_STORE_DAMAGED: the manifest is damaged; RELKVANU_STORE_NOT_A_STORE: a later version wrote it. Then all below is 0 */
+    bool is_savepoint; /* otherwise it is a checkpoint */
+    bool is_of_job;    /* its job is the one that the marker of the folder names, or there is no marker */
+    bool is_next;      /* relkvanu_store_recover, or relkvanu_store_import, begins from it */
+    uint64_t written;  /* when the manifest was, in ms of the wall clock since 1970 */
+    uint64_t files, bytes;
+    uint64_t missing; /* files that are not there, or have another length */
+    uint64_t reserved[4];
+} relkvanu_store_record;
+
+/* Whether it goes on. */
+typedef bool (*relkvanu_store_each_record)(void *with, const relkvanu_store_record *record);
+
+/* The records of a storage folder that have a manifest, in the order of their numbers. It needs no job, changes nothing, and may run at any time.
+ *
+ * RELKVANU_STORE_STORAGE: there is no such folder; RELKVANU_STORE_FAILED, RELKVANU_STORE_NO_MEMORY. message gets what went wrong. */
+int relkvanu_store_records(const char *folder, relkvanu_store_each_record each, void *with, char *message, size_t message_len);
+
+typedef struct {
+    uint64_t record;     /* the choice, which has the number that it had */
+    bool is_savepoint;   /* otherwise it is a checkpoint */
+    uint64_t files, bytes;
+    uint64_t passed;     /* manifests of the job that are damaged or lack files */
+    uint64_t savepoints; /* that live on beside it, under new numbers. A list of relkvanu_store_records after the first opening has them */
+    uint64_t term, next_name; /* of the job; 0: it has no names */
+    uint64_t next_number;     /* the least one that a later record gets */
+    uint64_t reserved[4];
+    char message[RELKVANU_STORE_MESSAGE]; /* what went wrong, if the status is not RELKVANU_STORE_OK */
+} relkvanu_store_recovered;
+
+/* Makes the job at path again, whose file was lost, from the manifests in its storage folder: from the last record that was the choice and has all
+ * its files, or from the record with this number; 0: any. The files stay where they are. Each task and process of the old job has been told to
+ * end. Records, terms and names that the new job gives out are above all that the old one told anybody, and an old file that comes back to path
+ * is refused. Savepoints that have all their files live on under new numbers. What the other records have is garbage to the next sweep: so is the
+ * state of a record that was complete and has no manifest.
+ *
+ * Killed at any moment it has done nothing, or all: make the same call again. Then open the job with options.storage as ever: it is one that was
+ * recovered, with its steps. Sinks are told of the choice under the number that they know.
+ *
+ * RELKVANU_STORE_PRESENT: there is a job at path, or PATH-wal without it; RELKVANU_STORE_ABSENT: no record with a manifest has all its files;
+ * RELKVANU_STORE_STORAGE: the folder or its marker is not there; RELKVANU_STORE_IN_USE: another process opens or recovers it; RELKVANU_STORE_FAILED and the
+ * statuses after it, RELKVANU_STORE_NO_MEMORY. Nothing has changed then. */
+int relkvanu_store_recover(const char *path, const char *folder, uint64_t record, relkvanu_store_recovered *recovered);
+
+typedef struct {
+    uint64_t record;
+    bool is_savepoint; /* otherwise it is a checkpoint */
+    uint64_t files, bytes;
+    uint64_t reserved[4];
+    char message[RELKVANU_STORE_MESSAGE]; /* what went wrong, if the status is not RELKVANU_STORE_OK */
+} relkvanu_store_carried;
+
+/* Makes the folder `to` of a record that has a manifest in a storage folder, with its manifest and its files: of the one that relkvanu_store_recover would
+ * begin from, or of the record with this number. It needs no job, and may run beside one, whose tasks take no part: it links the files, so that
+ * they stay whatever the job deletes, or copies them to another file system. If the record ends meanwhile, it takes the next one. The folder is
+ * made beside `to`, as to.part, and gets its name once all is on the disk. So killed at any moment it has done nothing, or all.
+ *
+ * RELKVANU_STORE_PRESENT: there is something at `to`, and it is no empty folder; RELKVANU_STORE_ABSENT: no record with a manifest has all its files;
+ * RELKVANU_STORE_DAMAGED: a file is not as long as its manifest says; RELKVANU_STORE_IN_USE: another call makes this folder; otherwise as
+ * relkvanu_store_recover. */
+int relkvanu_store_export(const char *folder, uint64_t record, const char *to, relkvanu_store_carried *carried);
+
+/* Makes another job, at path over a folder that is made, of a record in `from`: an exported folder, or the storage folder of a job, which may run. It
+ * exports the record to the folder, and then does what relkvanu_store_recover does. The job has an identity of its own, and each goes its own way.
+ * Killed at any moment it has done nothing, a part that the same call finishes, or all. Statuses as those of the two. */
+int relkvanu_store_import(const char *from, uint64_t record, const char *path, const char *folder, relkvanu_store_recovered *recovered);
+
+/* Puts a backup of relkvanu_store_backup back in the place of a job's file, which may be damaged, lost, or a later one. Each process and task of the job has
+ * ended, also on other hosts. The new file begins from the choice of the backup if its files are all in the storage folder, or else from the last
+ * savepoint of which they are; above all terms of the backup, and above the name of each file in the folder. What was there is set aside beside it, in
+ * a folder aside-XXXXXX with a copy of the marker, whose path message gets. No engine starts while there is no file at path. Killed at any moment it
+ * has done nothing, or all, or there is no file at path: make the same call again before an engine starts. What was set aside may then be in two folders.
+ * Until an engine opens the job, the files that were set aside go back in its place, and last of all the marker.
+ *
+ * READ docs/DURABLE-BACKUP.md, A backup, first: sinks are told of numbers of records once more.
+ *
+ * RELKVANU_STORE_ABSENT: no record of the backup has all its files, or it is of a job that was cancelled; RELKVANU_STORE_STORAGE: it is no backup of the
+ * folder's job, or the folder has a file whose number is 2^36 or more above the names of the backup; RELKVANU_STORE_IN_USE: a process has the job.
+ * Otherwise as relkvanu_store_open. Nothing has changed then. */
+int relkvanu_store_put_back(const char *backup, const char *path, const char *folder, relkvanu_store_recovered *recovered);
+
 /* Counts since the opening. */
 typedef struct {
     uint64_t commits, calls, largest; /* of a commit: its calls */
@@ -423,6 +602,8 @@ typedef struct {
     uint64_t log_rows;         /* calls that the next opening may have to make again, and those of the two last images */
     uint64_t last_commit;      /* when it was, in ms of the wall clock since 1970; 0: none since the opening */
     uint64_t failed_deletions; /* files that discarders and sweeps could not delete, each time anew */
+    uint64_t manifests;        /* manifests that were written since the opening */
+    uint64_t failed_manifests; /* times that one could not be written: until it is, a recovery finds an earlier record, or none */
 } relkvanu_store_measures;
 
 /* Writes what is measured. measures_len is sizeof *measures. */

@@ -36,6 +36,8 @@ enum class store_error : int {
     out_of_memory = RELKVANU_STORE_OUT_OF_MEMORY,
     not_running = RELKVANU_STORE_NOT_RUNNING,
     not_done = RELKVANU_STORE_NOT_DONE,
+    job_stopped = RELKVANU_STORE_JOB_STOPPED,
+    not_stopped = RELKVANU_STORE_NOT_STOPPED,
     not_made = RELKVANU_STORE_NOT_MADE, /* a call before it in the same list ran out of memory */
 };
 
@@ -67,6 +69,8 @@ public:
         case store_error::out_of_memory: return "OutOfMemory";
         case store_error::not_running: return "NotRunning";
         case store_error::not_done: return "NotDone";
+        case store_error::job_stopped: return "JobStopped";
+        case store_error::not_stopped: return "NotStopped";
         case store_error::not_made: return "NotMade";
         default: return "unknown";
         }
@@ -98,6 +102,16 @@ struct no_backup {
     std::error_code why;
     std::string message;
 };
+
+namespace detail {
+/* The alternatives of an answer with others before them. */
+template <class Answer, class... Others> struct before;
+template <class... Of, class... Others> struct before<std::variant<Of...>, Others...> { using type = std::variant<Others..., Of...>; };
+} // namespace detail
+
+/* What Store::await hands over. */
+using order = detail::before<tick_answer, savepoint_triggered, restored>::type;
+using configure_answer = std::variant<configured, refused>;
 
 /* A durable coordinator. After a move the old one is empty: only its destructor and an assignment to it may be called. */
 class Store {
@@ -298,7 +312,8 @@ public:
     [[nodiscard]] std::error_code next_tick(std::uint64_t &wait) noexcept { return store_code(relkvanu_store_next_tick(store_, &wait)); }
 
     /* Sleeps until a tick is due, at most so many milliseconds, and makes it. Refused as store_error::timed_out (none was due, or the job is not
-     * running: read the mode) or stopped otherwise. */
+     * running: read the mode) or stopped otherwise. An engine that an operator gives commands to takes await: here what is no tick is refused as
+     * error::unknown, and lost. */
     [[nodiscard]] tick_answer await_tick(std::uint64_t longest) noexcept {
         relkvanu_store_call tick = {};
         int status = awaited(longest, tick);
@@ -318,6 +333,52 @@ public:
         relkvanu_store_call tick = {};
         int status = awaited(longest, tick);
         return chosen<tick_answer>(status, tick, tick_of, base);
+    }
+
+    /* As await_tick, of an engine that an operator gives commands to: what stop_job, begin_job, go_back and trigger have made comes from here too, once.
+     * After triggered and savepoint_triggered (the job is being stopped) the engine sends the barrier, which names base beside it. After restored it begins
+     * there, as after a restore of its own. Refused as store_error::timed_out (none was due, or the job is not running: read the mode), job_stopped,
+     * not_stopped (the phase says why) or stopped (by stop). */
+    [[nodiscard]] order await(std::uint64_t longest, choice &base) noexcept {
+        relkvanu_store_call made = {};
+        int status = awaited(longest, made);
+        return chosen<order>(
+            status, made, [&made](relkvanu_answer told) noexcept { return order_of(told, made.term); }, base);
+    }
+
+    /* The commands of an operator, of any thread: relkvanu_store.h has what each does, under relkvanu_store_trigger. trigger is one of them. */
+
+    /* Refused as store_error::bad_argument if a value is outside its limits. */
+    configure_answer configure(const relkvanu_settings &settings) noexcept {
+        relkvanu_store_call made = {};
+        int status = relkvanu_store_configure(store_, &settings, &made);
+        if (status != RELKVANU_STORE_OK) {
+            return refused{store_code(status)};
+        }
+        return is_reply(made.answer, RELKVANU_CONFIGURED) ? configure_answer(configured{made.answer.a, made.answer.b})
+                                                          : refusal(made.answer);
+    }
+    savepoint_answer stop_job() noexcept {
+        relkvanu_store_call made = {};
+        int status = relkvanu_store_stop_job(store_, &made);
+        return status == RELKVANU_STORE_OK ? savepoint_of(made.answer) : savepoint_answer(refused{store_code(status)});
+    }
+    restore_answer begin_job() noexcept {
+        return restored_by([this](relkvanu_store_call &made) noexcept { return relkvanu_store_begin_job(store_, &made); });
+    }
+
+    /* accept_published: what sinks have published for later records is not taken back. Without it: refused as store_error::bad_argument. */
+    restore_answer go_back(std::uint64_t id, bool accept_published) noexcept {
+        std::uint32_t flags = accept_published ? RELKVANU_STORE_ACCEPT_PUBLISHED : 0;
+        return restored_by([=](relkvanu_store_call &made) noexcept { return relkvanu_store_go_back(store_, id, flags, &made); });
+    }
+
+    /* In place of the first restore, of a job that lacks its last calls. */
+    restore_answer advance(std::uint64_t term, std::uint64_t first_name) noexcept {
+        return restored_by([=](relkvanu_store_call &made) noexcept { return relkvanu_store_advance(store_, term, first_name, &made); });
+    }
+    [[nodiscard]] std::error_code phase(relkvanu_store_job_phase &phase) noexcept {
+        return store_code(relkvanu_store_phase(store_, &phase));
     }
 
     /* For a sweep: leaves those of the files that may be deleted. Of a job without names it is for a recovery's sweep. */
@@ -422,6 +483,30 @@ private:
             *term = it.term;
         }
         return status == RELKVANU_STORE_OK ? of(it.answer) : Answer(refused{store_code(status)});
+    }
+
+    /* The answer of a restore, with the term that it begins. */
+    template <class Make> restore_answer restored_by(Make make) noexcept {
+        relkvanu_store_call made = {};
+        int status = make(made);
+        restore_answer told = status == RELKVANU_STORE_OK ? restore_of(made.answer) : restore_answer(refused{store_code(status)});
+        if (restored *begins = std::get_if<restored>(&told)) {
+            begins->term = made.term;
+        }
+        return told;
+    }
+
+    static order order_of(relkvanu_answer told, std::uint64_t term) noexcept {
+        auto as_order = [](auto it) noexcept { return order(it); };
+        if (is_reply(told, RELKVANU_SAVEPOINT_TRIGGERED)) {
+            return savepoint_triggered{told.a};
+        }
+        restore_answer begins = restore_of(told);
+        if (restored *it = std::get_if<restored>(&begins)) {
+            it->term = term;
+            return *it;
+        }
+        return std::visit(as_order, tick_of(told));
     }
 
     int awaited(std::uint64_t longest, relkvanu_store_call &tick) noexcept {

@@ -9,7 +9,7 @@
 #define FUNCTIONS(of) \
     of(open) of(close) of(tick) of(ack) of(restore) of(take) of(show) of(refusal_text) of(answer_text) of(line) of(line_says) of(line_call) \
     of(call_line) of(make) of(opening_lines) of(save) of(open_saved) of(files_of) of(pins_of) of(taken_files) of(open_fenced) of(forfeit) of(ack_in) \
-    of(garbage) of(fenced_text)
+    of(garbage) of(fenced_text) of(align_open) of(align_element) of(align_barrier) of(align_end) of(align_give_up)
 /* clang-format on */
 
 #define FIELD(name) __typeof__(&relkvanu_##name) name;
@@ -79,6 +79,16 @@ static void try_texts(const struct functions *lib, void *none) {
     CHECK(lib->answer_text(&closed, none, 0) == strlen("closed"));
 }
 
+static void try_alignment(const struct functions *lib, void *none) {
+    relkvanu_aligner aligner = {7};
+    CHECK(lib->align_open(&aligner, none, 0).what == RELKVANU_STEP_BAD_INPUTS);
+    CHECK(lib->align_element(&aligner, none, 0, 0).what == RELKVANU_STEP_UNKNOWN_INPUT);
+    CHECK(lib->align_barrier(&aligner, none, 0, 0, 1).what == RELKVANU_STEP_UNKNOWN_INPUT);
+    CHECK(lib->align_end(&aligner, none, 0, 0).what == RELKVANU_STEP_UNKNOWN_INPUT);
+    CHECK(lib->align_give_up(&aligner, none, 0, 7).what == RELKVANU_STEP_NOTHING);
+    CHECK(aligner.latest == 7);
+}
+
 int main(int argc, char **argv) {
     void *library = argc > 1 ? dlopen(argv[1], RTLD_NOW | RTLD_LOCAL) : NULL;
     struct functions linked = {FUNCTIONS(ADDRESS)}, lib = argc > 1 ? functions_of(library) : linked;
@@ -87,6 +97,7 @@ int main(int argc, char **argv) {
         try_calls(&lib, pointers[place]);
         try_names(&lib, pointers[place]);
         try_texts(&lib, pointers[place]);
+        try_alignment(&lib, pointers[place]);
     }
     CHECK(argc == 1 || dlclose(library) == 0);
     return 0;

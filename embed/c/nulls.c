@@ -151,3 +151,33 @@ PROVED(relkvanu_fenced_text);
 size_t relkvanu_fenced_text(uint32_t what, uint8_t *text, size_t text_len) {
     return proved_relkvanu_fenced_text(what, LIST(text));
 }
+
+PROVED(relkvanu_align_open);
+
+relkvanu_step relkvanu_align_open(relkvanu_aligner *aligner, uint8_t *inputs, size_t inputs_len) {
+    return proved_relkvanu_align_open(aligner, LIST(inputs));
+}
+
+PROVED(relkvanu_align_element);
+
+relkvanu_step relkvanu_align_element(const relkvanu_aligner *aligner, const uint8_t *inputs, size_t inputs_len, uint32_t input) {
+    return proved_relkvanu_align_element(aligner, LIST(inputs), input);
+}
+
+PROVED(relkvanu_align_barrier);
+
+relkvanu_step relkvanu_align_barrier(relkvanu_aligner *aligner, uint8_t *inputs, size_t inputs_len, uint32_t input, uint64_t id) {
+    return proved_relkvanu_align_barrier(aligner, LIST(inputs), input, id);
+}
+
+PROVED(relkvanu_align_end);
+
+relkvanu_step relkvanu_align_end(relkvanu_aligner *aligner, uint8_t *inputs, size_t inputs_len, uint32_t input) {
+    return proved_relkvanu_align_end(aligner, LIST(inputs), input);
+}
+
+PROVED(relkvanu_align_give_up);
+
+relkvanu_step relkvanu_align_give_up(relkvanu_aligner *aligner, uint8_t *inputs, size_t inputs_len, uint64_t id) {
+    return proved_relkvanu_align_give_up(aligner, LIST(inputs), id);
+}

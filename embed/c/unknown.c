@@ -74,6 +74,11 @@ relkvanu_answer relkvanu_line_says(const uint8_t *line, size_t line_len, uint64_
     return done();
 }
 
+relkvanu_step relkvanu_align_element(const relkvanu_aligner *aligner, const uint8_t *inputs, size_t inputs_len, uint32_t input) {
+    (void)aligner, (void)inputs, (void)inputs_len, (void)input;
+    return (relkvanu_step){NUMBER, 1};
+}
+
 relkvanu_answer relkvanu_mode(relkvanu *handle) {
     (void)handle;
     return done();

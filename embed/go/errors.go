@@ -14,6 +14,8 @@ var (
 	ErrNoMemory = errors.New("relkvanu: out of memory")
 	// ErrClosed says that the coordinator was closed, or never opened.
 	ErrClosed = errors.New("relkvanu: the coordinator is closed")
+	// ErrReading says that the goroutine is in Store.Read, and would wait for itself: make the call after it.
+	ErrReading = errors.New("relkvanu: this goroutine is in Store.Read: make the call after it")
 )
 
 // Refusal is why a call was refused: the first of these that applies.

@@ -246,6 +246,8 @@ func replyOf(answer C.relkvanu_answer, taken []uint64) (Reply, error) {
 		return Forfeited{}, nil
 	case C.RELKVANU_NAMED:
 		return Named{}, nil
+	case C.RELKVANU_CONFIGURED:
+		return Configured{a, b}, nil
 	case C.RELKVANU_ACK_PENDING, C.RELKVANU_ACK_COMPLETED, C.RELKVANU_ACK_LATE:
 		return acked(answer)
 	case C.RELKVANU_DECLINE_ABORTED, C.RELKVANU_DECLINE_FAILED, C.RELKVANU_DECLINE_LATE:

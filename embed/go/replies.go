@@ -10,7 +10,7 @@ import (
 )
 
 // Reply is what a line's call returned: a Ticked, SavepointTriggered, Acked, Declined, Disposed, Restored, Cancelled, Taken,
-// FileDeleted, FileUndeleted, Shown, Counted, Reserved, Forfeited or Named. Each prints as a script or a log does (docs/SCRIPT.md, docs/LOGS.md).
+// FileDeleted, FileUndeleted, Shown, Counted, Reserved, Forfeited, Configured or Named. Each prints as a script or a log does (docs/SCRIPT.md, docs/LOGS.md).
 type Reply interface {
 	fmt.Stringer
 	isReply()
@@ -135,6 +135,9 @@ func (r Reserved) Names() []uint64 {
 // Forfeited is the reply to a line that gives names up.
 type Forfeited struct{}
 
+// Configured is the reply to other settings: so many checkpoints were dropped, and so many files released.
+type Configured struct{ Checkpoints, Released uint64 }
+
 // Named is the reply to the line of a fence: the coordinator has names now, and is in term 1.
 type Named struct{}
 
@@ -188,6 +191,7 @@ func (Counted) isReply()       {}
 func (Reserved) isReply()      {}
 func (Forfeited) isReply()     {}
 func (Named) isReply()         {}
+func (Configured) isReply()    {}
 
 var ticks = map[TickEnd]string{
 	// embed/bindings makes the names of ends
@@ -243,6 +247,10 @@ func (r FileDeleted) String() string { return fmt.Sprintf("deleted %d", r.File) 
 func (r FileUndeleted) String() string { return fmt.Sprintf("undeleted %d", r.File) }
 
 func (r Shown) String() string { return string(r.JSON) }
+
+func (r Configured) String() string {
+	return fmt.Sprintf("configured %d %d", r.Checkpoints, r.Released)
+}
 
 func (r Reserved) String() string { return fmt.Sprintf("reserved %d", r.First) }
 

@@ -11,6 +11,7 @@ import "C"
 import (
 	"fmt"
 	"sync"
+	"syscall"
 	"time"
 	"unsafe"
 )
@@ -25,6 +26,7 @@ type StoreOptions struct {
 	CreateOnly   bool // makes a job, and there may be none
 	Adopt        bool // makes a job also if the storage has files. The next sweep deletes them all, if their names are numbers
 	EarlierImage bool // begins with the image before the last one, which is damaged. The log after it is whole
+	Manifests    bool // the storage gets a manifest of each complete record, of which relkvanu-store recover makes the job again if its file is lost
 	Backup       bool // it is a backup, which is opened so once, after all processes and tasks of the job have ended: see Store.Backup. Makes no job
 	Plain        bool // a job that is made has no names: the engine gives out the numbers of files, and sweeps only when no task runs
 
@@ -48,7 +50,7 @@ const (
 	RestoreJob   Step = C.RELKVANU_STORE_RESTORE     // call Restore: its reply says where the job begins again, and in which term
 	Sweep        Step = C.RELKVANU_STORE_SWEEP       // call Sweep, or delete the files of the storage that Unknown returns
 	StartTasks   Step = C.RELKVANU_STORE_START_TASKS // start tasks, a timer (AwaitTick) and a discarder (Discard)
-	StartDiscard Step = C.RELKVANU_STORE_DISCARD     // start a discarder alone: the job is cancelled
+	StartDiscard Step = C.RELKVANU_STORE_DISCARD     // start a discarder alone: the job is cancelled, or stopped
 )
 
 var steps = map[Step]string{EndTasks: "end tasks", RestoreJob: "restore", Sweep: "sweep", StartTasks: "start tasks", StartDiscard: "discard"}
@@ -58,7 +60,7 @@ func (s Step) String() string { return named(steps, s) }
 // Report is what an opening found.
 type Report struct {
 	IsRecovered    bool   // false: it is a new job
-	SettingsDiffer bool   // the job was made with other settings or another shape, and keeps them
+	SettingsDiffer bool   // the job has other settings, or was made with another shape, and keeps them
 	Steps          []Step // what the engine has to do, in this order
 	Epoch          uint64 // 1 for a new job, and 1 more at each opening. Put it into messages, and into the numbers of files of a job without names
 	Job            string // the identity of the job. The marker of the storage has it
@@ -68,8 +70,9 @@ type Report struct {
 	Moment         uint64 // the greatest moment so far
 	Mode           Mode
 	Choice         Choice
-	Term           uint64 // the term that runs: the tasks of a new job are started with it. 0: the job has no names
-	NextName       uint64 // that will be given out. 0: the job has no names
+	Term           uint64   // the term that runs: the tasks of a new job are started with it. 0: the job has no names
+	NextName       uint64   // that will be given out. 0: the job has no names
+	Phase          JobPhase // without its term, which is the one above
 }
 
 // Store is a coordinator whose calls are durable: one SQLite file for each job, so that an engine writes no log, lock, sync or recovery.
@@ -88,6 +91,7 @@ type Store struct {
 
 	lock      sync.Mutex // of the fields below; no call waits in it
 	users     int        // calls under way
+	reader    int        // the thread of the goroutine that is in Read; 0: none. It runs no other goroutine meanwhile
 	isClosing bool
 	left      *sync.Cond    // a call has ended
 	closed    chan struct{} // it is closed once the store is
@@ -127,6 +131,7 @@ func (o *StoreOptions) inC() C.relkvanu_store_options {
 	for flag, is := range map[C.uint32_t]bool{
 		C.RELKVANU_STORE_CREATE: o.Create, C.RELKVANU_STORE_CREATE_ONLY: o.CreateOnly, C.RELKVANU_STORE_ADOPT: o.Adopt,
 		C.RELKVANU_STORE_EARLIER_IMAGE: o.EarlierImage, C.RELKVANU_STORE_PLAIN: o.Plain, C.RELKVANU_STORE_BACKUP: o.Backup,
+		C.RELKVANU_STORE_MANIFESTS: o.Manifests,
 	} {
 		if is {
 			flags |= flag
@@ -161,6 +166,7 @@ func reportOf(found *C.relkvanu_store_report) Report {
 		Job: fmt.Sprintf("%016x%016x", uint64(found.job[0]), uint64(found.job[1])), ImagePlace: uint64(found.image_place),
 		Replayed: uint64(found.replayed), Taken: uint64(found.taken), Moment: uint64(found.moment), Mode: Mode(found.mode.what),
 		Choice: choiceOf(found.choice), Term: uint64(found.term), NextName: uint64(found.next_name),
+		Phase: JobPhase{Phase: Phase(found.phase), Savepoint: uint64(found.savepoint), StopFailed: StopFailed(found.stop_failed)},
 	}
 	for _, step := range found.steps[:found.steps_len] {
 		report.Steps = append(report.Steps, Step(step))
@@ -199,8 +205,26 @@ func (s *Store) check(status C.int) error {
 // Report is what the opening found.
 func (s *Store) Report() Report { return s.report }
 
-// enter keeps the store open until leave.
+// enter keeps the store open until leave. A goroutine that is in Read would wait for itself.
 func (s *Store) enter() error {
+	if err := s.hold(); err != nil {
+		return err
+	}
+	if !s.isReading() {
+		return nil
+	}
+	s.leave()
+	return ErrReading
+}
+
+func (s *Store) isReading() bool {
+	s.lock.Lock()
+	defer s.lock.Unlock()
+	return s.reader != 0 && s.reader == syscall.Gettid()
+}
+
+// hold keeps the store open until leave.
+func (s *Store) hold() error {
 	if s == nil || s.left == nil {
 		return ErrClosed
 	}
@@ -221,12 +245,16 @@ func (s *Store) leave() {
 }
 
 // Close lets AwaitTick and Discard return, waits for the calls of other goroutines, makes an image, so that the next opening replays
-// nothing, and closes. Later calls return ErrClosed. The error is always nil. The end of a process without it loses nothing.
+// nothing, and closes. Later calls return ErrClosed. The end of a process without it loses nothing. The error is nil, or ErrReading in what Read
+// calls: then the store stays open.
 //
-// Do not call it in what Read and Discard call.
+// Do not call it in what Discard calls.
 func (s *Store) Close() error {
 	if s == nil || s.left == nil {
 		return nil
+	}
+	if s.isReading() {
+		return ErrReading
 	}
 	s.lock.Lock()
 	if s.isClosing {

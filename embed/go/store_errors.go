@@ -22,7 +22,7 @@ const (
 	StoreStorage     StoreFault = C.RELKVANU_STORE_STORAGE       // the storage folder is not that of this job or lacks its marker, or the job's file is an older copy or a backup
 	StoreClosed      StoreFault = C.RELKVANU_STORE_CLOSED        // an earlier commit failed
 	StoreForked      StoreFault = C.RELKVANU_STORE_FORKED        // this process is a child of the one that opened the store
-	StoreNotNow      StoreFault = C.RELKVANU_STORE_NOT_NOW       // Unknown, Sweep: no sweep of a job without names is safe now; Discard: another goroutine discards; Backup: another one writes this file
+	StoreNotNow      StoreFault = C.RELKVANU_STORE_NOT_NOW       // Unknown, Sweep: no sweep of a job without names is safe now; Discard: another goroutine discards; Backup: another one writes this file; StopJob, BeginJob: not in this phase
 	StoreStopped     StoreFault = C.RELKVANU_STORE_STOPPED       // Stop was called, or Close
 	StoreNotPut      StoreFault = C.RELKVANU_STORE_NOT_PUT       // a state file or a backup was not made
 	StoreFailed      StoreFault = C.RELKVANU_STORE_FAILED        // a read, write or sync failed
@@ -31,13 +31,15 @@ const (
 	StoreBusy        StoreFault = C.RELKVANU_STORE_BUSY          // another program keeps a lock of the file
 	StoreNoMemory    StoreFault = C.RELKVANU_STORE_OUT_OF_MEMORY // SQLite has no memory for a commit
 	StoreNotDone     StoreFault = C.RELKVANU_STORE_NOT_DONE      // Sweep: the folder could not be read or synced: sweep again later
+	StoreJobStopped  StoreFault = C.RELKVANU_STORE_JOB_STOPPED   // Await: the job is stopped, so no tick is due until it begins again
+	StoreNotStopped  StoreFault = C.RELKVANU_STORE_NOT_STOPPED   // Await: a stop of the job has failed, and Phase says why
 )
 
 var storeFaults = map[StoreFault]string{
 	StoreBadArgument: "BadArgument", StoreInUse: "InUse", StoreAbsent: "Absent", StorePresent: "Present", StoreNotAStore: "NotAStore",
 	StoreDiffers: "Differs", StoreDamaged: "Damaged", StoreStorage: "Storage", StoreClosed: "Closed", StoreForked: "Forked",
 	StoreNotNow: "NotNow", StoreStopped: "Stopped", StoreNotPut: "NotPut", StoreFailed: "Failed", StoreFull: "Full", StoreReadOnly: "ReadOnly", StoreBusy: "Busy",
-	StoreNoMemory: "OutOfMemory", StoreNotDone: "NotDone",
+	StoreNoMemory: "OutOfMemory", StoreNotDone: "NotDone", StoreJobStopped: "JobStopped", StoreNotStopped: "NotStopped",
 }
 
 // String is the name of the fault, such as "InUse".

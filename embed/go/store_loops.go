@@ -9,7 +9,9 @@ import "C"
 import (
 	"errors"
 	"io/fs"
+	"runtime"
 	"runtime/cgo"
+	"syscall"
 	"time"
 	"unsafe"
 )
@@ -37,26 +39,36 @@ type Reads interface {
 	Save() ([]byte, error)
 }
 
-// Read calls f with what is committed. All callers wait meanwhile, so be quick, and make no call of the store in f. What f gets is closed once
-// f has returned.
+// Read calls f with what is committed. All callers wait meanwhile, so be quick. A call of the store in f, in its goroutine, returns ErrReading; do not
+// wait in f for one of another goroutine. What f gets is closed once f has returned.
 func (s *Store) Read(f func(reads Reads) error) error {
 	if err := s.enter(); err != nil {
 		return err
 	}
 	defer s.leave()
+	runtime.LockOSThread()
+	defer runtime.UnlockOSThread()
 	var handle *C.relkvanu
 	if err := s.check(C.relkvanu_store_read(s.store, &handle)); err != nil {
 		return err
 	}
 	defer C.relkvanu_store_read_end(s.store)
+	s.setReader(syscall.Gettid())
+	defer s.setReader(0)
 	reads := &Coordinator{owner: &owner{handle: handle, imageRoom: 256}, isHeld: true}
 	defer func() { reads.owner = nil }()
 	return f(reads)
 }
 
+func (s *Store) setReader(thread int) {
+	s.lock.Lock()
+	defer s.lock.Unlock()
+	s.reader = thread
+}
+
 // Now is the moment of the store's clock, and 0 if the store is closed.
 func (s *Store) Now() uint64 {
-	if s.enter() != nil {
+	if s.hold() != nil {
 		return 0
 	}
 	defer s.leave()
@@ -82,26 +94,21 @@ type StoreTick struct {
 }
 
 // AwaitTick is a timer, in a loop of a goroutine: it sleeps until a tick is due, at most so long, and makes it. The second value is false if
-// none was due. After Stop and Close it returns StoreStopped.
+// none was due. After Stop and Close it returns StoreStopped. An engine that an operator gives commands to takes Await: here what is no tick is an
+// error, and lost.
 func (s *Store) AwaitTick(longest time.Duration) (StoreTick, bool, error) {
-	if err := s.enter(); err != nil {
+	made, is, err := s.Await(longest)
+	if !is || err != nil {
 		return StoreTick{}, false, err
 	}
-	defer s.leave()
-	var tick C.relkvanu_store_call
-	status := C.relkvanu_store_await_tick(s.store, C.uint64_t(milliseconds(longest, 1<<62)), &tick)
-	if status == C.RELKVANU_STORE_TIMED_OUT || status == C.RELKVANU_STORE_NOT_RUNNING {
-		return StoreTick{}, false, nil
+	ticked, is := made.Reply.(Ticked)
+	if !is {
+		return StoreTick{}, false, errOrder
 	}
-	if err := s.check(status); err != nil {
-		return StoreTick{}, false, err
-	}
-	made := outcomeOf(&tick)
-	if made.Err != nil {
-		return StoreTick{}, false, made.Err
-	}
-	return StoreTick{Ticked: made.Reply.(Ticked), Choice: made.Choice}, true, nil
+	return StoreTick{Ticked: ticked, Choice: made.Choice}, true, nil
 }
+
+var errOrder = errors.New("relkvanu: AwaitTick has got what a command has made: take Await")
 
 // Unknown is for a sweep: those of the files that may be deleted. The engine deletes exactly these. In a job with names they are garbage, at any
 // time. In a job without names they are the files that the coordinator does not know, at one time only. It returns StoreNotNow unless the job was
@@ -124,7 +131,7 @@ func (s *Store) Unknown(files []uint64) ([]uint64, error) {
 // Folder is the descriptor of the storage folder, which stays open until Close: delete in it by unlinkat, so that no deletion reaches a
 // folder that is mounted over it. The second value is false if there is none.
 func (s *Store) Folder() (int, bool) {
-	if s.enter() != nil {
+	if s.hold() != nil {
 		return -1, false
 	}
 	defer s.leave()
@@ -255,7 +262,7 @@ type storeRemover struct {
 
 // Stop lets AwaitTick and Discard return, now and later. What was taken is reported first.
 func (s *Store) Stop() {
-	if s.enter() == nil {
+	if s.hold() == nil {
 		defer s.leave()
 		C.relkvanu_store_stop(s.store)
 	}
@@ -272,7 +279,7 @@ type StoreCounts struct {
 
 // Counts counts since the opening. They are 0 if the store is closed.
 func (s *Store) Counts() StoreCounts {
-	if s.enter() != nil {
+	if s.hold() != nil {
 		return StoreCounts{}
 	}
 	defer s.leave()

@@ -186,6 +186,15 @@ func TestStoreReads(t *testing.T) {
 	defer copy.Close()
 	equal(t, must(copy.Choice()).ID, 1)
 	fails(t, store.Read(func(relkvanu.Reads) error { return fs.ErrInvalid }), fs.ErrInvalid)
+	// a call in a read would wait for itself
+	must(0, store.Read(func(relkvanu.Reads) error {
+		for _, err := range []error{errorOf(store.Reserve(1, 1)), store.Put(7, nil), errorOf(store.Sweep()), store.Close(), store.Backup("backup"),
+			store.Read(func(relkvanu.Reads) error { return nil }), errorOf(store.Savepoint())} {
+			fails(t, err, relkvanu.ErrReading)
+		}
+		equal(t, store.Now() != 0 && store.Counts().Calls == 3, true)
+		return nil
+	}))
 	wait, is, err := store.NextTick()
 	equal(t, is && err == nil && wait <= 20*time.Millisecond, true)
 	equal(t, store.Counts().Calls, 3)
@@ -316,6 +325,43 @@ func TestStoreFilesOfTheStorage(t *testing.T) {
 	defer plain.Close()
 	fails(t, plain.Put(1, nil), relkvanu.StoreBadArgument)
 	fails(t, errorOf(plain.Sweep()), relkvanu.StoreBadArgument)
+}
+
+// A task in another process puts files until another opening of the job has the folder, or it has lost its marker.
+func TestStateFolder(t *testing.T) {
+	folder, options := newStoreFolder(t), storeOptions()
+	options.Storage = folder.storage
+	store := must(relkvanu.OpenStore(folder.job, options))
+	job, epoch, marker := store.Report().Job, store.Report().Epoch, filepath.Join(folder.storage, ".relkvanu-job")
+	opening := func(folder, job string, epoch uint64) error {
+		return errorOf(relkvanu.OpenStateFolder(folder, job, epoch))
+	}
+	fails(t, opening(folder.storage+"2", job, epoch), relkvanu.StoreStorage)
+	fails(t, opening(folder.storage, strings.Repeat("0", 32), epoch), relkvanu.StoreStorage)
+	fails(t, opening(folder.storage, job, epoch-1), relkvanu.StoreStorage)
+	fails(t, opening(folder.storage, job[1:], epoch), relkvanu.StoreBadArgument)
+	fails(t, opening(folder.storage, "+"+job[1:], epoch), relkvanu.StoreBadArgument)
+	task := must(relkvanu.OpenStateFolder(folder.storage, job, epoch))
+	equal(t, task.Check(), nil)
+	equal(t, task.Put(7, []byte("state")), nil)
+	equal(t, task.Put(8, nil), nil)
+	equal(t, listed(t, folder), "[7 8]")
+	equal(t, string(must(task.Get(7))), "state")
+	equal(t, len(must(task.Get(8))), 0)
+	fails(t, errorOf(task.Get(9)), relkvanu.StoreAbsent)
+	fails(t, task.Put(7, nil), relkvanu.StorePresent)
+	must(0, os.Rename(marker, folder.job+".away"))
+	fails(t, task.Put(9, nil), relkvanu.StoreStorage)
+	must(0, os.Rename(folder.job+".away", marker))
+	store.Close()
+	store = must(relkvanu.OpenStore(folder.job, options))
+	defer store.Close()
+	fails(t, task.Put(9, nil), relkvanu.StoreStorage)
+	fails(t, task.Check(), relkvanu.StoreStorage)
+	equal(t, listed(t, folder), "[7 8]")
+	task.Close()
+	task.Close()
+	equal(t, errors.Is(task.Put(9, nil), relkvanu.ErrClosed), true)
 }
 
 // What remove panics with ends the discarder, and no file counts as deleted after it.

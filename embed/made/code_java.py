@@ -6,8 +6,9 @@ from made import calls, header
 from made.calls import Call
 from made.header import MADE, Enum, Number, macros, parameters, pointed
 
-# What Java has no native method for: its two buffers have lengths of two kinds, and no class of Java writes a log of its own.
-LEFT_OUT = {"relkvanu_make"}
+# What Java has no native method for: the two buffers of the first have lengths of two kinds, and no class of Java writes a log of its own. Of
+# each step of an alignment Java would copy the bytes of all inputs.
+LEFT_OUT = {"relkvanu_make", *(f"relkvanu_align_{it}" for it in ("open", "element", "barrier", "end", "give_up"))}
 
 # The head of a file in C, which stays as it is made.
 IN_C = f"/* {MADE} */\n/* clang-format off */\n"
@@ -152,8 +153,8 @@ def java_structs(structs: Dict[str, Any], functions: List[JavaFunction]) -> str:
 
 
 def numbered(structs: Dict[str, Any]) -> List[Tuple[str, Any]]:
-    """All structs but the handle, of which Java has the address, and that of what is left out."""
-    return [(name, fields) for name, fields in structs.items() if name not in ("relkvanu", "relkvanu_made")]
+    """All structs but the handle, of which Java has the address, and those of what is left out."""
+    return [(name, fields) for name, fields in structs.items() if name not in ("relkvanu", "relkvanu_made", "relkvanu_aligner", "relkvanu_step")]
 
 
 def java_c(functions: List[JavaFunction]) -> str:
@@ -183,7 +184,7 @@ def java_header() -> str:
 
 
 # Enums with a class of their own: all but those whose numbers have other classes.
-WITHOUT_CLASS = ("code", "reply", "call_kind")
+WITHOUT_CLASS = ("code", "reply", "call_kind", "step_kind")
 
 
 def sentence(number: Number) -> str:

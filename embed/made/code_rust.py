@@ -92,14 +92,11 @@ def enum(name: str, comment: str, members: List[Tuple[str, Number]], visible: st
 
 
 def of_a(name: str, members: List[Tuple[str, Number]]) -> str:
-    """The number of a refusal, and all refusals."""
+    """The number of a refusal."""
     having = " | ".join(f"{name}::{camel(member)}(of)" for member, it in members if it.a)
     (field,) = {it.fields()[0][0] for _, it in members if it.a}
     text = f"\n    /// The {field} that it names, if there is one.\n    pub fn {field}(&self) -> Option<u64> {{\n"
-    text += f"        match self {{\n            {having} => Some(*of),\n            _ => None,\n        }}\n    }}\n\n"
-    text += f"    /// Each, with this {field} if it names one.\n    #[allow(dead_code)]\n"
-    text += f"    pub(crate) fn all({field}: u64) -> [{name}; {len(members)}] {{\n        [\n"
-    return text + "".join(f"            {name}::{camel(member)}{f'({field})' if it.a else ''},\n" for member, it in members) + "        ]\n    }\n"
+    return text + f"        match self {{\n            {having} => Some(*of),\n            _ => None,\n        }}\n    }}\n"
 
 
 def fault_of(code: Number, of: Optional[Enum]) -> List[Tuple[str, str, str, str]]:

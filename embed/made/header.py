@@ -2,7 +2,7 @@
 import pathlib
 import re
 import subprocess
-from typing import Any, Dict, List, NamedTuple, Optional, Tuple
+from typing import Any, Dict, List, NamedTuple, Optional, Sequence, Tuple
 
 from pycparser import c_ast, c_parser
 
@@ -20,9 +20,11 @@ SCALARS = {
     "uint16_t": ("unsigned short", "u16", "c_uint16"),
     "uint32_t": ("unsigned int", "u32", "c_uint32"),
     "uint64_t": ("unsigned long", "u64", "c_uint64"),
+    "int": ("int", "c_int", "c_int"),
+    "int64_t": ("long", "i64", "c_int64"),
     "size_t": ("unsigned long", "usize", "c_size_t"),
 }
-BUILT_IN = {"void", "char"}
+BUILT_IN = {"void", "char", "int"}
 
 # The comment of a number: what a and b are, a sentence, and the text of the answer in quotes.
 COMMENT = re.compile(r'(?:a: (?P<a>[^,.;"]+)(?:, b: (?P<b>[^.;"]+))?)?(?P<rest>.*?)(?:"(?P<form>[^"]*)")?$', re.S)
@@ -70,9 +72,9 @@ class Enum(NamedTuple):
     members: List[Tuple[str, Number]]
 
 
-def preprocessed(*flags: str) -> str:
-    """Returns what cc makes of the header without those that it includes."""
-    text = re.sub(r"^#include .*$", "", HEADER.read_text(), flags=re.M)
+def preprocessed(*flags: str, of: Sequence[pathlib.Path] = (HEADER,)) -> str:
+    """Returns what cc makes of the headers without those that they include."""
+    text = re.sub(r"^#include .*$", "", "\n".join(it.read_text() for it in of), flags=re.M)
     told = subprocess.run(["cc", "-E", "-DRELKVANU_NODISCARD=", *flags, "-x", "c", "-"], input=text, capture_output=True, text=True, check=True)
     return told.stdout
 
@@ -84,12 +86,12 @@ def number_of(name: str, value: str, comment: str) -> Number:
     return Number(name, value, told.removesuffix(".") if found["form"] else told, found["a"], found["b"], found["form"])
 
 
-def macros() -> List[Number]:
-    """Returns the header's numbers and texts, in its order. The names have RELKVANU_ here."""
-    values = dict(re.findall(r"^#define (RELKVANU_\w+) (.+)$", preprocessed("-dM"), re.M))
-    lines = re.findall(r"^#define (RELKVANU_\w+)(?: ([^/\n]*?))?(?: */\* (.*?) \*/)?$", HEADER.read_text(), re.M)
+def macros(path: pathlib.Path = HEADER) -> List[Number]:
+    """Returns a header's numbers and texts, in its order. The names have RELKVANU_ here."""
+    values = dict(re.findall(r"^#define (RELKVANU_\w+) (.+)$", preprocessed("-dM", of=[path]), re.M))
+    lines = re.findall(r"^#define (RELKVANU_\w+)(?: ([^/\n]*?))?(?: */\* (.*?)(?: \*/)?)?$", path.read_text(), re.M)
     found = [number_of(name, values.get(name, ""), comment) for name, _, comment in lines]
-    return [it for it in found if re.fullmatch(r'\d+u?|".*"', it.value)]
+    return [it for it in found if re.fullmatch(r'\d+u?|".*"|UINT64_MAX', it.value)]
 
 
 def numbers() -> Dict[str, Number]:
@@ -181,10 +183,15 @@ def reads() -> List[str]:
     return re.findall(r"^relkvanu_answer (relkvanu_\w+)\(", HEADER.read_text(), re.M)
 
 
+def parsed(text: str) -> Any:
+    """Returns the tree of what cc has made of headers."""
+    known = "".join(f"typedef {c} {name};\n" for name, (c, _, _) in SCALARS.items() if name not in BUILT_IN)
+    return c_parser.CParser().parse(known + text)
+
+
 def declarations() -> Tuple[Dict[str, Any], Dict[str, Any]]:
     """Returns the structs and the functions that the header declares."""
-    known = "".join(f"typedef {c} {name};\n" for name, (c, _, _) in SCALARS.items() if name not in BUILT_IN)
-    tree = c_parser.CParser().parse(known + preprocessed("-P"))
+    tree = parsed(preprocessed("-P"))
     structs, functions = {}, {}
     for it in tree.ext:
         if isinstance(it, c_ast.Typedef) and isinstance(it.type.type, c_ast.Struct):
@@ -200,6 +207,12 @@ def pointed(node: Any) -> Tuple[str, int, bool]:
     while isinstance(node, c_ast.PtrDecl):
         node, depth = node.type, depth + 1
     return " ".join(node.type.names), depth, "const" in node.quals
+
+
+def pointed_or(node: Any) -> Tuple[str, int]:
+    """Returns the name of a type and how many pointers lead to it, and the same of what a list has."""
+    name, depth, _ = pointed(node.type if isinstance(node, c_ast.ArrayDecl) else node)
+    return name, depth
 
 
 def parameters(function: Any) -> List[Tuple[str, Any]]:

@@ -16,8 +16,9 @@ from typing import Any, Dict
 HERE = pathlib.Path(__file__).resolve().parent
 LIBRARY = "librelkvanu.so.0"
 STORE = "librelkvanu-store.so.0"
-# What relkvanu[dask] installs (docs/DASK.md): the versions of Debian 12, over which it is tested.
-EXTRAS = {"dask": ("boto3", "distributed==2022.12.1", "numpy<2", "pandas<2", "streamz==0.6.4", "xxhash")}
+CLIENT = HERE.parent.parent / "service/client/python/relkvanu_service.py"
+# What relkvanu[dask] installs (docs/DASK.md), the versions of Debian 12, over which it is tested; and what the client of the service needs.
+EXTRAS = {"dask": ("boto3", "distributed==2022.12.1", "numpy<2", "pandas<2", "streamz==0.6.4", "xxhash"), "service": ("requests",)}
 SCRIPTS = "[console_scripts]\nrelkvanu-conform = relkvanu.conform:main\n"
 
 
@@ -39,6 +40,7 @@ def contents() -> Dict[str, bytes]:
     """The files of the wheel except its RECORD."""
     files = {f"relkvanu/{path.name}": path.read_bytes() for path in sorted((HERE / "relkvanu").glob("*.py"))}
     files["relkvanu/py.typed"] = b""
+    files[CLIENT.name] = CLIENT.read_bytes()
     shared = library()
     files[f"relkvanu/{LIBRARY}"] = shared.read_bytes()
     if shared.with_name(STORE).is_file():

@@ -203,6 +203,40 @@ JNIEXPORT jint JNICALL Java_relkvanu_StoreNative_awaitTick(JNIEnv *env, jclass o
     return status;
 }
 
+/* A command of an operator, by its number in StoreNative. */
+static int commanded(
+    relkvanu_store *store, jint command, jlong first, jlong second, relkvanu_settings settings, relkvanu_store_call *call) {
+    switch (command) {
+    case 0: return relkvanu_store_configure(store, &settings, call);
+    case 1: return relkvanu_store_stop_job(store, call);
+    case 2: return relkvanu_store_begin_job(store, call);
+    case 3: return relkvanu_store_go_back(store, (uint64_t)first, second != 0 ? RELKVANU_STORE_ACCEPT_PUBLISHED : 0, call);
+    default: return relkvanu_store_advance(store, (uint64_t)first, (uint64_t)second, call);
+    }
+}
+
+JNIEXPORT jint JNICALL Java_relkvanu_StoreNative_command(
+    JNIEnv *env, jclass of, jlong store, jint command, jlong first, jlong second, jlongArray settings, jlongArray told, jbyteArray why) {
+    (void)of;
+    relkvanu_store_call call = {0};
+    jlong numbers[TOLD];
+    char text[RELKVANU_STORE_MESSAGE] = "";
+    int status = commanded(store_at(store), command, first, second, settings_in(env, settings), &call);
+    tell_call(numbers, &call);
+    tell(env, told, numbers, TOLD);
+    relkvanu_store_why(text, sizeof text);
+    (*env)->SetByteArrayRegion(env, why, 0, sizeof text, (const jbyte *)text);
+    return status;
+}
+
+JNIEXPORT jint JNICALL Java_relkvanu_StoreNative_phase(JNIEnv *env, jclass of, jlong store, jlongArray told) {
+    (void)of;
+    relkvanu_store_job_phase phase = {0};
+    int status = relkvanu_store_phase(store_at(store), &phase);
+    tell(env, told, (const jlong[]){phase.phase, phase.stop_failed, (jlong)phase.savepoint, (jlong)phase.term}, 4);
+    return status;
+}
+
 JNIEXPORT jint JNICALL Java_relkvanu_StoreNative_read(JNIEnv *env, jclass of, jlong store, jlongArray handle) {
     (void)of;
     relkvanu *at = NULL;
@@ -249,12 +283,98 @@ JNIEXPORT jint JNICALL Java_relkvanu_StoreNative_put(JNIEnv *env, jclass of, jlo
     char *copy = text_of(env, contents), text[RELKVANU_STORE_MESSAGE] = "";
     int status = copy == NULL ? RELKVANU_STORE_NO_MEMORY
                               : relkvanu_store_put(store_at(store), (uint64_t)file, copy, (size_t)(*env)->GetArrayLength(env, contents));
-    if (status == RELKVANU_STORE_NOT_PUT) {
-        strerror_r(errno, text, sizeof text);
+    if (status != RELKVANU_STORE_OK) {
+        relkvanu_store_why(text, sizeof text);
     }
     (*env)->SetByteArrayRegion(env, why, 0, sizeof text, (const jbyte *)text);
     free(copy);
     return status;
+}
+
+/* What the status of a storage is to a caller of the store, as of its own put. */
+static int status_of_storage(int status) {
+    switch (status) {
+    case RELKVANU_STORAGE_OK: return RELKVANU_STORE_OK;
+    case RELKVANU_STORAGE_NO_MEMORY: return RELKVANU_STORE_NO_MEMORY;
+    case RELKVANU_STORAGE_NOT_THERE:
+    case RELKVANU_STORAGE_OTHER_JOB: return RELKVANU_STORE_STORAGE;
+    case RELKVANU_STORAGE_PRESENT: return RELKVANU_STORE_PRESENT;
+    case RELKVANU_STORAGE_ABSENT: return RELKVANU_STORE_ABSENT;
+    default: return RELKVANU_STORE_NOT_PUT;
+    }
+}
+
+/* Tells why a storage did not do what it was to do: the system's words, where it failed. */
+static int told_of_task(JNIEnv *env, int status, jbyteArray why) {
+    char text[RELKVANU_STORE_MESSAGE] = "";
+    if (status == RELKVANU_STORAGE_FAILED) {
+        strerror_r(errno, text, sizeof text);
+    }
+    (*env)->SetByteArrayRegion(env, why, 0, sizeof text, (const jbyte *)text);
+    return status_of_storage(status);
+}
+
+static relkvanu_storage *task_at(jlong at) {
+    return (relkvanu_storage *)(uintptr_t)at;
+}
+
+JNIEXPORT jint JNICALL Java_relkvanu_StoreNative_openTask(
+    JNIEnv *env, jclass of, jbyteArray folder, jlong first, jlong second, jlong epoch, jlongArray task, jbyteArray why) {
+    (void)of;
+    char *path = text_of(env, folder);
+    relkvanu_storage *it = malloc(sizeof *it);
+    int status = path == NULL || it == NULL
+                     ? RELKVANU_STORAGE_NO_MEMORY
+                     : relkvanu_storage_open_task(it, path, (uint64_t[]){(uint64_t)first, (uint64_t)second}, (uint64_t)epoch);
+    int told = told_of_task(env, status, why);
+    free(path);
+    if (status == RELKVANU_STORAGE_OK) {
+        tell(env, task, &(jlong){(jlong)(uintptr_t)it}, 1);
+    } else {
+        free(it);
+    }
+    return told;
+}
+
+JNIEXPORT void JNICALL Java_relkvanu_StoreNative_closeTask(JNIEnv *env, jclass of, jlong task) {
+    (void)env;
+    (void)of;
+    relkvanu_storage_close_task(task_at(task));
+    free(task_at(task));
+}
+
+JNIEXPORT jint JNICALL Java_relkvanu_StoreNative_checkTask(JNIEnv *env, jclass of, jlong task, jbyteArray why) {
+    (void)of;
+    return told_of_task(env, task_at(task)->check(task_at(task)->with), why);
+}
+
+JNIEXPORT jint JNICALL Java_relkvanu_StoreNative_putTask(
+    JNIEnv *env, jclass of, jlong task, jlong file, jbyteArray contents, jbyteArray why) {
+    (void)of;
+    char *copy = text_of(env, contents);
+    int status = copy == NULL
+                     ? RELKVANU_STORAGE_NO_MEMORY
+                     : task_at(task)->put(task_at(task)->with, (uint64_t)file, copy, (size_t)(*env)->GetArrayLength(env, contents));
+    int told = told_of_task(env, status, why);
+    free(copy);
+    return told;
+}
+
+/* Reads as much as the array has room for. */
+JNIEXPORT jint JNICALL Java_relkvanu_StoreNative_getTask(
+    JNIEnv *env, jclass of, jlong task, jlong file, jbyteArray contents, jlongArray length, jbyteArray why) {
+    (void)of;
+    size_t room = (size_t)(*env)->GetArrayLength(env, contents);
+    uint64_t len = 0;
+    char *copy = malloc(room + 1);
+    int status = copy == NULL ? RELKVANU_STORAGE_NO_MEMORY : task_at(task)->get(task_at(task)->with, (uint64_t)file, copy, room, &len);
+    int told = told_of_task(env, status, why);
+    if (status == RELKVANU_STORAGE_OK) {
+        (*env)->SetByteArrayRegion(env, contents, 0, (jsize)(len < room ? len : room), (const jbyte *)copy);
+        tell(env, length, &(jlong){(jlong)len}, 1);
+    }
+    free(copy);
+    return told;
 }
 
 JNIEXPORT jint JNICALL Java_relkvanu_StoreNative_backup(JNIEnv *env, jclass of, jlong store, jbyteArray path, jbyteArray message) {

@@ -21,6 +21,7 @@ from relkvanu.replies import (
 
 if TYPE_CHECKING:
     from relkvanu import calls, lines
+    from relkvanu.aligner import Abandon, Aligner, BadStep, Cut, Step
     from relkvanu.coordinator import (
         BadArgument, BadLine, Closed, Coordinator, Fenced, OutOfMemory, OutOfRange, Refused, Settings, TooShort, Unknown, version,
     )
@@ -28,22 +29,25 @@ if TYPE_CHECKING:
 else:
     def __getattr__(name: str) -> Any:
         """What needs the library, at its first use."""
-        if name in ("calls", "coordinator", "discarder", "lines"):
+        if name in ("aligner", "calls", "coordinator", "discarder", "lines"):
             return importlib.import_module(f"relkvanu.{name}")
         if name not in __all__:
             raise AttributeError(f"module 'relkvanu' has no attribute {name!r}")
-        found = getattr(importlib.import_module("relkvanu.coordinator"), name, None)
-        globals()[name] = getattr(importlib.import_module("relkvanu.discarder"), name) if found is None else found
-        return globals()[name]
+        for module in ("coordinator", "discarder", "aligner"):
+            found = getattr(importlib.import_module(f"relkvanu.{module}"), name, None)
+            if found is not None:
+                globals()[name] = found
+                return found
+        raise AttributeError(f"module 'relkvanu' has no attribute {name!r}")
 
     def __dir__() -> "list[str]":
         return sorted({*globals(), *__all__})
 
 __all__ = [
-    "BadArgument", "BadLine", "Chosen", "Closed", "Coordinator", "Discarded", "Discarder", "Error", "Fenced", "FileCounts",
-    "Forfeited", "Garbage", "Kind", "Live", "Mode", "Named", "OutOfMemory", "OutOfRange", "Outbox", "Patience", "Refused",
-    "Reply", "Reserved", "RunningTerm", "Settings", "Shown", "Standing", "Taken", "TooShort", "Unknown", "calls", "lines",
-    "version",
+    "Abandon", "Aligner", "BadArgument", "BadLine", "BadStep", "Chosen", "Closed", "Coordinator", "Cut", "Discarded", "Discarder",
+    "Error", "Fenced", "FileCounts", "Forfeited", "Garbage", "Kind", "Live", "Mode", "Named", "OutOfMemory", "OutOfRange", "Outbox",
+    "Patience", "Refused", "Reply", "Reserved", "RunningTerm", "Settings", "Shown", "Standing", "Step", "Taken", "TooShort", "Unknown",
+    "calls", "lines", "version",
 ]
 # embed/bindings makes the names of replies
 __all__ += [

@@ -5,11 +5,13 @@ from dataclasses import dataclass, field
 from typing import Callable, Dict, Iterable, List, Optional, Sequence, Set, Tuple
 
 from relkvanu.coordinator import Coordinator, Error
+from relkvanu.reads import Kind
 from relkvanu.replies import (
-    AckLate, DeclineLate, Reply, Reserved, RestoredCheckpoint, RestoredFresh, RestoredSavepoint, SavepointTriggered, Taken, Triggered,
+    AckCompleted, AckLate, AckPending, DeclineLate, Reply, Reserved, RestoredCheckpoint, RestoredFresh, RestoredSavepoint, SavepointTriggered, Taken, Triggered,
 )
 from relkvanu.storage import unknown
 from relkvanu.trace import Event, NoTrace, Task, World, drained, live_files, read
+from relkvanu.trace_elements import Elements
 
 # As docs/PROTOCOL.md says them: explore/run compares.
 RULES = {
@@ -23,6 +25,11 @@ RULES = {
     8: "sweep after a restore and before tasks start",
     9: "report a file as deleted when that is durable, in a storage that is there",
     10: "write only into the storage of the job",
+    11: "a task takes its snapshot when the barrier has come on each input",
+    12: "a sink that starts publishes what the restored record has prepared, and gives up all else",
+    13: "a sink publishes up to a completed checkpoint, or what the record has that the job was restored to",
+    14: "a task holds after its snapshot for the savepoint of a stop",
+    15: "the savepoint of a way back reaches no task",
 }
 # Of a job with names these rules are others.
 NAMED_RULES = {
@@ -91,6 +98,7 @@ class Checker:
         self.dropped: Dict[Task, List[Dropped]] = {}  # with names
         self.refused: Dict[Task, Set[int]] = {}  # the files of the message that was refused last
         self.early: Dict[int, int] = {}  # with names: files that were reported while they were there, and the line
+        self.elements = Elements(self.broken, self.came, self.world.running)
 
     def broken(self, rule: int, what: str, line: Optional[int] = None) -> None:
         self.findings.append(Finding(self.line if line is None else line, rule, what, self.world.has_names))
@@ -104,7 +112,7 @@ class Checker:
         name = "on_" + event.verb.replace(" ", "_")
         method: Callable[[Event], None] = getattr(self, name)
         method(event)
-        if event.verb in ("call", "unlinks", "writes", "storage", "log cut", "process starts"):
+        if event.verb in ("call", "unlinks", "writes", "storage", "log cut", "process starts", "prepares", "publishes", "drops"):
             self.look()
 
     # The process and its log.
@@ -159,6 +167,8 @@ class Checker:
         if word == "start":
             self.durable.logged.add(("restore", 0))
         self.note(reply, sender, rest[2:] if word == "in" else rest)
+        if self.elements.stop:
+            self.elements.stopped(self.world.core())
 
     def note(self, reply: Optional[Reply], sender: Optional[Task], words: List[str]) -> None:
         """What the answer of a call entitles others to."""
@@ -174,16 +184,27 @@ class Checker:
             self.durable.synced.discard(("restore", 0))
             self.may_sweep = True
             self.restored_since = dict.fromkeys(self.restored_since, True)
+            self.elements.was_restored(getattr(reply, "id", 0), words[1:2] not in ([], ["latest"]))
         elif sender is not None and len(words) >= 3 and not isinstance(reply, DeclineLate):
             self.durable.logged.add(("message", sender))
             self.durable.synced.discard(("message", sender))
             self.accept(sender, int(words[1]), [int(it[1:]) for it in words[3:] if it[0] == "+"], isinstance(reply, AckLate))
+        if isinstance(reply, (AckPending, AckCompleted)):
+            self.elements.accepted(sender, words[2], int(words[1]))
+        if isinstance(reply, AckCompleted):
+            self.complete(int(words[1]))
 
     def accept(self, sender: Task, record: int, fresh: Iterable[int], is_late: bool) -> None:
         for file in fresh:
             self.world.accepted.setdefault(file, sender)
         if not is_late and self.world.running.get(sender.subtask) != sender:
             self.mixed.add(record)
+
+    def complete(self, record: int) -> None:
+        self.durable.logged.add(("complete", record))
+        live = self.world.core().live_from(record)
+        if live is not None and live.kind is Kind.CHECKPOINT:
+            self.elements.completed = max(self.elements.completed, record)
 
     def on_from(self, event: Event) -> None:
         self.world.sender = event.task
@@ -198,7 +219,9 @@ class Checker:
             self.refused[sender] = {int(it[1:]) for it in event.line.split() if it.startswith("+")}
 
     def on_barrier(self, event: Event) -> None:
+        assert event.task is not None
         self.rests_on("record", event.number, f"the barrier of record {event.number} is sent")
+        self.elements.tells_barrier(event.task, event.number)
 
     def on_answer(self, event: Event) -> None:
         assert event.task is not None
@@ -221,6 +244,7 @@ class Checker:
         self.restored_since[subtask] = False
         self.world.running[subtask] = event.task
         self.may_sweep = False
+        self.elements.starts(event.task)
 
     def on_ends(self, _: Event) -> None:
         """It does nothing more. Only what it sent may still arrive."""
@@ -230,11 +254,44 @@ class Checker:
         self.record_of[event.task] = event.number
         for it in self.dropped.get(event.task, ()):
             it.is_over = True
+        self.elements.begins(event.task, event.number)
 
     def on_lists(self, _: Event) -> None:
         """Nothing is judged by it."""
 
-    on_term = on_lists
+    on_term = on_begin = on_lists
+
+    # Elements, sinks, and what an operator asks for.
+
+    def on_channel(self, event: Event) -> None:
+        self.elements.channel(event)
+
+    def on_reads(self, event: Event) -> None:
+        self.elements.reads(event)
+
+    def on_takes(self, event: Event) -> None:
+        self.elements.takes(event)
+
+    def on_takes_barrier(self, event: Event) -> None:
+        self.elements.takes_barrier(event)
+
+    def on_prepares(self, event: Event) -> None:
+        self.elements.prepares(event)
+
+    def on_publishes(self, event: Event) -> None:
+        self.elements.publishes(event)
+
+    def on_drops(self, event: Event) -> None:
+        self.elements.drops(event)
+
+    def on_complete(self, event: Event) -> None:
+        self.rests_on("complete", event.number, f"{event.task} is told that record {event.number} is complete")
+
+    def on_stop(self, event: Event) -> None:
+        self.elements.stop = event.number
+
+    def on_back(self, event: Event) -> None:
+        self.elements.backs[event.number] = event.other
 
     def on_gives_up(self, event: Event) -> None:
         assert event.task is not None
@@ -359,6 +416,7 @@ class Checker:
                     self.came(f"file {file} is overwritten: record {record} uses it")
             if record in self.mixed:
                 self.came(f"record {record} is done, and has a part of a task that was replaced")
+        self.elements.look(self.world.core())
 
     def look_at_end(self) -> None:
         """Files that stay although no record uses them, and that no discarder will ever be given."""

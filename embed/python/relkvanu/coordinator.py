@@ -6,12 +6,15 @@ import pathlib
 import secrets
 import threading
 from dataclasses import dataclass
-from typing import Any, Callable, Dict, Iterator, NoReturn, Optional, Sequence, Tuple, TypeVar, Union
+from typing import TYPE_CHECKING, Any, Callable, Dict, Iterator, NoReturn, Optional, Sequence, Tuple, TypeVar, Union
 
 from relkvanu import header
 from relkvanu.errors import Error as Error  # also under this name
 from relkvanu.reads import CHOSEN, LIVE, Chosen, FileCounts, Garbage, Live, Mode, RunningTerm, Standing
 from relkvanu.replies import MADE, HeldAtOnce, Reply, Shown, Taken
+
+if TYPE_CHECKING:
+    from relkvanu.aligner import Cut
 
 LIBRARY = "librelkvanu.so.0"
 U64 = ctypes.c_uint64
@@ -445,6 +448,10 @@ class Coordinator:
         subtask = _within(vertex, 16), _within(index, 16)
         return self._timed("ack", now, _u64(id), *subtask, _words(fresh), len(fresh), _words(reused), len(reused))
 
+    def ack_cut(self, now: int, cut: "Cut", vertex: int, index: int, fresh: Sequence[int], reused: Sequence[int] = ()) -> Reply:
+        """ack() of the record that a task has cut, as its Aligner says."""
+        return self.ack(now, cut.id, vertex, index, fresh, reused)
+
     def decline(self, now: int, id: int, vertex: int, index: int) -> Reply:
         return self._timed("decline", now, _u64(id), _within(vertex, 16), _within(index, 16))
 
@@ -489,6 +496,12 @@ class Coordinator:
         raises Fenced with Spent, if it has fresh files: a task deletes no file for that answer."""
         call = _u64(id), _within(vertex, 16), _within(index, 16), _words(fresh), len(fresh), _words(reused), len(reused)
         return self._timed("ack_in", now, *call, term=term)
+
+    def ack_cut_in(
+        self, term: int, now: int, cut: "Cut", vertex: int, index: int, fresh: Sequence[int], reused: Sequence[int] = ()
+    ) -> Reply:
+        """ack_in() of the record that a task has cut, as its Aligner says."""
+        return self.ack_in(term, now, cut.id, vertex, index, fresh, reused)
 
     def decline_in(self, term: int, now: int, id: int, vertex: int, index: int) -> Reply:
         """decline() of a task of this term."""

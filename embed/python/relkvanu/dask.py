@@ -4,8 +4,6 @@ whose bytes have not changed since the last checkpoint is not written again. doc
 After the driver, a worker or the scheduler was killed, load() has the collections of the last complete checkpoint. THE RULE: an exception of Dask,
 or of save(), means to load() again. Dask's own way, to compute what was lost from where it came, ends at files that are deleted.
 """
-import logging
-import time
 import uuid
 from typing import Any, Callable, Dict, List, NamedTuple, Optional, Sequence, Tuple, Union
 
@@ -15,14 +13,13 @@ from dask.base import get_collection_names, replace_name_in_key
 from dask.utils import key_split
 from distributed import Client, Future, wait
 
-from relkvanu.coordinator import Error
+from relkvanu.errors import Error
+from relkvanu.jobs import Superseded
 from relkvanu.parts import Failed, PartError, Place
-from relkvanu.records import LOST, Path, Record, Records, Saved, Watch, losses, origin_of
+from relkvanu.records import Coordinator, Path, Record, Records, Resumable, Saved, Watch, losses, origin_of
 
-__all__ = ["Checkpoints", "Failed", "NotPersisted", "PartError", "Place", "Saved"]
+__all__ = ["Checkpoints", "Failed", "NotPersisted", "PartError", "Place", "Saved", "Superseded"]
 
-LOG = logging.getLogger(__name__)
-PAUSE = 0.5  # seconds before a program goes on from its last checkpoint
 Step = Callable[..., Optional[Tuple[Any, Dict[str, Any]]]]
 
 
@@ -81,27 +78,18 @@ def _collection(shape: Any, futures: List[Future]) -> Any:
     return rebuild(dict(zip((replace_name_in_key(key, rename) for key in shape.keys), futures)), *words, rename=rename)
 
 
-class Checkpoints:
+class Checkpoints(Resumable):
     """The checkpoints of a job over Dask. `with Checkpoints(..) as checkpoints:` closes it. One thread at a time may call."""
 
-    def __init__(self, client: Client, storage: Union[Path, Place], coordinator: Path, *, create: bool = False, patience: float = 300,
+    def __init__(self, client: Client, storage: Union[Path, Place], coordinator: Coordinator, *, create: bool = False, patience: float = 300,
                  watch: Optional[Watch] = None, begin_from: Optional[Place] = None) -> None:
-        """Recovers the job whose coordinator is this file, on a disk of the driver's machine, or makes one if `create` says so. `storage` has the
-        partitions: `s3://bucket/prefix`, a folder that all machines have, or a Place. `patience` is how many seconds a checkpoint may take.
+        """Recovers the job whose coordinator is this file, on a disk of the driver's machine, or this job of the service (relkvanu_service.Job), or
+        makes one if `create` says so. `storage` has the partitions: `s3://bucket/prefix`, a folder that all machines have, or a Place. `patience` is how many seconds a checkpoint may take.
         `watch` is given the futures of each one's writes, as distributed.progress. A new job whose earlier coordinator is lost takes the last
         checkpoint that is in another place, `begin_from`, as its first."""
-        self.client, self._patience, self._begin_from = client, patience, begin_from
+        self.client = self._client = client
+        self._patience, self._begin_from = patience, begin_from
         self._records = Records(client, storage, coordinator, create=create, patience=patience, watch=watch)
-
-    def __enter__(self) -> "Checkpoints":
-        return self
-
-    def __exit__(self, *_: object) -> None:
-        self.close()
-
-    def close(self) -> None:
-        """It takes no checkpoint."""
-        self._records.close()
 
     def load(self) -> Optional[Tuple[Any, Dict[str, Any]]]:
         """The words and the collections of the last complete checkpoint, or None if there is none. What was computed since is given up."""
@@ -125,31 +113,18 @@ class Checkpoints:
     def run(self, step: Step, init: Step, failures: int = 20) -> Tuple[Any, Dict[str, Any]]:
         """Takes a checkpoint after init() and after each step(meta, **collections). Both return words and collections; step returns None at the end,
         and then run() returns what the last one had. After an exception it goes back to the last checkpoint, `failures` times without a new one."""
-        left = failures
-        while True:
-            try:
-                now = self.load() or self._saved(init())
-                while True:
-                    after = step(now[0], **now[1])
-                    if after is None:
-                        self._check(now[1])
-                        return now
-                    now = self._saved(after)
-                    left = failures
-            except (Exception, *LOST) as fault:
-                left -= 1
-                if left < 0 or self.client.status == "closed":
-                    raise
-                LOG.warning("back to the last checkpoint: %r", fault)
-                time.sleep(PAUSE)
+        return self._resumed(lambda _: self._run(step, init), failures)
+
+    def _run(self, step: Step, init: Step) -> Tuple[Any, Dict[str, Any]]:
+        now = self.load() or self._saved(init())
+        while (after := step(now[0], **now[1])) is not None:
+            now = self._saved(after)
+        self._check(now[1])
+        return now
 
     def sweep(self) -> int:
         """Deletes garbage now, which happens each hour by itself. Returns how many files of it are left."""
         return len(self._records.sweep().failed)
-
-    def counts(self) -> Tuple[int, int]:
-        """How many files are in use, and how many wait for deletion."""
-        return self._records.counts()
 
     def _loaded(self, record: Record, place: Optional[Place] = None) -> Tuple[Any, Dict[str, Any]]:
         meta, shapes = cloudpickle.loads(record.meta)

@@ -18,19 +18,18 @@ import streamz.dask
 from distributed import Client, Future, default_client
 
 from relkvanu import outputs as published
+from relkvanu.graphs import STATELESS, GraphError, by_name, nodes_of, stateful_here
+from relkvanu.jobs import Superseded
 from relkvanu.parts import (
     Failed, Nothing, Part, PartError, Place, State, dumps_value, fold_all, loads_state, part_of, pickled, result_of, split, take_step, value_of,
 )
-from relkvanu.records import LOST, Path, Record, Records, Saved, Watch, losses, origin_of
-from relkvanu.streamz import STATELESS, GraphError, _nodes
-from relkvanu.streamz import _stateful as stateful_of_one_process
+from relkvanu.records import LOST, Coordinator, Path, Record, Records, Resumable, Saved, Watch, losses, origin_of
 
-__all__ = ["Checkpoints", "Failed", "GraphError", "PartError", "Place", "Saved", "keyed", "part_of"]
+__all__ = ["Checkpoints", "Failed", "GraphError", "PartError", "Place", "Saved", "Superseded", "keyed", "part_of"]
 
 LOG = logging.getLogger(__name__)
 ON_WORKERS = (streamz.dask.map, streamz.dask.starmap, streamz.dask.accumulate, streamz.dask.union, streamz.dask.scatter)
 BUFFERS = (streamz.core.buffer, streamz.dask.buffer)
-PAUSE = 0.5  # seconds before run() goes on from the last checkpoint
 Read = Callable[[Any], Iterable[Tuple[Any, Any]]]
 
 
@@ -85,11 +84,7 @@ def _stateful(nodes: Sequence[Any], sources: Sequence[Any], client: Client) -> D
         raise GraphError("the nodes of streamz use the default client, which is another one")
     if any(it.loop is not client.loop for it in nodes):
         raise GraphError("the graph has no scatter(), or it was made before the client, and has an event loop of its own")
-    found = [it for it in nodes if type(it) in (streamz.core.accumulate, streamz.dask.accumulate)]
-    names = [it.name if it.name or len(found) > 1 else "accumulate" for it in found]
-    if not found or None in names or len(set(names)) < len(names):
-        raise GraphError("each accumulate node needs a stream_name of its own, and there has to be one")
-    return dict(zip(names, found))
+    return by_name([it for it in nodes if type(it) in (streamz.core.accumulate, streamz.dask.accumulate)])
 
 
 def _number(node: Any, client: Client) -> None:
@@ -202,16 +197,17 @@ def _watch(node: Any, flight: _Flight, client: Client) -> None:
         node.update = lambda x, who=None, metadata=None: through(flight.begin(), client.gather(x, asynchronous=True), None, metadata)
 
 
-class Checkpoints:
+class Checkpoints(Resumable):
     """The checkpoints of a graph. `with Checkpoints(..) as checkpoints:` closes it. One thread at a time may call.
 
     After it is made, `position` is that of the last complete checkpoint, or None, and the states are in the nodes again.
     """
 
-    def __init__(self, sources: Any, storage: Union[Path, Place], coordinator: Path, *, client: Optional[Client] = None, create: bool = False,
+    def __init__(self, sources: Any, storage: Union[Path, Place], coordinator: Coordinator, *, client: Optional[Client] = None, create: bool = False,
                  every: float = 10, outputs: Sequence[published.Output] = (), patience: float = 300, watch: Optional[Watch] = None,
                  begin_from: Optional[Place] = None) -> None:
-        """Recovers the job whose coordinator is this file, on a disk of this machine, or makes one if `create` says so. `storage` has the states:
+        """Recovers the job whose coordinator is this file, on a disk of this machine, or this job of the service (relkvanu_service.Job), or makes one
+        if `create` says so. `storage` has the states:
         `s3://bucket/prefix`, a folder that all machines have, or a Place. With a client the graph's work is on its cluster. A checkpoint is
         taken `every` so many seconds, if elements come. `outputs` are sinks of the graph that are exactly once. An element and a
         checkpoint take at most `patience` seconds each. `watch` is given the futures of a checkpoint's writes. A new job whose earlier
@@ -220,7 +216,7 @@ class Checkpoints:
         self._client, self._every, self._patience, self._begin_from = client, every, patience, begin_from
         self._origin: Optional[str] = None  # the identity of the job in that place
         self._flight = _Flight()
-        self._nodes = self._looked_at(_nodes(self._sources))
+        self._nodes = self._looked_at(nodes_of(self._sources))
         self._outputs = {it.name: it for it in outputs}
         if len(self._outputs) < len(outputs):
             raise GraphError("each output needs a name of its own")
@@ -237,7 +233,7 @@ class Checkpoints:
     def _looked_at(self, nodes: Sequence[Any]) -> Dict[str, Any]:
         """The nodes with a state, by name. Those on workers are numbered and watched from here on."""
         if self._client is None:
-            return stateful_of_one_process(nodes, self._sources)
+            return stateful_here(nodes, self._sources)
         found = _stateful(nodes, self._sources, self._client)
         for node in nodes:
             if isinstance(node, streamz.dask.accumulate):
@@ -245,34 +241,17 @@ class Checkpoints:
             _watch(node, self._flight, self._client)
         return found
 
-    def __enter__(self) -> "Checkpoints":
-        return self
-
-    def __exit__(self, *_: object) -> None:
-        self.close()
-
-    def close(self) -> None:
-        """It takes no checkpoint."""
-        self._records.close()
-
     def run(self, read: Read, failures: int = 20) -> None:
         """Emits what read(position) has: elements, each with the position after it. At its end it takes a checkpoint. After an exception
         it goes back to the last checkpoint and reads again from there, `failures` times without a new one."""
-        left, last = failures, self.saved
-        while True:
-            try:
-                if left < failures:
-                    self.restore()
-                for x, position in read(self.position):
-                    self.emit(x, position)
-                self.checkpoint()
-                return
-            except (Exception, *LOST) as fault:
-                left, last = (failures if self.saved is not last else left) - 1, self.saved
-                if left < 0 or (self._client is not None and self._client.status == "closed"):
-                    raise
-                LOG.warning("back to the last checkpoint: %r", fault)
-                time.sleep(PAUSE)
+        def work(again: bool) -> None:
+            if again:
+                self.restore()
+            for x, position in read(self.position):
+                self.emit(x, position)
+            self.checkpoint()
+
+        self._resumed(work, failures)
 
     def emit(self, x: Any, position: Any, source: Optional[Any] = None) -> None:
         """Gives an element to the graph. `position` is where the caller goes on after it. Takes a checkpoint if one is due. After an exception only
@@ -338,10 +317,6 @@ class Checkpoints:
         if record is not None:
             self.position, packed, self._origin = record.meta
             self._publish(job, record.id, packed)
-
-    def counts(self) -> Tuple[int, int]:
-        """How many files are in use, and how many wait for deletion."""
-        return self._records.counts()
 
     def state(self, name: str) -> Any:
         """The state of a node, in the driver's memory."""

@@ -9,7 +9,7 @@ import time
 from typing import Any, List, Optional
 
 from relkvanu.command import FAILED, LOOK_FIRST, Stop, add_place, place, ran, seconds, service_client, token
-from relkvanu.coordinator import Error
+from relkvanu.errors import Error
 from relkvanu.others import BEGUN, OthersFiles, check_names, forget_names, say_names
 from relkvanu.storage import KeepsVersions, Marker, Names, NotThere, OtherJob
 

@@ -134,6 +134,18 @@ CALL_FORFEIT = 15
 CALL_TRIGGER = 16
 CALL_CONFIGURE = 17
 CALL_ADVANCE = 18
+STEP_PROCESS = 1
+STEP_HOLD = 2
+STEP_NOTHING = 3
+STEP_WAIT = 4
+STEP_LATE = 5
+STEP_CUT = 6
+STEP_ABANDON = 7
+STEP_UNKNOWN_INPUT = 8
+STEP_HELD_INPUT = 9
+STEP_ENDED_INPUT = 10
+STEP_BAD_INPUTS = 11
+MOST_INPUTS = 4096
 ANSWER_TEXT = 128
 
 
@@ -191,6 +203,19 @@ class relkvanu_made(Structure):
         ("in_use", c_uint64),
         ("waiting", c_uint64),
         ("taken", c_uint64),
+    ]
+
+
+class relkvanu_aligner(Structure):
+    _fields_ = [
+        ("latest", c_uint64),
+    ]
+
+
+class relkvanu_step(Structure):
+    _fields_ = [
+        ("what", c_uint32),
+        ("id", c_uint64),
     ]
 
 
@@ -259,4 +284,9 @@ FUNCTIONS: Dict[str, Tuple[Any, List[Any]]] = {
     "relkvanu_decline_in": (relkvanu_answer, [POINTER(relkvanu), c_uint64, c_uint64, c_uint64, c_uint16, c_uint16]),
     "relkvanu_garbage": (relkvanu_answer, [POINTER(relkvanu), POINTER(c_uint64), c_size_t, POINTER(c_uint64), c_size_t, POINTER(c_uint64), c_size_t]),
     "relkvanu_fenced_text": (c_size_t, [c_uint32, POINTER(c_uint8), c_size_t]),
+    "relkvanu_align_open": (relkvanu_step, [POINTER(relkvanu_aligner), POINTER(c_uint8), c_size_t]),
+    "relkvanu_align_element": (relkvanu_step, [POINTER(relkvanu_aligner), POINTER(c_uint8), c_size_t, c_uint32]),
+    "relkvanu_align_barrier": (relkvanu_step, [POINTER(relkvanu_aligner), POINTER(c_uint8), c_size_t, c_uint32, c_uint64]),
+    "relkvanu_align_end": (relkvanu_step, [POINTER(relkvanu_aligner), POINTER(c_uint8), c_size_t, c_uint32]),
+    "relkvanu_align_give_up": (relkvanu_step, [POINTER(relkvanu_aligner), POINTER(c_uint8), c_size_t, c_uint64]),
 }

@@ -5,12 +5,12 @@ import posixpath
 import re
 from typing import List, Optional, Protocol
 
-from relkvanu.coordinator import Error
+from relkvanu.errors import Error
 from relkvanu.storage import MARKER, Marker, Names
 
 MARK = ".relkvanu-"
 NAMES, BEGUN = ".names", ".begun"
-BESIDE = (NAMES, BEGUN, ".new")  # what follows a marker's name in the names of the files beside it; an earlier version wrote `.new` first
+BESIDE = (NAMES, BEGUN)  # what follows a marker's name in the names of the files beside it
 JOB = re.compile("[A-Za-z0-9][-_.A-Za-z0-9]{0,63}")  # a job's name
 
 

@@ -3,10 +3,11 @@ is complete, and is published after that. After a restart the last checkpoint is
 of the second time nothing. It knows a record by the identity of its job and its number, since each new job begins with the record 1.
 """
 import contextlib
+import fcntl
 import json
 import os
 import pickle
-from typing import Any, Callable, List, Protocol, Sequence
+from typing import Any, BinaryIO, Callable, List, Protocol, Sequence
 
 from relkvanu.errors import Error
 from relkvanu.parts import digest_of, pickled
@@ -117,18 +118,30 @@ class Files(Rows):
             return
         data = "".join(json.dumps(it) + "\n" for it in rows).encode()
         path = os.path.join(self._folder, f"{job}-{record:020}.jsonl")
-        with contextlib.suppress(FileNotFoundError):
-            with open(path, "rb") as there:
-                if there.read() != data:
-                    raise OutputError(f"{path} has other rows")
-            self._sync()  # the process that gave it its name may have been killed before it did
+        if not self._is_there(path, data):
+            with open(f"{path}.part", "ab") as to:
+                fcntl.flock(to, fcntl.LOCK_EX)  # a driver that has lost the job may publish its last record, too
+                self._make(to, path, data)
+        self._sync()  # also where the process that gave it its name was killed before it did
+
+    def _is_there(self, path: str, data: bytes) -> bool:
+        with contextlib.suppress(FileNotFoundError), open(path, "rb") as there:
+            if there.read() != data:
+                raise OutputError(f"{path} has other rows")
+            return True
+        return False
+
+    def _make(self, to: BinaryIO, path: str, data: bytes) -> None:
+        """Unless another process did so while this one waited for the lock."""
+        if self._is_there(path, data):
+            with contextlib.suppress(FileNotFoundError):
+                os.unlink(f"{path}.part")
             return
-        with open(f"{path}.part", "wb") as to:  # one process at a time has the job
-            to.write(data)
-            to.flush()
-            os.fsync(to.fileno())
+        to.truncate(0)
+        to.write(data)
+        to.flush()
+        os.fsync(to.fileno())
         os.rename(f"{path}.part", path)
-        self._sync()
 
     def _sync(self) -> None:
         folder = os.open(self._folder, os.O_RDONLY | os.O_DIRECTORY)

@@ -11,16 +11,18 @@ import threading
 import urllib.parse
 import zlib
 from dataclasses import dataclass, field
-from typing import Any, Callable, Dict, Iterable, List, NamedTuple, Optional, Sequence, Tuple, Union
+from typing import Any, Callable, Dict, Iterable, Iterator, List, NamedTuple, Optional, Sequence, Tuple, Union
 
 import cloudpickle
 import xxhash
 
 from relkvanu.errors import Error
-from relkvanu.storage import Folder
+from relkvanu.storage import Folder, Marker
 
-Dumps = Callable[[Any], bytes]
+Pieces = List[memoryview]
+Dumps = Callable[[Any], Union[bytes, Pieces]]
 Loads = Callable[[bytes], Any]
+PIECE = 1 << 20  # bytes that are copied at a time
 FIXED = (type(None), bool, int, float, complex, str, bytes)  # types whose values nobody can change
 
 
@@ -34,21 +36,24 @@ class Failed(Error):
 
 class Place(NamedTuple):
     """Where the files of a job are, as each worker opens it: `s3://bucket/prefix`, or a folder that all machines have at this path. No
-    other job has this name. A worker finds the keys of S3 as boto3 does: in its environment, its files, or the role of its machine."""
+    other job has this name. A worker finds the keys of S3 as boto3 does: in its environment, its files, or the role of its machine. `marker` is
+    the name and the text of the file there that says whose files these are, if a service has the job."""
 
     url: str
     job: str
     endpoint: Optional[str] = None
     region: Optional[str] = None
+    marker: Optional[Tuple[str, str]] = None
 
     def open(self, is_new: bool = False) -> Any:
         where = urllib.parse.urlsplit(self.url)
+        marker = None if self.marker is None else Marker(*self.marker)
         if where.scheme != "s3":
-            return Folder(self.url, self.job, is_new)
+            return Folder(self.url, self.job, is_new, marker=marker)
         from relkvanu.s3 import Bucket, client
 
         prefix = where.path.strip("/")
-        return Bucket(where.netloc, self.job, is_new, f"{prefix}/" if prefix else "", s3=client(self.endpoint, self.region))
+        return Bucket(where.netloc, self.job, is_new, f"{prefix}/" if prefix else "", s3=client(self.endpoint, self.region), marker=marker)
 
 
 def place_of(storage: Union[str, "os.PathLike[str]", Place], job: str) -> Place:
@@ -73,9 +78,49 @@ def pickled(value: Any) -> bytes:
         return cloudpickle.dumps(value, 5)  # type: ignore[no-any-return]
 
 
-def digest_of(data: bytes) -> str:
+class _Taker:
+    """A file that keeps what pickle writes, where that is long as it is in memory: so nothing is copied."""
+
+    def __init__(self) -> None:
+        self.pieces: Pieces = []
+
+    def write(self, piece: Any) -> None:
+        self.pieces.append(piece.raw() if isinstance(piece, pickle.PickleBuffer) else memoryview(piece))
+
+
+def pickled_in_pieces(value: Any) -> Pieces:
+    """The bytes of pickled(). Those of an array are its own."""
+    taker = _Taker()
+    try:
+        pickle.dump(value, taker, 5)
+        return taker.pieces
+    except (pickle.PicklingError, AttributeError, TypeError):
+        return [memoryview(cloudpickle.dumps(value, 5))]
+
+
+def digest_of(*pieces: Any) -> str:
     """Against damage, and to find what has not changed. Who can write to the place can run code, so it is none against forgery."""
-    return xxhash.xxh3_128_hexdigest(data)
+    found = xxhash.xxh3_128()
+    for it in pieces:
+        found.update(it)
+    return found.hexdigest()
+
+
+class _Copied:
+    """The pieces of a part as a storage takes them. What it takes is what the digest is of, also if somebody changes an array meanwhile."""
+
+    def __init__(self, pieces: Pieces) -> None:
+        self._pieces, self._digest = pieces, xxhash.xxh3_128()
+
+    def __iter__(self) -> Iterator[bytes]:
+        for piece in self._pieces:
+            for begin in range(0, piece.nbytes, PIECE):
+                copy = bytes(piece[begin:begin + PIECE])
+                self._digest.update(copy)
+                yield copy
+
+    def digest(self) -> str:
+        return self._digest.hexdigest()
 
 
 # Parts.
@@ -94,12 +139,16 @@ def opened(place: Place) -> Any:
 
 def put_part(place: Place, file: int, value: Any, before: Optional[Part], dumps: Dumps) -> Part:
     """Writes a part, unless its bytes are those that it had `before`. Then that is the answer."""
-    data = dumps(value)
-    digest = digest_of(data)
-    if before is not None and (digest, len(data)) == (before.digest, before.size):
+    told = dumps(value)
+    pieces = [memoryview(told)] if isinstance(told, bytes) else told
+    digest, size = digest_of(*pieces), sum(it.nbytes for it in pieces)
+    if before is not None and (digest, size) == (before.digest, before.size):
         return before
-    opened(place).put(file, data)
-    return Part(file, digest, len(data))
+    copied = _Copied(pieces)
+    opened(place).put(file, copied)
+    if copied.digest() != digest:
+        raise Failed(f"a value was changed in place while it was written to file {file}")
+    return Part(file, digest, size)
 
 
 def get_part(place: Place, part: Part, loads: Loads) -> Any:
@@ -133,9 +182,9 @@ def value_of(it: Any) -> Any:
     return it.value if isinstance(it, State) else it
 
 
-def dumps_value(it: Any) -> bytes:
+def dumps_value(it: Any) -> Pieces:
     """A file has the value alone: so one that has not changed has the same bytes, whatever the number of its step."""
-    return pickled(value_of(it))
+    return pickled_in_pieces(value_of(it))
 
 
 def loads_state(data: bytes) -> State:

@@ -5,35 +5,35 @@ written. What is released is deleted by a thread, and garbage is swept each hour
 import asyncio
 import concurrent.futures
 import contextlib
+import logging
 import os
 import pathlib
 import pickle
 import threading
 import time
 from dataclasses import dataclass
-from typing import Any, Callable, Dict, Iterable, Iterator, List, Mapping, NamedTuple, Optional, Sequence, Tuple, Union
+from typing import Any, Callable, Dict, Iterator, List, Mapping, NamedTuple, Optional, Sequence, Tuple, TypeVar, Union
 
 from distributed import Client, Future, wait
 
-from relkvanu.coordinator import Error, Settings
-from relkvanu.parts import Dumps, Failed, Loads, Part, PartError, Place, digest_of, get_part, opened, pickled, place_of, put_part
-from relkvanu.replies import AckCompleted, Taken, Triggered
-from relkvanu.store import Call, Made, Step, Store, StoreError
+from relkvanu.errors import Error
+from relkvanu.jobs import MOST_FILES, SUBTASKS, Ack, Job, Superseded
+from relkvanu.parts import Dumps, Failed, Loads, Part, PartError, Place, digest_of, get_part, opened, pickled, pickled_in_pieces, place_of, put_part
 from relkvanu.sweep import Swept, sweep
 
-SUBTASKS = 16  # the first one names the list of the record, and each other one at most MOST_FILES parts
-MOST_FILES = 4096
 AHEAD = 8  # records for which names are reserved
 MOST_PARTS = (SUBTASKS - 1) * MOST_FILES
 MOST_NAMES = 1 << 16  # that one call reserves
-MOST_DELETED = 1000  # in one request
 SWEEP_EVERY = 3600.0  # seconds
+PAUSE = 0.5  # seconds before a program goes on from its last record
 HEAD = b"relkvanu.records 1 "
-INTERVAL = 10  # milliseconds, the least: the caller says when a record is due, and not the coordinator
 LOST = (asyncio.CancelledError, concurrent.futures.CancelledError)  # the first is no Exception
 
+T = TypeVar("T")
+R = TypeVar("R", bound="Resumable")
 Watch = Callable[[List[Future]], Any]
 Path = Union[str, "os.PathLike[str]"]
+Coordinator = Union[Path, Any]  # a file, or a job of the service (relkvanu_service.Job)
 
 
 class Record(NamedTuple):
@@ -102,63 +102,63 @@ def losses() -> Iterator[None]:
         raise Failed(f"lost with a worker or the scheduler: {fault}") from None
 
 
-def _opened_store(coordinator: Path, place: Place, create: bool) -> Store:
-    """The store. A new job's place gets its marker first: it has to be one without files, beside which a log is missing."""
-    settings = Settings(interval=INTERVAL, timeout=1 << 40, tolerable=1000)
-    try:
-        return Store(coordinator, settings, [SUBTASKS])
-    except StoreError as error:
-        if error.name != "Absent" or not create:
-            raise
-    place.open(is_new=True)
-    return Store(coordinator, settings, [SUBTASKS], create=True)
+def _opened_job(coordinator: Coordinator, place: Place, create: bool) -> Tuple[Job, Place]:
+    """The coordinator, and the place with the marker that the job has there."""
+    if isinstance(coordinator, (str, os.PathLike)):
+        from relkvanu.job_in_file import FileJob
+
+        return FileJob(coordinator, place, create), place
+    from relkvanu.job_of_service import ServiceJob, place_with_marker
+
+    marked = place_with_marker(coordinator, place, create)
+    return ServiceJob(coordinator, marked), marked
 
 
 class Records:
     """The records of a job. One thread at a time may call. After an exception of save() only restore() goes on."""
 
-    def __init__(self, client: Optional[Client], storage: Union[Path, Place], coordinator: Path, *, create: bool = False, patience: float = 300,
-                 dumps: Dumps = pickled, loads: Loads = pickle.loads, watch: Optional[Watch] = None) -> None:
-        """Opens the coordinator's file, or makes it if `create` says so. A storage that is given by its address is that of the job with the
-        name of this file. `patience` is how many seconds a record may take: workers may all be gone. `watch` is given the futures of the
+    def __init__(self, client: Optional[Client], storage: Union[Path, Place], coordinator: Coordinator, *, create: bool = False, patience: float = 300,
+                 dumps: Dumps = pickled_in_pieces, loads: Loads = pickle.loads, watch: Optional[Watch] = None) -> None:
+        """Opens the coordinator's file or its job in the service, or makes it if `create` says so. A storage that is given by its address is that
+        of the job with the name of this file, or of that job. `patience` is how many seconds a record may take: workers may all be gone. `watch` is given the futures of the
         writes, as distributed.progress. By default parts are pickled, so nobody else may write to the storage."""
         self._client, self._patience, self._dumps, self._loads, self._watch = client, patience, dumps, loads, watch
-        self._place = place_of(storage, pathlib.Path(coordinator).stem)
-        self._job = _opened_store(coordinator, self._place, create)
+        name = pathlib.Path(coordinator).stem if isinstance(coordinator, (str, os.PathLike)) else coordinator.name
+        self._job, self._place = _opened_job(coordinator, place_of(storage, name), create)
         try:
             self.storage = opened(self._place)
         except BaseException:
             self._job.close()
             raise
-        self.identity: str = self._job.report.job
-        self._term = self._job.report.term
-        self._whole = Step.RESTORE not in self._job.report.steps
+        self.identity = self._job.identity
+        self.taken = 0  # records, since it was opened
+        self._whole = self._sweeps = self._job.is_whole
         self._last = Record(0, None, {})
         self._names: List[int] = []  # that are reserved, and that no put was given
         self._ends = threading.Event()
-        self._threads = [threading.Thread(target=it, daemon=True) for it in (self._discard, self._sweep_by_itself)]
+        works: Sequence[Callable[[], None]] = (lambda: self._job.discard(self.storage.delete), self._sweep_by_itself)
+        self._threads = [threading.Thread(target=it, daemon=True) for it in works]
         for it in self._threads:
             it.start()
 
     def close(self) -> None:
         """Deletes what waits, sweeps once more, and closes it. It takes no record."""
         self._ends.set()
-        with contextlib.suppress(StoreError):
-            self._job.stop()
+        self._job.stop()
         for it in self._threads:
             it.join()
         with contextlib.suppress(Error, OSError):
             while self._delete_waiting():
                 pass
-            self.sweep()
+            if self._sweeps:
+                self.sweep()
         self._job.close()
 
     def restore(self) -> Optional[Record]:
         """Goes back to the last complete record, or returns None if there is none. All files are looked for before anything is deleted."""
         self._whole, self._names = False, []
-        self._term = self._job.restore().term
         found = self._look()
-        self._last = found or Record(0, None, {})
+        self._last, self._sweeps = found or Record(0, None, {}), True
         self.sweep()
         self._whole = True
         return found
@@ -184,39 +184,31 @@ class Records:
             id = None
             try:
                 puts = self._put(plans, names)
-                id = self._trigger()  # while workers write
+                id = self._job.trigger(self._last.id)  # while workers write
+                self._reserve(len(names))  # for the next record, which then need not wait for it
                 done = self._written(plans, names, puts)
                 record = Record(id, meta, self._listed(id, meta, done, names[-1]))
                 self._acknowledge(id, done, names)
             except BaseException:
                 self._give_up(id, names)
                 raise
-        self._last, self._whole = record, True
+        self._last, self._whole, self.taken = record, True, self.taken + 1
         fresh = set(names)
         wrote = {it.file: it.size for _, it in done if it.file in fresh}
         return Saved(id, len(wrote), sum(it.file not in fresh for _, it in done), sum(wrote.values()))
 
     def sweep(self) -> Swept:
-        """Deletes what nobody can acknowledge any more, at any time."""
+        """Deletes what nobody can acknowledge any more, at any time after the files of the last record were found. If some are not there, a backup of
+        the coordinator may have been restored: then later records may be all that is left, and what they have would be garbage."""
+        if not self._sweeps:
+            raise Failed("restore() first")
         return sweep(self.storage, self._job.garbage, True)
 
     def counts(self) -> Tuple[int, int]:
         """How many files the last record uses, and how many wait for deletion."""
-        with self._job.read() as reads:
-            counts = reads.file_counts()
-            return counts.in_use, counts.waiting + counts.taken
+        return self._job.counts()
 
     # A record.
-
-    def _trigger(self) -> int:
-        end = time.monotonic() + self._patience
-        while time.monotonic() < end:
-            made = self._job.await_tick(1000)
-            if made is not None and isinstance(made.reply, Triggered):
-                if (made.choice.id if made.choice else 0) != self._last.id:
-                    raise Failed("another record is the last one")
-                return made.reply.id
-        raise Failed("no record is triggered: the job was cancelled")
 
     def _plans(self, parts: Mapping[str, Sequence[Any]]) -> List[_Plan]:
         found = []
@@ -229,10 +221,13 @@ class Records:
 
     def _taken_names(self, count: int) -> List[int]:
         """Names that no put was given before. They are reserved ahead, so that most records need no commit for it."""
-        while len(self._names) < count:
-            self._names += self._job.reserve(self._term, min(AHEAD * count, MOST_NAMES))
+        self._reserve(count)
         names, self._names = self._names[:count], self._names[count:]
         return names
+
+    def _reserve(self, count: int) -> None:
+        while len(self._names) < count:
+            self._names += self._job.reserve(min(AHEAD * count, MOST_NAMES))
 
     def _put(self, plans: Sequence[_Plan], names: Sequence[int]) -> Dict[str, Future]:
         """Lets workers write the parts that are futures. One that is in two places is written once."""
@@ -278,55 +273,82 @@ class Records:
     def _acknowledge(self, id: int, done: Sequence[Tuple[_Plan, Part]], names: Sequence[int]) -> None:
         """One commit, in which all subtasks acknowledge. Names of parts that have not changed are given up, so those of lists ascend."""
         used, fresh = sorted({part.file for _, part in done}), set(names)
-        spare = sorted(fresh - set(used) - {names[-1]})
-        calls = [Call.forfeit(self._term, spare)] if spare else []
-        calls.append(Call.ack(id, 0, 0, [names[-1]], term=self._term))
+        acks = [Ack([names[-1]])]
         for index in range(1, SUBTASKS):
             some = used[(index - 1) * MOST_FILES:index * MOST_FILES]
-            calls.append(Call.ack(id, 0, index, [it for it in some if it in fresh], [it for it in some if it not in fresh], term=self._term))
-        last = self._job.calls(calls)[-1]
-        if not isinstance(last, Made) or not isinstance(last.reply, AckCompleted):
-            raise Failed(f"record {id} was not completed: {last!r}")
+            acks.append(Ack([it for it in some if it in fresh], [it for it in some if it not in fresh]))
+        self._job.complete(id, acks, sorted(fresh - set(used) - {names[-1]}))
 
     def _give_up(self, id: Optional[int], names: Sequence[int]) -> None:
         """The record is declined, if it was triggered, and nobody acknowledges these names any more."""
         with contextlib.suppress(Error):
-            self._job.calls([Call.forfeit(self._term, names), *([] if id is None else [Call.decline(id, 0, 0, term=self._term)])])
+            self._job.give_up(id, names)
 
     def _look(self) -> Optional[Record]:
-        """The last complete record. Raises PartError if one of its files is not there."""
-        with self._job.read() as reads:
-            choice = reads.choice()
-            files: List[Sequence[int]] = [] if choice is None else [reads.files_of(choice.id, 0, index) or () for index in range(SUBTASKS)]
-        if choice is None:
+        """Begins a new term from the last complete record. Raises PartError if one of its files is not there."""
+        held = self._job.begin()
+        if held is None:
             return None
-        lost = {it for some in files for it in some} - {it for page in self.storage.pages() for it in page}
+        lost = {it for some in held.files for it in some} - {it for page in self.storage.pages() for it in page}
         if lost:
-            raise PartError(f"record {choice.id} lacks {len(lost)} of its files, such as {min(lost)}")
-        what = f"file {files[0][0]}, the list of record {choice.id},"
-        found = _unpacked(self.storage.get(files[0][0]), what)
-        if found is None or (found.identity, found.record.id) != (self.identity, choice.id):
+            raise PartError(f"record {held.id} lacks {len(lost)} of its files, such as {min(lost)}")
+        what = f"file {held.files[0][0]}, the list of record {held.id},"
+        found = _unpacked(self.storage.get(held.files[0][0]), what)
+        if found is None or (found.identity, found.record.id) != (self.identity, held.id):
             raise PartError(f"{what} is damaged")
         return found.record
 
     # What is released.
 
-    def _discard(self) -> None:
-        with contextlib.suppress(StoreError):  # the next call of the caller's thread raises it too
-            self._job.discard_lists(self.storage.delete, MOST_DELETED)
-
     def _sweep_by_itself(self) -> None:
         """Where a put came to its end after the sweep of a restore, a file is garbage."""
         while not self._ends.wait(SWEEP_EVERY):
-            with contextlib.suppress(Error, OSError):
+            with contextlib.suppress(Error, OSError):  # also before a restore()
                 self.sweep()
 
     def _delete_waiting(self) -> bool:
         """Deletes files that wait. Returns whether there may be more."""
-        reply = self._job.call(Call.take(MOST_DELETED)).reply
-        files: Iterable[int] = reply.files if isinstance(reply, Taken) else ()
+        files = self._job.take()
         if not files:
             return False
         failed = self.storage.delete(files)
-        self._job.calls([Call.undeleted(it) if it in failed else Call.deleted(it) for it in files])
+        self._job.report(files, failed)
         return not failed
+
+
+class Resumable:
+    """What checkpoints of collections and of graphs have in common: their records, and how a program goes on from the last one."""
+
+    _records: Records
+    _client: Optional[Client]
+
+    def __enter__(self: R) -> R:
+        return self
+
+    def __exit__(self, *_: object) -> None:
+        self.close()
+
+    def close(self) -> None:
+        """It takes no checkpoint."""
+        self._records.close()
+
+    def counts(self) -> Tuple[int, int]:
+        """How many files are in use, and how many wait for deletion."""
+        return self._records.counts()
+
+    def _resumed(self, work: Callable[[bool], T], failures: int) -> T:
+        """Does work(False). After an exception work(True) goes back to the last checkpoint, `failures` times without a new one. A driver that has
+        lost its job, or its client, does not."""
+        again, left = False, failures
+        while True:
+            taken = self._records.taken
+            try:
+                return work(again)
+            except Superseded:
+                raise
+            except (Exception, *LOST) as fault:
+                again, left = True, (failures if self._records.taken > taken else left) - 1
+                if left < 0 or (self._client is not None and self._client.status == "closed"):
+                    raise
+                logging.getLogger(type(self).__module__).warning("back to the last checkpoint: %r", fault)
+                time.sleep(PAUSE)

@@ -9,7 +9,7 @@ import boto3  # type: ignore[import]
 from botocore.config import Config  # type: ignore[import]
 from botocore.exceptions import BotoCoreError, ClientError  # type: ignore[import]
 
-from relkvanu.storage import PAGE, Exists, KeepsVersions, Marker, Names, NotThere, StorageError, check_marker
+from relkvanu.storage import PAGE, Contents, Exists, KeepsVersions, Marker, Names, NotThere, StorageError, check_marker
 
 __all__ = ["Bucket", "KeepsVersions", "client"]
 
@@ -60,18 +60,18 @@ class Bucket:
     def check(self) -> None:
         check_marker(self._read(self.marker.name), self.marker, self.job, f"{self.bucket}/{self.names.prefix}")
 
-    def put(self, file: int, contents: bytes) -> None:
+    def put(self, file: int, contents: Contents) -> None:
         """One request, so the object is whole or not there. It has at most 5 GiB. After a time-out the object may come later, so its number
         is never given again. The server refuses an object that is there. Not all servers heed that, so the first put tries it: if this one does
         not, each put looks first."""
-        name = self.names.of(file)
+        name, whole = self.names.of(file), contents if isinstance(contents, bytes) else b"".join(contents)
         if self._heeds is None:
             self._heeds = self._tried_to_heed()
         if not self._heeds and self._is_there(name):
             raise Exists(errno.EEXIST, "there is such an object", f"{self.bucket}/{name}")
         if not self._heeds:
-            self._ask(self._s3.put_object, Key=name, Body=contents)
-        elif not self._put_once(name, contents):
+            self._ask(self._s3.put_object, Key=name, Body=whole)
+        elif not self._put_once(name, whole):
             raise Exists(errno.EEXIST, "there is such an object", f"{self.bucket}/{name}")
 
     def _tried_to_heed(self) -> bool:

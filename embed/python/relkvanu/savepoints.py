@@ -9,7 +9,7 @@ from datetime import datetime, timezone
 from typing import Any, Iterator, List, Optional, Set
 
 from relkvanu.command import LOOK_FIRST, Stop, add_place, place, ran, seconds, service_client, token
-from relkvanu.coordinator import Error
+from relkvanu.errors import Error
 from relkvanu.storage import KeepsVersions, Marker, Names, NotThere, OtherJob
 
 NONE_WHOLE, TRY_AGAIN = 1, 75  # exit statuses, those of `relkvanu savepoints`

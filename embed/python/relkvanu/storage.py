@@ -122,6 +122,7 @@ def check_marker(found: Optional[bytes], marker: Marker, job: str, where: str) -
         raise OtherJob(errno.EEXIST, f"not the storage of the job {job}", where)
 
 
+Contents = Union[bytes, Iterable[bytes]]  # of a file, whole or in pieces
 FILE_FLAGS = os.O_NOFOLLOW | os.O_CLOEXEC
 
 
@@ -186,7 +187,8 @@ class Folder:
     def check(self) -> None:
         check_marker(self._read(self.marker.name), self.marker, self.job, self.path)
 
-    def put(self, file: int, contents: bytes) -> None:
+    def put(self, file: int, contents: Contents) -> None:
+        """Pieces are taken one after the other."""
         self.check()
         self._make(self._part.of(file), self.names.of(file), contents)
 
@@ -295,7 +297,7 @@ class Folder:
         except OSError as error:
             raise StorageError(error.errno, error.strerror, f"{self.path}/{name}") from error
 
-    def _make(self, part: str, name: str, contents: bytes) -> None:
+    def _make(self, part: str, name: str, contents: Contents) -> None:
         """Writes beside the name, syncs, and gives the file its name: so it is whole or not there. Who has the part has the name."""
         try:
             to = os.open(part, os.O_WRONLY | os.O_CREAT | os.O_EXCL | FILE_FLAGS, 0o666, dir_fd=self._folder)
@@ -306,7 +308,8 @@ class Folder:
         made = part
         try:
             try:
-                _write_all(to, contents)
+                for piece in [contents] if isinstance(contents, bytes) else contents:
+                    _write_all(to, piece)
                 os.fsync(to)
             finally:
                 os.close(to)

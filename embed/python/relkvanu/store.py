@@ -51,7 +51,40 @@ class Step(enum.Enum):
     RESTORE = 2  # call restore(): its reply says where the job begins again
     SWEEP = 3  # call sweep(), or delete the files of the storage that unknown() returns
     START_TASKS = 4  # start tasks, a timer (await_tick) and a discarder (discard)
-    DISCARD = 5  # start a discarder alone: the job is cancelled
+    DISCARD = 5  # start a discarder alone: the job is cancelled, or stopped
+
+
+class Phase(enum.Enum):
+    """The phase of a job."""
+
+    RUNNING = 0  # the job runs, has failed or was cancelled: its mode says which
+    STOPPING = 1  # the savepoint of its stop is pending
+    STOPPED = 2  # that savepoint is done, and the job goes on from it when it begins
+
+
+class StopFailed(enum.Enum):
+    """Why a stop has failed."""
+
+    EXPIRED = 1  # its savepoint was not done within the timeout
+    DECLINED = 2  # a task has declined it
+    RESTORED = 3  # the job was restored before, as after a crash
+    CANCELLED = 4  # the job was cancelled, before it was stopped or afterwards
+    FAILED = 5  # the job has failed
+
+
+@dataclass(frozen=True)
+class JobPhase:
+    """The phase of a job, with the savepoint of its stop, and in STOPPED the term that began then (0 in a job without names). In RUNNING
+    stop_failed says why the last stop has failed, until the next one."""
+
+    phase: Phase
+    savepoint: Optional[int] = None
+    term: int = 0
+    stop_failed: Optional[StopFailed] = None
+
+
+def _phase(phase: int, savepoint: int, term: int, failed: int) -> JobPhase:
+    return JobPhase(Phase(phase), savepoint or None, term, StopFailed(failed) if failed else None)
 
 
 @dataclass(frozen=True)
@@ -71,6 +104,47 @@ class Report:
     choice: Optional[Chosen]
     term: int = 0  # that runs: the tasks of a new job are started with it. 0: the job has no names
     next_name: int = 0
+    phase: JobPhase = JobPhase(Phase.RUNNING)  # without its term, which is the one above
+
+
+@dataclass(frozen=True)
+class Record:
+    """A record of a storage folder, as its manifest says it. `damage` is "Damaged" or "NotAStore" (a later version wrote it), and then it says no more."""
+
+    id: int
+    is_savepoint: bool
+    is_of_job: bool  # its job is the one that the marker of the folder names, or there is no marker
+    is_next: bool  # a recovery, or an import, begins from it
+    written: int  # ms of the wall clock since 1970
+    files: int
+    bytes: int
+    missing: int  # files that are not there, or have another length
+    damage: Optional[str] = None
+
+
+@dataclass(frozen=True)
+class Carried:
+    """The record that Store.export has made a folder of."""
+
+    record: int
+    is_savepoint: bool
+    files: int
+    bytes: int
+
+
+@dataclass(frozen=True)
+class Recovered:
+    """What Store.recover has made a job of. include/relkvanu_store.h explains each field."""
+
+    record: int
+    is_savepoint: bool
+    files: int
+    bytes: int
+    passed: int
+    savepoints: int
+    term: int
+    next_name: int
+    next_number: int
 
 
 @dataclass(frozen=True)
@@ -195,6 +269,14 @@ def _bytes(path: Path) -> bytes:
 
 def _closes(status: int) -> bool:
     return store_header.FAILED <= status <= store_header.OUT_OF_MEMORY
+
+
+def _check(status: int, message: bytes) -> None:
+    """What a function of the library that needs no store returned."""
+    if status == store_header.NO_MEMORY:
+        raise OutOfMemory
+    if status != store_header.OK:
+        raise StoreError(store_header.STATUSES[status], message.decode(errors="replace"), False, ctypes.get_errno())
 
 
 def _why() -> str:
@@ -359,13 +441,15 @@ class Store:
         earlier_image: bool = False,
         plain: bool = False,
         backup: bool = False,
+        manifests: bool = False,
         patience: int = 0,
         image_calls: Optional[int] = 10_000,
         most_ahead: int = 0,
     ) -> None:
         """Recovers the job at `path`, or makes one if `create` says so. `storage` is the folder of the state files, which has to exist.
         `image_calls` is None for no images. The settings are those of a new job; `report.settings_differ` compares them. So is `plain`: a job
-        that is made so has no names, and its engine gives out the numbers of files. `backup` opens a backup, once: see backup()."""
+        that is made so has no names, and its engine gives out the numbers of files. `backup` opens a backup, once: see backup().
+        With `manifests` the storage folder gets a manifest of each complete record, of which recover() makes the job again if its file is lost."""
         self._store = ctypes.c_void_p()
         self._process = os.getpid()
         self._used: Set[object] = set()  # who is in the library; add and discard are one step each, so an interrupt leaves nobody here
@@ -379,7 +463,8 @@ class Store:
         flags = create * store_header.CREATE | only_create * store_header.CREATE_ONLY | adopt * store_header.ADOPT
         words, found = _words(shape), store_header.relkvanu_store_report()
         options = store_header.relkvanu_store_options(
-            flags | earlier_image * store_header.EARLIER_IMAGE | plain * store_header.PLAIN | backup * store_header.BACKUP, _within(patience, 32),
+            flags | earlier_image * store_header.EARLIER_IMAGE | plain * store_header.PLAIN | backup * store_header.BACKUP
+            | manifests * store_header.MANIFESTS, _within(patience, 32),
             store_header.NO_IMAGES if image_calls is None else _u64(image_calls), _u64(most_ahead),
             None if storage is None else _bytes(storage), _settings(settings), ctypes.cast(words, ctypes.POINTER(U64)), len(shape))
         status = _library.relkvanu_store_open(ctypes.byref(self._store), _bytes(path), ctypes.byref(options), ctypes.byref(found))
@@ -391,7 +476,7 @@ class Store:
         self.report = Report(
             found.is_recovered, found.settings_differ, tuple(Step(it) for it in found.steps[: found.steps_len]), found.epoch,
             f"{found.job[0]:016x}{found.job[1]:016x}", found.image_place, found.replayed, found.taken, found.moment, Mode(found.mode.what),
-            _chosen(found.choice), found.term, found.next_name)
+            _chosen(found.choice), found.term, found.next_name, _phase(found.phase, found.savepoint, 0, found.stop_failed))
 
     def _message(self, store: ctypes.c_void_p) -> str:
         text = ctypes.create_string_buffer(512)
@@ -586,6 +671,59 @@ class Store:
     def restore(self, savepoint: Optional[int] = None, shape: Optional[Sequence[int]] = None, now: Optional[int] = None) -> Made:
         return self.call(Call.restore(savepoint, shape, now))
 
+    def advance(self, term: int, first_name: int) -> Made:
+        """Begins a job with names again that lacks its last calls, as one of a backup does, in place of the first restore. `term` is the greatest
+        that any task was told, and names are given out from `first_name` on. Made.term is the term of the tasks."""
+        return self._verb(_library.relkvanu_store_advance, _u64(term), _u64(first_name))
+
+    # What an operator wants of a job that runs. Any thread calls these, also while another one is in await_tick(), which hands over what they have made.
+    # trigger() is one of them.
+
+    def configure(self, settings: Settings) -> Made:
+        """Other settings, from the next tick on. Done checkpoints above the new number retained go in the same commit, and the reply says how many. Raises
+        StoreError("BadArgument") if a value is outside its limits, and Refused("AtOnce") if more are pending than may be from then on."""
+        return self._verb(_library.relkvanu_store_configure, ctypes.byref(_settings(settings)))
+
+    def stop_job(self) -> Made:
+        """Stops the job with a savepoint: the reply is SavepointTriggered. The timer rests. With the savepoint's last acknowledgement the job is stopped, in
+        the same commit: await_tick() returns None, and phase() says so. Raises StoreError("NotNow") if it is being stopped, or is stopped."""
+        return self._verb(_library.relkvanu_store_stop_job)
+
+    def begin_job(self) -> Made:
+        """A job that is stopped goes on: the reply says where, and Made.term is the term of its tasks. Raises StoreError("NotNow") if it is not stopped."""
+        return self._verb(_library.relkvanu_store_begin_job)
+
+    def go_back(self, id: int, accept_published: bool = False) -> Made:
+        """Goes back to a done checkpoint that is retained, in one commit. What sinks have published for later records is not taken back, and the job will
+        publish it again: `accept_published` has to say that this is accepted. The reply says where the job begins, and Made.term is the term of its tasks.
+        Raises Refused("NoSuchRecord"), or BadArgument("BadShape") if the job has another shape than the checkpoint had."""
+        flags = store_header.ACCEPT_PUBLISHED if accept_published else 0
+        return self._verb(_library.relkvanu_store_go_back, _u64(id), flags)
+
+    def phase(self) -> JobPhase:
+        """Whether the job runs, is being stopped or is stopped, of what is committed."""
+        found = store_header.relkvanu_store_job_phase()
+        fault = self._at_once(lambda store: self._fault(_library.relkvanu_store_phase(store, ctypes.byref(found)), store))
+        if fault is not None:
+            raise fault
+        return _phase(found.phase, found.savepoint, found.term, found.stop_failed)
+
+    def _verb(self, function: Callable[..., int], *words: Any) -> Made:
+        call = store_header.relkvanu_store_call()
+
+        def work(store: ctypes.c_void_p) -> Optional[Exception]:
+            status = function(store, *words, ctypes.byref(call))
+            fault = self._fault(status, store)
+            return StoreError(fault.name, _why(), False) if isinstance(fault, StoreError) and fault.name in ("BadArgument", "NotNow") else fault
+
+        fault = self._waits(work)
+        if fault is not None:
+            raise fault
+        outcome = _List.outcome(call)
+        if isinstance(outcome, Error):
+            raise outcome
+        return outcome
+
     def submit(self, calls: Sequence[Call]) -> int:
         """For event loops: as calls(), but returns a token at once. completed() returns it with the outcomes."""
         made = _List(calls)
@@ -645,10 +783,13 @@ class Store:
         return None if wait.value == FOREVER else wait.value
 
     def await_tick(self, longest: int = 1000) -> Optional[Made]:
-        """A timer in a loop of a thread: sleeps until a tick is due, at most so many milliseconds, and makes it. None: none was due."""
+        """A timer in a loop of a thread: sleeps until a tick is due, at most so many milliseconds, and makes it. It also hands over what trigger(),
+        stop_job(), begin_job() and go_back() have made, once: the reply of the call, with its choice and its term. Triggered: the engine sends the
+        barrier. SavepointTriggered: the same, and each task holds after its acknowledgement. A restore: the engine begins there, as after one of its own.
+        None: none was due. It comes at once if the job has failed or was cancelled (read the mode), is stopped, or its stop has failed (see phase())."""
         call, left = store_header.relkvanu_store_call(), _u64(longest)
-        status = store_header.TIMED_OUT
-        while status == store_header.TIMED_OUT or (status == store_header.NOT_RUNNING and call.answer.a == 0):
+        status, waits = store_header.TIMED_OUT, (store_header.NOT_RUNNING, store_header.JOB_STOPPED)
+        while status == store_header.TIMED_OUT or (status in waits and call.answer.a == 0):
             part = min(left, SLICE) if is_main() else left
             left -= part
             status = self._awaited(part, call)
@@ -664,7 +805,8 @@ class Store:
     def _awaited(self, longest: int, call: store_header.relkvanu_store_call) -> int:
         def work(store: ctypes.c_void_p) -> Tuple[int, Optional[Exception]]:
             status = _library.relkvanu_store_await_tick(store, longest, ctypes.byref(call))
-            return status, self._fault(status, store, store_header.TIMED_OUT, store_header.NOT_RUNNING)
+            return status, self._fault(
+                status, store, store_header.TIMED_OUT, store_header.NOT_RUNNING, store_header.JOB_STOPPED, store_header.NOT_STOPPED)
 
         status, fault = self._waits(work)
         if fault is not None:
@@ -737,8 +879,55 @@ class Store:
         if status != store_header.OK:
             raise StoreError(store_header.STATUSES[status], message.value.decode(errors="replace"), _closes(status), number)
 
+    @staticmethod
+    def recover(path: Path, storage: Path, record: int = 0) -> Recovered:
+        """Makes the job at `path` again, whose file was lost, from the manifests in its storage folder: from the last record that was the choice and has
+        all its files, or from the record with this number. Each task and process of the old job has been told to end. Killed at any moment it
+        has done nothing, or all. Then Store(path, .., storage=storage) recovers the job as ever.
+
+        Raises StoreError "Present" (there is a job), "Absent" (no record with a manifest has all its files), "Storage" or "InUse", and nothing has
+        changed."""
+        found = store_header.relkvanu_store_recovered()
+        status = _library.relkvanu_store_recover(_bytes(path), _bytes(storage), _u64(record), ctypes.byref(found))
+        _check(status, found.message)
+        return Recovered(**{name: getattr(found, name) for name, *_ in found._fields_[:-2]})
+
+    @staticmethod
+    def export(storage: Path, to: Path, record: int = 0) -> Carried:
+        """Makes the folder `to` of the record that recover() would begin from, or of this one: its files, linked or copied, and its manifest. The job of
+        the storage folder may run meanwhile. Killed at any moment it has done nothing, or all. Raises StoreError "Present" (there is something at
+        `to`), "Absent" (no record with a manifest has all its files) and so on."""
+        found = store_header.relkvanu_store_carried()
+        status = _library.relkvanu_store_export(_bytes(storage), _u64(record), _bytes(to), ctypes.byref(found))
+        _check(status, found.message)
+        return Carried(**{name: getattr(found, name) for name, *_ in found._fields_[:-2]})
+
+    @staticmethod
+    def import_job(source: Path, path: Path, storage: Path, record: int = 0) -> Recovered:
+        """Makes another job, at `path` over the folder `storage`, of a record in `source`: an exported folder, or the storage folder of a job, which may run.
+        Raises StoreError as export() and recover()."""
+        found = store_header.relkvanu_store_recovered()
+        status = _library.relkvanu_store_import(_bytes(source), _u64(record), _bytes(path), _bytes(storage), ctypes.byref(found))
+        _check(status, found.message)
+        return Recovered(**{name: getattr(found, name) for name, *_ in found._fields_[:-2]})
+
+    @staticmethod
+    def records(storage: Path) -> List[Record]:
+        """The records of a storage folder that have a manifest, in the order of their numbers. It needs no job, and may be called at any time."""
+        message, records = ctypes.create_string_buffer(512), []
+
+        def note(_: object, found: Any) -> bool:
+            it = found.contents
+            damage = None if it.status == store_header.OK else store_header.STATUSES[it.status]
+            records.append(Record(it.id, it.is_savepoint, it.is_of_job, it.is_next, it.written, it.files, it.bytes, it.missing, damage))
+            return True
+
+        each = store_header.relkvanu_store_each_record(note)
+        _check(_library.relkvanu_store_records(_bytes(storage), each, None, message, len(message)), message.value)
+        return records
+
     def job(self) -> Tuple[Settings, Tuple[int, ...]]:
-        """The settings that the job was made with, and its shape now: for after an opening whose report says `settings_differ`. Makes an image."""
+        """The settings and the shape that the job has now: for after an opening whose report says `settings_differ`, or before configure(). Makes an image."""
         settings, shape, length = header.relkvanu_settings(), (U64 * 256)(), ctypes.c_size_t(256)
         self._made(_library.relkvanu_store_job, ctypes.byref(settings), shape, ctypes.byref(length))
         return Settings(**{name: getattr(settings, name) for name, *_ in settings._fields_}), tuple(shape[: length.value])

@@ -1,55 +1,90 @@
-"""What include/relkvanu_store.h says. embed/store/run compares it with the header."""
-from ctypes import CFUNCTYPE, POINTER, Structure, c_bool, c_char, c_char_p, c_int, c_int64, c_size_t, c_uint8, c_uint32, c_uint64, c_void_p
+"""What include/relkvanu_store.h says, made from it by embed/bindings: change the header, and run that."""
+from ctypes import CFUNCTYPE, POINTER, Structure, c_bool, c_char, c_char_p, c_int, c_int64, c_size_t, c_uint8, c_uint16, c_uint32, c_uint64, c_void_p
 from typing import Any, Dict, List, Tuple
 
 from relkvanu.header import relkvanu, relkvanu_answer, relkvanu_call, relkvanu_settings
 
 OK = 0
+BAD_ARGUMENT = 1
 NO_MEMORY = 2
+IN_USE = 3
+ABSENT = 4
 PRESENT = 5
+NOT_A_STORE = 6
+DIFFERS = 7
+DAMAGED = 8
 STORAGE = 9
+CLOSED = 10
+FORKED = 11
 TIMED_OUT = 12
+NOT_NOW = 13
 STOPPED = 14
 NOT_PUT = 15
-FAILED = 16
-OUT_OF_MEMORY = 20
 NOT_RUNNING = 21
 NOT_DONE = 22
+JOB_STOPPED = 23
+NOT_STOPPED = 24
+FAILED = 16
+FULL = 17
+READ_ONLY = 18
+BUSY = 19
+OUT_OF_MEMORY = 20
 NOT_MADE = 100
+RECOVER = 0
 CREATE = 1
 CREATE_ONLY = 2
 ADOPT = 4
 EARLIER_IMAGE = 8
 PLAIN = 16
 BACKUP = 32
+MANIFESTS = 64
 NOW = (1 << 64) - 1
 NO_IMAGES = (1 << 64) - 1
 MOST_CALLS = 4096
+MESSAGE = 512
+END_TASKS = 1
+RESTORE = 2
+SWEEP = 3
+START_TASKS = 4
+DISCARD = 5
+MOST_STEPS = 8
+PHASE_RUNNING = 0
+PHASE_STOPPING = 1
+PHASE_STOPPED = 2
+STOP_EXPIRED = 1
+STOP_DECLINED = 2
+STOP_RESTORED = 3
+STOP_CANCELLED = 4
+STOP_FAILED = 5
+ACCEPT_PUBLISHED = 1
 
-# The names of the other statuses.
+# The names of the statuses.
 STATUSES: Dict[int, str] = {
-    1: "BadArgument",
+    OK: "Ok",
+    BAD_ARGUMENT: "BadArgument",
     NO_MEMORY: "NoMemory",
-    3: "InUse",
-    4: "Absent",
+    IN_USE: "InUse",
+    ABSENT: "Absent",
     PRESENT: "Present",
-    6: "NotAStore",
-    7: "Differs",
-    8: "Damaged",
+    NOT_A_STORE: "NotAStore",
+    DIFFERS: "Differs",
+    DAMAGED: "Damaged",
     STORAGE: "Storage",
-    10: "Closed",
-    11: "Forked",
+    CLOSED: "Closed",
+    FORKED: "Forked",
     TIMED_OUT: "TimedOut",
-    13: "NotNow",
+    NOT_NOW: "NotNow",
     STOPPED: "Stopped",
     NOT_PUT: "NotPut",
-    FAILED: "Failed",
-    17: "Full",
-    18: "ReadOnly",
-    19: "Busy",
-    OUT_OF_MEMORY: "OutOfMemory",
     NOT_RUNNING: "NotRunning",
     NOT_DONE: "NotDone",
+    JOB_STOPPED: "JobStopped",
+    NOT_STOPPED: "NotStopped",
+    FAILED: "Failed",
+    FULL: "Full",
+    READ_ONLY: "ReadOnly",
+    BUSY: "Busy",
+    OUT_OF_MEMORY: "OutOfMemory",
 }
 
 
@@ -84,7 +119,9 @@ class relkvanu_store_report(Structure):
         ("message", c_char * 512),
         ("term", c_uint64),
         ("next_name", c_uint64),
-        ("reserved", c_uint64 * 2),
+        ("phase", c_uint32),
+        ("stop_failed", c_uint32),
+        ("savepoint", c_uint64),
     ]
 
 
@@ -112,6 +149,58 @@ class relkvanu_store_completion(Structure):
     ]
 
 
+class relkvanu_store_job_phase(Structure):
+    _fields_ = [
+        ("phase", c_uint32),
+        ("stop_failed", c_uint32),
+        ("savepoint", c_uint64),
+        ("term", c_uint64),
+        ("reserved", c_uint64 * 2),
+    ]
+
+
+class relkvanu_store_record(Structure):
+    _fields_ = [
+        ("id", c_uint64),
+        ("status", c_uint32),
+        ("is_savepoint", c_bool),
+        ("is_of_job", c_bool),
+        ("is_next", c_bool),
+        ("written", c_uint64),
+        ("files", c_uint64),
+        ("bytes", c_uint64),
+        ("missing", c_uint64),
+        ("reserved", c_uint64 * 4),
+    ]
+
+
+class relkvanu_store_recovered(Structure):
+    _fields_ = [
+        ("record", c_uint64),
+        ("is_savepoint", c_bool),
+        ("files", c_uint64),
+        ("bytes", c_uint64),
+        ("passed", c_uint64),
+        ("savepoints", c_uint64),
+        ("term", c_uint64),
+        ("next_name", c_uint64),
+        ("next_number", c_uint64),
+        ("reserved", c_uint64 * 4),
+        ("message", c_char * 512),
+    ]
+
+
+class relkvanu_store_carried(Structure):
+    _fields_ = [
+        ("record", c_uint64),
+        ("is_savepoint", c_bool),
+        ("files", c_uint64),
+        ("bytes", c_uint64),
+        ("reserved", c_uint64 * 4),
+        ("message", c_char * 512),
+    ]
+
+
 class relkvanu_store_counts(Structure):
     _fields_ = [
         ("commits", c_uint64),
@@ -134,43 +223,74 @@ class relkvanu_store_measures(Structure):
         ("log_rows", c_uint64),
         ("last_commit", c_uint64),
         ("failed_deletions", c_uint64),
+        ("manifests", c_uint64),
+        ("failed_manifests", c_uint64),
     ]
 
 
+relkvanu_store_delete = CFUNCTYPE(None, c_void_p, POINTER(c_uint64), c_size_t, POINTER(c_uint8))
 relkvanu_store_delete_some = CFUNCTYPE(c_bool, c_void_p, POINTER(c_uint64), c_size_t, POINTER(c_uint8))
 relkvanu_store_source = CFUNCTYPE(c_int64, c_void_p, c_void_p, c_size_t)
-relkvanu_store_delete = CFUNCTYPE(None, c_void_p, POINTER(c_uint64), c_size_t, POINTER(c_uint8))
+relkvanu_store_each_record = CFUNCTYPE(c_bool, c_void_p, POINTER(relkvanu_store_record))
 
 # Of each function, its result and its parameters. A store is a pointer that nobody looks into.
 FUNCTIONS: Dict[str, Tuple[Any, List[Any]]] = {
     "relkvanu_store_open": (c_int, [POINTER(c_void_p), c_char_p, POINTER(relkvanu_store_options), POINTER(relkvanu_store_report)]),
+    "relkvanu_store_job": (c_int, [c_void_p, POINTER(relkvanu_settings), POINTER(c_uint64), POINTER(c_size_t)]),
     "relkvanu_store_close": (None, [c_void_p]),
     "relkvanu_store_calls": (c_int, [c_void_p, POINTER(relkvanu_store_call), c_size_t]),
+    "relkvanu_store_ack": (c_int, [c_void_p, c_uint64, c_uint64, c_uint16, c_uint16, POINTER(c_uint64), c_size_t, POINTER(c_uint64), c_size_t, POINTER(relkvanu_answer)]),
+    "relkvanu_store_ack_in": (c_int, [
+        c_void_p,
+        c_uint64,
+        c_uint64,
+        c_uint64,
+        c_uint16,
+        c_uint16,
+        POINTER(c_uint64),
+        c_size_t,
+        POINTER(c_uint64),
+        c_size_t,
+        POINTER(relkvanu_answer),
+    ]),
+    "relkvanu_store_reserve": (c_int, [c_void_p, c_uint64, c_uint64, POINTER(relkvanu_answer)]),
+    "relkvanu_store_forfeit": (c_int, [c_void_p, c_uint64, POINTER(c_uint64), c_size_t, POINTER(relkvanu_answer)]),
     "relkvanu_store_submit": (c_int, [c_void_p, POINTER(relkvanu_store_call), c_size_t, c_uint64]),
     "relkvanu_store_completed": (c_size_t, [c_void_p, POINTER(relkvanu_store_completion), c_size_t]),
     "relkvanu_store_descriptor": (c_int, [c_void_p]),
     "relkvanu_store_read": (c_int, [c_void_p, POINTER(POINTER(relkvanu))]),
     "relkvanu_store_read_end": (None, [c_void_p]),
+    "relkvanu_store_look": (c_int, [c_void_p, POINTER(c_void_p)]),
     "relkvanu_store_now": (c_uint64, [c_void_p]),
     "relkvanu_store_next_tick": (c_int, [c_void_p, POINTER(c_uint64)]),
     "relkvanu_store_await_tick": (c_int, [c_void_p, c_uint64, POINTER(relkvanu_store_call)]),
-    "relkvanu_store_forfeit": (c_int, [c_void_p, c_uint64, POINTER(c_uint64), c_size_t, POINTER(relkvanu_answer)]),
+    "relkvanu_store_trigger": (c_int, [c_void_p, POINTER(relkvanu_store_call)]),
+    "relkvanu_store_configure": (c_int, [c_void_p, POINTER(relkvanu_settings), POINTER(relkvanu_store_call)]),
+    "relkvanu_store_stop_job": (c_int, [c_void_p, POINTER(relkvanu_store_call)]),
+    "relkvanu_store_begin_job": (c_int, [c_void_p, POINTER(relkvanu_store_call)]),
+    "relkvanu_store_phase": (c_int, [c_void_p, POINTER(relkvanu_store_job_phase)]),
+    "relkvanu_store_go_back": (c_int, [c_void_p, c_uint64, c_uint32, POINTER(relkvanu_store_call)]),
+    "relkvanu_store_advance": (c_int, [c_void_p, c_uint64, c_uint64, POINTER(relkvanu_store_call)]),
     "relkvanu_store_term": (c_int, [c_void_p, POINTER(relkvanu_answer)]),
-    "relkvanu_store_garbage": (
-        c_int, [c_void_p, POINTER(c_uint64), c_size_t, POINTER(c_uint64), POINTER(c_uint64), POINTER(relkvanu_answer)]),
+    "relkvanu_store_garbage": (c_int, [c_void_p, POINTER(c_uint64), c_size_t, POINTER(c_uint64), POINTER(c_uint64), POINTER(relkvanu_answer)]),
     "relkvanu_store_unknown": (c_int, [c_void_p, POINTER(c_uint64), POINTER(c_size_t)]),
-    "relkvanu_store_backup": (c_int, [c_void_p, c_char_p, c_char_p, c_size_t]),
-    "relkvanu_store_put": (c_int, [c_void_p, c_uint64, c_char_p, c_size_t]),
-    "relkvanu_store_put_from": (c_int, [c_void_p, c_uint64, relkvanu_store_source, c_void_p]),
-    "relkvanu_store_put_link": (c_int, [c_void_p, c_uint64, c_int, c_char_p]),
-    "relkvanu_store_why": (c_size_t, [c_char_p, c_size_t]),
-    "relkvanu_store_job": (c_int, [c_void_p, POINTER(relkvanu_settings), POINTER(c_uint64), POINTER(c_size_t)]),
-    "relkvanu_store_sweep": (c_int, [c_void_p, POINTER(c_size_t)]),
     "relkvanu_store_folder": (c_int, [c_void_p]),
     "relkvanu_store_discard": (c_int, [c_void_p, c_size_t, relkvanu_store_delete, c_void_p]),
     "relkvanu_store_discard_for": (c_int, [c_void_p, c_size_t, c_uint64, relkvanu_store_delete_some, c_void_p]),
-    "relkvanu_store_measure": (None, [c_void_p, POINTER(relkvanu_store_measures), c_size_t]),
+    "relkvanu_store_put": (c_int, [c_void_p, c_uint64, c_void_p, c_size_t]),
+    "relkvanu_store_put_from": (c_int, [c_void_p, c_uint64, relkvanu_store_source, c_void_p]),
+    "relkvanu_store_put_link": (c_int, [c_void_p, c_uint64, c_int, c_char_p]),
+    "relkvanu_store_why": (c_size_t, [c_char_p, c_size_t]),
+    "relkvanu_store_delete_files": (None, [c_void_p, POINTER(c_uint64), c_size_t, POINTER(c_uint8)]),
+    "relkvanu_store_sweep": (c_int, [c_void_p, POINTER(c_size_t)]),
     "relkvanu_store_stop": (None, [c_void_p]),
+    "relkvanu_store_backup": (c_int, [c_void_p, c_char_p, c_char_p, c_size_t]),
+    "relkvanu_store_records": (c_int, [c_char_p, relkvanu_store_each_record, c_void_p, c_char_p, c_size_t]),
+    "relkvanu_store_recover": (c_int, [c_char_p, c_char_p, c_uint64, POINTER(relkvanu_store_recovered)]),
+    "relkvanu_store_export": (c_int, [c_char_p, c_uint64, c_char_p, POINTER(relkvanu_store_carried)]),
+    "relkvanu_store_import": (c_int, [c_char_p, c_uint64, c_char_p, c_char_p, POINTER(relkvanu_store_recovered)]),
+    "relkvanu_store_put_back": (c_int, [c_char_p, c_char_p, c_char_p, POINTER(relkvanu_store_recovered)]),
     "relkvanu_store_count": (None, [c_void_p, POINTER(relkvanu_store_counts)]),
+    "relkvanu_store_measure": (None, [c_void_p, POINTER(relkvanu_store_measures), c_size_t]),
     "relkvanu_store_message": (c_size_t, [c_void_p, c_char_p, c_size_t]),
 }

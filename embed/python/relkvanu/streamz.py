@@ -19,27 +19,19 @@ from typing import Any, Callable, Dict, Iterator, List, Optional, Sequence, Tupl
 
 import streamz
 import streamz.core
-import streamz.sinks
 
 from relkvanu.coordinator import Error, Fenced, OutOfMemory, Refused, Settings
+from relkvanu.graphs import GraphError as GraphError  # also under this name
+from relkvanu.graphs import nodes_of, stateful_here
 from relkvanu.replies import AckCompleted, DeclineFailed, Failed, RestoredCheckpoint, RestoredSavepoint, SavepointTriggered, Triggered
 from relkvanu.store import Call, Made, Step, Store, StoreError
 
-# Nodes without a state, through which an element passes before emit() returns. Any other type may keep or delay elements.
-STATELESS = (
-    streamz.Stream, streamz.core.map, streamz.core.starmap, streamz.core.filter, streamz.core.flatten, streamz.core.pluck, streamz.core.union,
-    streamz.sinks.sink,
-)
 STATES, POSITION = 0, 1  # the vertices of the job: a subtask for each node, and one for the position
 HEAD = b"relkvanu.streamz 1 "
 EVERY = 10_000
 NAMES = 100  # that a reservation gets
 FAILED = "1000 checkpoints in a row could not be taken: restore()"
 T = TypeVar("T")
-
-
-class GraphError(Error, ValueError):
-    """The graph can't be checkpointed, or is not that of the checkpoint."""
 
 
 class StateError(Error):
@@ -49,34 +41,6 @@ class StateError(Error):
 class NotWhole(Error):
     """An element failed in the graph, so some nodes may have seen it and others not, or a checkpoint failed halfway. restore() puts the states of
     the last checkpoint back."""
-
-
-def _nodes(sources: Sequence[Any]) -> List[Any]:
-    """The nodes of the graphs of these sources, each once."""
-    found: Dict[int, Any] = {}
-    left = list(sources)
-    while left:
-        node = left.pop()
-        if id(node) not in found:
-            found[id(node)] = node
-            left += [*node.downstreams, *(it for it in node.upstreams if it is not None)]
-    return list(found.values())
-
-
-def _stateful(nodes: Sequence[Any], sources: Sequence[Any]) -> Dict[str, Any]:
-    """The accumulate nodes by name, in the order of their names."""
-    for node in nodes:
-        if type(node) is not streamz.core.accumulate and type(node) not in STATELESS:
-            raise GraphError(f"a {type(node).__name__} node keeps or delays elements: only accumulate nodes may have a state")
-        if node.loop is not None:
-            raise GraphError("the graph has an event loop: an element may be under way between two calls of emit")
-        if type(node) is streamz.Stream and not any(node is it for it in sources) and not node.upstreams:
-            raise GraphError("the graph has another source")
-    found = [it for it in nodes if type(it) is streamz.core.accumulate]
-    names = [it.name if it.name or len(found) > 1 else "accumulate" for it in found]
-    if not found or None in names or len(set(names)) < len(names):
-        raise GraphError("each accumulate node needs a stream_name of its own, and there has to be one")
-    return dict(sorted(zip(names, found), key=lambda it: str(it[0])))
 
 
 def _make_folders(path: pathlib.Path) -> None:
@@ -123,7 +87,7 @@ class Checkpoints:
         default they pickle, so nobody else may write to the folder. A commit that meets a full disk tries again for `patience`
         milliseconds."""
         self._sources = list(sources) if isinstance(sources, (list, tuple)) else [sources]
-        self._nodes = _stateful(_nodes(self._sources), self._sources)
+        self._nodes = stateful_here(nodes_of(self._sources), self._sources)
         self._dumps, self._loads = dumps, loads
         # as bytes, because a function of the graph may change a state in place
         self._starts = [self._packed(name, node.state) for name, node in self._nodes.items()]
@@ -292,7 +256,7 @@ class Checkpoints:
     def _is_as_it_was(self) -> bool:
         """Whether the graph has the nodes that it had."""
         try:
-            found = _stateful(_nodes(self._sources), self._sources)
+            found = stateful_here(nodes_of(self._sources), self._sources)
         except GraphError:
             return False
         return len(found) == len(self._nodes) and all(found.get(name) is node for name, node in self._nodes.items())

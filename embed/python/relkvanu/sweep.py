@@ -7,7 +7,7 @@ from dataclasses import dataclass, field
 from typing import Any, Callable, Dict, Iterator, List, Optional, Sequence
 
 from relkvanu.command import FAILED, LOOK_FIRST, Stop, add_place, address, module, place, ran, seconds, service_client, token
-from relkvanu.coordinator import Error
+from relkvanu.errors import Error
 from relkvanu.others import OthersFiles, check_names
 from relkvanu.reads import Garbage
 from relkvanu.storage import PAGE, KeepsVersions, Marker, Names, NotThere, OtherJob, SizedStorage

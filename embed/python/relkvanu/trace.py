@@ -37,10 +37,13 @@ class Event:
     reused: Files = ()
     word: str = ""  # how an answer was, or who deletes
     line: str = ""  # of the log
+    other: int = 0  # of a record, beside `number`
+    source: str = ""  # a subtask that sends
 
 
 NUMBER = r"([0-9]{1,19})"
-TASK = r"([0-9]+\.[0-9]+) " + NUMBER
+SUBTASK = r"([0-9]+\.[0-9]+)"
+TASK = SUBTASK + " " + NUMBER
 FILES = r"((?: [0-9]{1,19})*)"
 SIGNED = r"((?: [+=][0-9]{1,19})*)"
 # Each line's form, its verb, and what its groups are.
@@ -72,6 +75,17 @@ FORMS: Tuple[Tuple[str, str, str], ...] = (
     (r"folder synced", "folder synced", ""),
     (r"storage (away|back|loses power)", "storage", "word"),
     (rf"term {NUMBER} of {TASK}", "term", "number task"),
+    (rf"channel {SUBTASK} to {SUBTASK}", "channel", "source word"),
+    (rf"task {TASK} reads {NUMBER}", "reads", "task number"),
+    (rf"task {TASK} takes {NUMBER} from {SUBTASK}", "takes", "task number source"),
+    (rf"task {TASK} takes barrier {NUMBER} from {SUBTASK}", "takes barrier", "task number source"),
+    (rf"task {TASK} prepares {NUMBER}", "prepares", "task number"),
+    (rf"task {TASK} publishes{FILES}", "publishes", "task files"),
+    (rf"task {TASK} drops{FILES}", "drops", "task files"),
+    (rf"complete {NUMBER} to {TASK}", "complete", "number task"),
+    (rf"stop with {NUMBER}", "stop", "number"),
+    (r"begin", "begin", ""),
+    (rf"back to {NUMBER} with {NUMBER}", "back", "other number"),
 )
 COMPILED = tuple((re.compile(form), verb, names.split()) for form, verb, names in FORMS)
 # embed/bindings makes the first words of calls
@@ -82,12 +96,17 @@ LOGGED = re.compile(rf"(config|job|start|in|{_CALLS})( .*)?")  # the library say
 
 def _event(verb: str, names: List[str], groups: Iterator[str]) -> Event:
     task, number, files, reused, word, line = None, 0, (), (), "", ""  # type: Optional[Task], int, Files, Files, str, str
+    other, source = 0, ""
     for name in names:
         group = next(groups)
         if name == "task":
             task = Task(group, int(next(groups)))
         elif name == "number":
             number = int(group)
+        elif name == "other":
+            other = int(group)
+        elif name == "source":
+            source = group
         elif name == "files":
             files = tuple(map(int, group.split()))
         elif name == "signed":
@@ -97,7 +116,7 @@ def _event(verb: str, names: List[str], groups: Iterator[str]) -> Event:
             word = group
         else:
             line = group
-    return Event(verb, task, number, files, reused, word, line)
+    return Event(verb, task, number, files, reused, word, line, other, source)
 
 
 def read(text: str) -> Optional[Event]:

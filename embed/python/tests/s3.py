@@ -120,6 +120,12 @@ class Files(OnAServer):
         with self.assertRaises(Exists):
             self.files.put(2, b"state")
 
+    def test_a_thousand_are_deleted_by_one_request(self):
+        self.files.put(1, b"state")
+        self.assertEqual(self.requests(lambda: self.files.delete(range(1, 1001)), lambda: self.files.delete(range(1001))), [
+            ["GetObject", "DeleteObjects", "GetObject"], ["GetObject", "DeleteObjects", "DeleteObjects", "GetObject"]])
+        self.assertEqual(list(self.files.pages()), [])
+
     def test_a_server_that_does_not_refuse_an_object_that_is_there(self):
         with mock.patch("relkvanu.s3._if_none_match", lambda **_: None):
             self.files.put(1, b"first")

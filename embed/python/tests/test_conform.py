@@ -75,7 +75,7 @@ class Breaking(Judging):
     """Each changes the job that obeys the rules in one place."""
 
     def test_each_rule_has_a_sentence(self):
-        self.assertEqual(sorted(RULES), list(range(1, 11)))
+        self.assertEqual(sorted(RULES), list(range(1, 16)))
         self.assertLessEqual(set(NAMED_RULES), set(RULES))
 
     def test_1_a_barrier_an_answer_a_deletion_and_a_start_rest_on_the_log(self):
@@ -315,6 +315,99 @@ class Damaged(unittest.TestCase):
     def test_a_process_that_has_ended(self):
         self.refuses([*OPENING, "process 1 ends", "tick 10"], 8)
         self.refuses([*OPENING, "process 1 ends", "process 1 goes on"], 8)
+
+
+def acknowledged(record, task, end=("log synced",)):
+    """A message of a task without files, and what the process does with it."""
+    subtask = task.split()[0]
+    return [f"task {task} sends ack {record}", f"from {task}", f"ack 0 {record} {subtask}", *end, f"answer to {task} accepted"]
+
+
+def with_sink(record, call, task="0.0 1", end=("log synced",)):
+    """A record of one task with a sink, up to the answer. `call` makes it."""
+    return [*call, f"barrier {record} to {task}", f"task {task} begins {record}", f"task {task} prepares {record}", *acknowledged(record, task, end)]
+
+
+def read(*elements, task="0.0 1"):
+    return [f"task {task} reads {element}" for element in elements]
+
+
+FIRST = [*OPENING, *read(1), *with_sink(1, ["tick 10", "log synced"]), "complete 1 to 0.0 1"]  # and not published yet
+BEGUN = ["restore 0 latest", "log synced", "task 0.0 2 starts"]
+STOP = ["savepoint 0", "stop with 2", "log synced"]
+BACK = ["savepoint 0", "back to 1 with 3", "ack 0 3 0.0", "restore 0 3", "log synced", "task 0.0 2 starts"]
+CHAINED = ["process 1 starts", "config 10 0 1 1000 0 1 delete", "job 2", "start 0", "log synced", "channel 0.0 to 0.1", "task 0.0 1 starts",
+           "task 0.1 1 starts", "task 0.0 1 reads 1", "tick 10", "log synced", "barrier 1 to 0.0 1", "barrier 1 to 0.1 1", "task 0.0 1 begins 1"]
+
+
+class Elements(Judging):
+    """What sources read and sinks publish."""
+
+    def test_a_stop_and_a_begin(self):
+        stopped = [*FIRST, "task 0.0 1 publishes 1", *read(2), *with_sink(2, STOP, end=("restore 0 2", "log synced", "complete 2 to 0.0 1"))]
+        again = [*read(3, task="0.0 2"), *with_sink(3, ["tick 20", "log synced"], "0.0 2"), "complete 3 to 0.0 2", "task 0.0 2 publishes 3"]
+        self.assertEqual(check([*stopped, "task 0.0 1 publishes 2", "begin", *BEGUN, *again]), [])
+        self.assertEqual(check([*stopped, "begin", *BEGUN, "task 0.0 2 publishes 2", *again]), [])
+        self.breaks([*stopped, "begin", *BEGUN, *again], 12, len(stopped) + 5)
+
+    def test_a_way_back(self):
+        later = [*FIRST, "task 0.0 1 publishes 1", *read(2), "savepoint 0", "log synced", "barrier 2 to 0.0 1", "task 0.0 1 begins 2", "task 0.0 1 prepares 2"]
+        again = [*read(2, task="0.0 2"), *with_sink(4, ["tick 20", "log synced"], "0.0 2"), "complete 4 to 0.0 2", "task 0.0 2 publishes 4"]
+        self.assertEqual(check([*later, *BACK, "task 0.0 2 drops 2", *again]), [])
+        self.breaks([*later, *BACK, "task 0.0 2 publishes 2", *again], 12, len(later) + len(BACK) + 1, "element 2 of 0.0 is published twice")
+
+    def test_what_was_published_before_a_way_back_comes_again(self):
+        second = [*FIRST, "task 0.0 1 publishes 1", *read(2), *with_sink(2, ["tick 20", "log synced"]), "complete 2 to 0.0 1", "task 0.0 1 publishes 2"]
+        back = ["restore 20 3" if line == "restore 0 3" else line for line in BACK]
+        again = [*read(2, task="0.0 2"), *with_sink(4, ["tick 30", "log synced"], "0.0 2"), "complete 4 to 0.0 2", "task 0.0 2 publishes 4"]
+        retained = ["config 10 0 1 1000 0 2 delete" if line.startswith("config") else line for line in [*second, *back, *again]]
+        self.assertEqual(check(retained), [])
+
+    def test_3_a_target_takes_nothing_of_a_task_that_was_replaced(self):
+        lines = [*FIRST, *BEGUN, "task 0.0 2 publishes 1"]
+        self.breaks([*lines, "task 0.0 1 prepares 2"], 3, len(lines) + 1)
+        self.breaks([*lines, "task 0.0 1 drops 1"], 3, len(lines) + 1)
+        self.breaks([*FIRST, *BEGUN, "task 0.0 1 publishes 1"], 3, len(FIRST) + len(BEGUN) + 1)
+
+    def test_11_a_snapshot_before_the_barrier_on_a_channel(self):
+        whole = [*CHAINED, "task 0.1 1 takes 1 from 0.0", "task 0.1 1 takes barrier 1 from 0.0", "task 0.1 1 begins 1", "task 0.1 1 prepares 1"]
+        ends = [*acknowledged(1, "0.0 1"), *acknowledged(1, "0.1 1"), "complete 1 to 0.1 1", "task 0.1 1 publishes 1"]
+        self.assertEqual(check([*whole, *ends]), [])
+        early = without(without(whole, "task 0.1 1 takes 1 from 0.0"), "task 0.1 1 takes barrier 1 from 0.0")
+        self.breaks([*early, *ends], 11, len(CHAINED) + 1, "element 1 of 0.0 is lost: record 1")
+
+    def test_11_an_element_behind_the_barrier(self):
+        lines = [*CHAINED, "task 0.0 1 reads 2", "task 0.1 1 takes 1 from 0.0", "task 0.1 1 takes barrier 1 from 0.0", "task 0.1 1 takes 2 from 0.0"]
+        self.breaks(lines, 11, len(lines))
+        late = [*lines[:-1], "savepoint 0", "log synced", "barrier 2 to 0.1 1", lines[-1]]  # record 1 is over: the coordinator says so by the next one
+        self.assertEqual(check(late), [])
+
+    def test_12_what_is_found_is_given_up(self):
+        second = [*FIRST, "task 0.0 1 publishes 1", *read(2), "savepoint 0", "log synced", "barrier 2 to 0.0 1", "task 0.0 1 begins 2", "task 0.0 1 prepares 2"]
+        self.assertEqual(check([*second, *BEGUN, "task 0.0 2 drops 2", *read(2, task="0.0 2")]), [])
+        self.breaks([*second, *BEGUN, *read(2, task="0.0 2")], 12, len(second) + len(BEGUN) + 1)
+
+    def test_13_a_savepoint_and_a_record_that_is_not_complete(self):
+        saved = [*OPENING, *read(1), *with_sink(1, ["savepoint 0", "log synced"])]
+        self.breaks([*saved, "task 0.0 1 publishes 1"], 13, len(saved) + 1)
+        self.assertEqual(check([*saved, "restore 0 1", "log synced", "task 0.0 1 publishes 1"]), [])
+        pending = saved[:saved.index("task 0.0 1 sends ack 1")]
+        self.breaks([*pending, "task 0.0 1 publishes 1"], 13, len(pending) + 1)
+
+    def test_14_a_task_goes_on_while_the_job_stops(self):
+        stopping = [*FIRST, "task 0.0 1 publishes 1", *STOP, "barrier 2 to 0.0 1", "task 0.0 1 begins 2", "task 0.0 1 prepares 2"]
+        self.breaks([*stopping, *read(2)], 14, len(stopping) + 1)
+        declined = [*stopping, "task 0.0 1 sends decline 2", "from 0.0 1", "decline 0 2 0.0", "log synced"]
+        self.assertEqual(check([*declined, *read(2)]), [])
+
+    def test_15_a_task_is_told_of_a_way_back(self):
+        lines = [*FIRST, "task 0.0 1 publishes 1", "savepoint 0", "back to 1 with 2", "log synced", "barrier 2 to 0.0 1"]
+        self.breaks(lines, 15, len(lines))
+
+    def test_1_a_sink_is_told_before_the_log_is_synced(self):
+        unanswered = without(FIRST, "answer to 0.0 1 accepted")
+        self.assertEqual(check(unanswered), [])
+        self.breaks(without(unanswered, "log synced", 2), 1, len(unanswered) - 1)
 
 
 class AnEngine(unittest.TestCase):

@@ -66,10 +66,22 @@ class Empty(unittest.TestCase):
         self.assertEqual(self.call("fenced_text", header.OLD_TERM, *EMPTY), len("OldTerm"))
         self.assertEqual(self.call("answer_text", CLOSED, *EMPTY), len("closed"))
 
+    def step(self, what, name, *given):
+        aligner = header.relkvanu_aligner(latest=7)
+        self.assertEqual((self.call(f"align_{name}", aligner, *EMPTY, *given).what, aligner.latest), (what, 7), name)
+
+    def alignment(self):
+        self.step(header.STEP_BAD_INPUTS, "open")
+        self.step(header.STEP_UNKNOWN_INPUT, "element", 0)
+        self.step(header.STEP_UNKNOWN_INPUT, "barrier", 0, 1)
+        self.step(header.STEP_UNKNOWN_INPUT, "end", 0)
+        self.step(header.STEP_NOTHING, "give_up", 7)
+
     def test_null(self):
         self.calls()
         self.calls_of_names()
         self.texts()
+        self.alignment()
         with_lists = {name for name, (_, given) in header.FUNCTIONS.items() if any(it in LISTS for it in given)}
         self.assertEqual(with_lists - self.called, set())
 

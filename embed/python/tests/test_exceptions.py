@@ -9,7 +9,7 @@ import unittest
 
 import relkvanu
 from relkvanu import (
-    BadArgument, BadLine, Closed, Coordinator, Error, Fenced, OutOfMemory, OutOfRange, Refused, Settings, TooShort, Triggered, Unknown, header,
+    BadArgument, BadLine, BadStep, Closed, Coordinator, Error, Fenced, OutOfMemory, OutOfRange, Refused, Settings, TooShort, Triggered, Unknown, header,
 )
 
 ALL = [
@@ -20,6 +20,7 @@ ALL = [
     (TooShort(5), "the line would fetch 5 files", ("places",)),
     (BadArgument("BadShape"), "BadShape", ("name",)),
     (BadLine("Missing"), "Missing", ("name",)),
+    (BadStep("HeldInput"), "HeldInput", ("name",)),
     (OutOfRange("8 has more than 3 bits"), "8 has more than 3 bits", ()),
     (OutOfMemory(), "", ()),
     (Closed(), "", ()),

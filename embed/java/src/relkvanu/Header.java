@@ -245,6 +245,30 @@ final class Header {
     static final int CALL_CONFIGURE = 17;
     /** relkvanu_advance */
     static final int CALL_ADVANCE = 18;
+    /** process the element now */
+    static final int STEP_PROCESS = 1;
+    /** leave the element, and all behind it, on its input, until the next cut or abandon */
+    static final int STEP_HOLD = 2;
+    /** nothing is to be done: no record is being aligned */
+    static final int STEP_NOTHING = 3;
+    /** go on: an open input has not delivered the barrier yet */
+    static final int STEP_WAIT = 4;
+    /** drop the barrier and go on: the record was cut or given up before */
+    static final int STEP_LATE = 5;
+    /** take the snapshot for record id now, and then send its barrier on each output, before anything else */
+    static final int STEP_CUT = 6;
+    /** decline record id: it can no longer be cut */
+    static final int STEP_ABANDON = 7;
+    /** nothing has changed: the task has no input with this number */
+    static final int STEP_UNKNOWN_INPUT = 8;
+    /** nothing has changed: the barrier or the end has to wait until the input is released */
+    static final int STEP_HELD_INPUT = 9;
+    /** nothing has changed: the input has ended */
+    static final int STEP_ENDED_INPUT = 10;
+    /** nothing has changed: a task has 1 to RELKVANU_MOST_INPUTS inputs */
+    static final int STEP_BAD_INPUTS = 11;
+    /** the most inputs of a task */
+    static final int MOST_INPUTS = 4096;
     /** no text of an answer has more bytes */
     static final int ANSWER_TEXT = 128;
 }

@@ -54,14 +54,23 @@ final class Library {
             System.load(Path.of(given).toAbsolutePath().toString());
             return;
         }
-        String system = System.getProperty("os.name").toLowerCase(Locale.ROOT) + "-" + System.getProperty("os.arch");
-        try (InputStream in = Library.class.getResourceAsStream("native/" + system + "/lib" + name + ".so")) {
+        try (InputStream in = Library.class.getResourceAsStream(inJar(name))) {
             if (in == null) {
                 System.loadLibrary(name);
             } else {
                 loadCopy(in, name);
             }
         }
+    }
+
+    /** Where the jar has a library for this system, if it has one. */
+    private static String inJar(String name) {
+        String system = System.getProperty("os.name").toLowerCase(Locale.ROOT) + "-" + System.getProperty("os.arch");
+        return "native/" + system + "/lib" + name + ".so";
+    }
+
+    static boolean isInJar(String name) {
+        return Library.class.getResource(inJar(name)) != null;
     }
 
     /** Nobody else can write to the folder. Linux keeps what is mapped when the file is gone. */

@@ -34,8 +34,9 @@ import java.util.function.IntSupplier;
  * open until the process ends, which loses nothing.
  */
 public final class Store implements AutoCloseable {
-    static final int NOT_MADE = 100;
+    static final int NOT_MADE = StoreHeader.NOT_MADE;
     private static final long FOREVER = -1;
+    private static final long[] NONE = new long[7];
     private static final Charset NAMES = Charset.forName(System.getProperty("sun.jnu.encoding", "UTF-8"));
 
     private final long address;
@@ -72,16 +73,16 @@ public final class Store implements AutoCloseable {
         return new Store(handle[0], StoreReport.of(report));
     }
 
-    private static byte[] bytes(Path path) {
+    static byte[] bytes(Path path) {
         return path.toString().getBytes(NAMES);
     }
 
-    private static String text(byte[] message) {
+    static String text(byte[] message) {
         String text = new String(message, StandardCharsets.UTF_8);
         return text.substring(0, Math.max(text.indexOf(0), 0));
     }
 
-    private static CoordinatorException fault(int status, String message) {
+    static CoordinatorException fault(int status, String message) {
         return status == StoreFault.NO_MEMORY ? new CoordinatorException.NoMemory() : new CoordinatorException.NotStored(StoreFault.of(status), message);
     }
 
@@ -481,8 +482,90 @@ public final class Store implements AutoCloseable {
     }
 
     /**
-     * A timer, in a loop of a thread: sleeps until a tick is due, and makes it. After {@link #stop} and {@link #close} it
-     * throws {@code NotStored} with {@code STOPPED}.
+     * Other settings, from the next tick on. Done checkpoints above the new number retained go in the same commit. Throws {@code NotStored} with
+     * {@code BAD_ARGUMENT} if a value is outside its limits. This and the next four are the commands of an operator, as is {@link #trigger}: any thread
+     * makes them, also while another one is in {@link #awaitTick}, which hands over what they have made.
+     *
+     * @param settings the settings
+     * @return how many checkpoints were dropped, and how many files released
+     */
+    public Reply.Configured configure(Settings settings) {
+        return (Reply.Configured) command(StoreNative.CONFIGURE, 0, 0, settings.numbers()).reply();
+    }
+
+    /**
+     * Stops the job with a savepoint. With its last acknowledgement the job is stopped, in the same commit. Throws {@code NotStored} with {@code
+     * NOT_NOW} if it is being stopped, or is stopped.
+     *
+     * @return the savepoint
+     */
+    public Reply.SavepointTriggered stopJob() {
+        return (Reply.SavepointTriggered) command(StoreNative.STOP_JOB, 0, 0, NONE).reply();
+    }
+
+    /**
+     * A job that is stopped goes on. Throws {@code NotStored} with {@code NOT_NOW} if it is not stopped.
+     *
+     * @return where it begins, and the term of its tasks
+     */
+    public StoreOutcome.Made beginJob() {
+        return command(StoreNative.BEGIN_JOB, 0, 0, NONE);
+    }
+
+    /**
+     * Goes back to a done checkpoint that is retained, in one commit.
+     *
+     * @param id the checkpoint
+     * @param acceptPublished what sinks have published for later records is not taken back, and the job will publish it again: has to say that this is
+     *     accepted, or {@code BAD_ARGUMENT} is thrown
+     * @return where the job begins, and the term of its tasks
+     */
+    public StoreOutcome.Made goBack(long id, boolean acceptPublished) {
+        return command(StoreNative.GO_BACK, id, acceptPublished ? 1 : 0, NONE);
+    }
+
+    /**
+     * Begins a job with names again that lacks its last calls, in place of the first restore. It is not handed over.
+     *
+     * @param term the greatest term that any task was told
+     * @param firstName names are given out from it on
+     * @return where the job begins, and the term of its tasks
+     */
+    public StoreOutcome.Made advance(long term, long firstName) {
+        return command(StoreNative.ADVANCE, term, firstName, NONE);
+    }
+
+    private StoreOutcome.Made command(int command, long first, long second, long[] settings) {
+        long[] outcome = new long[StoreNative.OUTCOME];
+        byte[] why = new byte[StoreNative.MESSAGE];
+        outsideRead();
+        enter();
+        try {
+            int status = StoreNative.command(address, command, first, second, settings, outcome, why);
+            if (status == StoreFault.BAD_ARGUMENT.status || status == StoreFault.NOT_NOW.status) {
+                throw new CoordinatorException.NotStored(StoreFault.of(status), text(why));
+            }
+            check(status);
+        } finally {
+            leave();
+        }
+        return outcome(outcome, 0, outcome, 0).made();
+    }
+
+    /**
+     * {@return the phase of the job, of what is committed} It never waits for a commit.
+     */
+    public JobPhase phase() {
+        long[] phase = new long[4];
+        checked(() -> StoreNative.phase(address, phase));
+        return JobPhase.of(phase);
+    }
+
+    /**
+     * A timer, in a loop of a thread: sleeps until a tick is due, and makes it. It also hands over, once, what {@link #trigger}, {@link #stopJob}, {@link
+     * #beginJob} and {@link #goBack} have made. After a trigger and a savepoint (the job is being stopped) the engine sends the barrier; after a restore it
+     * begins there, as after one of its own. After {@link #stop} and {@link #close} it throws {@code NotStored} with {@code STOPPED}, with {@code
+     * JOB_STOPPED} while the job is stopped, and with {@code NOT_STOPPED} once after a stop that failed.
      *
      * @param longest the longest sleep
      * @return the tick as it was made; empty if none was due
@@ -538,10 +621,9 @@ public final class Store implements AutoCloseable {
         enter();
         try {
             int status = StoreNative.put(address, file, contents, why);
-            if (status == StoreFault.NOT_PUT.status) {
+            if (status != StoreFault.OK) {
                 throw fault(status, text(why));
             }
-            check(status);
         } finally {
             leave();
         }

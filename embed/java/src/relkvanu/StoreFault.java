@@ -3,48 +3,52 @@ package relkvanu;
 /** Why a {@link Store} was not opened, or why calls were not committed. */
 public enum StoreFault {
     /** The settings, the shape or another option; or a list of no call, or of more than 4096. */
-    BAD_ARGUMENT(1),
+    BAD_ARGUMENT(StoreHeader.BAD_ARGUMENT),
     /** Another process, or this one, has the job open. The message names it. */
-    IN_USE(3),
+    IN_USE(StoreHeader.IN_USE),
     /** There is no job, and the options don't allow to make one. */
-    ABSENT(4),
+    ABSENT(StoreHeader.ABSENT),
     /** There is a job, and the options forbid it. */
-    PRESENT(5),
+    PRESENT(StoreHeader.PRESENT),
     /** It is another kind of file, or one of a later version. */
-    NOT_A_STORE(6),
+    NOT_A_STORE(StoreHeader.NOT_A_STORE),
     /** A call of the log gets another answer, or is refused. The message says which. */
-    DIFFERS(7),
+    DIFFERS(StoreHeader.DIFFERS),
     /** An image, a call or the file is damaged. The message says which. */
-    DAMAGED(8),
+    DAMAGED(StoreHeader.DAMAGED),
     /** The storage folder is not that of this job, or a new job's has files, or the job's file is an older copy, or the folder lacks its marker. */
-    STORAGE(9),
+    STORAGE(StoreHeader.STORAGE),
     /** An earlier commit failed. */
-    CLOSED(10),
+    CLOSED(StoreHeader.CLOSED),
     /** This process is a child of the one that opened the store. */
-    FORKED(11),
-    /** No sweep of a job without names is safe now, or another thread discards. */
-    NOT_NOW(13),
+    FORKED(StoreHeader.FORKED),
+    /** No sweep of a job without names is safe now, or another thread discards, or the phase of the job does not allow it. */
+    NOT_NOW(StoreHeader.NOT_NOW),
     /** The store was stopped. */
-    STOPPED(14),
+    STOPPED(StoreHeader.STOPPED),
     /** A state file was not made. */
-    NOT_PUT(15),
+    NOT_PUT(StoreHeader.NOT_PUT),
     /** A read, write or sync failed. */
-    FAILED(16),
+    FAILED(StoreHeader.FAILED),
     /** The disk is full. */
-    FULL(17),
+    FULL(StoreHeader.FULL),
     /** The file, its folder or the file system is read-only. */
-    READ_ONLY(18),
+    READ_ONLY(StoreHeader.READ_ONLY),
     /** Another program keeps a lock of the file. */
-    BUSY(19),
+    BUSY(StoreHeader.BUSY),
     /** SQLite has no memory for a commit. */
-    OUT_OF_MEMORY(20),
+    OUT_OF_MEMORY(StoreHeader.OUT_OF_MEMORY),
     /** A sweep: the folder could not be read or synced: sweep again later. */
-    NOT_DONE(22);
+    NOT_DONE(StoreHeader.NOT_DONE),
+    /** A timer: the job is stopped, so no tick is due until it begins again. */
+    JOB_STOPPED(StoreHeader.JOB_STOPPED),
+    /** A timer: a stop of the job has failed, and {@link Store#phase} says why. */
+    NOT_STOPPED(StoreHeader.NOT_STOPPED);
 
-    static final int OK = 0;
-    static final int NO_MEMORY = 2;
-    static final int TIMED_OUT = 12;
-    static final int NOT_RUNNING = 21;
+    static final int OK = StoreHeader.OK;
+    static final int NO_MEMORY = StoreHeader.NO_MEMORY;
+    static final int TIMED_OUT = StoreHeader.TIMED_OUT;
+    static final int NOT_RUNNING = StoreHeader.NOT_RUNNING;
     private static final StoreFault[] ALL = values();
     final int status;
 

@@ -6,8 +6,8 @@ final class StoreNative {
     static final int CALL = Native.CALL + 3;
     static final int OUTCOME = Native.ANSWER + 4;
     static final int REPORT = 14;
-    static final int MOST_STEPS = 8;
-    static final int MESSAGE = 512;
+    static final int MOST_STEPS = StoreHeader.MOST_STEPS;
+    static final int MESSAGE = StoreHeader.MESSAGE;
     static final int COUNTS = 10;
 
     private StoreNative() {}
@@ -26,6 +26,17 @@ final class StoreNative {
 
     static native int awaitTick(long store, long longest, long[] outcome);
 
+    /** The commands of {@link #command}. */
+    static final int CONFIGURE = 0;
+    static final int STOP_JOB = 1;
+    static final int BEGIN_JOB = 2;
+    static final int GO_BACK = 3;
+    static final int ADVANCE = 4;
+
+    static native int command(long store, int command, long first, long second, long[] settings, long[] outcome, byte[] why);
+
+    static native int phase(long store, long[] phase);
+
     static native int read(long store, long[] handle);
 
     static native void readEnd(long store);
@@ -37,6 +48,16 @@ final class StoreNative {
     static native int unknown(long store, long[] files, long[] length);
 
     static native int put(long store, long file, byte[] contents, byte[] why);
+
+    static native int openTask(byte[] folder, long first, long second, long epoch, long[] task, byte[] why);
+
+    static native void closeTask(long task);
+
+    static native int checkTask(long task, byte[] why);
+
+    static native int putTask(long task, long file, byte[] contents, byte[] why);
+
+    static native int getTask(long task, long file, byte[] contents, long[] length, byte[] why);
 
     static native int backup(long store, byte[] path, byte[] message);
 

@@ -19,9 +19,29 @@ import java.util.function.Consumer;
  *     recovered job keeps what it has
  * @param isBackup whether it is a backup, which is opened so once, after all processes and tasks of the job have ended: see {@link Store#backup}. Then
  *     no job is made
+ * @param hasManifests whether the storage gets a manifest of each complete record, of which the command relkvanu-store makes the job again if its file is
+ *     lost
  */
 public record StoreOptions(Opening opening, Optional<Path> storage, boolean adopts, boolean fromEarlierImage, Duration patience, long imageCalls, long mostAhead, boolean isPlain,
-    boolean isBackup) {
+    boolean isBackup, boolean hasManifests) {
+    /**
+     * Options of a job without manifests.
+     *
+     * @param opening whether it may make a job
+     * @param storage the folder of the state files
+     * @param adopts whether a new job may have a storage with files
+     * @param fromEarlierImage whether to begin with the image before the last one
+     * @param patience for how long a commit is tried again
+     * @param imageCalls after how many calls an image is written
+     * @param mostAhead how many milliseconds a moment may be ahead
+     * @param isPlain whether a job that is made has no names
+     * @param isBackup whether it is a backup
+     */
+    public StoreOptions(Opening opening, Optional<Path> storage, boolean adopts, boolean fromEarlierImage, Duration patience, long imageCalls, long mostAhead, boolean isPlain,
+        boolean isBackup) {
+        this(opening, storage, adopts, fromEarlierImage, patience, imageCalls, mostAhead, isPlain, isBackup, false);
+    }
+
     /**
      * Options of a job that is no backup.
      *
@@ -63,10 +83,6 @@ public record StoreOptions(Opening opening, Optional<Path> storage, boolean adop
         CREATE_ONLY
     }
 
-    private static final int ADOPT = 4;
-    private static final int EARLIER_IMAGE = 8;
-    private static final int PLAIN = 16;
-    private static final int BACKUP = 32;
 
     /**
      * {@return options without a storage}
@@ -149,6 +165,15 @@ public record StoreOptions(Opening opening, Optional<Path> storage, boolean adop
         return with(it -> it.isBackup = isOne);
     }
 
+    /**
+     * {@return these options, whose storage gets manifests, or gets none}
+     *
+     * @param hasSome whether it gets some
+     */
+    public StoreOptions withManifests(boolean hasSome) {
+        return with(it -> it.hasManifests = hasSome);
+    }
+
     /** Options while one of them changes. */
     private static final class Draft {
         Opening opening;
@@ -160,6 +185,7 @@ public record StoreOptions(Opening opening, Optional<Path> storage, boolean adop
         long mostAhead;
         boolean isPlain;
         boolean isBackup;
+        boolean hasManifests;
     }
 
     private StoreOptions with(Consumer<Draft> change) {
@@ -173,13 +199,15 @@ public record StoreOptions(Opening opening, Optional<Path> storage, boolean adop
         it.mostAhead = mostAhead;
         it.isPlain = isPlain;
         it.isBackup = isBackup;
+        it.hasManifests = hasManifests;
         change.accept(it);
-        return new StoreOptions(it.opening, it.storage, it.adopts, it.fromEarlierImage, it.patience, it.imageCalls, it.mostAhead, it.isPlain, it.isBackup);
+        return new StoreOptions(it.opening, it.storage, it.adopts, it.fromEarlierImage, it.patience, it.imageCalls, it.mostAhead, it.isPlain, it.isBackup, it.hasManifests);
     }
 
     /** In the order of store_jni.c. */
     long[] numbers() {
-        long flags = opening.ordinal() | (adopts ? ADOPT : 0) | (fromEarlierImage ? EARLIER_IMAGE : 0) | (isPlain ? PLAIN : 0) | (isBackup ? BACKUP : 0);
+        long flags = opening.ordinal() | (adopts ? StoreHeader.ADOPT : 0) | (fromEarlierImage ? StoreHeader.EARLIER_IMAGE : 0) | (isPlain ? StoreHeader.PLAIN : 0) | (isBackup ? StoreHeader.BACKUP : 0)
+            | (hasManifests ? StoreHeader.MANIFESTS : 0);
         return new long[] {flags, Math.min(Math.max(patience.toMillis(), 0), 0xffff_ffffL), imageCalls, Checks.natural(mostAhead, "a time")};
     }
 }

@@ -8,7 +8,7 @@ import java.util.Optional;
  * What the opening of a {@link Store} found.
  *
  * @param isRecovered whether there was a job
- * @param settingsDiffer whether the job was made with other settings or another shape, which it keeps
+ * @param settingsDiffer whether the job has other settings, or was made with another shape, which it keeps
  * @param steps what the engine has to do, in this order
  * @param epoch 1 for a new job, and 1 more at each opening: put it into messages, and into the numbers of files of a job without names
  * @param job the identity of the job, which the marker of the storage has

@@ -277,6 +277,47 @@ class StoreTest {
         }
     }
 
+    private StoreFault refused(Path folder, String job, long epoch) {
+        return fault(() -> StateFolder.open(folder, job, epoch));
+    }
+
+    /** A task in another process puts files until another opening of the job has the folder, or it has lost its marker. */
+    @Test
+    void folderOfATask() throws Exception {
+        byte[] contents = {0, 1, -1};
+        Path marker = storage.resolve(".relkvanu-job"), away = folder.resolve("away");
+        StateFolder task;
+        try (Store job = open(creates().withStorage(storage))) {
+            String identity = job.report().job();
+            long epoch = job.report().epoch();
+            assertSame(StoreFault.STORAGE, refused(folder.resolve("nowhere"), identity, epoch));
+            assertSame(StoreFault.STORAGE, refused(storage, "0".repeat(32), epoch));
+            assertSame(StoreFault.STORAGE, refused(storage, identity, epoch - 1));
+            assertSame(StoreFault.BAD_ARGUMENT, refused(storage, identity.substring(1), epoch));
+            task = StateFolder.open(storage, identity, epoch);
+            task.check();
+            task.put(7, contents);
+            task.put(-1, new byte[0]);
+            assertEquals(List.of("18446744073709551615", "7"), listed());
+            assertArrayEquals(contents, task.get(7).orElseThrow());
+            assertEquals(0, task.get(-1).orElseThrow().length);
+            assertTrue(task.get(8).isEmpty());
+            assertSame(StoreFault.PRESENT, fault(() -> task.put(7, contents)));
+            Files.move(marker, away);
+            assertSame(StoreFault.STORAGE, fault(() -> task.put(8, contents)));
+            Files.move(away, marker);
+        }
+        try (Store job = open(creates().withStorage(storage))) {
+            assertTrue(job.report().epoch() > 1);
+            assertSame(StoreFault.STORAGE, fault(() -> task.put(8, contents)));
+            assertSame(StoreFault.STORAGE, fault(task::check));
+            assertEquals(List.of("18446744073709551615", "7"), listed());
+        }
+        task.close();
+        task.close();
+        assertThrows(CoordinatorException.Closed.class, () -> task.put(8, contents));
+    }
+
     /** A task's file is made, kept while a record uses it, and then deleted; what no record knows is swept. */
     @Test
     void filesOfTheStorage() throws Exception {
@@ -386,26 +427,21 @@ class StoreTest {
         assertThrows(CoordinatorException.Closed.class, () -> closed.backup(copy));
     }
 
-    /** The numbers of the header, as layout.c prints them. */
+    /** Each status of the header is a fault, or one that no caller sees. */
     @Test
-    void theNumbersOfTheHeader() throws Exception {
-        Process layout = new ProcessBuilder(System.getProperty("layout")).start();
-        Map<String, Integer> own = new java.util.HashMap<>(Map.of("OK", StoreFault.OK, "NO_MEMORY", StoreFault.NO_MEMORY, "TIMED_OUT", StoreFault.TIMED_OUT, "NOT_RUNNING", StoreFault.NOT_RUNNING, "NOT_MADE", Store.NOT_MADE));
-        for (StoreFault it : StoreFault.values()) {
-            own.put(it.name(), it.status);
+    void theNumbersOfTheHeader() {
+        List<Integer> unseen = List.of(StoreFault.OK, StoreFault.NO_MEMORY, StoreFault.TIMED_OUT, StoreFault.NOT_RUNNING);
+        for (int status : StoreHeader.STATUSES) {
+            assertTrue(unseen.contains(status) || StoreFault.of(status).status == status, Integer.toString(status));
         }
-        for (StoreReport.Step it : StoreReport.Step.values()) {
-            own.put(it.name(), it.ordinal() + 1);
-        }
-        for (String line : new String(layout.getInputStream().readAllBytes()).split("\n")) {
-            String[] words = line.split(" ");
-            if (words[0].equals("number") && !List.of("CREATE", "CREATE_ONLY", "ADOPT", "EARLIER_IMAGE", "PLAIN", "BACKUP", "NOW", "NO_IMAGES", "MOST_CALLS").contains(words[1])) {
-                assertEquals(Integer.parseInt(words[2]), own.remove(words[1]), line);
-            }
-        }
-        assertEquals(Map.of(), own);
-        assertArrayEquals(new long[] {1 | 4 | 8 | 16 | 32, 5000, -1, 7},
-            creates().withBackup(true).withAdopts(true).withFromEarlierImage(true).withPatience(Duration.ofSeconds(5)).withImageCalls(-1).withMostAhead(7).numbers());
+        assertEquals(StoreFault.values().length + unseen.size(), StoreHeader.STATUSES.length);
+        assertEquals(StoreHeader.START_TASKS, StoreReport.Step.START_TASKS.ordinal() + 1);
+        assertEquals(StoreHeader.DISCARD, StoreReport.Step.values().length);
+        assertEquals(StoreHeader.PHASE_STOPPED, JobPhase.Phase.STOPPED.ordinal());
+        assertEquals(StoreHeader.STOP_FAILED, JobPhase.StopFailed.FAILED.ordinal() + 1);
+        assertEquals(StoreHeader.STOP_FAILED, JobPhase.StopFailed.values().length);
+        assertArrayEquals(new long[] {1 | 4 | 8 | 16 | 32 | 64, 5000, -1, 7},
+            creates().withManifests(true).withBackup(true).withAdopts(true).withFromEarlierImage(true).withPatience(Duration.ofSeconds(5)).withImageCalls(-1).withMostAhead(7).numbers());
         assertEquals(2, StoreOptions.of(StoreOptions.Opening.CREATE_ONLY).numbers()[0]);
         assertEquals(creates().withPlain(false), new StoreOptions(StoreOptions.Opening.CREATE, Optional.empty(), false, false, Duration.ZERO, 0, 0));
         assertEquals(Optional.of(storage), creates().withStorage(storage).storage());
@@ -421,7 +457,7 @@ class StoreTest {
         try (Store job = Store.open(in.resolve("job.db"), SETTINGS, SHAPE, creates().withStorage(storage))) {
             CoordinatorException.NotStored told = assertThrows(CoordinatorException.NotStored.class, () -> job.put(7, new byte[] {1}));
             assertSame(StoreFault.NOT_PUT, told.fault());
-            assertEquals("NOT_PUT: No space left on device", told.getMessage());
+            assertEquals("NOT_PUT: file 7: No space left on device", told.getMessage());
             assertFalse(told.fault().closes());
             job.put(8, new byte[] {1});
             assertEquals(List.of("8"), listed());

@@ -242,6 +242,30 @@ pub const RELKVANU_CALL_TRIGGER: u32 = 16;
 pub const RELKVANU_CALL_CONFIGURE: u32 = 17;
 /// relkvanu_advance
 pub const RELKVANU_CALL_ADVANCE: u32 = 18;
+/// process the element now
+pub const RELKVANU_STEP_PROCESS: u32 = 1;
+/// leave the element, and all behind it, on its input, until the next cut or abandon
+pub const RELKVANU_STEP_HOLD: u32 = 2;
+/// nothing is to be done: no record is being aligned
+pub const RELKVANU_STEP_NOTHING: u32 = 3;
+/// go on: an open input has not delivered the barrier yet
+pub const RELKVANU_STEP_WAIT: u32 = 4;
+/// drop the barrier and go on: the record was cut or given up before
+pub const RELKVANU_STEP_LATE: u32 = 5;
+/// take the snapshot for record id now, and then send its barrier on each output, before anything else
+pub const RELKVANU_STEP_CUT: u32 = 6;
+/// decline record id: it can no longer be cut
+pub const RELKVANU_STEP_ABANDON: u32 = 7;
+/// nothing has changed: the task has no input with this number
+pub const RELKVANU_STEP_UNKNOWN_INPUT: u32 = 8;
+/// nothing has changed: the barrier or the end has to wait until the input is released
+pub const RELKVANU_STEP_HELD_INPUT: u32 = 9;
+/// nothing has changed: the input has ended
+pub const RELKVANU_STEP_ENDED_INPUT: u32 = 10;
+/// nothing has changed: a task has 1 to RELKVANU_MOST_INPUTS inputs
+pub const RELKVANU_STEP_BAD_INPUTS: u32 = 11;
+/// the most inputs of a task
+pub const RELKVANU_MOST_INPUTS: u32 = 4096;
 /// no text of an answer has more bytes
 pub const RELKVANU_ANSWER_TEXT: u32 = 128;
 
@@ -300,6 +324,19 @@ pub struct relkvanu_made {
     pub in_use: u64,
     pub waiting: u64,
     pub taken: u64,
+}
+
+#[repr(C)]
+#[derive(Clone, Copy, Debug)]
+pub struct relkvanu_aligner {
+    pub latest: u64,
+}
+
+#[repr(C)]
+#[derive(Clone, Copy, Debug)]
+pub struct relkvanu_step {
+    pub what: u32,
+    pub id: u64,
 }
 
 extern "C" {
@@ -621,4 +658,44 @@ extern "C" {
 
     /// relkvanu_refusal_text for the numbers of RELKVANU_FENCED, such as "OldTerm".
     pub fn relkvanu_fenced_text(what: u32, text: *mut u8, text_len: usize) -> usize;
+
+    /// Begins the alignment of a task with this many inputs, 1 to RELKVANU_MOST_INPUTS: all are open. A task begins one when it starts, also after a restore. RELKVANU_STEP_NOTHING; or RELKVANU_STEP_BAD_INPUTS.
+    pub fn relkvanu_align_open(
+        aligner: *mut relkvanu_aligner,
+        inputs: *mut u8,
+        inputs_len: usize,
+    ) -> relkvanu_step;
+
+    /// An element is next on this input, from 0: whether the task may process it now. Changes nothing. RELKVANU_STEP_PROCESS or RELKVANU_STEP_HOLD; or RELKVANU_STEP_UNKNOWN_INPUT, RELKVANU_STEP_ENDED_INPUT.
+    pub fn relkvanu_align_element(
+        aligner: *const relkvanu_aligner,
+        inputs: *const u8,
+        inputs_len: usize,
+        input: u32,
+    ) -> relkvanu_step;
+
+    /// The barrier of record id is next on this input. RELKVANU_STEP_WAIT, RELKVANU_STEP_LATE, RELKVANU_STEP_CUT, or RELKVANU_STEP_ABANDON of an earlier record, whose place this one takes; or RELKVANU_STEP_UNKNOWN_INPUT, RELKVANU_STEP_HELD_INPUT, RELKVANU_STEP_ENDED_INPUT. A cut and an abandon release all held inputs; after an abandon this input alone is held.
+    pub fn relkvanu_align_barrier(
+        aligner: *mut relkvanu_aligner,
+        inputs: *mut u8,
+        inputs_len: usize,
+        input: u32,
+        id: u64,
+    ) -> relkvanu_step;
+
+    /// Nothing more comes on this input. It counts as one that has delivered every barrier. RELKVANU_STEP_NOTHING, RELKVANU_STEP_WAIT or RELKVANU_STEP_CUT; or RELKVANU_STEP_UNKNOWN_INPUT, RELKVANU_STEP_HELD_INPUT, RELKVANU_STEP_ENDED_INPUT.
+    pub fn relkvanu_align_end(
+        aligner: *mut relkvanu_aligner,
+        inputs: *mut u8,
+        inputs_len: usize,
+        input: u32,
+    ) -> relkvanu_step;
+
+    /// The coordinator or the task gives record id up. RELKVANU_STEP_ABANDON if this record is being aligned, and all held inputs are released; otherwise RELKVANU_STEP_NOTHING.
+    pub fn relkvanu_align_give_up(
+        aligner: *mut relkvanu_aligner,
+        inputs: *mut u8,
+        inputs_len: usize,
+        id: u64,
+    ) -> relkvanu_step;
 }

@@ -1,6 +1,4 @@
-//! The functions, structs and numbers of `include/relkvanu_storage.h`, and those of `include/relkvanu_store.h` that take a storage. A test of
-//! the crate `relkvanu` compares the numbers with the header.
-use crate::store::relkvanu_store;
+// What include/relkvanu_storage.h says, made from it by embed/bindings: change the header, and run that.
 use std::ffi::{c_char, c_int, c_void};
 
 pub const RELKVANU_STORAGE_OK: c_int = 0;
@@ -17,24 +15,19 @@ pub const RELKVANU_STORAGE_UNDELETED: u8 = 0;
 pub const RELKVANU_STORAGE_DELETED: u8 = 1;
 pub const RELKVANU_STORAGE_MISSING: u8 = 2;
 pub const RELKVANU_STORAGE_PAGE: usize = 1000;
+pub const RELKVANU_STORAGE_RECOVER: u32 = 0;
 pub const RELKVANU_STORAGE_NEW: u32 = 1;
 pub const RELKVANU_STORAGE_MOST_AFFIX: usize = 200;
 
 #[repr(C)]
-#[derive(Clone, Copy, Debug, PartialEq, Eq)]
+#[derive(Clone, Copy, Debug, Default, PartialEq, Eq)]
 pub struct relkvanu_storage_file {
     pub file: u64,
     pub bytes: u64,
 }
 
-pub type relkvanu_storage_page = unsafe extern "C" fn(
-    with: *mut c_void,
-    files: *const relkvanu_storage_file,
-    files_len: usize,
-) -> bool;
-
 #[repr(C)]
-#[derive(Clone, Copy)]
+#[derive(Clone, Copy, Debug)]
 pub struct relkvanu_storage {
     pub with: *mut c_void,
     pub check: Option<unsafe extern "C" fn(with: *mut c_void) -> c_int>,
@@ -75,6 +68,7 @@ pub struct relkvanu_storage {
 }
 
 #[repr(C)]
+#[derive(Clone, Copy, Debug)]
 pub struct relkvanu_storage_options {
     pub flags: u32,
     pub path: *const c_char,
@@ -86,20 +80,23 @@ pub struct relkvanu_storage_options {
     pub reserved: [u64; 4],
 }
 
+pub type relkvanu_storage_page = unsafe extern "C" fn(
+    with: *mut c_void,
+    files: *const relkvanu_storage_file,
+    files_len: usize,
+) -> bool;
+
 extern "C" {
     pub fn relkvanu_storage_open_folder(
         storage: *mut relkvanu_storage,
         options: *const relkvanu_storage_options,
     ) -> c_int;
     pub fn relkvanu_storage_close_folder(storage: *mut relkvanu_storage);
-    pub fn relkvanu_store_discard_storage(
-        store: *mut relkvanu_store,
-        batch: usize,
-        storage: *const relkvanu_storage,
+    pub fn relkvanu_storage_open_task(
+        storage: *mut relkvanu_storage,
+        path: *const c_char,
+        job: *const u64,
+        epoch: u64,
     ) -> c_int;
-    pub fn relkvanu_store_sweep_storage(
-        store: *mut relkvanu_store,
-        storage: *const relkvanu_storage,
-        left: *mut usize,
-    ) -> c_int;
+    pub fn relkvanu_storage_close_task(storage: *mut relkvanu_storage);
 }

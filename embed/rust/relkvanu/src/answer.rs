@@ -357,6 +357,25 @@ pub(crate) const TEXTS: [(u32, &str); 24] = [
 ];
 // embed/bindings: end
 
+impl Answer {
+    /// What the header calls the answer to a take, which is a list of files: no `Answer` has this number.
+    pub const TAKEN: u32 = sys::RELKVANU_TAKEN;
+
+    /// The numbers that `include/relkvanu.h` gives the answer: what it is, and a and b, which are 0 where it has none. So a log has it as
+    /// three numbers.
+    #[must_use]
+    pub fn numbers(&self) -> (u32, u64, u64) {
+        numbers_of(self)
+    }
+
+    /// The answer of these numbers; `None` if they are no answer that this crate knows. Numbers that the answer does not have are left out.
+    #[must_use]
+    pub fn of_numbers(what: u32, a: u64, b: u64) -> Option<Answer> {
+        let code = sys::RELKVANU_DONE;
+        answer(sys::relkvanu_answer { code, what, a, b }).ok()
+    }
+}
+
 /// The line that a script prints (`docs/SCRIPT.md`), as "ack completed 1 2".
 impl fmt::Display for Answer {
     fn fmt(&self, f: &mut fmt::Formatter<'_>) -> fmt::Result {
@@ -393,4 +412,73 @@ pub(crate) fn live(told: sys::relkvanu_answer) -> Option<Live> {
         kind,
         done: told.b == 1,
     })
+}
+
+#[cfg(test)]
+mod tests {
+    use super::*;
+
+    /// Each answer, with numbers that differ, what the header has of it, and its text by docs/SCRIPT.md and docs/LOGS.md. None is left out.
+    fn answers() -> Vec<(Answer, (u32, u64, u64), &'static str)> {
+        use Answer as A;
+        #[rustfmt::skip]
+        let all = vec![
+            (A::Triggered { expired: 0, id: 1 }, (1, 0, 1), "tick expired 0 triggered 1"),
+            (A::HeldInterval { expired: 2 }, (2, 2, 0), "tick expired 2 held interval"),
+            (A::HeldAtOnce { expired: 0 }, (3, 0, 0), "tick expired 0 held at-once"),
+            (A::HeldPause { expired: 10 }, (4, 10, 0), "tick expired 10 held pause"),
+            (A::Failed { expired: 1 }, (5, 1, 0), "tick expired 1 failed"),
+            (A::SavepointTriggered(4), (6, 4, 0), "savepoint triggered 4"),
+            (A::AckPending { missing: 2 }, (7, 2, 0), "ack pending 2"),
+            (A::AckCompleted { dropped: 3, released: 12 }, (8, 3, 12), "ack completed 3 12"),
+            (A::AckLate { handed_out: 1 }, (9, 1, 0), "ack late 1"),
+            (A::DeclineAborted { released: 5 }, (10, 5, 0), "decline aborted 5"),
+            (A::DeclineFailed { released: 6 }, (11, 6, 0), "decline failed 6"),
+            (A::DeclineLate, (12, 0, 0), "decline late"),
+            (A::Disposed { released: 3 }, (13, 3, 0), "disposed 3"),
+            (A::Restored { from: Choice::Checkpoint(7), released: 8 }, (14, 8, 7), "restored checkpoint 7 8"),
+            (A::Restored { from: Choice::Savepoint(9), released: 0 }, (15, 0, 9), "restored savepoint 9 0"),
+            (A::Restored { from: Choice::Fresh, released: 30 }, (16, 30, 0), "restored fresh 30"),
+            (A::Cancelled { dropped: 1, released: 2 }, (17, 1, 2), "cancelled 1 2"),
+            (A::Deleted(u64::MAX), (19, u64::MAX, 0), "deleted 18446744073709551615"),
+            (A::Undeleted(11), (20, 11, 0), "undeleted 11"),
+            (A::Counted { file: 31, uses: 2 }, (22, 31, 2), "count 31 2"),
+            (A::Configured { checkpoints: 3, released: 12 }, (61, 3, 12), "configured 3 12"),
+            (A::Reserved(20), (56, 20, 0), "reserved 20"),
+            (A::Forfeited, (57, 0, 0), "forfeited"),
+            (A::Named, (59, 0, 0), "term 1"),
+        ];
+        for (what, form) in TEXTS {
+            let has_row = all.iter().any(|(_, numbers, _)| numbers.0 == what);
+            assert!(has_row, "{form} is left out");
+        }
+        all
+    }
+
+    #[test]
+    fn each_answer_has_its_numbers_and_its_text() {
+        for (answer, (what, a, b), text) in answers() {
+            assert_eq!(
+                (answer.numbers(), answer.to_string().as_str()),
+                ((what, a, b), text)
+            );
+            assert_eq!(Answer::of_numbers(what, a, b), Some(answer), "{text}");
+        }
+    }
+
+    #[test]
+    fn other_numbers_are_no_answers() {
+        let known: Vec<u32> = answers().iter().map(|(_, numbers, _)| numbers.0).collect();
+        for what in (0..200).chain([u32::MAX]) {
+            assert_eq!(
+                Answer::of_numbers(what, 1, 2).is_some(),
+                known.contains(&what),
+                "{what}"
+            );
+        }
+        assert_eq!(
+            (Answer::TAKEN, Answer::of_numbers(Answer::TAKEN, 1, 0)),
+            (18, None)
+        );
+    }
 }

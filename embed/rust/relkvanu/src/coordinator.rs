@@ -1,4 +1,5 @@
 //! The coordinator of one job, for one thread at a time.
+use crate::aligner::Cut;
 use crate::answer::{self, Answer, Choice, FileCounts, Garbage, Live, Mode, RunningTerm, Standing};
 use crate::fault::{check_library, done, text, text_in, Fault, Refusal};
 use relkvanu_sys as sys;
@@ -334,6 +335,18 @@ impl Coordinator {
         })
     }
 
+    /// [`ack`](Self::ack) of the record that a task has [cut](crate::Aligner).
+    pub fn ack_cut(
+        &mut self,
+        now: u64,
+        cut: &Cut,
+        subtask: (u16, u16),
+        fresh: &[u64],
+        reused: &[u64],
+    ) -> Called {
+        self.ack(now, cut.id(), subtask, fresh, reused)
+    }
+
     /// A subtask can't take its part of a record. The job may then fail over.
     pub fn decline(&mut self, now: u64, id: u64, subtask: (u16, u16)) -> Called {
         self.check_moment(now)?;
@@ -464,6 +477,19 @@ impl Coordinator {
                 reused.len(),
             )
         })
+    }
+
+    /// [`ack_in`](Self::ack_in) of the record that a task has [cut](crate::Aligner).
+    pub fn ack_cut_in(
+        &mut self,
+        term: u64,
+        now: u64,
+        cut: &Cut,
+        subtask: (u16, u16),
+        fresh: &[u64],
+        reused: &[u64],
+    ) -> Called {
+        self.ack_in(term, now, cut.id(), subtask, fresh, reused)
     }
 
     /// [`decline`](Self::decline) of a task of this term.

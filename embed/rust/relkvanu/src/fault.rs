@@ -99,29 +99,6 @@ impl Refusal {
             _ => None,
         }
     }
-
-    /// Each, with this file if it names one.
-    #[allow(dead_code)]
-    pub(crate) fn all(file: u64) -> [Refusal; 16] {
-        [
-            Refusal::MomentTooLarge,
-            Refusal::NotRunning,
-            Refusal::TooManyFiles,
-            Refusal::RepeatedFile,
-            Refusal::UnknownCheckpoint,
-            Refusal::UnknownSubtask,
-            Refusal::AlreadyAcknowledged,
-            Refusal::NameTaken(file),
-            Refusal::FileGone(file),
-            Refusal::NoSuchSavepoint,
-            Refusal::InUse,
-            Refusal::TooManySavepoints,
-            Refusal::NotTaken,
-            Refusal::NoSuchRecord,
-            Refusal::IdsUsedUp,
-            Refusal::AtOnce,
-        ]
-    }
 }
 
 /// Why a term or the names refuse a call.
@@ -192,23 +169,6 @@ impl Fenced {
             Fenced::Spent(of) | Fenced::NeverReserved(of) => Some(*of),
             _ => None,
         }
-    }
-
-    /// Each, with this file if it names one.
-    #[allow(dead_code)]
-    pub(crate) fn all(file: u64) -> [Fenced; 10] {
-        [
-            Fenced::OldTerm,
-            Fenced::Ended,
-            Fenced::BadCount,
-            Fenced::NamesUsedUp,
-            Fenced::TermsUsedUp,
-            Fenced::Spent(file),
-            Fenced::NeverReserved(file),
-            Fenced::NoNames,
-            Fenced::HasNames,
-            Fenced::NameInUse,
-        ]
     }
 }
 // embed/bindings: end

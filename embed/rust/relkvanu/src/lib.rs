@@ -2,11 +2,12 @@
 //!
 //! - One thread at a time owns a [`Coordinator`]. Its calls borrow it for writing, its reads for reading.
 //! - A [`SharedCoordinator`] lets any number of threads call one, under a mutex.
-//! - A [`Call`] can be written as a line of a log and read from it, and [`Coordinator::line`] makes it again. The texts of an
-//!   [`Answer`] and of a [`Refusal`] read back as themselves.
+//! - A [`Call`] can be written as a line of a log and read from it, and [`Coordinator::line`] makes it again. An [`Answer`] is kept as its
+//!   [numbers](Answer::numbers).
 //! - With the feature `store` a `store::Store` makes its calls durable, in an SQLite file. A `storage::Storage` is where its state files are.
 //! - One that was opened by [`Coordinator::open_fenced`], or got names by [`Coordinator::fence`], gives out the numbers of files, each
 //!   once, and refuses tasks of a term that a restore or a cancel has ended, as [`Fault::Fenced`].
+//! - An [`Aligner`] says when a task with several inputs may take what is next, and when it takes its snapshot.
 //! - A [`Discarder`] deletes the files that no record uses any more, in threads of its own.
 //!
 //! The coordinator reads no clock and deletes no file by itself. The caller gives the moment of each call, in
@@ -18,26 +19,26 @@
 //! [`Refusal::AlreadyAcknowledged`], [`Refusal::NameTaken`] and [`Fenced::Spent`] the file may be in use.
 #![warn(clippy::undocumented_unsafe_blocks)]
 
+mod aligner;
 mod answer;
 mod call;
 mod coordinator;
 mod discarder;
 mod fault;
 mod lines;
-mod parse;
 mod shared;
 #[cfg(feature = "store")]
 pub mod storage;
 #[cfg(feature = "store")]
 pub mod store;
 
+pub use aligner::{AlignFault, Aligner, Cut, Step, MOST_INPUTS};
 pub use answer::{Answer, Choice, FileCounts, Garbage, Kind, Live, Mode, RunningTerm, Standing};
 pub use call::Call;
 pub use coordinator::{Coordinator, Settings};
 pub use discarder::{Discarded, Discarder, Outbox, Patience};
 pub use fault::*;
 pub use lines::{opening_lines, Line, LineFault, Made, Said};
-pub use parse::ParseError;
 pub use shared::SharedCoordinator;
 
 /// The version of the linked library: three numbers, such as "1.2.3".

@@ -3,11 +3,12 @@
 mod common;
 
 use common::{new_job, triggered, Place, SETTINGS};
-use relkvanu::store::{CallError, Options, Outcome, Step, Store, StoreError, StoreErrorKind, NOW};
+use relkvanu::store::{
+    CallError, Options, Outcome, Phase, Step, StopFailed, Store, StoreError, StoreErrorKind, NOW,
+};
 use relkvanu::{Answer, Call, Choice, Fault, Fenced, Mode, Refusal, Settings};
 use std::collections::BTreeSet;
 use std::fs;
-use std::mem::size_of;
 use std::path::Path;
 use std::sync::atomic::{AtomicU64, Ordering};
 use std::thread;
@@ -426,44 +427,72 @@ fn backups() {
     Store::open(&copy, &options).unwrap();
 }
 
-/// The sizes and numbers of the header, as embed/store/tests/layout.c prints them.
+fn kind<T>(it: Result<T, CallError>) -> StoreErrorKind {
+    match it.err().unwrap() {
+        CallError::Store(why) => why.kind,
+        CallError::Fault(why) => panic!("{why}"),
+    }
+}
+
 #[test]
-fn the_header_agrees() {
-    use relkvanu_sys::store as sys;
-    let Some(program) = std::env::var_os("STORE_LAYOUT") else {
-        return;
+fn commands_of_an_operator() {
+    let folder = Place::new("commands");
+    let store = plain(&folder);
+    complete(&store, 1);
+    let mut other = Settings {
+        interval: 1 << 30,
+        retained: 2,
+        ..SETTINGS
     };
-    let told = std::process::Command::new(program).output().unwrap().stdout;
-    let told = String::from_utf8(told).unwrap();
-    let has = |line: String| assert!(told.lines().any(|it| it == line), "{line}");
-    has(format!(
-        "struct relkvanu_store_options {}",
-        size_of::<sys::relkvanu_store_options>()
-    ));
-    has(format!(
-        "struct relkvanu_store_report {}",
-        size_of::<sys::relkvanu_store_report>()
-    ));
-    has(format!(
-        "struct relkvanu_store_call {}",
-        size_of::<sys::relkvanu_store_call>()
-    ));
-    has(format!(
-        "struct relkvanu_store_completion {}",
-        size_of::<sys::relkvanu_store_completion>()
-    ));
-    has(format!(
-        "struct relkvanu_store_counts {}",
-        size_of::<sys::relkvanu_store_counts>()
-    ));
-    has(format!("number BUSY {}", sys::RELKVANU_STORE_BUSY));
-    has(format!("number STOPPED {}", sys::RELKVANU_STORE_STOPPED));
-    has(format!("number NOT_MADE {}", sys::RELKVANU_STORE_NOT_MADE));
-    has(format!(
-        "number EARLIER_IMAGE {}",
-        sys::RELKVANU_STORE_EARLIER_IMAGE
-    ));
-    has(format!("number PLAIN {}", sys::RELKVANU_STORE_PLAIN));
-    has(format!("number BACKUP {}", sys::RELKVANU_STORE_BACKUP));
-    has(format!("number DISCARD {}", sys::RELKVANU_STORE_DISCARD));
+    store.configure(&other).unwrap();
+    other.interval = 5;
+    let why = store.configure(&other).unwrap_err();
+    assert!(
+        why.to_string()
+            .contains("settings.interval is 5, and has to be 10 to 2^40 ms"),
+        "{why}"
+    );
+    let made = store.trigger().unwrap();
+    assert_eq!(store.await_tick(1000).unwrap(), made);
+    assert_eq!(made.choice, Some(Choice::Checkpoint(1)));
+    for index in 0..2 {
+        ack(&store, 2, index, 11 + u64::from(index));
+    }
+    assert_eq!(kind(store.go_back(1, false)), StoreErrorKind::BadArgument);
+    let back = store.go_back(1, true).unwrap();
+    assert_eq!(store.await_tick(1000).unwrap().called(), back.called());
+    assert_eq!(kind(store.begin_job()), StoreErrorKind::NotNow);
+    let Some(Answer::SavepointTriggered(id)) = store.stop_job().unwrap().called() else {
+        panic!("a stop")
+    };
+    assert_eq!(
+        store.await_tick(1000).unwrap().called(),
+        Some(Answer::SavepointTriggered(id))
+    );
+    let phase = store.phase().unwrap();
+    assert_eq!(
+        (phase.phase, phase.savepoint, phase.stop_failed),
+        (Phase::Stopping, Some(id), None)
+    );
+    for index in 0..2 {
+        ack(&store, id, index, 21 + u64::from(index));
+    }
+    assert_eq!(kind(store.await_tick(1000)), StoreErrorKind::JobStopped);
+    drop(store);
+    let store = Store::open(&folder.job(), &Options::new(SETTINGS, &[2])).unwrap();
+    let report = store.report();
+    assert_eq!(
+        (report.phase.phase, report.steps.as_slice()),
+        (Phase::Stopped, &[Step::EndTasks, Step::Discard][..])
+    );
+    let begun = store.begin_job().unwrap();
+    assert_eq!(store.await_tick(1000).unwrap().called(), begun.called());
+    store.stop_job().unwrap();
+    store.call(Call::Cancel { now: NOW }).unwrap();
+    let phase = store.phase().unwrap();
+    assert_eq!(
+        (phase.phase, phase.stop_failed),
+        (Phase::Running, Some(StopFailed::Cancelled))
+    );
+    assert_eq!(kind(store.await_tick(1000)), StoreErrorKind::NotStopped);
 }

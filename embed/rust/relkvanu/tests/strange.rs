@@ -3,7 +3,7 @@
 #![cfg(any(other_version, unknown_answers))]
 mod settings;
 
-use relkvanu::{Coordinator, Fault, Line};
+use relkvanu::{AlignFault, Aligner, Coordinator, Fault, Line};
 use settings::SETTINGS;
 
 #[cfg(other_version)]
@@ -17,6 +17,11 @@ fn a_library_of_another_version_is_refused() {
     assert_eq!(Line::of(b"tick 1"), Err(other));
     assert_eq!(opening_lines(&SETTINGS, &[1], 0), Err(other));
     assert_eq!(Call::Tick { now: 1 }.line(), Err(other));
+    let library = "0.99.0";
+    assert_eq!(
+        Aligner::new(1).err(),
+        Some(AlignFault::OtherLibrary { library })
+    );
     let text = other.to_string();
     assert!(
         text.contains("0.99.0") && text.contains(env!("CARGO_PKG_VERSION")),
@@ -56,6 +61,8 @@ fn an_answer_that_nobody_knows_is_an_error_and_no_panic() {
     assert_eq!(job.live(0).map(|it| it.kind), Some(Kind::Unknown(999)));
     assert_eq!(job.term(), Err(Fault::Fenced(Fenced::Unknown(999))));
     assert_eq!(job.reserve(1, 1), Err(done));
+    let task = Aligner::new(1).unwrap();
+    assert_eq!(task.element(0), Err(AlignFault::Unknown(999)));
     assert_eq!(job.take(&mut []), Err(done));
     for told in [
         job.savepoint(0),

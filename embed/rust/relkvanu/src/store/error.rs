@@ -30,6 +30,10 @@ pub enum StoreErrorKind {
     OutOfMemory,
     NotRunning,
     NotDone,
+    /// Of `await_tick`: the job is stopped, so no tick is due until it begins again.
+    JobStopped,
+    /// Of `await_tick`: a stop of the job has failed, and its phase says why.
+    NotStopped,
     /// The thread that called is in a read of the store, and would wait for itself.
     InRead,
 }
@@ -60,6 +64,8 @@ impl StoreErrorKind {
             sys::store::RELKVANU_STORE_OUT_OF_MEMORY => OutOfMemory,
             sys::store::RELKVANU_STORE_NOT_RUNNING => NotRunning,
             sys::store::RELKVANU_STORE_NOT_DONE => NotDone,
+            sys::store::RELKVANU_STORE_JOB_STOPPED => JobStopped,
+            sys::store::RELKVANU_STORE_NOT_STOPPED => NotStopped,
             other => unreachable!("status {other}"),
         }
     }

@@ -2,10 +2,12 @@
 mod calls;
 mod error;
 mod opening;
+mod phase;
 
 pub use calls::{Made, Outcome};
 pub use error::{CallError, StoreError, StoreErrorKind};
 pub use opening::{Options, Report, Step};
+pub use phase::{JobPhase, Phase, StopFailed};
 
 use crate::answer::{self, Answer, Garbage, RunningTerm};
 use crate::call::Call;
@@ -130,6 +132,7 @@ impl Store {
                 term: found.term,
                 next_name: found.next_name,
             }),
+            phase: phase::told(found.phase, found.savepoint, 0, found.stop_failed),
         };
         Ok(Store {
             store,
@@ -317,8 +320,9 @@ impl Store {
         Ok((wait != u64::MAX).then_some(wait))
     }
 
-    /// A timer in a loop of a thread: sleeps until a tick is due, at most so many milliseconds, and makes it. Otherwise the error is
-    /// `TimedOut` (none was due, or the job is not running: read the mode) or `Stopped`.
+    /// A timer in a loop of a thread: sleeps until a tick is due, at most so many milliseconds, and makes it. It also hands over, once, what the calls
+    /// of [`phase`](Self::phase) and a trigger have made. Otherwise the error is `TimedOut` (none was due, or the job is not running: read the mode),
+    /// `JobStopped`, `NotStopped` or `Stopped` (by [`stop`](Self::stop)).
     pub fn await_tick(&self, longest: u64) -> Result<Made, CallError> {
         self.outside()?;
         let mut list = List::of(&[Call::Tick { now: NOW }]);
@@ -486,9 +490,8 @@ impl Store {
         self.outside()?;
         let functions = Functions::of(&storage);
         // SAFETY: the storage outlives the call, which calls its functions in this thread alone.
-        let status = unsafe {
-            sys::storage::relkvanu_store_discard_storage(self.at(), batch, functions.at())
-        };
+        let status =
+            unsafe { sys::store::relkvanu_store_discard_storage(self.at(), batch, functions.at()) };
         match status {
             sys::store::RELKVANU_STORE_STOPPED => Ok(()),
             other => self.check(other),
@@ -501,7 +504,7 @@ impl Store {
         let (functions, mut left) = (Functions::of(&storage), 0);
         // SAFETY: the storage outlives the call, and the place is this function's own.
         self.check(unsafe {
-            sys::storage::relkvanu_store_sweep_storage(self.at(), functions.at(), &mut left)
+            sys::store::relkvanu_store_sweep_storage(self.at(), functions.at(), &mut left)
         })?;
         Ok(left)
     }

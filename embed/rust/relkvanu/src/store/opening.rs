@@ -1,6 +1,7 @@
 //! How a store is opened, and what an opening finds.
 use crate::answer::{Choice, Mode, RunningTerm};
 use crate::coordinator::Settings;
+use crate::store::phase::JobPhase;
 use relkvanu_sys as sys;
 use std::path::PathBuf;
 
@@ -16,7 +17,7 @@ pub enum Step {
     /// Start tasks, a timer and a discarder. The term of the tasks is [`Made::term`](super::Made::term) of the restore, or that of the report
     /// if the job is new.
     StartTasks,
-    /// Start a discarder alone: the job is cancelled.
+    /// Start a discarder alone: the job is cancelled, or stopped.
     Discard,
 }
 
@@ -36,6 +37,9 @@ pub struct Options {
     pub plain: bool,
     /// It is a backup, which is opened so once: see [`Store::backup`](super::Store::backup). Makes no job.
     pub backup: bool,
+    /// The folder of the storage gets a manifest of each complete record, of which the command `relkvanu-store recover` makes the job again if
+    /// its file is lost.
+    pub manifests: bool,
     /// Milliseconds for which a commit is tried again.
     pub patience: u32,
     /// An image after so many calls; `None`: no images.
@@ -56,6 +60,7 @@ impl Options {
             earlier_image: false,
             plain: false,
             backup: false,
+            manifests: false,
             patience: 0,
             image_calls: Some(10_000),
             most_ahead: 0,
@@ -70,6 +75,7 @@ impl Options {
             | flag(self.earlier_image, sys::store::RELKVANU_STORE_EARLIER_IMAGE)
             | flag(self.plain, sys::store::RELKVANU_STORE_PLAIN)
             | flag(self.backup, sys::store::RELKVANU_STORE_BACKUP)
+            | flag(self.manifests, sys::store::RELKVANU_STORE_MANIFESTS)
     }
 }
 
@@ -89,6 +95,8 @@ pub struct Report {
     pub choice: Choice,
     /// The term that runs, and the next name; `None`: the job has no names.
     pub names: Option<RunningTerm>,
+    /// Without its term, which `names` has.
+    pub phase: JobPhase,
 }
 
 pub(super) fn step(number: &u32) -> Step {

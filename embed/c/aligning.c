@@ -1,0 +1,219 @@
+/* aligning ROWS: makes the steps of examples/alignment.rows, and compares each with what stands there. The bytes of the inputs are a block of
+ * their own with the length that the call gets. Then it gives each function memory of any content: each such memory is an alignment. A step that
+ * is refused must change nothing. aligning --time prints what an element and a barrier cost. */
+#define _GNU_SOURCE
+#include "../../include/relkvanu.h"
+
+#include <inttypes.h>
+#include <stdio.h>
+#include <stdlib.h>
+#include <string.h>
+#include <time.h>
+
+enum { ANY_MEMORIES = 20000, RUNS = 3000, IN_A_RUN = 5000 };
+
+static const char *const STEPS[] = {
+    [RELKVANU_STEP_PROCESS] = "process",
+    [RELKVANU_STEP_HOLD] = "hold",
+    [RELKVANU_STEP_NOTHING] = "nothing",
+    [RELKVANU_STEP_WAIT] = "wait",
+    [RELKVANU_STEP_LATE] = "late",
+    [RELKVANU_STEP_CUT] = "cut",
+    [RELKVANU_STEP_ABANDON] = "abandon",
+    [RELKVANU_STEP_UNKNOWN_INPUT] = "unknown_input",
+    [RELKVANU_STEP_HELD_INPUT] = "held_input",
+    [RELKVANU_STEP_ENDED_INPUT] = "ended_input",
+    [RELKVANU_STEP_BAD_INPUTS] = "bad_inputs",
+};
+
+/* The alignment of a task. */
+struct task {
+    relkvanu_aligner aligner;
+    uint8_t *inputs;
+    size_t len;
+};
+
+static const char *name_of(relkvanu_step step) {
+    return step.what < sizeof STEPS / sizeof *STEPS && STEPS[step.what] != NULL ? STEPS[step.what] : "?";
+}
+
+static bool is_refused(relkvanu_step step) {
+    return step.what >= RELKVANU_STEP_UNKNOWN_INPUT;
+}
+
+static relkvanu_step open_task(struct task *task, size_t len) {
+    free(task->inputs);
+    *task = (struct task){.inputs = malloc(len != 0 ? len : 1), .len = len};
+    if (task->inputs == NULL) {
+        exit(2);
+    }
+    memset(task->inputs, 7, len);
+    return relkvanu_align_open(&task->aligner, task->inputs, len);
+}
+
+static relkvanu_step step_of(struct task *task, const char *event, uint64_t first, uint64_t second) {
+    if (strcmp(event, "open") == 0) {
+        return open_task(task, first);
+    }
+    if (strcmp(event, "element") == 0) {
+        return relkvanu_align_element(&task->aligner, task->inputs, task->len, (uint32_t)first);
+    }
+    if (strcmp(event, "barrier") == 0) {
+        return relkvanu_align_barrier(&task->aligner, task->inputs, task->len, (uint32_t)first, second);
+    }
+    if (strcmp(event, "end") == 0) {
+        return relkvanu_align_end(&task->aligner, task->inputs, task->len, (uint32_t)first);
+    }
+    return relkvanu_align_give_up(&task->aligner, task->inputs, task->len, first);
+}
+
+/* Makes a step, and looks that one that is refused changes nothing. */
+static relkvanu_step make(struct task *task, const char *event, uint64_t first, uint64_t second) {
+    struct task old = *task;
+    uint8_t *bytes = malloc(task->len + 1);
+    if (bytes == NULL) {
+        exit(2);
+    }
+    memcpy(bytes, task->inputs, task->len);
+    relkvanu_step step = step_of(task, event, first, second);
+    if (is_refused(step) && (task->aligner.latest != old.aligner.latest || memcmp(bytes, task->inputs, task->len) != 0)) {
+        fprintf(stderr, "aligning: %s %" PRIu64 " %" PRIu64 ": %s, and something has changed\n", event, first, second, name_of(step));
+        exit(1);
+    }
+    free(bytes);
+    return step;
+}
+
+/* Makes the step of a row. Returns whether there is one. */
+static bool make_row(struct task *task, const char *row) {
+    char event[16], wanted[32];
+    uint64_t first, second = 0, id;
+    if (sscanf(row, "%15s %" SCNu64 " = %31s %" SCNu64, event, &first, wanted, &id) != 4 &&
+        sscanf(row, "%15s %" SCNu64 " %" SCNu64 " = %31s %" SCNu64, event, &first, &second, wanted, &id) != 5) {
+        return false;
+    }
+    relkvanu_step step = strcmp(event, "open") == 0 ? open_task(task, first) : make(task, event, first, second);
+    if (strcmp(name_of(step), wanted) != 0 || step.id != id) {
+        fprintf(stderr, "aligning: %s  the step is %s %" PRIu64 "\n", row, name_of(step), step.id);
+        exit(1);
+    }
+    return true;
+}
+
+static int make_rows(const char *path) {
+    FILE *rows = fopen(path, "r");
+    char row[256];
+    struct task task = {.inputs = NULL};
+    int made = 0;
+    while (rows != NULL && fgets(row, sizeof row, rows) != NULL) {
+        if (row[0] == '#' || row[0] == '\n') {
+            continue;
+        }
+        if (!make_row(&task, row)) {
+            fprintf(stderr, "aligning: no row: %s", row);
+            exit(1);
+        }
+        made++;
+    }
+    if (rows != NULL) {
+        fclose(rows);
+    }
+    free(task.inputs);
+    return made;
+}
+
+static uint64_t next_random(uint64_t *state) {
+    *state ^= *state << 13;
+    *state ^= *state >> 7;
+    *state ^= *state << 17;
+    return *state;
+}
+
+/* Memories of any content, also with no input: each step is one that the header has. */
+static void make_any(void) {
+    static const char *const EVENTS[] = {"element", "barrier", "end", "give_up"};
+    uint64_t random = 88172645463325252u;
+    for (int at = 0; at < ANY_MEMORIES; at++) {
+        struct task task = {.inputs = NULL};
+        (void)open_task(&task, next_random(&random) % 9).what;
+        for (size_t input = 0; input < task.len; input++) {
+            task.inputs[input] = (uint8_t)next_random(&random);
+        }
+        task.aligner.latest = next_random(&random) % 4;
+        for (int step = 0; step < 20; step++) {
+            const char *event = EVENTS[next_random(&random) % 4];
+            relkvanu_step told = make(&task, event, next_random(&random) % 10, next_random(&random) % 4);
+            if (name_of(told)[0] == '?') {
+                exit(1);
+            }
+        }
+        free(task.inputs);
+    }
+}
+
+static double now(void) {
+    struct timespec it;
+    clock_gettime(CLOCK_MONOTONIC, &it);
+    return (double)it.tv_sec * 1e9 + (double)it.tv_nsec;
+}
+
+/* The nanoseconds of an element, of so many on each input in turn. */
+static double time_elements(struct task *task, uint32_t count) {
+    uint64_t processed = 0;
+    uint32_t input = 0;
+    double from = now();
+    for (uint32_t at = 0; at < count; at++) {
+        processed += relkvanu_align_element(&task->aligner, task->inputs, task->len, input).what;
+        input = input + 1 == task->len ? 0 : input + 1;
+    }
+    double took = now() - from;
+    if (processed != (uint64_t)count * RELKVANU_STEP_PROCESS) {
+        exit(1);
+    }
+    return took / count;
+}
+
+/* The nanoseconds of a barrier, of those of one record. */
+static double time_barriers(struct task *task, uint64_t id) {
+    double from = now();
+    for (uint32_t input = 0; input + 1 < task->len; input++) {
+        if (relkvanu_align_barrier(&task->aligner, task->inputs, task->len, input, id).what != RELKVANU_STEP_WAIT) {
+            exit(1);
+        }
+    }
+    if (relkvanu_align_barrier(&task->aligner, task->inputs, task->len, (uint32_t)task->len - 1, id).what != RELKVANU_STEP_CUT) {
+        exit(1);
+    }
+    return (now() - from) / (double)task->len;
+}
+
+/* Prints the shortest times of a task with so many inputs: on a busy machine the others have those of other programs too. */
+static void time_steps(size_t len) {
+    struct task task = {.inputs = NULL};
+    double element = 1e9, barrier = 1e9;
+    (void)open_task(&task, len).what;
+    for (uint64_t id = 1; id <= RUNS; id++) {
+        double elements = time_elements(&task, IN_A_RUN), barriers = time_barriers(&task, id);
+        element = elements < element ? elements : element;
+        barrier = barriers < barrier ? barriers : barrier;
+    }
+    printf("%zu inputs: an element %.2f ns, a barrier %.1f ns\n", len, element, barrier);
+    free(task.inputs);
+}
+
+int main(int argc, char **argv) {
+    if (argc == 2 && strcmp(argv[1], "--time") == 0) {
+        time_steps(2);
+        time_steps(64);
+        time_steps(RELKVANU_MOST_INPUTS);
+        return 0;
+    }
+    int made = argc == 2 ? make_rows(argv[1]) : 0;
+    if (made == 0) {
+        fprintf(stderr, "aligning: no rows\n");
+        return 1;
+    }
+    make_any();
+    printf("aligning: %d steps\n", made);
+    return 0;
+}
