@@ -1,10 +1,16 @@
 /* bench FOLDER [SECONDS [ROUNDS]]: durable acknowledgements a second, of 1, 16 and 256 threads, in a job without names, in one with names, and in
  * one with names and a discarder, beside commits by SQLite alone in the same run: of one row, and of as many rows as a group of 256 threads has.
  * Then, by turns, a job whose files stay, without and with 8 timers and 8 threads that discard (one has the job's files, and the others are
- * refused and ask again), which have nothing to do. A job of 4096 subtasks, 3 files in each acknowledgement, and an image every 10,000 calls. */
+ * refused and ask again), which have nothing to do. By turns again a job of 16 threads without and with manifests. A job of 4096 subtasks, 3 files
+ * in each acknowledgement, and an image every 10,000 calls.
+ *
+ * bench FOLDER manifests SECONDS: those turns alone. bench FOLDER recover FILES: how long a manifest of so many files of 4096 subtasks takes, and to
+ * make the job again of it. */
 #define _GNU_SOURCE
 #include "../../include/relkvanu_store.h"
 
+#include <dirent.h>
+#include <fcntl.h>
 #include <inttypes.h>
 #include <pthread.h>
 #include <sqlite3.h>
@@ -12,6 +18,7 @@
 #include <stdio.h>
 #include <stdlib.h>
 #include <string.h>
+#include <sys/stat.h>
 #include <time.h>
 #include <unistd.h>
 
@@ -35,6 +42,13 @@ static uint64_t now_ns(void) {
     struct timespec now;
     clock_gettime(CLOCK_MONOTONIC, &now);
     return (uint64_t)now.tv_sec * 1000000000 + (uint64_t)now.tv_nsec;
+}
+
+/* Processor time, which does not depend on what else the machine does. */
+static double used(void) {
+    struct timespec now;
+    clock_gettime(CLOCK_PROCESS_CPUTIME_ID, &now);
+    return (double)now.tv_sec + (double)now.tv_nsec / 1e9;
 }
 
 static void note(uint64_t began) {
@@ -91,8 +105,8 @@ static void remove_job(const char *path) {
     }
 }
 
-/* In the last two no file is released. */
-enum kind { PLAIN, NAMES, DISCARDER, KEPT, WATCHED };
+/* In the kinds from KEPT on no file is released. In the last two the job has a storage folder. */
+enum kind { PLAIN, NAMES, DISCARDER, KEPT, WATCHED, STORED, MANIFESTS };
 
 static void deletes(void *with, const uint64_t *files, size_t files_len, uint8_t *is_gone) {
     (void)with, (void)files;
@@ -129,6 +143,24 @@ static unsigned start_watchers(enum kind kind, pthread_t watchers[2 * WATCHERS])
     return len;
 }
 
+/* The storage folder of a job, which has no files. */
+static const char *make_folder(const char *path) {
+    static char folder[4200];
+    snprintf(folder, sizeof folder, "%s-storage", path);
+    check("folder", mkdir(folder, 0700) == 0, folder);
+    return folder;
+}
+
+static void remove_folder(const char *folder) {
+    DIR *entries = opendir(folder);
+    check("folder", entries != NULL, folder);
+    for (const struct dirent *it; (it = readdir(entries)) != NULL;) {
+        unlinkat(dirfd(entries), it->d_name, 0);
+    }
+    closedir(entries);
+    check("folder", rmdir(folder) == 0, folder);
+}
+
 static double group; /* calls a commit, in the last measurement */
 
 static void note_group(void) {
@@ -139,7 +171,8 @@ static void note_group(void) {
 
 /* Returns acknowledgements a second. */
 static double measure(const char *path, unsigned len, unsigned seconds, enum kind kind) {
-    static const char *const kinds[] = {"", ", names", ", names, a discarder", ", files stay", ", files stay, 16 watch"};
+    static const char *const kinds[] = {
+        "", ", names", ", names, a discarder", ", files stay", ", files stay, 16 watch", ", a folder", ", manifests"};
     pthread_t threads[MOST_THREADS], watchers[2 * WATCHERS];
     char what[60];
     relkvanu_store_report report;
@@ -148,6 +181,11 @@ static double measure(const char *path, unsigned len, unsigned seconds, enum kin
         .settings = {.interval = STEP, .at_once = 64, .timeout = UINT64_C(1) << 40, .retained = kind >= KEPT ? 1000 : 1},
         .shape = shape,
         .shape_len = VERTICES};
+    if (kind >= STORED) {
+        options.settings.retained = 1;
+        options.storage = make_folder(path);
+        options.flags |= kind == MANIFESTS ? RELKVANU_STORE_MANIFESTS : 0;
+    }
     check("open", relkvanu_store_open(&store, path, &options, &report) == RELKVANU_STORE_OK, report.message);
     term = report.term;
     next_ack = times_len = 0;
@@ -174,6 +212,9 @@ static double measure(const char *path, unsigned len, unsigned seconds, enum kin
     }
     relkvanu_store_close(store);
     remove_job(path);
+    if (kind >= STORED) {
+        remove_folder(options.storage);
+    }
     return found;
 }
 
@@ -183,15 +224,73 @@ static int by_size(const void *one, const void *other) {
 }
 
 /* By turns, so that both have the same machine. */
-static void measure_watchers(const char *path, unsigned threads, unsigned seconds) {
+static void measure_turns(const char *path, unsigned threads, unsigned seconds, enum kind kind, const char *words) {
     double shares[TURNS];
     for (unsigned i = 0; i < TURNS; i++) {
-        double without = measure(path, threads, seconds, KEPT);
-        shares[i] = measure(path, threads, seconds, WATCHED) / without;
+        double without = measure(path, threads, seconds, kind - 1);
+        shares[i] = measure(path, threads, seconds, kind) / without;
     }
     qsort(shares, TURNS, sizeof *shares, by_size);
-    printf("%u threads: with 8 timers and 8 discarders %.2f of those without (%.2f to %.2f)\n", threads, shares[TURNS / 2], shares[0],
-        shares[TURNS - 1]);
+    printf("%u threads: with %s %.2f of those without (%.2f to %.2f)\n", threads, words, shares[TURNS / 2], shares[0], shares[TURNS - 1]);
+}
+
+/* Makes so many empty files with the numbers from 1 on. */
+static void make_files(int folder, uint64_t len) {
+    for (uint64_t file = 1; file <= len; file++) {
+        char name[32];
+        snprintf(name, sizeof name, "%" PRIu64, file);
+        int made = openat(folder, name, O_WRONLY | O_CREAT | O_CLOEXEC, 0600);
+        check("file", made >= 0 && close(made) == 0, name);
+    }
+}
+
+/* A savepoint whose subtasks have so many files together. Tells how long its last acknowledgement took. */
+static void complete(uint64_t files) {
+    uint64_t each = files / SUBTASKS, next = 1, *fresh = malloc((each + 1) * sizeof *fresh);
+    relkvanu_store_call call = {.call = {.kind = RELKVANU_CALL_SAVEPOINT}};
+    relkvanu_answer answer;
+    double seconds = 0, processor = 0;
+    check("savepoint", fresh != NULL && relkvanu_store_calls(store, &call, 1) == RELKVANU_STORE_OK, "not made");
+    for (uint64_t at = 0; at < SUBTASKS; at++) {
+        relkvanu_store_reserve(store, term, each, &answer);
+        for (uint64_t i = 0; i < each; i++) {
+            fresh[i] = next++;
+        }
+        uint64_t began = now_ns();
+        processor = used();
+        int status = relkvanu_store_ack_in(
+            store, term, 0, call.answer.a, (uint16_t)(at / 1024), (uint16_t)(at % 1024), fresh, each, NULL, 0, &answer);
+        check("ack", status == RELKVANU_STORE_OK && answer.code == RELKVANU_DONE, "not accepted");
+        processor = used() - processor;
+        seconds = (double)(now_ns() - began) / 1e9;
+    }
+    free(fresh);
+    printf("%" PRIu64 " files: the last acknowledgement, with the manifest, took %.3f s, %.3f of a processor\n", files, seconds, processor);
+}
+
+/* A job whose file is lost, and made again. */
+static void measure_recovery(const char *path, uint64_t files) {
+    relkvanu_store_report report;
+    relkvanu_store_recovered recovered;
+    uint64_t shape[VERTICES] = {1024, 1024, 1024, 1024};
+    relkvanu_store_options options = {.flags = RELKVANU_STORE_CREATE_ONLY | RELKVANU_STORE_MANIFESTS,
+        .storage = make_folder(path),
+        .settings = {.interval = STEP, .at_once = 1, .timeout = UINT64_C(1) << 40, .retained = 1},
+        .shape = shape,
+        .shape_len = VERTICES};
+    check("open", relkvanu_store_open(&store, path, &options, &report) == RELKVANU_STORE_OK, report.message);
+    term = report.term;
+    make_files(relkvanu_store_folder(store), files / SUBTASKS * SUBTASKS);
+    complete(files / SUBTASKS * SUBTASKS);
+    relkvanu_store_close(store);
+    remove_job(path);
+    uint64_t began = now_ns();
+    double processor = used();
+    check("recover", relkvanu_store_recover(path, options.storage, 0, &recovered) == RELKVANU_STORE_OK, recovered.message);
+    printf("%" PRIu64 " files: a recovery took %.3f s, %.3f of a processor\n", recovered.files, (double)(now_ns() - began) / 1e9,
+        used() - processor);
+    remove_job(path);
+    remove_folder(options.storage);
 }
 
 static void insert_rows(sqlite3 *db, sqlite3_stmt *insert, unsigned rows) {
@@ -236,6 +335,14 @@ int main(int argc, char **argv) {
     unsigned seconds = argc > 2 ? (unsigned)atoi(argv[2]) : 3, rounds = argc > 3 ? (unsigned)atoi(argv[3]) : 3;
     check("bench FOLDER [SECONDS [ROUNDS]]", argc > 1, "a folder is missing");
     snprintf(path, sizeof path, "%s/bench-%d.db", argv[1], (int)getpid());
+    if (argc == 4 && strcmp(argv[2], "manifests") == 0) {
+        measure_turns(path, 16, (unsigned)atoi(argv[3]), MANIFESTS, "manifests");
+        return 0;
+    }
+    if (argc == 4 && strcmp(argv[2], "recover") == 0) {
+        measure_recovery(path, strtoull(argv[3], NULL, 10));
+        return 0;
+    }
     for (unsigned i = 0; i < rounds; i++) {
         measure_sqlite(path, seconds, 1);
         for (unsigned threads = 1; threads <= MOST_THREADS; threads *= 16) {
@@ -246,7 +353,8 @@ int main(int argc, char **argv) {
         measure(path, MOST_THREADS, seconds, NAMES);
         measure_sqlite(path, seconds, (unsigned)(group + 0.5));
     }
-    measure_watchers(path, 24, seconds);
-    measure_watchers(path, MOST_THREADS, seconds);
+    measure_turns(path, 24, seconds, WATCHED, "8 timers and 8 discarders");
+    measure_turns(path, MOST_THREADS, seconds, WATCHED, "8 timers and 8 discarders");
+    measure_turns(path, 16, seconds, MANIFESTS, "manifests");
     return 0;
 }

@@ -13,7 +13,7 @@ static bool is_well_formed(const relkvanu_store_call *call) {
 }
 
 /* Appends the line of a call. */
-static int write_line(const relkvanu_store_call *call, relkvanu_call made, struct rks_text *lines) {
+int rks_write_line(const relkvanu_store_call *call, relkvanu_call made, struct rks_text *lines) {
     for (size_t room = 128;;) {
         if (!rks_room(lines, room)) {
             return RELKVANU_STORE_NO_MEMORY;
@@ -32,7 +32,7 @@ static int write_line(const relkvanu_store_call *call, relkvanu_call made, struc
 }
 
 int rks_write_lines(relkvanu_store *s, struct rks_waiter *w) {
-    uint64_t now = relkvanu_store_now(s);
+    uint64_t now = w->now = relkvanu_store_now(s);
     int status = RELKVANU_STORE_OK;
     for (size_t i = 0; i < w->calls_len && status == RELKVANU_STORE_OK; i++) {
         relkvanu_store_call *call = &w->calls[i];
@@ -40,7 +40,7 @@ int rks_write_lines(relkvanu_store *s, struct rks_waiter *w) {
         call->answer = call->choice = (relkvanu_answer){0};
         call->place = call->term = 0;
         made.now = made.now == RELKVANU_STORE_NOW ? now : made.now;
-        status = is_well_formed(call) ? write_line(call, made, &w->lines) : RELKVANU_STORE_BAD_ARGUMENT;
+        status = is_well_formed(call) ? rks_write_line(call, made, &w->lines) : RELKVANU_STORE_BAD_ARGUMENT;
         w->ends[i] = w->lines.len;
         if (status == RELKVANU_STORE_OK && made.kind == RELKVANU_CALL_FENCE && s->folder >= 0) {
             status = rks_greatest_of_job(s, &w->greatest);
@@ -49,8 +49,8 @@ int rks_write_lines(relkvanu_store *s, struct rks_waiter *w) {
     return status;
 }
 
-int relkvanu_store_calls(relkvanu_store *s, relkvanu_store_call *calls, size_t calls_len) {
-    struct rks_waiter w = {.calls = calls, .calls_len = calls_len};
+int rks_call(relkvanu_store *s, relkvanu_store_call *calls, size_t calls_len, enum rks_verb verb) {
+    struct rks_waiter w = {.calls = calls, .calls_len = calls_len, .verb = verb};
     if (calls_len == 0 || calls_len > RELKVANU_STORE_MOST_CALLS) {
         return RELKVANU_STORE_BAD_ARGUMENT;
     }
@@ -72,6 +72,10 @@ int relkvanu_store_calls(relkvanu_store *s, relkvanu_store_call *calls, size_t c
         free(w.ends);
     }
     return status;
+}
+
+int relkvanu_store_calls(relkvanu_store *s, relkvanu_store_call *calls, size_t calls_len) {
+    return rks_call(s, calls, calls_len, RKS_CALLS);
 }
 
 static int make_one(relkvanu_store *s, relkvanu_store_call call, relkvanu_answer *answer) {

@@ -27,7 +27,7 @@ uint32_t rks_image_sum(uint64_t place, uint32_t chain, const void *image, size_t
 int rks_save(relkvanu_store *s) {
     for (;;) {
         s->image.len = 0;
-        relkvanu_answer answer = relkvanu_save(&s->handle, s->image.at, s->image.room);
+        relkvanu_answer answer = relkvanu_save(s->handle, s->image.at, s->image.room);
         if (answer.code == RELKVANU_DONE) {
             s->image.len = answer.a;
             return RELKVANU_STORE_OK;
@@ -105,6 +105,9 @@ static int transact(relkvanu_store *s, bool has_image, bool *may_retry) {
     if (status == RELKVANU_STORE_OK) {
         status = insert_all(s);
     }
+    if (status == RELKVANU_STORE_OK && s->writes_phase) {
+        status = rks_write_phase(s);
+    }
     if (status == RELKVANU_STORE_OK && has_image) {
         status = rks_write_image(s);
     }
@@ -150,6 +153,7 @@ static bool has_saved(relkvanu_store *s, bool is_wanted) {
 }
 
 static int committed(relkvanu_store *s, bool has_image) {
+    s->writes_phase = false;
     if (!rks_in_place(s)) {
         return RELKVANU_STORE_FAILED;
     }

@@ -82,6 +82,19 @@ int rks_sync_folder_of(relkvanu_store *s, const char *path) {
     return status;
 }
 
+int rks_check_closed(relkvanu_store *s, const char *path) {
+    struct stat wal;
+    char *name = NULL;
+    if (asprintf(&name, "%s-wal", path) < 0) {
+        return RELKVANU_STORE_NO_MEMORY;
+    }
+    int error = stat(name, &wal) == 0 ? 0 : errno;
+    bool is_whole = error == ENOENT || (error == 0 && wal.st_size == 0);
+    int status = is_whole ? RELKVANU_STORE_OK : rks_file_fault(s, name, error != 0 ? error : EIO);
+    free(name);
+    return status;
+}
+
 /* SQLite would make the file with the mode 0644. It gives the -wal the mode of the file. */
 int rks_make_file(relkvanu_store *s) {
     int file = open(s->path, O_RDWR | O_CREAT | O_CLOEXEC, 0600);

@@ -32,8 +32,8 @@ int rks_open_folder(relkvanu_store *s, const char *folder) {
 }
 
 /* A symbolic link may lead to the marker of another folder, so none is followed. */
-static int open_marker(const relkvanu_store *s) {
-    return openat(s->folder, MARKER, O_RDONLY | O_NOFOLLOW | O_NONBLOCK | O_CLOEXEC);
+static int open_marker(int folder) {
+    return openat(folder, MARKER, O_RDONLY | O_NOFOLLOW | O_NONBLOCK | O_CLOEXEC);
 }
 
 static int link_fault(relkvanu_store *s, const char *folder, const char *name) {
@@ -140,13 +140,10 @@ static bool parses(int file, char identity[RKS_IDENTITY + 1], uint64_t *epoch) {
     return len >= 0 && sscanf(found, "relkvanu job %32s epoch %" SCNu64, identity, epoch) >= 1;
 }
 
-int rks_owner(const relkvanu_store *s) {
+int rks_owner_of(int folder, const char *job, uint64_t epoch) {
     char identity[RKS_IDENTITY + 1] = "";
     uint64_t marked = 0;
-    if (s->folder < 0) {
-        return RELKVANU_STORAGE_OK;
-    }
-    int file = open_marker(s);
+    int file = open_marker(folder);
     if (file < 0) {
         return errno == ENOENT || errno == ELOOP ? RELKVANU_STORAGE_NOT_THERE : RELKVANU_STORAGE_FAILED;
     }
@@ -158,12 +155,16 @@ int rks_owner(const relkvanu_store *s) {
     if (!is_marker) {
         return error != 0 ? RELKVANU_STORAGE_FAILED : RELKVANU_STORAGE_NOT_THERE;
     }
-    return strcmp(s->identity, identity) == 0 && marked <= s->epoch ? RELKVANU_STORAGE_OK : RELKVANU_STORAGE_OTHER_JOB;
+    return strcmp(job, identity) == 0 && marked <= epoch ? RELKVANU_STORAGE_OK : RELKVANU_STORAGE_OTHER_JOB;
 }
 
-int rks_read_marker(relkvanu_store *s, const char *folder, uint64_t *marked) {
-    char identity[RKS_IDENTITY + 1] = "";
-    int file = open_marker(s);
+int rks_owner(const relkvanu_store *s) {
+    return s->folder < 0 ? RELKVANU_STORAGE_OK : rks_owner_of(s->folder, s->identity, s->epoch);
+}
+
+/* Reads the marker, whichever job it names. */
+static int read_marker(relkvanu_store *s, const char *folder, char identity[RKS_IDENTITY + 1], uint64_t *marked) {
+    int file = open_marker(s->folder);
     if (file < 0 && errno == ELOOP) {
         return link_fault(s, folder, MARKER);
     } else if (file < 0 && errno == ENOENT) {
@@ -171,10 +172,26 @@ int rks_read_marker(relkvanu_store *s, const char *folder, uint64_t *marked) {
     } else if (file < 0) {
         return system_fault(s, folder, errno);
     }
-    bool is_marker = parses(file, identity, marked);
+    identity[0] = 0;
+    parses(file, identity, marked);
     close(file);
-    bool is_of_job = is_marker && strcmp(s->identity, identity) == 0;
+    return RELKVANU_STORE_OK;
+}
+
+int rks_read_marker(relkvanu_store *s, const char *folder, uint64_t *marked) {
+    char identity[RKS_IDENTITY + 1] = "";
+    int status = read_marker(s, folder, identity, marked);
+    if (status != RELKVANU_STORE_OK) {
+        return status;
+    }
+    bool is_of_job = strcmp(s->identity, identity) == 0;
     return is_of_job ? RELKVANU_STORE_OK : storage_fault(s, folder, "it has the marker of another job than ", s->identity);
+}
+
+int rks_read_owner(relkvanu_store *s, const char *folder, uint64_t *marked) {
+    int status = read_marker(s, folder, s->identity, marked);
+    bool is_marker = status == RELKVANU_STORE_OK && strlen(s->identity) == RKS_IDENTITY;
+    return status != RELKVANU_STORE_OK || is_marker ? status : storage_fault(s, folder, "its marker names no job", "");
 }
 
 int rks_check_marker(relkvanu_store *s, const char *folder, uint64_t epoch) {

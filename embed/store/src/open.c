@@ -182,9 +182,14 @@ static int begin_job(relkvanu_store *s, const relkvanu_store_options *o, char li
         return told(s, RELKVANU_STORE_FAILED, "no random numbers");
     }
     snprintf(s->identity, sizeof s->identity, "%016" PRIx64 "%016" PRIx64, words[2], words[3]);
-    relkvanu_answer answer = name == 0
-                                 ? relkvanu_open(&s->handle, &o->settings, o->shape, o->shape_len, 0, 1, words[0], words[1])
-                                 : relkvanu_open_fenced(&s->handle, &o->settings, o->shape, o->shape_len, 0, 1, name, words[0], words[1]);
+    uint64_t first = 1;
+    if (s->birth != NULL) {
+        memcpy(s->identity, s->birth->identity, sizeof s->identity);
+        first = s->birth->first;
+    }
+    relkvanu_answer answer =
+        name == 0 ? relkvanu_open(s->handle, &o->settings, o->shape, o->shape_len, 0, first, words[0], words[1])
+                  : relkvanu_open_fenced(s->handle, &o->settings, o->shape, o->shape_len, 0, first, name, words[0], words[1]);
     if (name != 0) {
         size_t len = strlen(lines);
         snprintf(lines + len, LINES - len, "fence %" PRIu64 "\n", name);
@@ -195,11 +200,12 @@ static int begin_job(relkvanu_store *s, const relkvanu_store_options *o, char li
 
 static int insert_job(relkvanu_store *s, const char *lines, int storage) {
     sqlite3_stmt *it = NULL;
-    int code = sqlite3_prepare_v2(s->db, "INSERT INTO job VALUES(1, ?1, 1, ?2, ?3, ?4)", -1, &it, NULL);
+    int code = sqlite3_prepare_v2(s->db, "INSERT INTO job VALUES(1, ?1, ?5, ?2, ?3, ?4)", -1, &it, NULL);
     code = code != SQLITE_OK ? code : sqlite3_bind_text(it, 1, s->identity, -1, SQLITE_STATIC);
     code = code != SQLITE_OK ? code : sqlite3_bind_int(it, 2, storage);
     code = code != SQLITE_OK ? code : sqlite3_bind_text(it, 3, lines, -1, SQLITE_STATIC);
     code = code != SQLITE_OK ? code : sqlite3_bind_text(it, 4, relkvanu_version(), -1, SQLITE_STATIC);
+    code = code != SQLITE_OK ? code : sqlite3_bind_int64(it, 5, s->birth == NULL ? 1 : (sqlite3_int64)s->birth->epoch);
     int status = code == SQLITE_OK && sqlite3_step(it) == SQLITE_DONE ? RELKVANU_STORE_OK : rks_fault(s, "job");
     sqlite3_finalize(it);
     return status;
@@ -226,7 +232,8 @@ static int create(relkvanu_store *s, const relkvanu_store_options *o) {
     int status = rks_check_new_folder(s, o->storage);
     status = status == RELKVANU_STORE_OK ? opened(s, o, opening_lines(o, lines)) : status;
     status = status == RELKVANU_STORE_OK ? begin_job(s, o, lines) : status;
-    return status == RELKVANU_STORE_OK ? write_job(s, lines, o->storage == NULL ? NO_STORAGE : TO_MARK) : status;
+    int storage = s->birth != NULL ? MARKED : o->storage == NULL ? NO_STORAGE : TO_MARK;
+    return status == RELKVANU_STORE_OK ? write_job(s, lines, storage) : status;
 }
 
 /* Lets the opening of a backup be later than each that has used the storage since, so that these put and delete nothing more. */
@@ -268,8 +275,8 @@ static int give_names(relkvanu_store *s, uint64_t term, uint64_t next, uint64_t 
  * ends the term, so that they are garbage. Until the file is no backup any more each opening does so. */
 static int pass_names(relkvanu_store *s) {
     uint64_t greatest = 0;
-    relkvanu_answer term = relkvanu_term(&s->handle);
-    if (s->folder < 0 || term.code != RELKVANU_DONE || relkvanu_mode(&s->handle).what == RELKVANU_MODE_CANCELLED) {
+    relkvanu_answer term = relkvanu_term(s->handle);
+    if (s->folder < 0 || term.code != RELKVANU_DONE || relkvanu_mode(s->handle).what == RELKVANU_MODE_CANCELLED) {
         return RELKVANU_STORE_OK;
     }
     int status = rks_greatest_file(s, &greatest);
@@ -292,7 +299,7 @@ static int begin_epoch(relkvanu_store *s, const struct job *job) {
     return rks_run(s, sql);
 }
 
-/* The settings that the job was made with, which are its own for good. */
+/* The settings that the job was made with. Its image and its log say which it has now. */
 static int read_settings(relkvanu_store *s, const struct job *job) {
     uint64_t numbers[7] = {0};
     relkvanu_answer says = relkvanu_line_says((const uint8_t *)job->opening, strcspn(job->opening, "\n"), numbers, 7);
@@ -302,12 +309,24 @@ static int read_settings(relkvanu_store *s, const struct job *job) {
     if (says.what != RELKVANU_LINE_CONFIG) {
         return told(s, RELKVANU_STORE_DAMAGED, "the row of the job is damaged");
     }
-    s->settings = (relkvanu_settings){numbers[0], numbers[1], numbers[2], numbers[3], numbers[4], numbers[5], numbers[6] != 0};
+    s->settings = rks_settings(numbers);
     return RELKVANU_STORE_OK;
 }
 
+/* Whether the job has other settings than the options say, or was made with another shape. */
+static bool differ(relkvanu_store *s, const struct job *job, const relkvanu_store_options *o) {
+    char lines[LINES], own[LINES];
+    relkvanu_store_options now = *o;
+    now.settings = s->settings;
+    if (opening_lines(o, lines).code != RELKVANU_DONE || opening_lines(&now, own).code != RELKVANU_DONE || strcmp(lines, own) != 0) {
+        return true;
+    }
+    /* the line of the names, if there is one, comes last */
+    const char *shape = strchr(lines, '\n'), *made = strchr(job->opening, '\n');
+    return strncmp(shape, made, strlen(shape)) != 0;
+}
+
 static int recover(relkvanu_store *s, struct job *job, const relkvanu_store_options *o, relkvanu_store_report *report) {
-    char lines[LINES];
     if ((o->flags & RELKVANU_STORE_CREATE_ONLY) != 0) {
         return told(s, RELKVANU_STORE_PRESENT, "it has a job");
     }
@@ -315,6 +334,7 @@ static int recover(relkvanu_store *s, struct job *job, const relkvanu_store_opti
     status = status == RELKVANU_STORE_OK ? read_settings(s, job) : status;
     status = status == RELKVANU_STORE_OK ? rks_prepare(s) : status;
     status = status == RELKVANU_STORE_OK ? rks_replay(s, report) : status;
+    status = status == RELKVANU_STORE_OK ? rks_read_phase(s) : status;
     status = status == RELKVANU_STORE_OK && !job->is_backup ? rks_check_tail(s) : status;
     status = status == RELKVANU_STORE_OK && job->is_backup ? pass_names(s) : status;
     status = status == RELKVANU_STORE_OK && job->is_backup ? rks_drop_tail(s) : status; /* of another file in this place */
@@ -323,8 +343,7 @@ static int recover(relkvanu_store *s, struct job *job, const relkvanu_store_opti
     status = status == RELKVANU_STORE_OK ? begin_epoch(s, job) : status;
     if (status == RELKVANU_STORE_OK) {
         report->is_recovered = true;
-        /* the line of the names, if there is one, comes last */
-        report->settings_differ = opening_lines(o, lines).code != RELKVANU_DONE || strncmp(lines, job->opening, strlen(lines)) != 0;
+        report->settings_differ = differ(s, job, o);
     }
     return status;
 }
@@ -350,27 +369,33 @@ static int mark(relkvanu_store *s, const struct job *job, const char *folder) {
     return status == RELKVANU_STORE_OK && job->storage != MARKED ? rks_run(s, "UPDATE job SET storage = 2") : status;
 }
 
-static void set_steps(relkvanu_store_report *report) {
+/* The steps of a job: of a new one, one that is cancelled, one that runs or has failed, one that is stopped, and the backup of such a one. */
+static void set_steps(relkvanu_store_report *report, bool is_backup) {
     static const uint32_t fresh[] = {RELKVANU_STORE_START_TASKS};
     static const uint32_t ended[] = {RELKVANU_STORE_END_TASKS, RELKVANU_STORE_SWEEP, RELKVANU_STORE_DISCARD};
     static const uint32_t again[] = {RELKVANU_STORE_END_TASKS, RELKVANU_STORE_RESTORE, RELKVANU_STORE_SWEEP, RELKVANU_STORE_START_TASKS};
-    bool is_cancelled = report->mode.what == RELKVANU_MODE_CANCELLED;
-    const uint32_t *steps = !report->is_recovered ? fresh : is_cancelled ? ended : again;
-    report->steps_len = !report->is_recovered ? 1 : is_cancelled ? 3 : 4;
+    static const uint32_t stopped[] = {RELKVANU_STORE_END_TASKS, RELKVANU_STORE_DISCARD};
+    static const uint32_t copied[] = {RELKVANU_STORE_END_TASKS, RELKVANU_STORE_RESTORE, RELKVANU_STORE_SWEEP, RELKVANU_STORE_DISCARD};
+    bool is_cancelled = report->mode.what == RELKVANU_MODE_CANCELLED, is_stopped = report->phase == RELKVANU_STORE_PHASE_STOPPED;
+    const uint32_t *steps = !report->is_recovered ? fresh : is_cancelled ? ended : !is_stopped ? again : is_backup ? copied : stopped;
+    report->steps_len = !report->is_recovered ? 1 : is_cancelled ? 3 : is_stopped && !is_backup ? 2 : 4;
     memcpy(report->steps, steps, report->steps_len * sizeof *steps);
 }
 
 static void fill(relkvanu_store *s, const struct job *job, relkvanu_store_report *report) {
     s->epoch = report->epoch = (uint64_t)job->epoch + 1;
     sscanf(s->identity, "%16" SCNx64 "%16" SCNx64, &report->job[0], &report->job[1]);
-    report->taken = relkvanu_file_counts(&s->handle).taken;
-    report->moment = relkvanu_moment(&s->handle).a;
-    report->mode = relkvanu_mode(&s->handle);
-    report->choice = relkvanu_choice(&s->handle);
-    relkvanu_answer term = relkvanu_term(&s->handle);
+    report->taken = relkvanu_file_counts(s->handle).taken;
+    report->moment = relkvanu_moment(s->handle).a;
+    report->mode = relkvanu_mode(s->handle);
+    report->choice = relkvanu_choice(s->handle);
+    relkvanu_answer term = relkvanu_term(s->handle);
     report->term = term.a;
     report->next_name = term.b;
-    set_steps(report);
+    report->phase = (uint32_t)s->phase.phase;
+    report->stop_failed = (uint32_t)s->phase.failed;
+    report->savepoint = s->phase.savepoint;
+    set_steps(report, job->is_backup);
     s->clock_offset = report->moment - rks_clock_ns() / 1000000;
     s->last_mode = report->mode.what;
     s->has_stopped = s->last_mode != RELKVANU_MODE_RUNNING;
@@ -392,13 +417,15 @@ static int open_job(relkvanu_store *s, const char *path, const relkvanu_store_op
     status = status == RELKVANU_STORE_OK ? mark(s, &job, o->storage) : status;
     if (status == RELKVANU_STORE_OK) {
         fill(s, &job, report);
+        rks_begin_manifests(s);
     }
     return status;
 }
 
 /* RELKVANU_STORE_OK, or why not. */
-static int prepare(relkvanu_store *s) {
+int rks_begin_store(relkvanu_store *s) {
     pthread_condattr_t by_clock;
+    s->handle = s->handles;
     s->lock = s->shm = s->folder = s->event = -1;
     s->tail = &s->head;
     s->completed_tail = &s->completed;
@@ -414,10 +441,10 @@ static int prepare(relkvanu_store *s) {
 }
 
 /* Frees all. A store that is not closed cleanly keeps its -wal. */
-static void release(relkvanu_store *s) {
+void rks_release_store(relkvanu_store *s) {
     rks_unlist(s);
     rks_close_database(s);
-    relkvanu_close(&s->handle);
+    relkvanu_close(s->handle);
     if (s->folder >= 0) {
         close(s->folder);
     }
@@ -427,13 +454,14 @@ static void release(relkvanu_store *s) {
     rks_unlock(s);
     free(s->rows);
     free(s->image.at);
+    free(s->kept.ids);
     free(s);
 }
 
 /* Whether the flags are known and the reserved fields are 0. Otherwise says which is not. */
 static bool are_known(const relkvanu_store_options *o, char *message) {
     const uint32_t flags = RELKVANU_STORE_CREATE | RELKVANU_STORE_CREATE_ONLY | RELKVANU_STORE_ADOPT | RELKVANU_STORE_EARLIER_IMAGE |
-                           RELKVANU_STORE_PLAIN | RELKVANU_STORE_BACKUP;
+                           RELKVANU_STORE_PLAIN | RELKVANU_STORE_BACKUP | RELKVANU_STORE_MANIFESTS;
     if ((o->flags & ~flags) != 0) {
         snprintf(message, RKS_MESSAGE, "flags has 0x%" PRIx32 ", which is not known", o->flags & ~flags);
         return false;
@@ -447,20 +475,22 @@ static bool are_known(const relkvanu_store_options *o, char *message) {
     return true;
 }
 
-int relkvanu_store_open(relkvanu_store **store, const char *path, const relkvanu_store_options *options, relkvanu_store_report *report) {
+int rks_open(relkvanu_store **store, const char *path, const relkvanu_store_options *options, relkvanu_store_report *report,
+    const struct rks_birth *birth) {
     *store = NULL;
     *report = (relkvanu_store_report){0};
     if (!are_known(options, report->message)) {
         return RELKVANU_STORE_BAD_ARGUMENT;
     }
     relkvanu_store *s = calloc(1, sizeof *s);
-    int status = s == NULL ? RELKVANU_STORE_NO_MEMORY : prepare(s);
+    int status = s == NULL ? RELKVANU_STORE_NO_MEMORY : rks_begin_store(s);
     if (status != RELKVANU_STORE_OK) {
         memcpy(report->message, s == NULL ? "" : s->fault, s == NULL ? 1 : sizeof report->message);
         free(s);
         return status;
     }
     s->options = *options;
+    s->birth = birth;
     s->settings = options->settings;
     s->options.image_calls = options->image_calls == 0               ? IMAGE_CALLS
                              : options->image_calls > UINT64_MAX / 4 ? RELKVANU_STORE_NO_IMAGES
@@ -470,18 +500,23 @@ int relkvanu_store_open(relkvanu_store **store, const char *path, const relkvanu
     status = open_job(s, path, options, report);
     s->options.storage = NULL;
     s->options.shape = NULL;
+    s->birth = NULL;
     if (status != RELKVANU_STORE_OK) {
         int error = errno;
         memcpy(report->message, s->fault, sizeof report->message);
         status = status == RELKVANU_STORE_OUT_OF_MEMORY ? RELKVANU_STORE_NO_MEMORY
                  : status == RELKVANU_STORE_BUSY        ? RELKVANU_STORE_IN_USE
                                                         : status;
-        release(s);
+        rks_release_store(s);
         errno = error;
         return status;
     }
     *store = s;
     return RELKVANU_STORE_OK;
+}
+
+int relkvanu_store_open(relkvanu_store **store, const char *path, const relkvanu_store_options *options, relkvanu_store_report *report) {
+    return rks_open(store, path, options, report, NULL);
 }
 
 /* Makes an image, and brings all into the file. */
@@ -503,5 +538,5 @@ void relkvanu_store_close(relkvanu_store *s) {
         relkvanu_store_read_end(s);
     }
     rks_end_submits(s);
-    release(s);
+    rks_release_store(s);
 }

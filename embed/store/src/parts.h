@@ -36,6 +36,9 @@ struct rks_text {
 /* Makes room for more bytes. Returns false if there is no memory; the bytes stay. */
 bool rks_room(struct rks_text *text, size_t more);
 
+/* What calls are beside what their lines say. */
+enum rks_verb { RKS_CALLS, RKS_STOPS, RKS_BEGINS };
+
 /* Calls, a read (calls is NULL) or a submit that waits in the queue. */
 struct rks_waiter {
     struct rks_waiter *next;
@@ -49,7 +52,10 @@ struct rks_waiter {
     bool is_submitted;
     uint64_t token;
     uint64_t greatest; /* number of a file in the folder, if a call is a fence */
-    size_t few[4];     /* what ends points to, if that is enough */
+    uint64_t now;      /* the moment of its calls that have RELKVANU_STORE_NOW */
+    enum rks_verb verb;
+    bool is_not_now; /* the phase of the job does not allow the verb */
+    size_t few[4];   /* what ends points to, if that is enough */
 };
 
 /* A call that was made, for the log. */
@@ -69,17 +75,37 @@ struct rks_tail {
     uint32_t chain;
 };
 
+/* Which of the phases of relkvanu_store.h the job is in, and when its savepoint was triggered. It is a row of the job's file. */
+struct rks_phase {
+    uint64_t phase, failed, savepoint, started, term;
+};
+
+/* What a verb has made, and relkvanu_store_await_tick hands to the engine: a record that is pending, or where the job begins again. */
+struct rks_order {
+    relkvanu_answer answer, choice;
+    uint64_t place, term;
+};
+
+/* At most so many are not told: as many checkpoints as may be pending, a savepoint, and a restore. */
+enum { RKS_ORDERS = 66 };
+
+struct rks_orders {
+    struct rks_order of[RKS_ORDERS];
+    size_t len;
+};
+
 /* What timers and discarders wait for, of what is committed. */
 struct rks_view {
     uint64_t tick;              /* the moment of the next one; UINT64_MAX: only a call can bring one */
     uint64_t clock;             /* clock_offset */
     bool is_running, has_files; /* the job; files that wait for deletion */
+    struct rks_phase phase;
 };
 
 enum rks_statement { RKS_BEGIN, RKS_COMMIT, RKS_ROLLBACK, RKS_INSERT, RKS_IMAGE, RKS_CUT_LOG, RKS_DROP_IMAGES, RKS_STATEMENTS };
 
 struct relkvanu_store {
-    relkvanu handle;
+    relkvanu handles[2], *handle;   /* the coordinator is one of the two */
     relkvanu_store_options options; /* its pointers are not kept */
     pid_t process;
 
@@ -87,7 +113,7 @@ struct relkvanu_store {
     char *path, *wal;
     int lock, shm, folder;
     struct stat path_is, wal_is;
-    relkvanu_settings settings;      /* those of the job, which may be others than those of the options */
+    relkvanu_settings settings;      /* those that the job has, which may be others than those of the options: of the thread that leads */
     char identity[RKS_IDENTITY + 1]; /* of the job, in hexadecimal digits */
     uint64_t epoch;                  /* of this opening */
 
@@ -104,6 +130,11 @@ struct relkvanu_store {
     int code;                /* SQLite's, of the last failure */
     char fault[RKS_MESSAGE]; /* its words */
     bool is_held;            /* the last tick was held because of the checkpoints that are pending */
+    struct rks_phase phase;
+    bool writes_phase;             /* the next commit writes it */
+    char stop_line[64];            /* of the restore that ends a stop */
+    bool is_news, drops_orders;    /* timers have to be told of the phase; the orders before are of no use any more */
+    struct rks_orders made_orders; /* by the group under way */
     bool may_sweep;
     bool has_stopped; /* the job, in the group under way */
     uint32_t last_mode;
@@ -121,7 +152,9 @@ struct relkvanu_store {
     bool is_led;
     int dead; /* the status that closed the store */
     struct rks_view view;
-    bool tells_mode;  /* the job has stopped running, and no timer was told yet */
+    bool tells_mode; /* the job has stopped running, and no timer was told yet */
+    int tells_phase; /* the status by which a timer is told that the job is stopped, or that its stop has failed; 0: none */
+    struct rks_orders orders;
     uint64_t version; /* of the view */
     bool is_stopped, is_discarding;
     uint64_t swept, unissued;  /* files: that sweeps have deleted; that the last one left, since their names were not given out */
@@ -134,6 +167,16 @@ struct relkvanu_store {
     uint64_t tries_at, try_wait; /* after a batch of which none was gone: when it tries again, by rks_clock_ns; ms until then */
     bool is_settled;             /* no file was taken and not reported */
 
+    /* manifests: only of the thread that leads (manifest.c) */
+    struct rks_kept {
+        uint64_t *ids; /* records that have one, in order */
+        size_t len, room;
+        uint64_t chosen, carrier;           /* the records whose manifest says that it is the choice; that has the numbers below. 0: none */
+        uint64_t number, term, name, tries; /* what somebody was told is below these; when a failed one is tried again, by rks_clock_ns */
+        bool is_on, is_due, has_failed;
+    } kept;
+    const struct rks_birth *birth; /* NULL: a new job is born as usual */
+
     /* submits */
     struct rks_waiter *completed, **completed_tail;
     int event;
@@ -144,8 +187,35 @@ struct relkvanu_store {
     relkvanu_store *older; /* in the list of all stores of the process */
 };
 
+/* What a new job has of an earlier one: the number of its first record, its opening and its identity. It has a storage whose marker is there. */
+struct rks_birth {
+    uint64_t first, epoch;
+    char identity[RKS_IDENTITY + 1];
+};
+
+/* open.c: a store that has nothing yet; frees all of one; an opening, of a job with this birth if it is new. */
+int rks_begin_store(relkvanu_store *s);
+void rks_release_store(relkvanu_store *s);
+int rks_open(relkvanu_store **store, const char *path, const relkvanu_store_options *options, relkvanu_store_report *report,
+    const struct rks_birth *birth);
+
+/* manifest.c: at an opening; notes what was made; after a commit. A manifest that can't be written is counted, and tried again. */
+void rks_begin_manifests(relkvanu_store *s);
+void rks_note_manifest(relkvanu_store *s, relkvanu_answer answer);
+void rks_keep_manifests(relkvanu_store *s);
+
+/* Deletes the manifests of records that are not complete and live. Adds to *left how many it could not delete. */
+int rks_sweep_manifests(relkvanu_store *s, size_t *left);
+
 /* limits.c: the words for an opening whose argument the coordinator has refused. RELKVANU_STORE_BAD_ARGUMENT, or _NO_MEMORY. */
 int rks_tell_limit(const relkvanu_store_options *o, uint32_t argument, char *words, size_t len);
+
+/* image.c */
+size_t rks_shape_of(const char *image, uint64_t *shape, size_t shape_len);
+relkvanu_settings rks_settings(const uint64_t numbers[7]); /* of a line */
+bool rks_settings_of(const char *image, size_t len, relkvanu_settings *settings);
+char *rks_image_of(relkvanu *handle);
+relkvanu_answer rks_open_image(relkvanu *handle, const void *image, size_t len);
 
 /* lock.c */
 int rks_lock(relkvanu_store *s, const char *path);
@@ -161,6 +231,9 @@ int rks_file_fault(relkvanu_store *s, const char *what, int error);
 char *rks_folder_of(const char *path);
 int rks_sync_folder_of(relkvanu_store *s, const char *path);
 int rks_write_again(relkvanu_store *s);
+
+/* Whether a store that was closed has brought all into its file: its close does not say so. */
+int rks_check_closed(relkvanu_store *s, const char *path);
 int rks_make_file(relkvanu_store *s);
 bool rks_write_whole(int file, const void *bytes, size_t len, off_t at);
 
@@ -175,6 +248,7 @@ int rks_drop_tail(relkvanu_store *s);
 /* why.c: notes for this thread why a storage did not do what it was to do. Keeps errno. */
 void rks_why(const char *what, int storage_status);
 void rks_why_file(uint64_t file, int storage_status);
+void rks_why_words(const char *words);
 
 /* marker.c */
 int rks_open_folder(relkvanu_store *s, const char *folder);
@@ -184,6 +258,9 @@ int rks_check_marker(relkvanu_store *s, const char *folder, uint64_t epoch);
 
 /* The opening that the marker names, which has to be one of this job. */
 int rks_read_marker(relkvanu_store *s, const char *folder, uint64_t *marked);
+
+/* The same of any job, whose identity the store gets. */
+int rks_read_owner(relkvanu_store *s, const char *folder, uint64_t *marked);
 bool rks_has_marker(const relkvanu_store *s);
 
 /* Whether the folder of the storage is also that of PATH; whether the name is that of one of the job's own files there. */
@@ -193,6 +270,9 @@ bool rks_is_own(const relkvanu_store *s, const char *name);
 /* Whose folder it is, as a storage says it. RELKVANU_STORAGE_OK: this opening's, or there is none; RELKVANU_STORAGE_NOT_THERE: it has no marker;
  * RELKVANU_STORAGE_OTHER_JOB: its marker names another job or a later opening; RELKVANU_STORAGE_FAILED: errno says why it can't be read. */
 int rks_owner(const relkvanu_store *s);
+
+/* The same of an open folder, a job and one of its openings. */
+int rks_owner_of(int folder, const char *job, uint64_t epoch);
 
 /* lite.c */
 int rks_fault(relkvanu_store *s, const char *what);
@@ -218,9 +298,32 @@ int rks_replay(relkvanu_store *s, relkvanu_store_report *report);
 
 /* make.c */
 int rks_make(relkvanu_store *s, struct rks_waiter *group);
+bool rks_has_rows(relkvanu_store *s, size_t len);
+
+/* Notes all that follows from a call that the coordinator has made, and its row. */
+void rks_accept(relkvanu_store *s, enum rks_verb verb, relkvanu_store_call *call, const uint8_t *line, size_t len);
+
+/* phase.c */
+bool rks_allows(const relkvanu_store *s, enum rks_verb verb);
+bool rks_puts_off(relkvanu_store *s, const relkvanu_call *call, uint64_t now);
+void rks_follow(relkvanu_store *s, enum rks_verb verb, const relkvanu_store_call *call);
+void rks_order(relkvanu_store *s, const relkvanu_store_call *call);
+void rks_drop_orders(relkvanu_store *s);
+bool rks_has_saved(relkvanu_store *s);
+void rks_stopped(relkvanu_store *s, const relkvanu_store_call *restore);
+uint64_t rks_stop_expiry(const relkvanu_store *s);
+int rks_write_phase(relkvanu_store *s);
+int rks_read_phase(relkvanu_store *s);
+
+/* Only for the thread that leads, with the mutex. */
+bool rks_show_phase(relkvanu_store *s);
+bool rks_next_order(relkvanu_store *s, struct rks_order *order);
 
 /* queue.c */
 int rks_enter(relkvanu_store *s, struct rks_waiter *w);
+
+/* For a thread that leads alone: commits the rows, shows what is committed, and hands on. */
+int rks_commit_alone(relkvanu_store *s);
 struct rks_waiter *rks_take_group(relkvanu_store *s);
 void rks_lead(relkvanu_store *s, struct rks_waiter *self);
 void rks_hand_on(relkvanu_store *s, int dead);
@@ -232,6 +335,8 @@ void rks_end_submits(relkvanu_store *s);
 void rks_free_waiter(struct rks_waiter *w);
 
 /* calls.c */
+int rks_call(relkvanu_store *s, relkvanu_store_call *calls, size_t calls_len, enum rks_verb verb);
+int rks_write_line(const relkvanu_store_call *call, relkvanu_call made, struct rks_text *lines);
 int rks_write_lines(relkvanu_store *s, struct rks_waiter *w);
 
 /* reads.c */

@@ -62,9 +62,9 @@ struct rks_waiter *rks_take_group(relkvanu_store *s) {
 
 /* Afterwards a waiter belongs to who waits for it. */
 static void answer(relkvanu_store *s, struct rks_waiter *w, int status, bool is_own) {
-    w->status = status;
+    w->status = status == RELKVANU_STORE_OK && w->is_not_now ? RELKVANU_STORE_NOT_NOW : status;
     w->is_answered = true;
-    if (status != RELKVANU_STORE_OK) {
+    if (w->status != RELKVANU_STORE_OK) {
         rks_drop_answers(w->calls, w->calls_len);
     }
     if (w->is_submitted) {
@@ -113,14 +113,11 @@ void rks_hand_on(relkvanu_store *s, int dead) {
     answer_all(s, failed, RELKVANU_STORE_CLOSED, NULL);
 }
 
-/* Makes and commits the calls of a group. Returns the status of its callers. */
-static int work(relkvanu_store *s, struct rks_waiter *group) {
-    int status = rks_make(s, group);
-    if (status != RELKVANU_STORE_OK || s->rows_len == 0) {
-        return status;
-    }
-    status = rks_commit(s, false);
+/* Commits the calls that were made. */
+static int commit(relkvanu_store *s) {
+    int status = rks_commit(s, false);
     if (status == RELKVANU_STORE_OK) {
+        rks_keep_manifests(s); /* a record that nobody can recover is complete for nobody */
         s->led.commits++;
         s->led.calls += s->rows_len;
         s->led.largest = s->rows_len > s->led.largest ? s->rows_len : s->led.largest;
@@ -131,20 +128,40 @@ static int work(relkvanu_store *s, struct rks_waiter *group) {
     return status;
 }
 
+/* Makes and commits the calls of a group. Returns the status of its callers. */
+static int work(relkvanu_store *s, struct rks_waiter *group) {
+    int status = rks_make(s, group);
+    return status != RELKVANU_STORE_OK || s->rows_len == 0 ? status : commit(s);
+}
+
 /* Brings the -wal into the file. Returns the status that closes the store, or 0. */
 static int tidy(relkvanu_store *s) {
     int status = s->pages >= RKS_WAL_PAGES ? rks_checkpoint(s, SQLITE_CHECKPOINT_PASSIVE) : RELKVANU_STORE_OK;
     return status == RELKVANU_STORE_FAILED || status == RELKVANU_STORE_DAMAGED ? RELKVANU_STORE_FAILED : 0;
 }
 
-void rks_lead(relkvanu_store *s, struct rks_waiter *own) {
-    struct rks_waiter *group = rks_take_group(s);
-    int status = work(s, group), dead = status >= RELKVANU_STORE_FAILED ? status : 0;
-    if (dead != 0) {
-        bury(s, dead);
+/* Shows what was committed, or closes the store. Returns whether it did. */
+static bool closes(relkvanu_store *s, int status) {
+    bool is_dead = status >= RELKVANU_STORE_FAILED && status <= RELKVANU_STORE_OUT_OF_MEMORY;
+    if (is_dead) {
+        bury(s, status);
     } else {
         rks_show(s);
     }
+    return is_dead;
+}
+
+void rks_lead(relkvanu_store *s, struct rks_waiter *own) {
+    struct rks_waiter *group = rks_take_group(s);
+    int status = work(s, group);
+    bool is_dead = closes(s, status);
     answer_all(s, group, status, own);
-    rks_hand_on(s, dead != 0 ? 0 : tidy(s));
+    rks_hand_on(s, is_dead ? 0 : tidy(s));
+}
+
+int rks_commit_alone(relkvanu_store *s) {
+    int status = commit(s);
+    bool is_dead = closes(s, status);
+    rks_hand_on(s, is_dead ? 0 : tidy(s));
+    return status;
 }

@@ -24,8 +24,8 @@ int relkvanu_store_read(relkvanu_store *s, relkvanu **handle) {
     }
     if (status == RELKVANU_STORE_OK) {
         rks_take_group(s); /* it is this read alone */
-        see(&s->handle, s->seen);
-        *handle = &s->handle;
+        see(s->handle, s->seen);
+        *handle = s->handle;
     }
     return status;
 }
@@ -42,46 +42,12 @@ int relkvanu_store_look(relkvanu_store *s, relkvanu_reads **reads) {
 /* A call through the handle of a read is in no log: no later opening could make the calls after it. */
 void relkvanu_store_read_end(relkvanu_store *s) {
     uint64_t seen[RKS_SEEN];
-    see(&s->handle, seen);
+    see(s->handle, seen);
     bool is_same = memcmp(seen, s->seen, sizeof seen) == 0;
     if (!is_same) {
         snprintf(s->fault, sizeof s->fault, "%.300s: a call was made through the handle of a read, which the log does not have", s->path);
     }
     rks_hand_on(s, is_same ? 0 : RELKVANU_STORE_FAILED);
-}
-
-/* The image of docs/IMAGE.md has its members in the order of the alphabet, so the last shape is that of the coordinator. */
-static size_t shape_of(const char *image, uint64_t *shape, size_t shape_len) {
-    static const char KEY[] = "\"shape\":[";
-    const char *at = NULL;
-    size_t found = 0;
-    for (const char *next = strstr(image, KEY); next != NULL; next = strstr(at, KEY)) {
-        at = next + sizeof KEY - 1;
-    }
-    for (char *end; at != NULL && *at >= '0' && *at <= '9'; at = *end == ',' ? end + 1 : end) {
-        uint64_t vertex = strtoull(at, &end, 10);
-        if (found < shape_len) {
-            shape[found] = vertex;
-        }
-        found++;
-    }
-    return found;
-}
-
-/* Returns the image as a text with a zero at its end, to be freed, or NULL without memory. */
-static char *image_of(relkvanu *handle) {
-    size_t len = relkvanu_save(handle, NULL, 0).a;
-    char *image = malloc(len + 1);
-    relkvanu_answer answer = {.code = RELKVANU_NO_MEMORY};
-    if (image != NULL) {
-        answer = relkvanu_save(handle, (uint8_t *)image, len);
-    }
-    if (answer.code != RELKVANU_DONE) {
-        free(image);
-        return NULL;
-    }
-    image[answer.a] = 0;
-    return image;
 }
 
 int relkvanu_store_job(relkvanu_store *s, relkvanu_settings *settings, uint64_t *shape, size_t *shape_len) {
@@ -92,13 +58,13 @@ int relkvanu_store_job(relkvanu_store *s, relkvanu_settings *settings, uint64_t 
     if (status != RELKVANU_STORE_OK) {
         return status;
     }
-    char *image = image_of(handle);
+    char *image = rks_image_of(handle);
+    *settings = s->settings;
     relkvanu_store_read_end(s);
     if (image == NULL) {
         return RELKVANU_STORE_NO_MEMORY;
     }
-    *settings = s->settings;
-    *shape_len = shape_of(image, shape, room);
+    *shape_len = rks_shape_of(image, shape, room);
     free(image);
     return *shape_len <= room ? RELKVANU_STORE_OK : RELKVANU_STORE_BAD_ARGUMENT;
 }
@@ -147,18 +113,18 @@ static int by_number(const void *one, const void *other) {
 
 /* The files that wait or are taken, in order. */
 static int released_files(relkvanu_store *s, uint64_t **released, size_t *len) {
-    relkvanu_counts counts = relkvanu_file_counts(&s->handle);
+    relkvanu_counts counts = relkvanu_file_counts(s->handle);
     uint64_t *files = malloc((counts.waiting + counts.taken + 1) * sizeof *files);
     if (files == NULL) {
         return RELKVANU_STORE_NO_MEMORY;
     }
-    relkvanu_answer answer = relkvanu_taken_files(&s->handle, files, counts.taken);
+    relkvanu_answer answer = relkvanu_taken_files(s->handle, files, counts.taken);
     if (answer.code != RELKVANU_DONE) {
         free(files);
         return RELKVANU_STORE_NO_MEMORY;
     }
     for (size_t place = 0; place < counts.waiting; place++) {
-        files[answer.a + place] = relkvanu_waiting_file(&s->handle, place).a;
+        files[answer.a + place] = relkvanu_waiting_file(s->handle, place).a;
     }
     *released = files;
     *len = answer.a + counts.waiting;
@@ -167,7 +133,7 @@ static int released_files(relkvanu_store *s, uint64_t **released, size_t *len) {
 }
 
 bool rks_has_names(relkvanu_store *s) {
-    return relkvanu_term(&s->handle).code == RELKVANU_DONE;
+    return relkvanu_term(s->handle).code == RELKVANU_DONE;
 }
 
 int relkvanu_store_term(relkvanu_store *s, relkvanu_answer *answer) {
@@ -199,7 +165,7 @@ static size_t garbage_of(relkvanu_store *s, uint64_t *files, size_t len, size_t 
     size_t found = 0;
     for (size_t begin = 0; begin < len; begin += PAGE) {
         size_t page = len - begin < PAGE ? len - begin : PAGE;
-        relkvanu_answer answer = relkvanu_garbage(&s->handle, files + begin, page, garbage, PAGE, others, PAGE);
+        relkvanu_answer answer = relkvanu_garbage(s->handle, files + begin, page, garbage, PAGE, others, PAGE);
         memcpy(files + found, garbage, answer.a * sizeof *files);
         found += answer.a;
         *unissued += answer.b;
@@ -212,7 +178,7 @@ static size_t unknown_of(relkvanu_store *s, const uint64_t *released, size_t rel
     size_t found = 0;
     for (size_t i = 0; i < len; i++) {
         bool is_known =
-            relkvanu_count(&s->handle, files[i]).b != 0 || bsearch(&files[i], released, released_len, sizeof *released, by_number) != NULL;
+            relkvanu_count(s->handle, files[i]).b != 0 || bsearch(&files[i], released, released_len, sizeof *released, by_number) != NULL;
         if (!is_known) {
             files[found++] = files[i];
         }

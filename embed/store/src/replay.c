@@ -5,7 +5,6 @@
 #include <stdio.h>
 #include <stdlib.h>
 #include <string.h>
-#include <sys/random.h>
 
 static int damaged(relkvanu_store *s, const char *what, uint64_t place, const char *how) {
     snprintf(s->fault, sizeof s->fault, "%.300s: %s %" PRIu64 " %s", s->path, what, place, how);
@@ -14,7 +13,7 @@ static int damaged(relkvanu_store *s, const char *what, uint64_t place, const ch
 
 /* Opens the coordinator with the image of a row. */
 static int open_image(relkvanu_store *s, sqlite3_stmt *row) {
-    uint64_t words[2], place = (uint64_t)sqlite3_column_int64(row, 0);
+    uint64_t place = (uint64_t)sqlite3_column_int64(row, 0);
     uint32_t chain = (uint32_t)sqlite3_column_int64(row, 1), sum = (uint32_t)sqlite3_column_int64(row, 2);
     const uint8_t *image = sqlite3_column_blob(row, 3);
     size_t len = (size_t)sqlite3_column_bytes(row, 3);
@@ -24,12 +23,12 @@ static int open_image(relkvanu_store *s, sqlite3_stmt *row) {
     if (image == NULL || rks_image_sum(place, chain, image, len) != sum) {
         return damaged(s, "the image after call", place, "is damaged: its checksum is another one");
     }
-    if (getentropy(words, sizeof words) != 0) {
+    relkvanu_answer answer = rks_open_image(s->handle, image, len);
+    if (answer.code == RELKVANU_CLOSED) {
         snprintf(s->fault, sizeof s->fault, "no random numbers");
         return RELKVANU_STORE_FAILED;
     }
-    relkvanu_answer answer = relkvanu_open_saved(&s->handle, image, len, words[0], words[1]);
-    if (answer.code != RELKVANU_DONE) {
+    if (answer.code != RELKVANU_DONE || !rks_settings_of((const char *)image, len, &s->settings)) {
         return answer.code == RELKVANU_NO_MEMORY ? RELKVANU_STORE_NO_MEMORY
                                                  : damaged(s, "the image after call", place, "is damaged: it is no image");
     }
@@ -83,6 +82,15 @@ static int differs(relkvanu_store *s, const struct rks_row *row, relkvanu_answer
     return RELKVANU_STORE_DIFFERS;
 }
 
+/* The settings that the line of a row gives to the job. */
+static int configured(relkvanu_store *s, const struct rks_row *row) {
+    uint64_t numbers[7] = {0};
+    relkvanu_call call;
+    relkvanu_answer answer = relkvanu_line_call(row->line, row->line_len, &call, numbers, 7, NULL, 0);
+    s->settings = answer.code == RELKVANU_DONE ? rks_settings(numbers) : s->settings;
+    return answer.code == RELKVANU_DONE ? RELKVANU_STORE_OK : RELKVANU_STORE_NO_MEMORY;
+}
+
 /* Makes the call of a row again, and compares the answer. */
 static int make_again(relkvanu_store *s, const struct rks_row *row, struct rks_text *files) {
     size_t taken = row->answer.what == RELKVANU_TAKEN ? row->answer.a : 0;
@@ -90,7 +98,7 @@ static int make_again(relkvanu_store *s, const struct rks_row *row, struct rks_t
     if (!rks_room(files, taken * 8 + 8)) {
         return RELKVANU_STORE_NO_MEMORY;
     }
-    relkvanu_answer got = relkvanu_line(&s->handle, row->line, row->line_len, (uint64_t *)(void *)files->at, taken);
+    relkvanu_answer got = relkvanu_line(s->handle, row->line, row->line_len, (uint64_t *)(void *)files->at, taken);
     if (got.code == RELKVANU_NO_MEMORY) {
         return RELKVANU_STORE_NO_MEMORY;
     }
@@ -98,7 +106,7 @@ static int make_again(relkvanu_store *s, const struct rks_row *row, struct rks_t
     if (!is_same || (taken != 0 && memcmp(files->at, row->files, taken * 8) != 0)) {
         return differs(s, row, got);
     }
-    return RELKVANU_STORE_OK;
+    return got.what == RELKVANU_CONFIGURED ? configured(s, row) : RELKVANU_STORE_OK;
 }
 
 static int replay_row(relkvanu_store *s, sqlite3_stmt *it, struct rks_text *files) {

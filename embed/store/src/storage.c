@@ -226,5 +226,6 @@ int relkvanu_store_sweep(relkvanu_store *s, size_t *left) {
     relkvanu_storage own;
     *left = 0;
     int status = relkvanu_store_storage(s, &own);
-    return status == RELKVANU_STORE_OK ? relkvanu_store_sweep_storage(s, &own, left) : status;
+    status = status == RELKVANU_STORE_OK ? relkvanu_store_sweep_storage(s, &own, left) : status;
+    return status == RELKVANU_STORE_OK ? rks_sweep_manifests(s, left) : status;
 }

@@ -2,6 +2,7 @@
 #include "parts.h"
 
 #include <errno.h>
+#include <string.h>
 #include <time.h>
 
 static uint64_t ns_of(clockid_t clock) {
@@ -52,13 +53,17 @@ int rks_await(relkvanu_store *s, uint64_t seen, uint64_t until) {
 
 /* The moment of the next tick; UINT64_MAX: only a call can bring one. */
 static uint64_t tick_moment(relkvanu_store *s) {
-    if (relkvanu_mode(&s->handle).what != RELKVANU_MODE_RUNNING) {
-        return UINT64_MAX; /* ticks are refused until the job is restored */
+    if (relkvanu_mode(s->handle).what != RELKVANU_MODE_RUNNING || s->phase.phase == RELKVANU_STORE_PHASE_STOPPED) {
+        return UINT64_MAX; /* ticks are refused until the job is restored, or begins again */
     }
-    relkvanu_answer expires = relkvanu_oldest_expiry(&s->handle);
+    relkvanu_answer expires = relkvanu_oldest_expiry(s->handle);
     uint64_t expiry = expires.what == RELKVANU_EXPIRES ? expires.a : UINT64_MAX;
+    if (s->phase.phase == RELKVANU_STORE_PHASE_STOPPING) {
+        expiry = rks_stop_expiry(s);
+        return expiry < s->tick_after ? s->tick_after : expiry;
+    }
     /* While as many are pending as may be, due has passed, and only the end of one lets another begin. */
-    uint64_t due = s->is_held ? UINT64_MAX : relkvanu_due(&s->handle).a, next = due < expiry ? due : expiry;
+    uint64_t due = s->is_held ? UINT64_MAX : relkvanu_due(s->handle).a, next = due < expiry ? due : expiry;
     return next < s->tick_after ? s->tick_after : next;
 }
 
@@ -66,12 +71,15 @@ static uint64_t tick_moment(relkvanu_store *s) {
 struct timer {
     uint64_t wait, seen;
     bool is_running, is_news; /* of the job; whether it has stopped running since a timer was told */
+    int phase;                /* the status that says its phase, if a timer was not told; 0 */
+    bool is_stopped, has_order;
+    struct rks_order order;
 };
 
 /* A moment that was given ahead of the clock is the clock's own from now on: a tick is due an interval after it, and not when the clock has
  * come so far. */
 static void follow_moment(relkvanu_store *s) {
-    uint64_t moment = relkvanu_moment(&s->handle).a, now = relkvanu_store_now(s);
+    uint64_t moment = relkvanu_moment(s->handle).a, now = relkvanu_store_now(s);
     if (moment > now) {
         s->clock_offset += moment - now;
     }
@@ -79,7 +87,7 @@ static void follow_moment(relkvanu_store *s) {
 
 static bool is_same(const struct rks_view *one, const struct rks_view *other) {
     return one->tick == other->tick && one->clock == other->clock && one->is_running == other->is_running &&
-           one->has_files == other->has_files;
+           one->has_files == other->has_files && memcmp(&one->phase, &other->phase, sizeof one->phase) == 0;
 }
 
 /* So a commit that brings nothing new to timers and discarders wakes none of them. */
@@ -87,10 +95,11 @@ void rks_show(relkvanu_store *s) {
     follow_moment(s);
     struct rks_view view = {.tick = tick_moment(s),
         .clock = s->clock_offset,
-        .is_running = relkvanu_mode(&s->handle).what == RELKVANU_MODE_RUNNING,
-        .has_files = relkvanu_file_counts(&s->handle).waiting != 0};
+        .is_running = relkvanu_mode(s->handle).what == RELKVANU_MODE_RUNNING,
+        .has_files = relkvanu_file_counts(s->handle).waiting != 0,
+        .phase = s->phase};
     pthread_mutex_lock(&s->mutex);
-    bool is_other = s->has_stopped || !is_same(&view, &s->view);
+    bool is_other = rks_show_phase(s) || s->has_stopped || !is_same(&view, &s->view);
     s->tells_mode = !view.is_running && (s->tells_mode || s->has_stopped);
     s->has_stopped = false;
     s->view = view;
@@ -104,6 +113,20 @@ void rks_show(relkvanu_store *s) {
     pthread_mutex_unlock(&s->mutex);
 }
 
+/* One timer is told, of one thing at a time: an order, then a phase, then that the job has stopped running. */
+static void tell(relkvanu_store *s, struct timer *timer) {
+    timer->has_order = rks_next_order(s, &timer->order);
+    if (timer->has_order) {
+        return;
+    }
+    timer->phase = s->tells_phase;
+    s->tells_phase = 0;
+    if (timer->phase == 0) {
+        timer->is_news = s->tells_mode;
+        s->tells_mode = false;
+    }
+}
+
 static int look(relkvanu_store *s, struct timer *timer, bool tells) {
     if (rks_is_forked(s)) {
         return RELKVANU_STORE_FORKED;
@@ -113,8 +136,13 @@ static int look(relkvanu_store *s, struct timer *timer, bool tells) {
     uint64_t next = s->view.tick;
     int status = s->dead != 0 ? RELKVANU_STORE_CLOSED : s->is_stopped ? RELKVANU_STORE_STOPPED : RELKVANU_STORE_OK;
     uint64_t wait = next == UINT64_MAX ? UINT64_MAX : next > now ? next - now : 0;
-    *timer = (struct timer){wait, s->version, s->view.is_running, s->tells_mode};
-    s->tells_mode = s->tells_mode && !tells;
+    *timer = (struct timer){.wait = wait,
+        .seen = s->version,
+        .is_running = s->view.is_running,
+        .is_stopped = s->view.phase.phase == RELKVANU_STORE_PHASE_STOPPED};
+    if (tells && status == RELKVANU_STORE_OK) {
+        tell(s, timer);
+    }
     pthread_mutex_unlock(&s->mutex);
     return status;
 }
@@ -131,11 +159,37 @@ uint64_t rks_after(uint64_t ms) {
     return ms > (UINT64_MAX - now) / 1000000 ? UINT64_MAX : now + ms * 1000000;
 }
 
+static relkvanu_answer not_running(bool is_news) {
+    return (relkvanu_answer){.code = RELKVANU_REFUSED, .what = RELKVANU_NOT_RUNNING, .a = is_news};
+}
+
+/* What a timer returns that has waited, and makes no tick. */
+static int no_tick(const struct timer *timer, int status, relkvanu_store_call *tick) {
+    rks_drop_answers(tick, 1);
+    if (status == RELKVANU_STORE_JOB_STOPPED || (status == RELKVANU_STORE_TIMED_OUT && timer->is_stopped)) {
+        tick->answer = not_running(status == RELKVANU_STORE_JOB_STOPPED);
+        return RELKVANU_STORE_JOB_STOPPED;
+    }
+    if (status == RELKVANU_STORE_TIMED_OUT && !timer->is_running) {
+        tick->answer = not_running(timer->is_news);
+        return RELKVANU_STORE_NOT_RUNNING;
+    }
+    return status;
+}
+
 int relkvanu_store_await_tick(relkvanu_store *s, uint64_t longest, relkvanu_store_call *tick) {
     *tick = (relkvanu_store_call){.call = {.kind = RELKVANU_CALL_TICK, .now = RELKVANU_STORE_NOW}};
     for (uint64_t end = rks_after(longest);;) {
         struct timer timer = {0};
         int status = look(s, &timer, true);
+        if (status == RELKVANU_STORE_OK && timer.has_order) {
+            tick->answer = timer.order.answer;
+            tick->choice = timer.order.choice;
+            tick->place = timer.order.place;
+            tick->term = timer.order.term;
+            return status;
+        }
+        status = status == RELKVANU_STORE_OK ? timer.phase : status;
         if (status == RELKVANU_STORE_OK && timer.wait == 0) {
             return relkvanu_store_calls(s, tick, 1);
         }
@@ -147,12 +201,7 @@ int relkvanu_store_await_tick(relkvanu_store *s, uint64_t longest, relkvanu_stor
             status = rks_await(s, timer.seen, due < end ? due : end);
         }
         if (status != RELKVANU_STORE_OK) {
-            rks_drop_answers(tick, 1);
-            if (status == RELKVANU_STORE_TIMED_OUT && !timer.is_running) {
-                tick->answer = (relkvanu_answer){.code = RELKVANU_REFUSED, .what = RELKVANU_NOT_RUNNING, .a = timer.is_news};
-                return RELKVANU_STORE_NOT_RUNNING;
-            }
-            return status;
+            return no_tick(&timer, status, tick);
         }
     }
 }

@@ -33,6 +33,11 @@ void rks_why_file(uint64_t file, int storage_status) {
     rks_why(what, storage_status);
 }
 
+/* Why a verb was not made; empty: it was. */
+void rks_why_words(const char *words) {
+    snprintf(why, sizeof why, "%s", words);
+}
+
 size_t relkvanu_store_why(char *text, size_t text_len) {
     return (size_t)snprintf(text, text_len, "%s", why);
 }

@@ -34,6 +34,7 @@ struct test {
     void (*run)(void);
 };
 extern const struct test open_cases[], damage_cases[], storage_cases[], call_cases[], queue_cases[], discard_cases[], file_cases[],
-    folder_cases[], name_cases[], object_cases[], backup_cases[], log_cases[], told_cases[], look_cases[], alone_cases[];
+    folder_cases[], name_cases[], object_cases[], backup_cases[], log_cases[], told_cases[], look_cases[], alone_cases[], manifest_cases[],
+    verb_cases[];
 
 #endif

@@ -239,8 +239,50 @@ static void a_sweep(void) {
     relkvanu_store_close(store);
 }
 
+static int opens_task(const char *folder, const uint64_t job[2], uint64_t epoch) {
+    relkvanu_storage task;
+    int status = relkvanu_storage_open_task(&task, folder, job, epoch);
+    CHECK((task.with != NULL) == (status == RELKVANU_STORAGE_OK), "status %d", status);
+    relkvanu_storage_close_task(&task);
+    relkvanu_storage_close_task(&task);
+    return status;
+}
+
+/* A task in another process puts files into the store's folder until another opening has it, or the marker is away. */
+static void a_task_of_another_process(void) {
+    relkvanu_store_options options = storage_options(RELKVANU_STORE_CREATE, 0);
+    relkvanu_store *store = opens(&options, RELKVANU_STORE_OK);
+    uint64_t other[2] = {report.job[0], report.job[1] + 1}, epoch = report.epoch, len = 0;
+    char read[8] = "";
+    relkvanu_storage task;
+    CHECK(opens_task(in("nowhere"), report.job, epoch) == RELKVANU_STORAGE_NOT_THERE, "no folder");
+    CHECK(opens_task(in("."), report.job, epoch) == RELKVANU_STORAGE_NOT_THERE, "no marker");
+    CHECK(opens_task(in("storage"), other, epoch) == RELKVANU_STORAGE_OTHER_JOB, "another job");
+    CHECK(opens_task(in("storage"), report.job, epoch - 1) == RELKVANU_STORAGE_OTHER_JOB, "an earlier opening");
+    CHECK(relkvanu_storage_open_task(&task, in("storage"), report.job, epoch) == RELKVANU_STORAGE_OK, "a task");
+    CHECK(task.delete_files == NULL && task.list == NULL && task.check(task.with) == RELKVANU_STORAGE_OK, "a task deletes nothing");
+    CHECK(task.put(task.with, 7, "state", 5) == RELKVANU_STORAGE_OK && has("storage/7") && !has("storage/7.part"), "a put");
+    CHECK(task.put(task.with, 7, "other", 5) == RELKVANU_STORAGE_PRESENT, "a second put of the number");
+    CHECK(task.get(task.with, 7, read, sizeof read, &len) == RELKVANU_STORAGE_OK && len == 5 && strcmp(read, "state") == 0, "%s", read);
+    CHECK(task.get(task.with, 8, read, sizeof read, &len) == RELKVANU_STORAGE_ABSENT, "no file 8");
+    fail_syncs("/storage", EINVAL);
+    CHECK(task.put(task.with, 9, "state", 5) == RELKVANU_STORAGE_FAILED && errno == EINVAL && !has("storage/9"), "a folder without syncs");
+    fail_syncs("/storage", 0);
+    CHECK(rename(in("storage/.relkvanu-job"), in("marker")) == 0 && task.put(task.with, 10, "a", 1) == RELKVANU_STORAGE_NOT_THERE, "away");
+    CHECK(rename(in("marker"), in("storage/.relkvanu-job")) == 0 && task.put(task.with, 10, "a", 1) == RELKVANU_STORAGE_OK, "back");
+    relkvanu_store_close(store);
+    store = opens(&options, RELKVANU_STORE_OK);
+    CHECK(
+        task.put(task.with, 11, "a", 1) == RELKVANU_STORAGE_OTHER_JOB && !has("storage/11") && !has("storage/11.part"), "a later opening");
+    CHECK(task.check(task.with) == RELKVANU_STORAGE_OTHER_JOB, "a later opening");
+    relkvanu_storage_close_task(&task);
+    CHECK(opens_task(in("storage"), report.job, report.epoch) == RELKVANU_STORAGE_OK, "the task of the later opening");
+    relkvanu_store_close(store);
+}
+
 const struct test storage_cases[] = {{"a_folder_with_files", a_folder_with_files}, {"not_mounted", not_mounted},
     {"of_another_job", of_another_job}, {"named_or_not", named_or_not}, {"one_folder_for_all", one_folder_for_all},
     {"before_the_marker", before_the_marker}, {"an_older_copy", an_older_copy}, {"a_full_storage", a_full_storage},
     {"a_folder_that_is_not_synced", a_folder_that_is_not_synced}, {"a_marker_that_is_a_link", a_marker_that_is_a_link},
-    {"a_marker_without_an_epoch", a_marker_without_an_epoch}, {"a_sweep", a_sweep}, {NULL, NULL}};
+    {"a_marker_without_an_epoch", a_marker_without_an_epoch}, {"a_sweep", a_sweep},
+    {"a_task_of_another_process", a_task_of_another_process}, {NULL, NULL}};

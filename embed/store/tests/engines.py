@@ -51,8 +51,8 @@ def has_job(folder):
 
 
 def listed(folder):
-    """A part of a file counts as the file."""
-    return {int(it.partition(".part")[0]) for it in os.listdir(folder / "state") if not it.startswith(MARKER)}
+    """A part of a file counts as the file. Manifests are beside them."""
+    return {int(it.partition(".part")[0]) for it in os.listdir(folder / "state") if not it.startswith((MARKER, "record-"))}
 
 
 def await_opening(folder, process):

@@ -8,6 +8,7 @@ at what is left.
   call, too: each file in use is there, and the next process leaves no other.
 - The same while a backup is made. Each backup that has its name is whole, and has what was answered before; what fails for the backup
   alone stops no call; and the next backup of that name succeeds.
+- The same while an operator's command is made: all of it was done, or nothing, and what was answered was done.
 - A crowd of threads is killed at 40 random moments; loses power, so that only what was synced is left, or something of the rest (power.py);
   and goes on after syncs that fail. ROUNDS (default 1) multiplies these.
 
@@ -38,6 +39,7 @@ LEAST_TOLD, BYTES = 300, 40  # calls of a crowd that is not killed as it begins;
 KILLED = 10  # jobs of crowds that are killed: 40 random moments
 MOST_BESIDE = 24 * 6 * 40  # calls of a long crowd that nobody was told
 LEAST_LOST = 200  # losses that take something which a killed process leaves
+COMMANDS = {"configure": "make", "trigger": "make", "stop": "make", "last": "begun", "begin": "stopped", "back": "make"}  # and the job that each is made in
 
 
 SYNCS = (("its log", lambda path: path == "x.db-wal"), ("its file", lambda path: path == "x.db"), ("its folder", lambda path: path == ""))
@@ -87,6 +89,17 @@ class Run:
         ran = subprocess.run(command, env=self.environment(**what), stdout=subprocess.PIPE, stderr=subprocess.STDOUT, text=True, timeout=LONGEST)
         assert ran.returncode in (0, -signal.SIGKILL), ran.stdout
         return (ran.returncode, *(map(int, ran.stdout.split()[:3]) if ran.returncode == 0 else (None, None, None)))
+
+    def command(self, verb, **what):
+        """Makes a command of an operator. Returns the exit status, and whether it was answered."""
+        ran = subprocess.run([self.bin / "verbs", self.folder, verb], env=self.environment(**what), stdout=subprocess.PIPE, stderr=subprocess.STDOUT, text=True, timeout=LONGEST)
+        assert ran.returncode in (0, -signal.SIGKILL), ran.stdout
+        return ran.returncode, ran.stdout == "made\n"
+
+    def state(self):
+        ran = subprocess.run([self.bin / "verbs", self.folder, "state"], stdout=subprocess.PIPE, stderr=subprocess.STDOUT, text=True, timeout=LONGEST)
+        assert ran.returncode == 0, ran.stdout
+        return ran.stdout
 
     def verify_backup(self, work):
         """Looks at the backup as at a job: it has the calls that were told before it was made, and no others."""
@@ -138,6 +151,7 @@ class Tests:
         self.passed = self.failed = 0
         self.numbers = itertools.count(1)  # also for several threads
         self.losses = self.lost = 0
+        self.states = {}  # of a job before each command and after it
 
     def folder(self):
         return self.work / str(next(self.numbers))
@@ -228,6 +242,36 @@ class Tests:
                 self.each(base, self.backup_at, fault=fault, at="N", on="/backups", **{"for": often})
         self.each(base, self.backup_at, step=self.step(5), fault="any", at="N", **{"for": 1})
 
+    def command_at(self, base, number, what):
+        """One fault while an operator's command is made. Returns whether it was reached."""
+        folder = self.folder()
+        run = base.copy(folder)
+        given = {name: value if value != "N" else number for name, value in what.items()}
+        loss = given.pop("loss", None)
+        ended, is_answered = run.command(run.mode, **given, **({"journal": run.journal} if loss else {}))
+        if loss:
+            self.lose_power(run, loss, random.Random(number))
+        state, (before, after) = run.state(), self.states[run.mode]
+        check(state == after or (state == before and not is_answered), f"answered: {is_answered}; it is {state}, it was {before}, and would be {after}")
+        shutil.rmtree(folder)
+        return ended != 0 or not is_answered
+
+    def commands(self):
+        for verb, begun in COMMANDS.items():
+            base = self.new(verb)
+            base.command(begun)
+            base.keep()
+            one, other = base.copy(self.folder()), base.copy(self.folder())
+            self.note(verb, check, one.command(verb) == (0, True), "it is not answered")
+            self.states[verb] = other.state(), one.state()
+            self.note(f"{verb} does something", check, self.states[verb][0] != self.states[verb][1], self.states[verb][0])
+            self.each(base, self.command_at, die="N")
+            self.each(base, self.command_at, step=self.step(3), die="N", die_after=1)
+            self.each(base, self.command_at, step=self.step(2), fault="any", at="N", **{"for": 1})
+            self.each(base, self.command_at, step=self.step(3), fault="any", at="N", **{"for": 0})
+            for loss in Loss:
+                self.each(base, self.command_at, step=self.step(6), die="N", loss=loss)
+
     def each(self, base, run_at=None, step=1, **what):
         """The n-th call for each n."""
         name, run_at = f"{base.work.name} {what}", run_at or self.at
@@ -241,7 +285,10 @@ class Tests:
         """How many calls of a run might fail so."""
         run, count = base.copy(self.folder()), self.folder()
         given = {name: 10 ** 9 if value == "N" else value for name, value in what.items() if name != "loss"}
-        (run.saves if run_at == self.backup_at else run.scenario)(count=count, **given)
+        if run_at == self.command_at:
+            run.command(run.mode, count=count, **given)
+        else:
+            (run.saves if run_at == self.backup_at else run.scenario)(count=count, **given)
         shutil.rmtree(run.work)
         return int(count.read_text())
 
@@ -359,6 +406,9 @@ def main(bin_folder, rounds="1"):
         before = tests.passed
         tests.backups(killed)
         print(f"store: faults of backups: {tests.passed - before} passed, {time.monotonic() - began:.0f} s", flush=True)
+        before = tests.passed
+        tests.commands()
+        print(f"store: faults of commands: {tests.passed - before} passed, {time.monotonic() - began:.0f} s", flush=True)
         for kind in ("kill", "power", "loss", "faults"):
             calls, stops = tests.crowds(kind)
             print(f"store: crowds with {kind}: {stops} times, {calls} answered calls, {tests.failed} failed so far, {time.monotonic() - began:.0f} s", flush=True)

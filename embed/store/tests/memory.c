@@ -1,6 +1,7 @@
 /* memory FOLDER: makes a job, recovers it, calls, sweeps and discards, and refuses the n-th request for memory, once and from then on, for each n:
  * those of the store and of the coordinator (malloc and its like, by the linker's --wrap), those of the coordinator alone (relkvanu_alloc.h)
- * and those of SQLite. Each time the job then has exactly what was answered, or the group under way beside it. The last line has the counts. */
+ * and those of SQLite. Each time the job then has exactly what was answered, or the group under way beside it. A job
+ * with names has manifests, of which it is made again with each request refused. The last line has the counts. */
 #include "common.h"
 
 #include "../../c/refusing_heap.h"
@@ -185,7 +186,7 @@ static int open_and_work(uint64_t file, uint64_t images) {
     relkvanu_store *store;
     relkvanu_store_report report;
     relkvanu_store_options options = job_options(RELKVANU_STORE_CREATE, images);
-    options.flags = RELKVANU_STORE_CREATE | plain;
+    options.flags = RELKVANU_STORE_CREATE | (plain != 0 ? plain : RELKVANU_STORE_MANIFESTS);
     options.storage = storage;
     int status = relkvanu_store_open(&store, path, &options, &report);
     term = report.term;
@@ -210,6 +211,14 @@ static void remove_job(void) {
     }
     snprintf(name, sizeof name, "%s/.relkvanu-job", storage);
     unlink(name);
+    for (int id = 1; id < 20; id++) {
+        snprintf(name, sizeof name, "%s/record-%d.manifest", storage, id);
+        unlink(name);
+    }
+    for (int file = 1; file <= 2 * SUBTASKS; file++) {
+        snprintf(name, sizeof name, "%s/%d", storage, file);
+        unlink(name);
+    }
     told_len = 0;
 }
 
@@ -326,6 +335,92 @@ static void stops_without_memory(void) {
     relkvanu_store_close(store);
 }
 
+/* A job whose file is lost, with a file for each that it names. */
+static uint64_t lose_job(void) {
+    relkvanu_store *store;
+    relkvanu_store_report report;
+    relkvanu_store_options options = job_options(RELKVANU_STORE_CREATE, RELKVANU_STORE_NO_IMAGES);
+    static const char *const ends[] = {"", "-wal", "-shm", ".lock"};
+    char name[PATHS + 20];
+    uint64_t id = 0;
+    remove_job();
+    options.flags = RELKVANU_STORE_CREATE | RELKVANU_STORE_MANIFESTS;
+    options.storage = storage;
+    CHECK(relkvanu_store_open(&store, path, &options, &report) == RELKVANU_STORE_OK, "%s", report.message);
+    term = report.term;
+    for (uint64_t file = 1; file <= 2 * SUBTASKS; file++) {
+        CHECK(relkvanu_store_put(store, file, "state", 5) == RELKVANU_STORE_OK, "file %" PRIu64, file);
+    }
+    CHECK(work(store, 0) == RELKVANU_STORE_OK, "work");
+    relkvanu *handle;
+    CHECK(relkvanu_store_read(store, &handle) == RELKVANU_STORE_OK, "a read");
+    id = relkvanu_choice(handle).a;
+    relkvanu_store_read_end(store);
+    relkvanu_store_close(store);
+    for (size_t i = 0; i < 4; i++) {
+        snprintf(name, sizeof name, "%s%s", path, ends[i]);
+        unlink(name);
+    }
+    return id;
+}
+
+/* A recovery without memory has done nothing, and the next one makes the job. */
+static unsigned recovers_without_memory(enum kind kind, bool is_for_good) {
+    relkvanu_store_recovered recovered;
+    uint64_t id = lose_job();
+    unsigned long nth = 0;
+    for (bool is_reached = true; is_reached;) {
+        nth += 1 + nth / 100;
+        set_refused(kind, nth, is_for_good);
+        int status = relkvanu_store_recover(path, storage, 0, &recovered);
+        is_reached = kind == COORDINATOR ? heap_requests() >= nth : requests >= nth;
+        set_none();
+        bool has_none = status == RELKVANU_STORE_NO_MEMORY || status == RELKVANU_STORE_OUT_OF_MEMORY || status == RELKVANU_STORE_CLOSED ||
+                        (kind == SQLITE && status == RELKVANU_STORE_FAILED);
+        CHECK(status == RELKVANU_STORE_OK || (has_none && access(path, F_OK) != 0), "status %d: %s", status, recovered.message);
+        CHECK(is_reached || status == RELKVANU_STORE_OK, "status %d without a refusal", status);
+        id = status == RELKVANU_STORE_OK && is_reached ? lose_job() : id; /* it can do without that request */
+    }
+    CHECK(nth > 20 && recovered.record == id, "record %" PRIu64 " at request %lu", recovered.record, nth);
+    return (unsigned)nth;
+}
+
+/* A way back to an older checkpoint for which there is no memory changes nothing, and can be made later. */
+static void way_back_waits(enum kind kind) {
+    relkvanu_store *store;
+    relkvanu_store_report report;
+    relkvanu_store_call call;
+    relkvanu_store_counts before, after;
+    relkvanu_store_options options = job_options(RELKVANU_STORE_CREATE, 0);
+    remove_job();
+    options.storage = storage;
+    options.flags = RELKVANU_STORE_CREATE;
+    options.settings.retained = 3;
+    CHECK(relkvanu_store_open(&store, path, &options, &report) == RELKVANU_STORE_OK, "%s", report.message);
+    term = report.term;
+    for (uint64_t i = 0; i < 3; i++) {
+        CHECK(work(store, 0) == RELKVANU_STORE_OK, "work");
+    }
+    int status = RELKVANU_STORE_NO_MEMORY;
+    unsigned long nth = 0;
+    while (status == RELKVANU_STORE_NO_MEMORY) {
+        relkvanu_store_count(store, &before);
+        set_refused(kind, ++nth, false);
+        status = relkvanu_store_go_back(store, 1, RELKVANU_STORE_ACCEPT_PUBLISHED, &call);
+        set_none();
+        relkvanu_store_count(store, &after);
+        CHECK(status == RELKVANU_STORE_OK || (status == RELKVANU_STORE_NO_MEMORY && call.answer.code == RELKVANU_STORE_NOT_MADE &&
+                                                 before.commits == after.commits && before.calls == after.calls),
+            "status %d at request %lu", status, nth);
+    }
+    CHECK(nth > 5 && call.answer.what == RELKVANU_RESTORED_SAVEPOINT && call.term == term + 1, "request %lu, what %" PRIu32, nth,
+        call.answer.what);
+    term = call.term;
+    CHECK(work(store, 0) == RELKVANU_STORE_OK, "work");
+    relkvanu_store_close(store);
+    printf("store: memory of a way back, of %s: up to request %lu\n", names[kind], nth);
+}
+
 static bool no_page(void *with, const relkvanu_storage_file *files, size_t len) {
     (void)with;
     return files != NULL && len != 0;
@@ -365,8 +460,74 @@ static void folder_waits(const char *folder) {
     printf("store: memory of a folder: up to request %lu\n", nth);
 }
 
+/* A tick that has no memory is not tried again at once: the timer rests for a second. */
+static void rests_without_memory(void) {
+    relkvanu_store *store;
+    relkvanu_store_report report;
+    relkvanu_store_call tick = {0};
+    relkvanu_store_options options = job_options(RELKVANU_STORE_CREATE, RELKVANU_STORE_NO_IMAGES);
+    uint64_t before = 0, wait = 0;
+    remove_job();
+    options.storage = storage;
+    options.settings.interval = 10;
+    options.settings.at_once = 64;
+    CHECK(relkvanu_store_open(&store, path, &options, &report) == RELKVANU_STORE_OK, "%s", report.message);
+    for (unsigned long nth = 1; nth < 100 && tick.answer.code != RELKVANU_NO_MEMORY; nth++) {
+        before = relkvanu_store_now(store);
+        set_refused(COORDINATOR, nth, false);
+        int status = relkvanu_store_await_tick(store, 60000, &tick);
+        set_none();
+        CHECK(status == RELKVANU_STORE_OK || status == RELKVANU_STORE_NO_MEMORY, "status %d", status); /* without memory for its line */
+    }
+    CHECK(tick.answer.code == RELKVANU_NO_MEMORY, "no tick asks for memory");
+    CHECK(relkvanu_store_next_tick(store, &wait) == RELKVANU_STORE_OK && relkvanu_store_now(store) + wait >= before + 1000,
+        "the next tick comes in %" PRIu64 " ms", wait);
+    relkvanu_store_close(store);
+}
+
+/* How many of the names are garbage: those that were given up. */
+static uint64_t given_up(relkvanu_store *store, const uint64_t *names, size_t len) {
+    static uint64_t garbage[5000], unissued[5000];
+    relkvanu_answer answer;
+    CHECK(relkvanu_store_garbage(store, names, len, garbage, unissued, &answer) == RELKVANU_STORE_OK && answer.what == RELKVANU_GARBAGE,
+        "garbage");
+    return answer.a;
+}
+
+/* A list of names that takes several calls is given up as a whole only if each call was made: the answer is that of the first that was not. */
+static void gives_up_in_parts(void) {
+    enum { GIVEN = 5000, OF_A_LINE = 4096 };
+    static uint64_t names[GIVEN];
+    relkvanu_store *store;
+    relkvanu_store_report report;
+    relkvanu_answer answer = {.code = RELKVANU_STORE_NOT_MADE};
+    relkvanu_store_options options = job_options(RELKVANU_STORE_CREATE, RELKVANU_STORE_NO_IMAGES);
+    uint64_t parts = 0;
+    bool is_done = false;
+    remove_job();
+    options.storage = storage;
+    options.flags = RELKVANU_STORE_CREATE; /* with names */
+    CHECK(relkvanu_store_open(&store, path, &options, &report) == RELKVANU_STORE_OK, "%s", report.message);
+    for (unsigned long nth = 1; !is_done; nth++) {
+        CHECK(relkvanu_store_reserve(store, report.term, 2 * GIVEN, &answer) == RELKVANU_STORE_OK && answer.code == RELKVANU_DONE, "names");
+        for (size_t i = 0; i < GIVEN; i++) {
+            names[i] = answer.a + 2 * i; /* so that those which stay are many ranges, which need memory */
+        }
+        heap_refuse_from(nth); /* one that is refused room to spare asks for less */
+        int status = relkvanu_store_forfeit(store, report.term, names, GIVEN, &answer);
+        set_none();
+        uint64_t given = given_up(store, names, GIVEN);
+        is_done = status == RELKVANU_STORE_OK && answer.code == RELKVANU_DONE;
+        CHECK(is_done == (given == GIVEN) && (status == RELKVANU_STORE_OK || (status == RELKVANU_STORE_NO_MEMORY && given == 0)),
+            "%" PRIu64 " names were given up, and the status is %d, the code %u", given, status, answer.code);
+        parts += given == OF_A_LINE;
+    }
+    CHECK(parts > 0, "no part had no memory");
+    relkvanu_store_close(store);
+}
+
 int main(int argc, char **argv) {
-    unsigned passed = 5;
+    unsigned passed = 7;
     CHECK(argc == 2, "memory FOLDER");
     snprintf(path, sizeof path, "%s/x.db", argv[1]);
     snprintf(storage, sizeof storage, "%s/storage", argv[1]);
@@ -387,10 +548,22 @@ int main(int argc, char **argv) {
             passed++;
         }
     }
+    for (int kind = OWN; kind < KINDS; kind++) {
+        for (int is_for_good = 0; is_for_good < (kind == COORDINATOR ? 1 : 2); is_for_good++) {
+            unsigned tried = recovers_without_memory((enum kind)kind, is_for_good != 0);
+            printf("store: memory of %s, %s, of a job that was lost: up to request %u\n", names[kind], is_for_good ? "for good" : "once",
+                tried);
+            passed++;
+        }
+    }
     images_wait(COORDINATOR);
     images_wait(SQLITE);
     folder_waits(argv[1]);
+    way_back_waits(OWN);
+    way_back_waits(COORDINATOR);
     stops_without_memory();
+    rests_without_memory();
+    gives_up_in_parts();
     printf("%u passed, 0 failed\n", passed);
     return 0;
 }

@@ -1,5 +1,5 @@
 #!/usr/bin/env python3
-"""put_backs.py SAMPLES SHIM: puts backups of the job of stored.py back, by the programs of the page, after the job has run on.
+"""put_backs.py SAMPLES SHIM COMMAND: puts backups of the job of stored.py back, by `COMMAND put-back`, after the job has run on.
 
 - With a savepoint the job goes on from the backup, and its folder is exact. So it is from an older savepoint, whose checkpoint is gone, and with
   files far above the names of the backup.
@@ -28,13 +28,17 @@ JOB = ("job.db", "job.db-wal", "job.db-shm")
 
 
 class PutBacks:
-    def __init__(self, samples, shim, work):
-        self.samples, self.shim, self.work, self.made = samples, shim, work, 0
+    def __init__(self, samples, shim, command, work):
+        self.samples, self.shim, self.command, self.work, self.made = samples, shim, command, work, 0
         self.engine = [sys.executable, str(samples / "stored.py")]
 
     def run(self, name, *words, **env):
         return subprocess.run([sys.executable, self.samples / name, *words], env={**os.environ, **env}, stdout=subprocess.PIPE, stderr=subprocess.STDOUT,
                               text=True, timeout=LONGEST)
+
+    def put_back(self, folder, copy, **env):
+        words = [self.command, "put-back", copy, folder / "job.db", folder / "state"]
+        return subprocess.run(words, env={**os.environ, **env}, stdout=subprocess.PIPE, stderr=subprocess.STDOUT, text=True, timeout=LONGEST)
 
     def folder(self, of=None):
         self.made += 1
@@ -51,10 +55,10 @@ class PutBacks:
 
     def puts_back(self, folder, copy):
         """Returns the record that the job goes on from."""
-        told = self.run("put_back.py", folder, copy)
-        assert told.returncode == 0 and "goes on from record" in told.stdout, told.stdout
+        told = self.put_back(folder, copy)
+        assert told.returncode == 0 and "goes on from" in told.stdout, told.stdout
         assert not list(folder.glob("*new*"))
-        return int(told.stdout.split("from record ")[1].partition(".")[0])
+        return int(told.stdout.split("goes on from ")[1].split()[1].rstrip("."))
 
     def job_behind(self):
         """A job that has run on after a backup with a savepoint, and the backup."""
@@ -124,8 +128,8 @@ def a_stray_file(it):
     stray = folder / "state" / "20261128093000"
     stray.write_text("a report")
     before = contents(folder)
-    told = it.run("put_back.py", folder, copy)
-    assert told.returncode != 0 and f"state/{stray.name}" in told.stdout and "The job is as it was" in told.stdout, told.stdout
+    told = it.put_back(folder, copy)
+    assert told.returncode != 0 and f"{stray.name}, which is no file of the job" in told.stdout, told.stdout
     assert contents(folder) == before, sorted(contents(folder))
     stray.rename(folder / "set-aside")
     assert it.puts_back(folder, copy) == 20
@@ -138,11 +142,11 @@ def without_a_savepoint(it):
     plain_backup(folder, copy)
     recovers(folder, it.engine, 30)
     before = contents(folder)
-    told = it.run("put_back.py", folder, copy)
-    assert told.returncode != 0 and "the job is as it was" in told.stdout, told.stdout
+    told = it.put_back(folder, copy)
+    assert told.returncode != 0 and "no record of the backup has all its files" in told.stdout, told.stdout
     assert contents(folder) == before, sorted(contents(folder))
     _, other = it.job_behind()
-    told = it.run("put_back.py", folder, other)
+    told = it.put_back(folder, other)
     assert told.returncode != 0 and "another job" in told.stdout, told.stdout
     assert contents(folder) == before and not (folder / "new-state").exists(), sorted(contents(folder))
     assert known(folder)[3] >= 30
@@ -177,10 +181,10 @@ def while_an_engine_runs(it):
     folder, copy = it.job_behind()
     with subprocess.Popen([*it.engine, folder], stderr=subprocess.DEVNULL) as process:
         await_opening(folder, process)
-        told = it.run("put_back.py", folder, copy)
+        told = it.put_back(folder, copy)
         is_running = process.poll() is None
         process.kill()
-    assert is_running and told.returncode != 0 and "BlockingIOError" in told.stdout, told.stdout
+    assert is_running and told.returncode != 0 and "in use by process" in told.stdout, told.stdout
     assert not list(folder.glob("aside-*"))
     recovers(folder, it.engine, known(folder)[3] + 5)
 
@@ -210,12 +214,12 @@ def at_each_end(it):
     base, copy = it.job_behind()
     count = it.work / "count"
     folder = it.folder(base)
-    told = it.run("put_back.py", folder, copy, LD_PRELOAD=it.shim, STORE_IN=str(folder), STORE_DIE=str(1 << 40), STORE_COUNT=str(count))
+    told = it.put_back(folder, copy, LD_PRELOAD=it.shim, STORE_IN=str(folder), STORE_DIE=str(1 << 40), STORE_COUNT=str(count))
     assert told.returncode == 0, told.stdout
     places = [(place, after) for place in range(1, int(count.read_text()) + 1) for after in ("0", "1")]
     for place, after in places if ROUNDS == 0 else sorted(random.Random(SEED).sample(places, min(ENDS * ROUNDS, len(places)))):
         folder = it.folder(base)
-        told = it.run("put_back.py", folder, copy, LD_PRELOAD=it.shim, STORE_IN=str(folder), STORE_DIE=str(place), STORE_DIE_AFTER=after)
+        told = it.put_back(folder, copy, LD_PRELOAD=it.shim, STORE_IN=str(folder), STORE_DIE=str(place), STORE_DIE_AFTER=after)
         assert told.returncode != 0, f"no end at call {place}"
         started, before = it.folder(folder), files(folder)
         ran = it.run("stored.py", started, "40")
@@ -233,12 +237,12 @@ TESTS = (with_a_savepoint, from_an_older_savepoint, far_above_the_names, a_stray
          a_forgotten_engine, at_each_end)
 
 
-def main(samples, shim):
+def main(samples, shim, command):
     failed = 0
     for test in TESTS:
         with tempfile.TemporaryDirectory() as name:
             try:
-                test(PutBacks(pathlib.Path(samples).resolve(), str(pathlib.Path(shim).resolve()), pathlib.Path(name)))
+                test(PutBacks(pathlib.Path(samples).resolve(), str(pathlib.Path(shim).resolve()), pathlib.Path(command).resolve(), pathlib.Path(name)))
             except AssertionError as wrong:
                 print(f"{test.__name__}: {wrong}")
                 failed += 1

@@ -329,6 +329,39 @@ static void backups(const std::string &path) {
     CHECK(back.report().is_recovered && back.report().epoch == 2 && back.report().image_place + back.report().replayed == 3);
 }
 
+static std::uint32_t phase(ckpt::Store &job) {
+    relkvanu_store_job_phase found;
+    CHECK(!job.phase(found));
+    return found.phase;
+}
+
+/* The commands of an operator, and what the timer hands over. */
+static void commands(const std::string &path) {
+    ckpt::Store job = opened(path, RELKVANU_STORE_CREATE_ONLY);
+    ckpt::choice base;
+    relkvanu_settings other = options(0).settings;
+    other.interval = std::uint64_t{1} << 30;
+    other.retained = 2;
+    CHECK(std::get<ckpt::configured>(job.configure(other)).checkpoints == 0);
+    complete(job, 1);
+    other.interval = 5;
+    CHECK(why(job.configure(other)) == ckpt::store_error::bad_argument);
+    auto made = std::get<ckpt::triggered>(job.trigger());
+    CHECK(std::get<ckpt::triggered>(job.await(1000, base)).id == made.id && std::get<ckpt::checkpoint>(base).id == 1);
+    acknowledge(job, made.id, 11);
+    CHECK(why(job.go_back(1, false)) == ckpt::store_error::bad_argument && why(job.go_back(9, true)) == ckpt::error::no_such_record);
+    std::uint64_t back = std::get<ckpt::savepoint>(std::get<ckpt::restored>(job.go_back(1, true)).from).id;
+    CHECK(std::get<ckpt::savepoint>(std::get<ckpt::restored>(job.await(1000, base)).from).id == back);
+    CHECK(why(job.begin_job()) == ckpt::store_error::not_now);
+    std::uint64_t id = std::get<ckpt::savepoint_triggered>(job.stop_job()).id;
+    CHECK(std::get<ckpt::savepoint_triggered>(job.await(1000, base)).id == id && phase(job) == RELKVANU_STORE_PHASE_STOPPING);
+    acknowledge(job, id, 21);
+    CHECK(why(job.await(1000, base)) == ckpt::store_error::job_stopped && phase(job) == RELKVANU_STORE_PHASE_STOPPED);
+    CHECK(std::holds_alternative<ckpt::restored>(job.begin_job()) && std::holds_alternative<ckpt::restored>(job.await(1000, base)));
+    CHECK(phase(job) == RELKVANU_STORE_PHASE_RUNNING && why(job.advance(1, 1)) == ckpt::error::fenced_no_names);
+    CHECK(why(job.await(10, base)) == ckpt::store_error::timed_out);
+}
+
 int main(int argc, char **argv) {
     CHECK(argc == 2);
     std::string path = std::string(argv[1]) + "/x.db";
@@ -343,5 +376,6 @@ int main(int argc, char **argv) {
     names(path);
     limits(path + "11");
     backups(path + "10");
+    commands(path + "13");
     return 0;
 }

@@ -1,13 +1,10 @@
-"""The module relkvanu.store: replies and errors, names, threads, an event loop, the discarder, and its structs beside those of the header. STORE_LAYOUT is
-the program of layout.c."""
+"""The module relkvanu.store: replies and errors, names, threads, an event loop, and the discarder."""
 import asyncio
-import ctypes
 import dataclasses
 import errno
 import os
 import pathlib
 import resource
-import subprocess
 import tempfile
 import threading
 import time
@@ -15,10 +12,10 @@ import unittest
 from unittest import mock
 
 from relkvanu import (
-    AckCompleted, AckPending, BadArgument, Chosen, Closed, Fenced, Forfeited, Kind, Mode, Named, OutOfRange, Refused, Reserved,
-    RestoredCheckpoint, Settings, Taken, Triggered, store, store_header,
+    AckCompleted, AckPending, BadArgument, Chosen, Closed, Configured, Fenced, Forfeited, Kind, Mode, Named, OutOfRange, Refused, Reserved,
+    RestoredCheckpoint, RestoredSavepoint, SavepointTriggered, Settings, Taken, Triggered,
 )
-from relkvanu.store import Call, Made, Step, Store, StoreError
+from relkvanu.store import Call, JobPhase, Made, Phase, Step, StopFailed, Store, StoreError
 
 SETTINGS = Settings(interval=10, timeout=1 << 30)
 
@@ -525,34 +522,127 @@ class Threads(Folder):
         self.assertEqual([sorted(it) for it in tries], [[1, 2], [1, 2], [2]])
         job.close()
 
+    def test_a_lost_job(self):
+        """Its file is gone, and it is made again from the manifests of its storage."""
+        with self.open(storage=self.storage, plain=False, manifests=True) as job:
+            term = job.report.term
+            made = job.call(Call.trigger()).reply
+            for index in range(2):
+                (name,) = job.reserve(term, 1)
+                job.put(name, b"state")
+                job.ack_in(term, made.id, 0, index, [name])
+            self.assertEqual((job.measures()["manifests"], job.measures()["failed_manifests"]), (1, 0))
+            self.assertEqual([(it.id, it.files, it.bytes, it.missing, it.is_next, it.damage) for it in Store.records(self.storage)], [(1, 2, 10, 0, True, None)])
+            self.assertIn("in use", self.raises("InUse", Store.recover, self.path, self.storage))
+        self.raises("Present", Store.recover, self.path, self.storage)
+        for it in self.folder.glob("job.db*"):
+            it.unlink()
+        self.raises("Absent", Store.recover, self.path, self.storage, 9)
+        self.raises("Storage", Store.records, self.folder / "nowhere")
+        recovered = Store.recover(self.path, self.storage)
+        self.assertEqual((recovered.record, recovered.is_savepoint, recovered.files, recovered.bytes), (1, False, 2, 10))
+        with self.open(create=False, storage=self.storage, manifests=True) as job:
+            self.assertEqual((job.report.choice, job.report.term, job.report.next_name), (Chosen(1, Kind.CHECKPOINT), recovered.term, recovered.next_name))
+            self.assertGreater(job.restore().term, term)
+            with job.read() as reads:
+                self.assertEqual([reads.files_of(1, 0, index) for index in range(2)], [(1,), (2,)])
+            self.assertGreaterEqual(job.call(Call.trigger()).reply.id, recovered.next_number)
+        carried = Store.export(self.storage, self.folder / "out")
+        self.assertEqual((carried.record, carried.is_savepoint, carried.files, carried.bytes), (1, False, 2, 10))
+        self.assertEqual(sorted(os.listdir(self.folder / "out")), ["1", "2", "record-1.manifest"])
+        self.raises("Present", Store.export, self.storage, self.folder / "out")
+        imported = Store.import_job(self.folder / "out", self.folder / "other.db", self.folder / "other")
+        self.assertEqual((imported.record, imported.files), (1, 2))
+        with Store(self.folder / "other.db", SETTINGS, [2], storage=self.folder / "other") as other:
+            self.assertEqual((other.report.choice, other.report.is_recovered), (Chosen(1, Kind.CHECKPOINT), True))
+            self.assertNotEqual(other.report.job, job.report.job)
+        self.raises("Present", Store.import_job, self.storage, self.folder / "other.db", self.folder / "third")
+        damaged = self.storage / "record-1.manifest"
+        damaged.write_bytes(damaged.read_bytes()[:-1])
+        self.assertEqual([(it.id, it.damage) for it in Store.records(self.storage)], [(1, "Damaged")])
+
     def counts(self, job):
         with job.read() as reads:
             counts = reads.file_counts()
             return counts.in_use, counts.waiting, counts.taken
 
 
-class Header(unittest.TestCase):
-    def test_layout(self):
-        told = subprocess.run([os.environ["STORE_LAYOUT"]], stdout=subprocess.PIPE, text=True, check=True).stdout
-        numbers = {name: number for number, name in store_header.STATUSES.items()}
-        steps = {it.name: it.value for it in Step}
-        for line in told.splitlines():
-            kind, name, value = line.split()
-            with self.subTest(line):
-                if kind == "struct":
-                    self.assertEqual(ctypes.sizeof(getattr(store_header, name)), int(value))
-                elif kind == "field":
-                    struct, field = name.split(".")
-                    self.assertEqual(getattr(getattr(store_header, struct), field).offset, int(value))
-                else:
-                    camel = "".join(it.capitalize() for it in name.split("_"))
-                    found = getattr(store_header, name, numbers.get(camel, steps.get(name)))
-                    self.assertEqual(found, int(value))
+class Commands(Folder):
+    """What an operator wants of a job: each is made in one thread, and the timer of another hands it over."""
 
-    def test_functions(self):
-        header = (pathlib.Path(store.__file__).resolve().parents[3] / "include/relkvanu_store.h").read_text()
-        for name in store_header.FUNCTIONS:
-            self.assertIn(f"{name}(", header)
+    def acks(self, job, id, term, subtasks=2):
+        first = job.reserve(term, subtasks).start
+        return [job.ack_in(term, id, 0, index, [first + index]).reply for index in range(subtasks)][-1]
+
+    def open(self, **more):
+        return Store(self.path, Settings(interval=60_000, timeout=1 << 30, retained=3), [2], **{"create": True, "storage": self.storage, **more})
+
+    def test_a_stop_and_a_begin(self):
+        with self.open() as job:
+            self.acks(job, job.trigger().reply.id, 1)
+            made = job.stop_job()
+            id = made.reply.id
+            self.assertEqual((made.reply, job.phase()), (SavepointTriggered(id), JobPhase(Phase.STOPPING, id)))
+            self.assertEqual(job.await_tick(60_000), made)
+            self.assertIn("is stopped", self.raises("NotNow", job.stop_job))
+            self.assertIn("not stopped", self.raises("NotNow", job.begin_job))
+            for refused in (job.tick, job.trigger, job.savepoint):
+                with self.assertRaises(Refused) as caught:
+                    refused()
+                self.assertEqual(caught.exception.name, "NotRunning")
+            self.assertEqual(self.acks(job, id, 1), AckCompleted(0, 0))
+            self.assertEqual(job.phase(), JobPhase(Phase.STOPPED, id, 2))
+            began = time.monotonic()
+            self.assertIsNone(job.await_tick(60_000))  # at once
+            self.assertIsNone(job.await_tick(250))  # and then it does not spin
+            self.assertTrue(0.2 < time.monotonic() - began < 30)
+        with self.open() as job:
+            self.assertEqual((job.report.phase, job.report.steps), (JobPhase(Phase.STOPPED, id), (Step.END_TASKS, Step.DISCARD)))
+            begun = job.begin_job()
+            self.assertEqual((begun.reply, begun.term, job.phase()), (RestoredSavepoint(id, 0), 3, JobPhase(Phase.RUNNING)))
+            self.assertEqual(job.await_tick(60_000), begun)
+            id = job.stop_job().reply.id
+            job.decline_in(3, id, 0, 0)
+            self.assertEqual(job.phase(), JobPhase(Phase.RUNNING, id, 0, StopFailed.DECLINED))
+            self.assertIsNone(job.await_tick(60_000))
+
+    def test_settings(self):
+        with self.open() as job:
+            for _ in range(3):
+                self.acks(job, job.trigger().reply.id, 1)
+            timer = []
+            thread = threading.Thread(target=lambda: timer.append(job.await_tick(600_000)))
+            thread.start()
+            other = Settings(interval=100, timeout=1 << 30)
+            self.assertEqual(job.configure(other).reply, Configured(2, 4))
+            thread.join()
+            self.assertEqual((timer[0].reply, job.job()), (Triggered(0, 4), (other, (2,))))
+            self.assertIn("settings.interval is 5", self.raises("BadArgument", job.configure, Settings(interval=5)))
+        with self.open() as job:
+            self.assertEqual((job.report.settings_differ, job.job()), (True, (other, (2,))))
+
+    def test_an_older_checkpoint(self):
+        with self.open() as job:
+            for _ in range(3):
+                self.acks(job, job.trigger().reply.id, 1)
+            self.assertIn("not taken back", self.raises("BadArgument", job.go_back, 1))
+            with self.assertRaises(Refused) as caught:
+                job.go_back(9, accept_published=True)
+            self.assertEqual(caught.exception.name, "NoSuchRecord")
+            made = job.go_back(1, accept_published=True)
+            self.assertEqual((made.reply, made.term, job.await_tick(60_000)), (RestoredSavepoint(4, 4), 2, made))
+            with job.read() as reads:
+                self.assertEqual((reads.files_of(4, 0, 1), reads.file_counts().in_use), ((2,), 2))
+            job.restore(shape=[3])
+            self.acks(job, job.trigger().reply.id, 3, 3)
+            job.restore(shape=[2])
+            with self.assertRaises(BadArgument):
+                job.go_back(5, accept_published=True)
+
+    def test_an_advance(self):
+        with self.open() as job:
+            self.assertEqual(job.advance(40, 5000).term, 41)
+            self.assertEqual(job.reserve(41, 1), range(5000, 5001))
 
 
 if __name__ == "__main__":

@@ -1,0 +1,338 @@
+/* Carries a complete record from one storage folder to another, by its manifest: for a copy that needs no job, and for a job that begins elsewhere.
+ *
+ * The folder is made beside its name, and gets it once all is on the disk. A file that both folders can have is linked, so it stays although the
+ * first job deletes it. */
+#include "manifest.h"
+
+#include <errno.h>
+#include <fcntl.h>
+#include <inttypes.h>
+#include <stdio.h>
+#include <stdlib.h>
+#include <string.h>
+#include <sys/file.h>
+#include <sys/random.h>
+#include <unistd.h>
+
+enum { PIECE = 1 << 20, TRIES = 100 }; /* bytes; times that a record may end while it is carried */
+
+struct transfer {
+    relkvanu_store *from;            /* the folder with its marker, and what went wrong; it is not opened */
+    const char *from_name, *to_name; /* the folders */
+    char *part;                      /* the folder that is made */
+    int to;                          /* the same */
+    bool may_link;
+    relkvanu_store_carried *told;
+};
+
+static int failed(struct transfer *t, const char *what, int error) {
+    return rks_file_fault(t->from, what, error);
+}
+
+static int told(struct transfer *t, int status, const char *folder, const char *words) {
+    snprintf(t->from->fault, sizeof t->from->fault, "%.300s: %.200s", folder, words);
+    return status;
+}
+
+/* Copies what is in a file, and syncs it. Returns 0, or what is wrong as errno. */
+static int copy_contents(int from, int to) {
+    char *piece = malloc(PIECE);
+    off_t at = 0;
+    ssize_t len = 1;
+    int error = piece == NULL ? ENOMEM : 0;
+    while (error == 0 && len != 0) {
+        len = pread(from, piece, PIECE, at);
+        if (len < 0) {
+            error = errno == EINTR ? 0 : errno;
+        } else if (!rks_write_whole(to, piece, (size_t)len, at)) {
+            error = errno;
+        }
+        at += len > 0 ? len : 0;
+    }
+    free(piece);
+    return error == 0 && fsync(to) != 0 ? errno : error;
+}
+
+static int copy_file(const struct transfer *t, const char *name) {
+    int from = openat(t->from->folder, name, O_RDONLY | O_NOFOLLOW | O_NONBLOCK | O_CLOEXEC);
+    if (from < 0) {
+        return errno;
+    }
+    int to = openat(t->to, name, O_WRONLY | O_CREAT | O_EXCL | O_NOFOLLOW | O_CLOEXEC, 0600);
+    int error = to < 0 ? errno : copy_contents(from, to);
+    error = to >= 0 && close(to) != 0 && error == 0 ? errno : error;
+    close(from);
+    return error;
+}
+
+/* A link is on the disk with the folder. File systems without links, or with too few of them, get a copy. */
+static int carry_file(struct transfer *t, const char *name) {
+    if (t->may_link && linkat(t->from->folder, name, t->to, name, 0) == 0) {
+        return 0;
+    }
+    int error = t->may_link ? errno : EXDEV;
+    bool needs_copy = error == EXDEV || error == EPERM || error == EMLINK || error == ENOTSUP || error == ENOSYS;
+    t->may_link = t->may_link && error == EMLINK;
+    return needs_copy ? copy_file(t, name) : error;
+}
+
+/* Carries a file of the record. RELKVANU_STORE_NOT_NOW: it is not there any more. */
+static int carry(void *with, const struct rks_part *part) {
+    struct transfer *t = with;
+    char name[32];
+    struct stat found;
+    snprintf(name, sizeof name, "%" PRIu64, part->file);
+    if (!part->is_file || (fstatat(t->to, name, &found, AT_SYMLINK_NOFOLLOW) == 0)) {
+        return RELKVANU_STORE_OK; /* several subtasks may have it */
+    }
+    int error = carry_file(t, name);
+    if (error != 0) {
+        return error == ENOENT ? RELKVANU_STORE_NOT_NOW : failed(t, name, error);
+    }
+    bool is_there = fstatat(t->to, name, &found, AT_SYMLINK_NOFOLLOW) == 0 && S_ISREG(found.st_mode);
+    if (!is_there || (part->has_bytes && (uint64_t)found.st_size != part->bytes)) {
+        return told(t, RELKVANU_STORE_DAMAGED, name, "it is not as long as its manifest says");
+    }
+    t->told->files++;
+    t->told->bytes += (uint64_t)found.st_size;
+    return RELKVANU_STORE_OK;
+}
+
+/* Removes a folder of files. One that is not there is removed. */
+static int remove_folder(struct transfer *t, const char *name) {
+    int folder = open(name, O_RDONLY | O_DIRECTORY | O_NOFOLLOW | O_CLOEXEC), error = folder < 0 ? errno : 0;
+    DIR *entries = folder < 0 ? NULL : rks_entries(folder);
+    struct dirent *entry;
+    while (error == 0 && entries != NULL && (errno = 0, entry = readdir(entries)) != NULL) {
+        bool is_name = strcmp(entry->d_name, ".") != 0 && strcmp(entry->d_name, "..") != 0;
+        error = is_name && unlinkat(folder, entry->d_name, 0) != 0 && errno != ENOENT ? errno : 0;
+    }
+    error = error == 0 ? errno : error;
+    if (entries != NULL) {
+        closedir(entries);
+    }
+    if (folder >= 0) {
+        close(folder);
+    }
+    error = error == 0 && rmdir(name) != 0 ? errno : error;
+    return error == 0 || error == ENOENT ? RELKVANU_STORE_OK : failed(t, name, error);
+}
+
+/* Opens the part, which nobody else removes or names while it is open here. */
+static int lock_part(struct transfer *t) {
+    t->to = open(t->part, O_RDONLY | O_DIRECTORY | O_NOFOLLOW | O_CLOEXEC);
+    if (t->to < 0) {
+        return errno == ENOENT ? RELKVANU_STORE_OK : failed(t, t->part, errno);
+    }
+    if (flock(t->to, LOCK_EX | LOCK_NB) == 0) {
+        return RELKVANU_STORE_OK;
+    }
+    int status =
+        errno == EWOULDBLOCK ? told(t, RELKVANU_STORE_IN_USE, t->part, "another export or import writes it") : failed(t, t->part, errno);
+    close(t->to);
+    t->to = -1;
+    return status;
+}
+
+/* Makes the part anew. */
+static int make_folder(struct transfer *t) {
+    int status = lock_part(t);
+    if (t->to >= 0) {
+        status = remove_folder(t, t->part);
+        close(t->to);
+        t->to = -1;
+    }
+    if (status == RELKVANU_STORE_OK && mkdir(t->part, 0700) != 0) {
+        status = failed(t, t->part, errno);
+    }
+    status = status == RELKVANU_STORE_OK ? lock_part(t) : status;
+    return status == RELKVANU_STORE_OK && t->to < 0 ? failed(t, t->part, ENOENT) : status;
+}
+
+static void drop_folder(struct transfer *t) {
+    if (t->to >= 0) {
+        int error = errno;
+        char fault[RKS_MESSAGE];
+        memcpy(fault, t->from->fault, sizeof fault);
+        remove_folder(t, t->part);
+        close(t->to);
+        t->to = -1;
+        memcpy(t->from->fault, fault, sizeof fault);
+        errno = error;
+    }
+}
+
+static int write_manifest(struct transfer *t, uint64_t id, const struct rks_text *text) {
+    char name[RKS_MANIFEST_NAME];
+    rks_manifest_name(id, "", name);
+    int file = openat(t->to, name, O_WRONLY | O_CREAT | O_EXCL | O_NOFOLLOW | O_CLOEXEC, 0600);
+    int error = file < 0 ? errno : 0;
+    error = error == 0 && !(rks_write_whole(file, text->at, text->len, 0) && fsync(file) == 0) ? errno : error;
+    error = file >= 0 && close(file) != 0 && error == 0 ? errno : error;
+    return error == 0 ? RELKVANU_STORE_OK : failed(t, name, error);
+}
+
+/* Carries one record with its manifest. RELKVANU_STORE_NOT_NOW: it has ended meanwhile. */
+static int carry_record(struct transfer *t, struct rks_manifests *all, const struct rks_manifest *m, const char *job) {
+    struct rks_text text = {0};
+    t->told->record = m->id;
+    t->told->is_savepoint = m->is_savepoint;
+    t->told->files = t->told->bytes = 0;
+    int status = make_folder(t);
+    status = status == RELKVANU_STORE_OK ? rks_manifest_parts(all, t->from->folder, m->id, carry, t) : status;
+    status = status == RELKVANU_STORE_OK ? rks_manifest_text(all, t->from->folder, m->id, job, &text) : status;
+    status = status == RELKVANU_STORE_FAILED && errno == ENOENT ? RELKVANU_STORE_NOT_NOW : status;
+    status = status == RELKVANU_STORE_OK ? write_manifest(t, m->id, &text) : status;
+    free(text.at);
+    return status;
+}
+
+/* Chooses a record and carries it. While the job runs it may end meanwhile: then there is a later one. */
+static int carry_chosen(struct transfer *t, uint64_t record, const char *job) {
+    const char *owner = t->from->identity[0] != 0 ? t->from->identity : NULL;
+    int status = RELKVANU_STORE_NOT_NOW;
+    for (int tries = 0; tries < TRIES && status == RELKVANU_STORE_NOT_NOW; tries++) {
+        struct rks_manifests all;
+        drop_folder(t);
+        status = rks_list_manifests(t->from->folder, &all);
+        struct rks_manifest *chosen = status == RELKVANU_STORE_OK ? rks_choose_manifest(&all, owner, record) : NULL;
+        if (chosen != NULL) {
+            status = carry_record(t, &all, chosen, job);
+        } else if (status == RELKVANU_STORE_OK) {
+            status = told(t, RELKVANU_STORE_ABSENT, t->from_name, "no record that has a manifest there has all its files");
+        } else if (status != RELKVANU_STORE_NO_MEMORY) {
+            status = failed(t, t->from_name, errno);
+        }
+        rks_free_manifests(&all);
+    }
+    return status == RELKVANU_STORE_NOT_NOW ? told(t, RELKVANU_STORE_ABSENT, t->from_name, "its records end too soon") : status;
+}
+
+/* Gives the folder its name, once all of it is on the disk. One of that name has to be empty, or not there. */
+static int name_folder(struct transfer *t) {
+    if (fsync(t->to) != 0) {
+        return failed(t, t->part, errno);
+    }
+    if (rename(t->part, t->to_name) != 0) {
+        bool is_there = errno == ENOTEMPTY || errno == EEXIST || errno == ENOTDIR;
+        return is_there ? told(t, RELKVANU_STORE_PRESENT, t->to_name, "it is there, and is no empty folder") : failed(t, t->to_name, errno);
+    }
+    close(t->to);
+    t->to = -1;
+    return rks_sync_folder_of(t->from, t->to_name);
+}
+
+/* The text of a path without slashes at its end, so that a name beside it can be made. NULL: no memory. */
+static char *without_slashes(const char *path) {
+    size_t len = strlen(path);
+    while (len > 1 && path[len - 1] == '/') {
+        len--;
+    }
+    return strndup(path, len);
+}
+
+static int open_from(struct transfer *t) {
+    uint64_t marked = 0;
+    int status = rks_open_folder(t->from, t->from_name);
+    if (status == RELKVANU_STORE_OK && rks_read_owner(t->from, t->from_name, &marked) != RELKVANU_STORE_OK) {
+        t->from->identity[0] = t->from->fault[0] = 0; /* an exported folder has no marker */
+    }
+    return status;
+}
+
+/* Makes the folder. With a job it is the storage of that one, and has its marker. */
+static int make(struct transfer *t, uint64_t record, const char *job) {
+    relkvanu_store marks = {.folder = -1};
+    int status = open_from(t);
+    status = status == RELKVANU_STORE_OK ? carry_chosen(t, record, job) : status;
+    if (status == RELKVANU_STORE_OK && job != NULL) {
+        marks.folder = t->to;
+        memcpy(marks.identity, job, sizeof marks.identity);
+        status = rks_write_marker(&marks, t->part, 1);
+        memcpy(t->from->fault, marks.fault, sizeof marks.fault);
+    }
+    status = status == RELKVANU_STORE_OK ? name_folder(t) : status;
+    drop_folder(t);
+    return status;
+}
+
+static int transfer(const char *from, const char *to, uint64_t record, const char *job, relkvanu_store_carried *told_to) {
+    *told_to = (relkvanu_store_carried){0};
+    relkvanu_store *store = calloc(1, sizeof *store);
+    int status = store == NULL ? RELKVANU_STORE_NO_MEMORY : rks_begin_store(store);
+    if (status != RELKVANU_STORE_OK) {
+        free(store);
+        return status;
+    }
+    rks_list(store);
+    char *name = without_slashes(to);
+    struct transfer t = {.from = store, .from_name = from, .to_name = name, .to = -1, .may_link = true, .told = told_to};
+    if (name == NULL || asprintf(&t.part, "%s.part", name) < 0) {
+        t.part = NULL;
+    }
+    status = t.part == NULL ? RELKVANU_STORE_NO_MEMORY : make(&t, record, job);
+    int error = errno;
+    if (status != RELKVANU_STORE_OK) {
+        *told_to = (relkvanu_store_carried){0};
+        memcpy(told_to->message, store->fault, sizeof told_to->message);
+    }
+    free(t.part);
+    free(name);
+    rks_release_store(store);
+    errno = error;
+    return status;
+}
+
+int relkvanu_store_export(const char *folder, uint64_t record, const char *to, relkvanu_store_carried *carried) {
+    return transfer(folder, to, record, NULL, carried);
+}
+
+/* Whether the folder has the record already: an import has ended between the two. Each has the marker of a job, and no file at the path. */
+static bool is_carried(const char *folder, const char *from, uint64_t record) {
+    struct rks_manifests there = {0}, here = {0};
+    relkvanu_store s = {.folder = -1};
+    uint64_t marked = 0;
+    int source = open(from, O_RDONLY | O_DIRECTORY | O_CLOEXEC);
+    bool is_owned = rks_open_folder(&s, folder) == RELKVANU_STORE_OK && rks_read_owner(&s, folder, &marked) == RELKVANU_STORE_OK;
+    bool is_carried = false;
+    if (source >= 0 && is_owned && rks_list_manifests(s.folder, &there) == RELKVANU_STORE_OK) {
+        const struct rks_manifest *one = rks_choose_manifest(&there, s.identity, record);
+        if (rks_list_manifests(source, &here) == RELKVANU_STORE_OK && one != NULL) {
+            for (size_t i = 0; i < here.len; i++) {
+                is_carried = is_carried || (here.at[i].job[0] != 0 && strcmp(here.at[i].job, one->origin) == 0);
+            }
+        }
+    }
+    rks_free_manifests(&here);
+    rks_free_manifests(&there);
+    if (source >= 0) {
+        close(source);
+    }
+    if (s.folder >= 0) {
+        close(s.folder);
+    }
+    return is_carried;
+}
+
+int relkvanu_store_import(const char *from, uint64_t record, const char *path, const char *folder, relkvanu_store_recovered *recovered) {
+    char job[RKS_IDENTITY + 1];
+    uint64_t words[2];
+    struct stat found;
+    relkvanu_store_carried carried;
+    *recovered = (relkvanu_store_recovered){0};
+    if (stat(path, &found) == 0 && found.st_size != 0) {
+        snprintf(recovered->message, sizeof recovered->message, "%.400s: there is a job", path);
+        return RELKVANU_STORE_PRESENT;
+    }
+    if (getentropy(words, sizeof words) != 0) {
+        snprintf(recovered->message, sizeof recovered->message, "%.400s: no random numbers", path);
+        return RELKVANU_STORE_FAILED;
+    }
+    snprintf(job, sizeof job, "%016" PRIx64 "%016" PRIx64, words[0], words[1]);
+    int status = is_carried(folder, from, record) ? RELKVANU_STORE_OK : transfer(from, folder, record, job, &carried);
+    if (status != RELKVANU_STORE_OK) {
+        memcpy(recovered->message, carried.message, sizeof recovered->message);
+        return status;
+    }
+    return relkvanu_store_recover(path, folder, 0, recovered);
+}
