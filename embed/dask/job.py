@@ -1,4 +1,5 @@
-"""job.py [OPTIONS] SECONDS [SEED]: a keyed count as actors on worker processes. The coordinator is in the driver, with durable calls
+"""job.py [OPTIONS] SECONDS [SEED]: a fault test of terms and names, and no engine: a keyed count as actors on worker processes, whose stream is
+computed from offsets, so that no record travels. (Jobs on Dask: docs/DASK.md.) The coordinator is in the driver, with durable calls
 (relkvanu.store), so that a driver goes on after one that was killed. Or it is in the service that --service names, which may be killed and
 started again meanwhile.
 

@@ -11,7 +11,8 @@ import numpy
 import pandas
 from distributed import Client
 
-from relkvanu.dask import Checkpoints, Place
+from relkvanu.dask import Checkpoints
+from where import CONNECT, coordinator_of, place_of
 
 BLOCKS = 16
 SIZE = int(os.environ.get("SIZE", "20000"))  # numbers in a block
@@ -61,9 +62,8 @@ builtin_sum = sum
 if __name__ == "__main__":
     folder, url, steps, scheduler, *is_new = sys.argv[1:]
     LAST = int(steps)
-    client = Client(scheduler)
-    place = Place(url, "blocks", endpoint=os.environ.get("S3_ENDPOINT"), region=os.environ.get("S3_REGION"))
-    with Checkpoints(client, place, f"{folder}/job.db", create=is_new == ["new"]) as checkpoints:
+    client = Client(scheduler, timeout=CONNECT)
+    with Checkpoints(client, place_of(url, "blocks"), coordinator_of(folder, "blocks"), create=is_new == ["new"]) as checkpoints:
         save = checkpoints.save
 
         def told(meta, **collections):

@@ -1,7 +1,10 @@
-"""kills.py JOB KILLS SEED FOLDER [URL] [--postgres]: a scheduler and two workers as plain commands, and drivers of JOB (words or blocks). The driver, the
-workers and the scheduler are killed (-9) KILLS times each at random moments, alone or with others, and started again, as systemd would do. At the
-end a driver comes to its end: the results are exact, each row is in the table once, and the storage has no other files than those in use."""
+"""kills.py JOB KILLS SEED FOLDER [URL] [--postgres] [--service PROGRAM] [--minutes N]: a scheduler and two workers as plain commands, and drivers of JOB (words or
+blocks). The driver, the workers and the scheduler are killed (-9) KILLS times each at random moments, alone or with others, and started again, as
+systemd would do; with --minutes fewer times, if these are over. With --service the coordinator is this program, which is killed as often; then no driver has a file or a library of its own. At
+the end a driver comes to its end: the results are exact, each row is in the table once, and the storage has no other files than those in use."""
+import argparse
 import contextlib
+import math
 import os
 import pathlib
 import random
@@ -14,7 +17,8 @@ import time
 from typing import NamedTuple, Sequence
 
 HERE = pathlib.Path(__file__).resolve().parent
-VICTIMS = [it.split("+") for it in "driver driver worker-0 worker-1 scheduler scheduler worker-0+worker-1 driver+worker-0 scheduler+driver".split()]
+VICTIMS = "driver driver worker-0 worker-1 scheduler scheduler worker-0+worker-1 driver+worker-0 scheduler+driver".split()
+VICTIMS_TOO = "service service service+driver service+worker-1".split()  # where there is a service
 SPAN = 3  # seconds before a kill, at most
 PACE = "0.3"  # seconds between two elements, or steps, of a driver that is to be killed
 LAST = 10  # steps of the last driver
@@ -35,25 +39,31 @@ class Machine(NamedTuple):
 
 
 class Cluster:
-    """A scheduler and workers as processes, whose output is in files of a folder."""
+    """A scheduler and workers as processes, and the service if there is one, whose output is in files of a folder."""
 
-    def __init__(self, folder, here=Machine(), there=Machine(), workers=2):
+    def __init__(self, folder, here=Machine(), there=Machine(), workers=2, service=None):
         self.folder, self.here, self.there, self.address = folder, here, there, f"tcp://{here.address}:{free_port()}"
-        self.processes, self.count = {}, 0
-        for name in ("scheduler", *(f"worker-{it}" for it in range(workers))):
+        self.processes, self.count, self.program = {}, 0, service
+        self.service = service and f"{here.address}:{free_port()}"
+        for name in (*(["service"] if service else []), "scheduler", *(f"worker-{it}" for it in range(workers))):
             self.start(name)
+
+    def command(self, name):
+        dask = [sys.executable, "-W", "ignore", "-m"]
+        if name == "service":
+            return [self.program, "serve", "--listen", self.service, "--database", str(self.folder / "service.db"), "--history",
+                    str(self.folder / "history")]
+        if name == "scheduler":
+            return [*self.here.enter, *dask, "distributed.cli.dask_scheduler", "--port", self.address.rpartition(":")[2], "--no-dashboard",
+                    "--host", self.here.address]
+        return [*self.there.enter, *dask, "distributed.cli.dask_worker", self.address, "--no-nanny", "--no-dashboard", "--nthreads", "1",
+                "--memory-limit", "0", "--local-directory", str(self.folder), "--death-timeout", str(PATIENCE), "--host", self.there.address]
 
     def start(self, name):
         """Workers need no library."""
-        machine, words = self.there, ["-m", "distributed.cli.dask_worker", self.address, "--no-nanny", "--no-dashboard", "--nthreads", "1",
-                                      "--memory-limit", "0", "--local-directory", str(self.folder), "--death-timeout", str(PATIENCE)]
-        if name == "scheduler":
-            machine, words = self.here, ["-m", "distributed.cli.dask_scheduler", "--port", self.address.rpartition(":")[2], "--no-dashboard"]
         self.count += 1
         with open(self.folder / f"{name}.{self.count}.log", "wb") as log:
-            self.processes[name] = subprocess.Popen(
-                [*machine.enter, sys.executable, "-W", "ignore", *words, "--host", machine.address], stdout=log, stderr=log,
-                env={**os.environ, "RELKVANU_LIB": "/nowhere"})
+            self.processes[name] = subprocess.Popen(self.command(name), stdout=log, stderr=log, env={**os.environ, "RELKVANU_LIB": "/nowhere"})
 
     def revive(self):
         for name, process in list(self.processes.items()):
@@ -72,13 +82,18 @@ class Cluster:
 class Job:
     """The drivers of a job, one at a time."""
 
-    def __init__(self, name, folder, url, cluster):
+    def __init__(self, name, folder, url, cluster, minutes=math.inf):
         self.name, self.folder, self.url, self.cluster, self.count, self.process = name, folder, url, cluster, 0, None
+        self.minutes = minutes  # until no more are killed
 
     def command(self, size):
+        """With a service each driver is as the first one."""
         is_new = [] if (self.folder / "job.db").exists() else ["new"]
         return [*self.cluster.here.enter, sys.executable, "-W", "ignore", str(HERE / f"{self.name}.py"), str(self.folder), self.url, size,
                 self.cluster.address, *is_new]
+
+    def environment(self):
+        return {"SERVICE": f"http://{self.cluster.service}", "RELKVANU_LIB": "/nowhere"} if self.cluster.service else {}
 
     def start(self, size):
         """Starts a driver if none runs. Raises if the last one has come to an end by itself."""
@@ -88,7 +103,7 @@ class Job:
             raise AssertionError(f"driver {self.count} ended with {self.process.returncode}: {self.told()[-1][-2000:]}")
         self.count += 1
         with open(self.folder / f"driver-{self.count}.log", "wb") as log:
-            self.process = subprocess.Popen(self.command(size), stdout=log, stderr=log, env={**os.environ, "PACE": PACE})
+            self.process = subprocess.Popen(self.command(size), stdout=log, stderr=log, env={**os.environ, **self.environment(), "PACE": PACE})
 
     def takes_a_record(self):
         """Waits until it has taken one from now on, or has ended."""
@@ -111,7 +126,7 @@ class Job:
         """The driver that comes to its end. A worker ends by itself some time after its scheduler."""
         log = self.folder / "driver-last.log"
         with open(log, "wb") as to:
-            self.process = subprocess.Popen(self.command(size), stdout=to, stderr=to)
+            self.process = subprocess.Popen(self.command(size), stdout=to, stderr=to, env={**os.environ, **self.environment()})
         end = time.monotonic() + PATIENCE
         while self.process.poll() is None and time.monotonic() < end:
             self.cluster.revive()
@@ -121,16 +136,17 @@ class Job:
         return log.read_text()
 
 
-def kill_some(job, chance, kills, size):
-    """Until each kind was killed often enough. Returns how often."""
-    killed = {"driver": 0, "worker": 0, "scheduler": 0}
-    while min(killed.values()) < kills:
+def kill_some(job, chance, kills, size, end):
+    """Until each kind was killed often enough, or a moment. Returns how often."""
+    killed = {"driver": 0, "worker": 0, "scheduler": 0, **({"service": 0} if job.cluster.service else {})}
+    victims = [it.split("+") for it in VICTIMS + (VICTIMS_TOO if job.cluster.service else [])]
+    while min(killed.values()) < kills and time.monotonic() < end:
         job.cluster.revive()
         job.start(size)
         if chance.random() < 0.7:
             job.takes_a_record()
         time.sleep(chance.uniform(0, SPAN))
-        for it in chance.choice(VICTIMS):
+        for it in chance.choice(victims):
             job.kill() if it == "driver" else job.cluster.kill(it)
             killed[it.partition("-")[0]] += 1
         time.sleep(chance.uniform(0, 1))
@@ -148,7 +164,7 @@ def text_of(folder, chance, lines):
 
 
 def run_words(job, chance, kills):
-    text = text_of(job.folder, chance, 700 * kills + 1000)
+    text = text_of(job.folder, chance, 1000 + int(min(700 * kills, 1600 * job.minutes)))  # no driver comes to its end before the last
     told = f"{job_of(job, chance, kills, str(text))}"
     check_words(job.folder, text, job.last(str(text)))
     return told
@@ -163,7 +179,7 @@ def run_blocks(job, chance, kills):
 
 
 def job_of(job, chance, kills, size):
-    killed = kill_some(job, chance, kills, size)
+    killed = kill_some(job, chance, kills, size, time.monotonic() + 60 * job.minutes)
     backs = sum(it.count("back to the last checkpoint") for it in job.told())
     return f"killed {killed}; {job.count} drivers, which went back {backs} times besides"
 
@@ -184,17 +200,17 @@ def check_words(folder, text, told):
 
 def check_files(job):
     """What is in the storage is what the coordinator uses."""
-    from relkvanu.coordinator import Settings
-    from relkvanu.parts import Place
-    from relkvanu.records import INTERVAL, SUBTASKS
-    from relkvanu.store import Store
-    storage = Place(job.url, job.name, os.environ.get("S3_ENDPOINT"), os.environ.get("S3_REGION")).open()
-    with Store(job.folder / "job.db", Settings(interval=INTERVAL, timeout=1 << 40, tolerable=1000), [SUBTASKS]) as store, store.read() as reads:
-        choice = reads.choice()
-        used = {it for index in range(SUBTASKS) for it in reads.files_of(choice.id, 0, index) or ()}
-    there = {it for page in storage.pages() for it in page}
+    from relkvanu.records import _opened_job
+    from where import coordinator_of, place_of
+    os.environ.update(job.environment())
+    coordinator, place = _opened_job(coordinator_of(job.folder, job.name), place_of(job.url, job.name), False)
+    held = coordinator.begin()
+    coordinator.close()
+    used = {it for some in held.files for it in some}
+    there = {it for page in place.open().pages() for it in page}
     assert there == used, (sorted(there - used), sorted(used - there))
-    return f"record {choice.id} with {len(used)} files, and no other file"
+    assert not (job.cluster.service and (job.folder / "job.db").exists())
+    return f"record {held.id} with {len(used)} files, and no other file"
 
 
 @contextlib.contextmanager
@@ -214,22 +230,36 @@ def postgres(wanted):
             server.stop()
 
 
-def main(name, kills, seed, folder, url="", database=""):
-    chance, folder = random.Random(int(seed)), pathlib.Path(folder)
+def main(given):
+    chance, folder = random.Random(given.seed), pathlib.Path(given.folder)
     folder.mkdir()
-    if not url:
-        url = str(folder / "state")
+    url = given.url or str(folder / "state")
+    if not given.url:
         os.mkdir(url)
-    with postgres(database == "--postgres"):
-        cluster = Cluster(folder)
-        job = Job(name, folder, url, cluster)
+    with postgres(given.postgres):
+        cluster = Cluster(folder, service=given.service)
+        job = Job(given.job, folder, url, cluster, given.minutes)
         try:
-            told = {"words": run_words, "blocks": run_blocks}[name](job, chance, int(kills))
+            told = {"words": run_words, "blocks": run_blocks}[given.job](job, chance, given.kills)
+            told += f"; {check_files(job)}"
         finally:
             job.kill()
             cluster.stop()
-    print(f"{name} over {url.partition(':')[0] if '://' in url else 'a folder'}: {told}; {check_files(job)}")
+    print(f"{given.job} over {url.partition(':')[0] if '://' in url else 'a folder'}{' and the service' if given.service else ''}: {told}")
+
+
+def parser():
+    it = argparse.ArgumentParser(description=__doc__)
+    it.add_argument("job", choices=("words", "blocks"))
+    it.add_argument("kills", type=int)
+    it.add_argument("seed", type=int)
+    it.add_argument("folder")
+    it.add_argument("url", nargs="?", default="")
+    it.add_argument("--postgres", action="store_true")
+    it.add_argument("--service", metavar="PROGRAM")
+    it.add_argument("--minutes", type=float, default=math.inf)
+    return it
 
 
 if __name__ == "__main__":
-    main(*sys.argv[1:])
+    main(parser().parse_args())

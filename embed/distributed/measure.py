@@ -1,5 +1,6 @@
-"""measure.py SCHEDULER FOLDER [URL]: how long a checkpoint takes, beside the same bytes that a task for each block puts into the same storage without a
-coordinator, in one run. BLOCKS, SIZE (numbers of 8 bytes in a block) and TIMES choose how much."""
+"""measure.py FOLDER [URL]: how long a checkpoint takes, beside the same bytes that a task for each block puts into the same storage without a
+coordinator, in one run, by two workers: pickled as everybody does, and in pieces as relkvanu.parts does. BLOCKS, SIZE (numbers of 8 bytes in a block)
+and TIMES choose how much."""
 import itertools
 import os
 import pathlib
@@ -11,8 +12,10 @@ import time
 import dask.array as da
 from distributed import Client, futures_of, wait
 
-from relkvanu.dask import Checkpoints, Place
-from relkvanu.parts import digest_of, opened
+from kills import Cluster
+from relkvanu.dask import Checkpoints
+from relkvanu.parts import digest_of, opened, pickled_in_pieces
+from where import place_of
 
 BLOCKS, SIZE, TIMES = int(os.environ.get("BLOCKS", "16")), int(os.environ.get("SIZE", "500000")), int(os.environ.get("TIMES", "9"))
 BARE = 1 << 60  # the names of the bare puts
@@ -28,6 +31,10 @@ def plain(path, block, sync):
 
 def put_bytes(place, name, block):
     opened(place).put(name, pickle.dumps(block, 5))
+
+
+def put_pieces(place, name, block):
+    opened(place).put(name, pickled_in_pieces(block))
 
 
 def digest_block(block):
@@ -61,6 +68,7 @@ class Measured:
         paths = [f"{self.folder}/plain/{it}" for it in range(BLOCKS)]
         return {
             "pickle and put, bare": (lambda: self.changed(1), lambda: self.each(put_bytes, [self.place] * BLOCKS, [next(self.names) for _ in paths], blocks())),
+            "put in pieces, bare": (lambda: self.changed(1), lambda: self.each(put_pieces, [self.place] * BLOCKS, [next(self.names) for _ in paths], blocks())),
             "save, all changed": (lambda: self.changed(1), lambda: self.checkpoints.save(0, x=self.now)[1:]),
             "save, a quarter changed": (lambda: self.changed(0.25), lambda: self.checkpoints.save(0, x=self.now)[1:]),
             "save, none changed": (lambda: self.changed(0), lambda: self.checkpoints.save(0, x=self.now)[1:]),
@@ -83,20 +91,31 @@ def measured(it):
     return spent
 
 
-def main(scheduler, folder, url=""):
-    client, folder = Client(scheduler), pathlib.Path(folder)
+def main(folder, url=""):
+    folder = pathlib.Path(folder)
     for it in (folder, folder / "state", folder / "plain"):
         it.mkdir()
+    cluster = Cluster(folder)
+    try:
+        with Client(cluster.address) as client:
+            client.wait_for_workers(2)
+            told(client, folder, url)
+    finally:
+        cluster.stop()
+
+
+def told(client, folder, url):
     print(f"{BLOCKS} blocks of {SIZE * 8 / 1e6:.1f} MB; each way {TIMES} times, in turn")
-    place = Place(url or str(folder / "state"), "measure", os.environ.get("S3_ENDPOINT"), os.environ.get("S3_REGION"))
+    place = place_of(url or str(folder / "state"), "measure")
     with Checkpoints(client, place, folder / "job.db", create=True) as checkpoints:
         checkpoints.load()
         spent = measured(Measured(client, folder, place, checkpoints))
-    bare = statistics.median(seconds for seconds, _ in spent["pickle and put, bare"])
+    bare, pieces = (statistics.median(seconds for seconds, _ in spent[it]) for it in ("pickle and put, bare", "put in pieces, bare"))
     for name, it in spent.items():
         times = sorted(seconds for seconds, _ in it)
         middle = statistics.median(times)
-        print(f"{name:28} {middle:7.3f} s of {times[0]:.3f} to {times[-1]:.3f}, {middle / bare:.2f} of the bare puts  {it[-1][1] or ''}", flush=True)
+        print(f"{name:28} {middle:7.3f} s of {times[0]:.3f} to {times[-1]:.3f}, {middle / bare:.2f} of the bare puts, {middle / pieces:.2f} of those in pieces  "
+              f"{it[-1][1] or ''}", flush=True)
 
 
 if __name__ == "__main__":

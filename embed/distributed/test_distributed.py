@@ -1,5 +1,6 @@
 """Tests of relkvanu.dask, relkvanu.daskstream and relkvanu.outputs over a cluster in this process."""
 import asyncio
+import contextlib
 import os
 import pathlib
 import pickle
@@ -8,11 +9,14 @@ import sqlite3
 import subprocess
 import sys
 import tempfile
+import threading
 import time
 import unittest
 from unittest import mock
 
 import dask.array as da
+import numpy
+import pandas
 import streamz
 from distributed import Client, LocalCluster
 
@@ -20,8 +24,11 @@ import words
 from relkvanu import daskstream, outputs, records
 from relkvanu.dask import Checkpoints, NotPersisted, Place
 from relkvanu.daskstream import GraphError
-from relkvanu.parts import Failed, PartError, State, part_of, pickled, place_of, take_step
+from relkvanu.parts import (
+    Failed, PartError, State, digest_of, get_part, part_of, pickled, pickled_in_pieces, place_of, put_part, take_step,
+)
 from relkvanu.records import origin_of
+from relkvanu.storage import Folder
 
 
 def add(total, number):
@@ -471,6 +478,27 @@ class Outputs(Base):
         self.assertEqual([it.read_text() for it in sorted(self.folder.glob("*.jsonl"))], ["[1]\n[2]\n", "[4]\n"])
         self.assertEqual(list(self.folder.glob("*.part")), [])
 
+    def test_files_by_two_drivers(self):
+        """One that has lost the job publishes its last record while the other does so."""
+        late, rename = threading.Thread(target=lambda: done.append(outputs.Files(str(self.folder)).publish("a", 1, [[1], [2]], "x"))), os.rename
+        done = []
+
+        def slowly(old, new):
+            late.start()
+            wait_until(lambda: self.waits_for_a_lock(late))
+            rename(old, new)
+
+        with mock.patch("os.rename", slowly):
+            outputs.Files(str(self.folder)).publish("a", 1, [[1], [2]], "x")
+        late.join()
+        self.assertEqual(done, [None])
+        self.assertEqual([it.read_text() for it in self.folder.glob("a-*")], ["[1]\n[2]\n"])
+
+    @staticmethod
+    def waits_for_a_lock(thread):
+        with open(f"/proc/self/task/{thread.native_id}/syscall") as it:
+            return it.read().startswith("73 ")  # flock
+
     def opened(self, **more):
         source, table = streamz.Stream(), self.table()
         kept = source.scatter().accumulate(add, start=0, stream_name="total").gather().map(row).sink(table)
@@ -623,7 +651,70 @@ print([it for it in ("relkvanu.coordinator", "relkvanu.store", "streamz", "distr
         self.assertEqual((told.stdout, told.stderr), ("[1] 7\n[]\n", ""))
 
 
-PAGE = pathlib.Path(__file__).resolve().parent.parent.parent / "docs/DASK.md"
+class Bytes(unittest.TestCase):
+    """What is written of a value: the bytes of pickle, without a copy of a long array."""
+
+    def setUp(self):
+        self.folder = self.enterContext(tempfile.TemporaryDirectory())
+        self.place = Place(self.folder, "orders")
+        self.place.open(is_new=True)
+
+    def test_they_are_those_of_pickle(self):
+        array = numpy.arange(1 << 19).reshape(1 << 9, -1)
+        values = [array, array[::2], array.T, array[:0], pandas.DataFrame({"a": range(1000), "b": ["x"] * 1000}), {"a": "x" * 100_000, 1: [b"y" * 100_000]},
+                  bytearray(100_000), None, list(range(100_000))]
+        for file, value in enumerate(values):
+            part = put_part(self.place, file, value, None, pickled_in_pieces)
+            with open(f"{self.folder}/{file}", "rb") as it:
+                found = it.read()
+            self.assertEqual((found, part.size, part.digest), (pickle.dumps(value, 5), len(found), digest_of(found)))
+            self.assertEqual(put_part(self.place, 1000, value, part, pickled_in_pieces), part)
+
+    def test_a_class_of_the_program(self):
+        part = put_part(self.place, 1, lambda: 7, None, pickled_in_pieces)
+        self.assertEqual(get_part(self.place, part, pickle.loads)(), 7)
+
+    def test_a_value_that_is_changed_while_it_is_written(self):
+        value, put = numpy.zeros(1 << 18), Folder.put
+
+        def slowly(storage, file, contents):
+            def changed():
+                for piece in contents:
+                    yield piece
+                    value[-1] += 1
+            put(storage, file, changed())
+
+        with mock.patch.object(Folder, "put", slowly), self.assertRaisesRegex(Failed, "changed in place while it was written"):
+            put_part(self.place, 1, value, None, pickled_in_pieces)
+        part = put_part(self.place, 2, value, None, pickled_in_pieces)
+        self.assertEqual(list(get_part(self.place, part, pickle.loads)), list(value))
+
+
+class Many(Base):
+    def test_more_parts_than_one_call_names(self):
+        """None is written twice, and what is released is deleted by lists of a thousand."""
+        deleted = []
+
+        def delete(storage, files, inner=Folder.delete):
+            deleted.append(len(files))
+            return inner(storage, files)
+
+        with mock.patch("os.fsync"), mock.patch.object(Folder, "delete", delete):
+            job = records.Records(None, self.state, self.folder / "job.db", create=True)
+            with contextlib.closing(job):
+                self.assertEqual(job.save("one", {"x": range(5000)})[:3], (1, 5000, 0))
+                self.assertEqual(job.save("two", {"x": range(5000)})[:3], (2, 0, 5000))
+                self.assertEqual(job.save("three", {"x": range(1, 5001)})[:3], (3, 5000, 0))
+                wait_until(lambda: job.counts() == (5001, 0))
+            self.assertEqual(sum(deleted), 5002)  # of the second record the list alone
+            self.assertEqual([it for it in deleted if it > 1000], [])
+            self.assertGreaterEqual(max(deleted), 900)
+        self.assertEqual(len(self.files()), 5001)
+
+
+HERE = pathlib.Path(__file__).resolve().parent
+PAGE = HERE.parent.parent / "docs/DASK.md"
+TOLD = "50 1225000000.0\n"
 
 
 def block(language):
@@ -633,17 +724,26 @@ def block(language):
 
 
 class Page(Base):
-    def test_the_first_program_word_for_word(self):
-        """With the page's commands, in a network of its own, where nobody has the page's port. The second time it goes on from its end."""
+    def first(self, *command):
+        """The first program, word for word, by a command in a folder that has nothing else. Its last state has ten files and a list."""
         program = block("python first.py")
         self.assertLessEqual(len(program.splitlines()), 15)
         (self.folder / "first").mkdir()
         (self.folder / "first/first.py").write_text(program)
-        commands = f"ip link set lo up; trap 'kill $(jobs -p); wait' EXIT\n{block('sh')}python3 first.py\n"
-        told = subprocess.run(["unshare", "-rn", "bash", "-ec", commands], cwd=self.folder / "first", stdout=subprocess.PIPE, stderr=subprocess.PIPE, text=True,
-                              env={**os.environ, "PATH": f"/usr/bin:/bin:{os.environ['PATH']}"}, timeout=900)
-        self.assertEqual((told.stdout, told.returncode), ("50 1225000000.0\n" * 2, 0), told.stderr[-2000:])
+        told = subprocess.run(command, cwd=self.folder / "first", stdout=subprocess.PIPE, stderr=subprocess.PIPE, text=True, timeout=900,
+                              env={**os.environ, "PATH": f"/usr/bin:/bin:{os.environ['PATH']}"})
+        self.assertEqual(told.returncode, 0, told.stderr[-2000:])
         self.assertEqual(len([it for it in os.listdir(self.folder / "first/state") if it.isdecimal()]), 11)
+        return told.stdout
+
+    def test_the_first_program_word_for_word(self):
+        """In a network of its own, where nobody has the page's port. The second time it goes on from its end."""
+        commands = f"ip link set lo up; trap 'kill $(jobs -p); wait' EXIT\n{block('sh')}python3 first.py 127.0.0.1:8786\n"
+        self.assertEqual(self.first("unshare", "-rn", "bash", "-ec", commands), TOLD * 2)
+
+    @unittest.skipUnless(os.path.exists("/dev/net/tun"), "no /dev/net/tun: two machines")
+    def test_the_first_program_on_two_machines(self):
+        self.assertEqual(self.first("unshare", "-rnm", sys.executable, str(HERE / "machines.py"), "page", "."), TOLD)
 
     def test_the_stream_of_the_page(self):
         text = self.folder / "text"

@@ -9,8 +9,9 @@ import time
 import streamz
 from distributed import Client
 
-from relkvanu.daskstream import Checkpoints, Place, keyed
+from relkvanu.daskstream import Checkpoints, keyed
 from relkvanu.outputs import Table
+from where import CONNECT, coordinator_of, place_of
 
 PARTS = int(os.environ.get("PARTS", "8"))
 LINES = int(os.environ.get("LINES", "20"))  # of an element
@@ -69,13 +70,13 @@ def table(folder):
 
 
 def main(folder, url, text, scheduler, is_new=""):
-    lines, client, source = table(folder), Client(scheduler), streamz.Stream()
+    lines, client, source = table(folder), Client(scheduler, timeout=CONNECT), streamz.Stream()
     on_workers = source.scatter()
     kept = [keyed(on_workers.map(words), count, start={}, parts=PARTS, name="words"),
             on_workers.accumulate(letter, start=[0], stream_name="letters"),
             on_workers.map(lengths).buffer(8).gather().flatten().sink(lines)]
-    place = Place(url, "words", endpoint=os.environ.get("S3_ENDPOINT"), region=os.environ.get("S3_REGION"))
-    with Checkpoints(source, place, f"{folder}/job.db", client=client, create=is_new == "new", every=EVERY, outputs=[lines]) as checkpoints:
+    with Checkpoints(source, place_of(url, "words"), coordinator_of(folder, "words"), client=client, create=is_new == "new", every=EVERY,
+                     outputs=[lines]) as checkpoints:
         print("begins at", checkpoints.position, flush=True)
         checkpoints.run(batches(text))
         found = [checkpoints.state(f"words-{it}") for it in range(PARTS)]

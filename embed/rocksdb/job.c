@@ -65,6 +65,9 @@ static void prepare(struct job *job, unsigned index) {
     task->caller = (struct caller){index, job->coordinator.term};
     task->names = (struct names){0, 0};
     task->is_failed = &job->is_failed;
+    task->told = &job->told;
+    task->stop_failed = &job->stop_failed;
+    task->holds = 0;
     task->cuts = job->cuts;
     task->parallelism = job->parallelism;
     task->held.len = 0;
@@ -145,12 +148,15 @@ static uint64_t restore(struct job *job, enum end end) {
 }
 
 /* Starts the source and the tasks, with the state of a record. */
-static void start(struct job *job, uint64_t id) {
+void job_start(struct job *job, uint64_t id) {
     empty_folder(job->local);
     for (unsigned index = 0; index < job->parallelism; index++) {
         prepare(job, index);
     }
     load(job, id);
+    for (unsigned index = 0; index < job->parallelism; index++) {
+        sink_start(&job->tasks[index].sink, job->target[0] != 0 ? job->target : NULL, index, &job->tasks[index].store, job->parallelism);
+    }
     atomic_store(&job->is_failed, false);
     atomic_store(&job->source_stops, false);
     job->victim = TASKS;
@@ -160,7 +166,7 @@ static void start(struct job *job, uint64_t id) {
     CHECK(pthread_create(&job->source, NULL, feed, job) == 0, "no thread");
 }
 
-/* Takes the steps that a store has told, or those after an end. */
+/* Takes the steps that a store has told. */
 static void take_steps(struct job *job, const uint32_t *steps, size_t len, enum end end) {
     uint64_t id = 0;
     for (size_t place = 0; place < len; place++) {
@@ -169,11 +175,9 @@ static void take_steps(struct job *job, const uint32_t *steps, size_t len, enum 
         case RELKVANU_STORE_RESTORE: id = restore(job, end); break;
         case RELKVANU_STORE_SWEEP: sweeper_sweep(&job->coordinator); break;
         case RELKVANU_STORE_START_TASKS:
-            if (end == BEGINS) {
-                discarder_start(&job->discarder);
-                sweeper_start(&job->sweeper);
-            }
-            start(job, id);
+            discarder_start(&job->discarder);
+            sweeper_start(&job->sweeper);
+            job_start(job, id);
             break;
         default: CHECK(false, "step %" PRIu32 " is none of a job that runs", steps[place]);
         }
@@ -181,7 +185,7 @@ static void take_steps(struct job *job, const uint32_t *steps, size_t len, enum 
 }
 
 /* Stops the source, and the tasks: at once, or at the end of their queues. */
-static void stop(struct job *job, bool at_once) {
+void job_stop(struct job *job, bool at_once) {
     atomic_store(&job->source_stops, true);
     for (unsigned index = 0; at_once && index < job->parallelism; index++) {
         atomic_store(&job->tasks[index].is_stopped, true);
@@ -194,8 +198,25 @@ static void stop(struct job *job, bool at_once) {
     }
 }
 
-static void send_barriers(struct job *job, uint64_t id) {
-    struct message message = {.barrier = id};
+void job_end_tasks(struct job *job) {
+    job_stop(job, true);
+    for (unsigned index = 0; index < job->parallelism; index++) {
+        store_close(&job->tasks[index].store);
+    }
+}
+
+void job_restart(struct job *job) {
+    job_end_tasks(job);
+    job_start(job, restore(job, FAILED));
+}
+
+void job_recover(struct job *job) {
+    job->parallelism = TASKS;
+    take_steps(job, job->coordinator.report.steps, job->coordinator.report.steps_len, FAILED);
+}
+
+void job_send_barriers(struct job *job, uint64_t id, bool stops) {
+    struct message message = {.barrier = id, .stops = stops};
     job->cut_of[id % CUTS] = id;
     for (unsigned index = 0; index < job->parallelism; index++) {
         trace("barrier %" PRIu64 " to 0.%u %" PRIu64, id, index, job->tasks[index].caller.term);
@@ -214,7 +235,7 @@ static bool is_over(const struct job *job) {
 
 /* Each second the seed chooses a task, which stops where it is, or in the middle of its next checkpoint. The job is
  * mostly left alone until it has completed a checkpoint. */
-static void choose_victim(struct job *job) {
+void job_choose_victim(struct job *job) {
     if (job->victim != TASKS || is_over(job) || now() < job->next_failure) {
         return;
     } else if (coordinator_progress(&job->coordinator).completed == 0 && chance_below(&job->chance, 200) != 0) {
@@ -230,7 +251,7 @@ static void choose_victim(struct job *job) {
     }
 }
 
-static bool has_failed(struct job *job) {
+bool job_has_failed(struct job *job) {
     return atomic_load(&job->is_failed) || (job->victim != TASKS && atomic_load(&job->tasks[job->victim].is_stopped));
 }
 
@@ -242,7 +263,7 @@ static void drive(struct job *job) {
         CHECK(answer.what == RELKVANU_NOT_RUNNING, "a tick is refused: %" PRIu32, answer.what);
         atomic_store(&job->is_failed, true);
     } else if (answer.what == RELKVANU_TICK_TRIGGERED) {
-        send_barriers(job, answer.b);
+        job_send_barriers(job, answer.b, false);
     } else if (answer.what == RELKVANU_TICK_FAILED) {
         atomic_store(&job->is_failed, true);
     }
@@ -250,7 +271,7 @@ static void drive(struct job *job) {
     if (has_passed(job, 25) && progress.savepoint == 0 && progress.savepoint_pending == 0) {
         answer = coordinator_savepoint(c);
         if (answer.code == RELKVANU_DONE) {
-            send_barriers(job, answer.a);
+            job_send_barriers(job, answer.a, false);
         }
     }
 }
@@ -260,9 +281,9 @@ static enum end drive_on(struct job *job) {
     bool is_rescaled = job->parallelism == OTHER_TASKS;
     for (;;) {
         drive(job);
-        choose_victim(job);
+        job_choose_victim(job);
         struct progress progress = coordinator_progress(&job->coordinator);
-        if (has_failed(job)) {
+        if (job_has_failed(job)) {
             return FAILED;
         } else if (has_passed(job, 50) && progress.savepoint != 0 && !progress.is_rolled_back) {
             return ROLLS_BACK;
@@ -280,19 +301,15 @@ static enum end drive_on(struct job *job) {
 }
 
 void job_run(struct job *job) {
-    static const uint32_t again[] = {RELKVANU_STORE_RESTORE, RELKVANU_STORE_START_TASKS};
     const relkvanu_store_report *report = &job->coordinator.report;
     enum end end = BEGINS;
     job->parallelism = TASKS;
     take_steps(job, report->steps, report->steps_len, end);
     while ((end = drive_on(job)) != OVER) {
-        stop(job, true);
-        for (unsigned index = 0; index < job->parallelism; index++) {
-            store_close(&job->tasks[index].store);
-        }
-        take_steps(job, again, 2, end);
+        job_end_tasks(job);
+        job_start(job, restore(job, end));
     }
-    stop(job, false);
+    job_stop(job, false);
     for (unsigned place = 0; place < ZOMBIES; place++) {
         zombie_join(&job->zombies[place]);
     }
