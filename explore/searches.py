@@ -12,7 +12,8 @@ MOST_SECONDS = 3600
 PYTHON = TOP / "embed/python"
 RESULT = re.compile("# (fault|holds|cut|seen) ")
 # What the reader of traces says of a fault that the explorer names.
-FAULTS = {"lost": "file {} is lost", "overwritten": "file {} is overwritten", "mixed": "record {} is done, and has a part", "left": "file {} is left"}
+FAULTS = {"lost": "file {} is lost", "overwritten": "file {} is overwritten", "mixed": "record {} is done, and has a part", "left": "file {} is left",
+          "missing": "element {} of 0.0 is lost", "twice": "element {} of 0.0 is published twice"}
 
 
 @dataclass(frozen=True)

@@ -14,6 +14,20 @@ static std::string lost(const State &state, const Facts &facts) {
     return "";
 }
 
+// Each element that the source has left behind is published, or prepared in the snapshot of the sink: else nobody reads it again.
+static std::string wrong_output(const State &state, const Facts &facts) {
+    const Target &target = state.target;
+    if (target.twice) {
+        return "twice " + std::to_string(least(target.twice));
+    }
+    Small there = target.shown;
+    for (unsigned record = 1; record <= LAST_RECORD && facts.choice; record++) {
+        there |= target.parts[facts.choice][sink_of_job()].prepared & bit(record) ? target.prepared[record] : 0;
+    }
+    const Small missing = facts.choice ? up_to(target.parts[facts.choice][SOURCE].taken) & ~there : 0;
+    return missing ? "missing " + std::to_string(least(missing)) : "";
+}
+
 static bool are_idle(const State &state) {
     bool idle = true;
     for (const Task &task : state.tasks) {
@@ -45,7 +59,7 @@ std::string fault_of(const State &state) {
         return ""; // the other process has not read the log yet
     }
     const Facts &facts = library.facts(state.current.image);
-    const std::string fault = lost(state, facts);
+    const std::string fault = scope.has_elements() ? wrong_output(state, facts) : lost(state, facts);
     if (!fault.empty() || !scope.checks_leaks || state.is_down) {
         return fault;
     }

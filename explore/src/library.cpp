@@ -31,6 +31,19 @@ static u64 moment_of(const Facts &facts, u8 kind) {
     return kind == TICK ? facts.due : kind == EXPIRE ? facts.expiry : 0;
 }
 
+// The settings of the job with these numbers in place of its own.
+static relkvanu_settings settings_of(u8 code) {
+    relkvanu_settings all = settings();
+    all.retained = code >> 2;
+    all.at_once = code & 3;
+    return all;
+}
+
+static relkvanu_answer configure(relkvanu *handle, u64 now, u8 code) {
+    const relkvanu_settings all = settings_of(code);
+    return relkvanu_configure(handle, now, &all);
+}
+
 static relkvanu_answer make_plain(relkvanu *handle, const Facts &facts, const Call &call, u64 *taken) {
     const u64 now = moment_of(facts, call.kind), fresh[] = {call.file};
     const std::vector<u64> reused = list_of(call.reused);
@@ -46,6 +59,8 @@ static relkvanu_answer make_plain(relkvanu *handle, const Facts &facts, const Ca
     case TAKE: return relkvanu_take(handle, taken, 1);
     case DELETE: return relkvanu_deleted(handle, call.file);
     case UNDELETE: return relkvanu_undeleted(handle, call.file);
+    case TRIGGER: return relkvanu_trigger(handle, now);
+    case CONFIGURE: return configure(handle, now, call.record);
     default: die("an unknown call");
     }
 }
@@ -54,19 +69,28 @@ static relkvanu_answer make(relkvanu *handle, const Facts &facts, const Call &ca
     return scope.names && has_term(call) ? make_named(handle, call, list_of(call.reused)) : make_plain(handle, facts, call, taken);
 }
 
+// The first list of a call's line: fresh files, names, a shape, or settings.
+static std::vector<u64> first_list(const Call &call) {
+    if (call.kind == CONFIGURE) {
+        const relkvanu_settings all = settings_of(call.record);
+        return {all.interval, all.pause, all.at_once, all.timeout, all.tolerable, all.retained, all.keep_on_cancel};
+    }
+    const bool has_file = call.file && (call.kind == ACK || call.kind == FORFEIT || call.kind == RESTORE);
+    return has_file ? std::vector<u64>{call.file} : std::vector<u64>();
+}
+
 std::string Library::line(u32 image, const Call &call) {
     static const u32 kinds[] = {0, RELKVANU_CALL_TICK, RELKVANU_CALL_TICK, RELKVANU_CALL_SAVEPOINT, RELKVANU_CALL_ACK,
         RELKVANU_CALL_DECLINE, RELKVANU_CALL_DISPOSE, RELKVANU_CALL_RESTORE, RELKVANU_CALL_CANCEL, RELKVANU_CALL_TAKE,
-        RELKVANU_CALL_DELETED, RELKVANU_CALL_UNDELETED, RELKVANU_CALL_RESERVE, RELKVANU_CALL_FORFEIT};
+        RELKVANU_CALL_DELETED, RELKVANU_CALL_UNDELETED, RELKVANU_CALL_RESERVE, RELKVANU_CALL_FORFEIT, RELKVANU_CALL_TRIGGER,
+        RELKVANU_CALL_CONFIGURE};
     const bool is_report = call.kind == DELETE || call.kind == UNDELETE, is_of_one = call.kind == TAKE || call.kind == RESERVE;
-    const u64 fresh[] = {call.file}, number = is_of_one ? 1 : is_report ? call.file : call.record;
-    const std::vector<u64> reused = list_of(call.reused);
+    const u64 number = is_of_one ? 1 : is_report ? call.file : call.record;
+    const std::vector<u64> first = first_list(call), reused = call.kind == ACK ? list_of(call.reused) : std::vector<u64>();
     const u64 term = scope.names && has_term(call) ? call.term : 0;
     const relkvanu_call said = {kinds[call.kind], 0, call.subtask, moment_of(facts(image), call.kind), number, term};
-    const size_t fresh_len = call.file && (call.kind == ACK || call.kind == FORFEIT || call.kind == RESTORE) ? 1 : 0,
-                 reused_len = call.kind == ACK ? reused.size() : 0;
     u8 text[512];
-    const relkvanu_answer written = relkvanu_call_line(&said, fresh, fresh_len, reused.data(), reused_len, text, sizeof text);
+    const relkvanu_answer written = relkvanu_call_line(&said, first.data(), first.size(), reused.data(), reused.size(), text, sizeof text);
     if (written.code != RELKVANU_DONE) {
         die("the library writes no line");
     }

@@ -10,10 +10,26 @@
 #include <unordered_map>
 #include <vector>
 
-enum Kind : u8 { TICK = 1, EXPIRE, SAVE, ACK, DECLINE, DISPOSE, RESTORE, CANCEL, TAKE, DELETE, UNDELETE, RESERVE, FORFEIT };
+enum Kind : u8 {
+    TICK = 1,
+    EXPIRE,
+    SAVE,
+    ACK,
+    DECLINE,
+    DISPOSE,
+    RESTORE,
+    CANCEL,
+    TAKE,
+    DELETE,
+    UNDELETE,
+    RESERVE,
+    FORFEIT,
+    TRIGGER,
+    CONFIGURE
+};
 
 struct Call {
-    u8 kind, subtask, record,
+    u8 kind, subtask, record, // record: for a configure how many checkpoints are retained, and how many may be pending: settings_code
         file; // file: a fresh one, or 0; for a report the file that it is about; for a restore its shape, if it is a new one
     Files reused;
     u8 term = 0; // of the task, if the coordinator has names
@@ -28,6 +44,11 @@ struct Answer {
 
 constexpr unsigned MOST_RECORDS = 4;
 
+// Settings that a configure has.
+constexpr u8 settings_code(unsigned retained, unsigned at_once) {
+    return u8(retained << 2 | at_once);
+}
+
 // What the reads of the library say of an image.
 struct Facts {
     Files in_use, waiting, taken;
@@ -37,6 +58,8 @@ struct Facts {
     u8 choice;                                          // the number of the record that a restore would begin from, or 0
     Files base[2];                                      // its files, by subtask
     u8 pending[MOST_RECORDS], savepoints[MOST_RECORDS]; // numbers, of done savepoints
+    u8 checkpoints[MOST_RECORDS];                       // numbers, of done checkpoints
+    Files parts[MOST_RECORDS][2];                       // the files of these, by subtask
     u64 due, expiry;
     // If the coordinator has names: the term, the next name, the names that tasks of the term hold, and what a sweeper may delete.
     u8 term, next_name;

@@ -2,6 +2,8 @@
 #include "names.hpp"
 #include "steps.hpp"
 
+#include <algorithm>
+
 Answer Steps::accept(Process *who, Message message) {
     // Without the rule the engine does not carry the term.
     const u8 term = scope.is_on[FENCE] ? message.term() : term_of(*who);
@@ -14,14 +16,34 @@ Answer Steps::accept(Process *who, Message message) {
         return {who->image, RELKVANU_REFUSED, 0, 0, 0};
     }
     const Answer answer = call(who, made);
+    const bool is_completed = answer.is_done() && answer.what == RELKVANU_ACK_COMPLETED;
+    if (is_completed && scope.is_on[STOP_IN_ONE] && message.record() == stop_record(who->stop)) {
+        stop_with(message.record());
+    }
     sync_log();
+    if (is_completed) {
+        note_completed(message.record());
+    }
     return answer;
+}
+
+// Sinks are told of a completed checkpoint, and of a savepoint when the job is restored to it.
+void Steps::note_completed(u8 record) {
+    const Facts &now = library.facts(next.current.image);
+    const bool is_savepoint = std::count(now.savepoints, now.savepoints + MOST_RECORDS, record);
+    const bool is_of_stop = record == stop_record(next.current.stop);
+    if (!is_savepoint || is_of_stop || !scope.is_on[SAVEPOINT_WAITS]) {
+        tell_sink(record);
+    }
 }
 
 void Steps::note_accepted(Message message, bool is_late) {
     const Files file = only(message.file());
     const bool is_other = next.writer[message.file()] != mark_of(message.incarnation(), message.subtask());
     next.accepted |= file;
+    if (scope.has_elements() && !is_late) {
+        next.target.parts[message.record()][message.subtask()] = message.part();
+    }
     next.wrong = (next.wrong & ~file) | (is_other && scope.is_on[FSYNC] && scope.is_on[MOUNTED_WRITE] ? file : 0);
     if (!is_late && message.incarnation() != next.incarnation) {
         next.mixed |= u32(1) << message.record();

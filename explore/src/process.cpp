@@ -1,21 +1,26 @@
 // Steps of the coordinator's process: ticks, savepoints, restores, and its end and start.
 #include "steps.hpp"
 
-void Steps::send_barriers(u8 record) {
+void Steps::send_barriers(u8 record, bool stops) {
     next.mixed &= ~(u32(1) << record);
     const Facts &now = library.facts(next.current.image);
     for (unsigned place = 0; place < scope.subtasks; place++) {
         Task &task = next.tasks[place];
         if (task.incarnation != 0) {
             task.barrier = record;
+            task.stops = stops;
             task.barrier_base = now.base[task.subtask];
             tell("barrier %u to 0.%u %u", record, task.subtask, task.incarnation);
         }
     }
 }
 
+// From a stop on the timer rests, but for the expiry of its savepoint.
 void Steps::of_triggers() {
-    if (offer(!from->is_down && facts->is_running && may_use(TRIGGERS) && !facts->pending[scope.at_once - 1])) {
+    const bool runs = !from->is_down && facts->is_running && from->current.stop == 0;
+    const bool stops = !from->is_down && from->current.stop != 0 && facts->pending[0] == stop_record(from->current.stop);
+    const unsigned most = scope.limit[CONFIGURES] > 0 ? 2 : scope.at_once;
+    if (offer(runs && may_use(TRIGGERS) && !facts->pending[most - 1])) {
         const Answer answer = call(&next.current, {TICK, 0, 0, 0, 0});
         sync_log();
         if (answer.what == RELKVANU_TICK_TRIGGERED) {
@@ -24,7 +29,7 @@ void Steps::of_triggers() {
             made();
         }
     }
-    if (offer_fault(!from->is_down && facts->is_running && facts->pending[0] && may_use(DECLINES))) {
+    if (offer_fault((runs || stops) && facts->pending[0] && may_use(DECLINES))) {
         use(DECLINES);
         const Answer answer = call(&next.current, {EXPIRE, 0, 0, 0, 0});
         sync_log();
@@ -34,7 +39,7 @@ void Steps::of_triggers() {
         }
         made();
     }
-    if (offer(!from->is_down && facts->is_running && may_use(SAVEPOINTS) && !facts->pending[1])) {
+    if (offer(runs && may_use(SAVEPOINTS) && !facts->pending[1])) {
         use(SAVEPOINTS);
         const Answer answer = call(&next.current, {SAVE, 0, 0, 0, 0});
         sync_log();
@@ -47,6 +52,8 @@ Answer Steps::restore(u8 savepoint, u8 width) {
     const Answer answer = call(&next.current, {RESTORE, 0, savepoint, width == next.current.width ? u8(0) : width, 0});
     next.current.term += answer.is_done();
     next.current.width = answer.is_done() ? width : next.current.width;
+    next.current.stop = answer.is_done() ? 0 : next.current.stop;
+    next.back_to = next.back_with = 0;
     sync_log();
     return answer;
 }
@@ -68,11 +75,13 @@ void Steps::sweep_known() {
 }
 
 void Steps::of_restores() {
-    const bool may = !from->is_down && !facts->is_cancelled && may_use(RESTORES);
+    const bool may = !from->is_down && !facts->is_cancelled && !has_stopped(from->current.stop) && may_use(RESTORES);
     for (unsigned place = 0; place <= MOST_RECORDS && (place == 0 || facts->savepoints[place - 1]); place++) {
-        if (offer_fault(may)) {
+        const u8 savepoint = place == 0 ? 0 : facts->savepoints[place - 1];
+        if (offer_fault(may && is_whole(*from, savepoint))) {
             use(RESTORES);
-            restore(place == 0 ? 0 : facts->savepoints[place - 1], from->current.width);
+            restore(savepoint, from->current.width);
+            take_back(savepoint);
             if (scope.is_on[SWEEP_RESTORED]) {
                 sweep_known();
             }
@@ -130,6 +139,9 @@ void Steps::recover() {
     tell("process %u starts", next.current.number);
     report_taken();
     sync_log();
+    if (has_stopped(next.current.stop)) {
+        return; // until the job begins
+    }
     if (!scope.is_on[SWEEP_RESTORED] && !scope.names) {
         sweep_known(); // and it restores the job later
     } else if (!library.facts(next.current.image).is_cancelled) {
@@ -154,6 +166,7 @@ void Steps::of_crashes() {
             next.has_old = 1;
         }
         next.current = from->durable;
+        next.back_to = next.back_with = 0;
         next.is_down = 1;
         if (log) {
             log->lines.resize(log->durable);

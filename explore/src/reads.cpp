@@ -44,13 +44,22 @@ static Files files_of(relkvanu *handle, u64 record, unsigned subtask) {
     return answer.what == RELKVANU_FILES ? set_of(files, answer.a) : 0;
 }
 
-static void append(u8 *list, u64 number) {
+// Returns the place of the number. A list that is full has no more.
+static unsigned append(u8 *list, u64 number) {
     unsigned place = 0;
     while (place < MOST_RECORDS && list[place] != 0) {
         place++;
     }
     if (place < MOST_RECORDS) {
         list[place] = u8(number);
+    }
+    return place;
+}
+
+static void append_checkpoint(relkvanu *handle, Facts *facts, u64 record) {
+    const unsigned place = append(facts->checkpoints, record);
+    for (unsigned subtask = 0; subtask < scope.subtasks && place < MOST_RECORDS; subtask++) {
+        facts->parts[place][subtask] = files_of(handle, record, subtask);
     }
 }
 
@@ -69,6 +78,8 @@ static void read_records(relkvanu *handle, Facts *facts) {
         facts->done |= files_of(handle, live.a, 0) | files_of(handle, live.a, 1);
         if (live.what == RELKVANU_LIVE_SAVEPOINT) {
             append(facts->savepoints, live.a);
+        } else {
+            append_checkpoint(handle, facts, live.a);
         }
     }
 }

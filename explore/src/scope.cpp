@@ -30,6 +30,14 @@ static const Named RULE[RULES] = {
     {"mounted-write", "10: a task writes only if the storage is there"},
     {"give-back", "8, with names: a task gives back the names that it won't acknowledge"},
     {"newest-log", "1: a process begins with the newest log, not with a copy that was taken before"},
+    {"cut", "11: a task with several inputs takes its snapshot when the barrier has come on each"},
+    {"give-up", "12: a sink that starts gives up what the restored record has not prepared"},
+    {"by-state", "12: a sink that starts publishes what its snapshot lists, and does not go by the numbers of records"},
+    {"savepoint-waits", "13: a sink publishes what it prepared for a savepoint when the job is restored to it"},
+    {"stop-in-one", "13: a stop is the last acknowledgement of its savepoint and the restore to it, in one commit"},
+    {"hold", "14: a task holds after its snapshot for the savepoint of a stop"},
+    {"go-back-alone", "15: the savepoint of a go back reaches no task: it is one commit with its acknowledgements and the restore"},
+    {"target-fence", "3: the target of a sink takes nothing of a task that was replaced"},
 };
 
 static const Named BUDGET[BUDGETS] = {
@@ -48,6 +56,12 @@ static const Named BUDGET[BUDGETS] = {
     {"name", "names of files, at most 30"},
     {"msg", "messages that are under way at once, at most 6"},
     {"scale", "restores with another parallelism, of one and of two subtasks"},
+    {"now", "checkpoints that somebody asks for"},
+    {"conf", "changes of the settings"},
+    {"stop", "stops of the job; after each it may begin again"},
+    {"back", "ways back to a checkpoint that is retained"},
+    {"elem",
+        "elements of the source, at most 7, with a sink that publishes them, and without files. Of two subtasks the first is the source"},
 };
 
 Scope scope;
@@ -109,11 +123,23 @@ static void print_help() {
     exit(0);
 }
 
+static void check_elements() {
+    const unsigned *limit = scope.limit;
+    const unsigned records = limit[TRIGGERS] + limit[DECLINES] + limit[SAVEPOINTS] + limit[NOW] + limit[STOPS] + limit[BACKS];
+    if (limit[ELEMENTS] > LAST_RECORD || records > LAST_RECORD || limit[NAMES] > 0 || limit[SCALES] > 0) {
+        die("out of range: with elem, at most 7 elements, trig, decl, save, now, stop and back up to 7 together, name=0 and no scale");
+    }
+}
+
 static void check_scope() {
     const unsigned *limit = scope.limit;
+    if (scope.has_elements()) {
+        check_elements();
+    }
     if (scope.subtasks < 1 || scope.subtasks > 2 || scope.at_once < 1 || scope.at_once > 3 || limit[MESSAGES] > 6 || limit[NAMES] > 30 ||
-        limit[TRIGGERS] + limit[SAVEPOINTS] > 30) {
-        die("out of range: --subtasks 1 or 2, --at-once 1 to 3, msg up to 6, name up to 30, trig and save up to 30 together");
+        limit[TRIGGERS] + limit[SAVEPOINTS] + limit[NOW] + limit[STOPS] + limit[BACKS] > 30) {
+        die("out of range: --subtasks 1 or 2, --at-once 1 to 3, msg up to 6, name up to 30, trig, save, now, stop and back up to 30 "
+            "together");
     }
     if (limit[SCALES] > 0 && scope.subtasks != 2) {
         die("scale is for --subtasks 2, with which a job begins");

@@ -22,6 +22,14 @@ enum Rule {
     MOUNTED_WRITE,
     GIVE_BACK,
     NEWEST_LOG,
+    CUT,
+    GIVE_UP,
+    BY_STATE,
+    SAVEPOINT_WAITS,
+    STOP_IN_ONE,
+    HOLD,
+    GO_BACK_ALONE,
+    TARGET_FENCE,
     RULES
 };
 
@@ -42,12 +50,20 @@ enum Budget {
     NAMES,
     MESSAGES,
     SCALES,
+    NOW,
+    CONFIGURES,
+    STOPS,
+    BACKS,
+    ELEMENTS,
     BUDGETS
 };
 
+// With elements a set of records, or of elements, is a byte.
+constexpr unsigned LAST_RECORD = 7;
+
 struct Scope {
     bool is_on[RULES];
-    unsigned limit[BUDGETS] = {3, 0, 0, 1, 0, 1, 0, 0, 1, 0, 0, 0, 4, 3, 0};
+    unsigned limit[BUDGETS] = {3, 0, 0, 1, 0, 1, 0, 0, 1, 0, 0, 0, 4, 3, 0, 0, 0, 0, 0, 0};
     bool names = false;       // the coordinator has terms and gives the names
     bool checks_leaks = true; // else only lost files and mixed records are looked for
     bool may_write_nothing = true, may_keep = true;
@@ -56,6 +72,9 @@ struct Scope {
     u64 runs = 0, seed = 1; // random runs instead of a search
     unsigned length = 400;
     bool prints_trace = false; // a random run that finds nothing prints its trace too
+    // Tasks read elements and a sink publishes them. No task has files then.
+    bool has_elements() const { return limit[ELEMENTS] > 0; }
+    bool has_operations() const { return limit[NOW] + limit[CONFIGURES] + limit[STOPS] + limit[BACKS] > 0; }
     Scope();
 };
 

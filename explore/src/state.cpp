@@ -6,8 +6,9 @@
 u64 hash_of(const State &state) {
     u64 words[sizeof(State) / 8], first = 0x9e3779b97f4a7c15u, second = 0x2545f4914f6cdd1du;
     memcpy(words, &state, sizeof state);
-    for (u64 word : words) {
-        first = (first ^ word) * 0xff51afd7ed558ccdu;
+    const size_t count = scope.has_elements() ? sizeof(State) / 8 : WORDS_WITHOUT_ELEMENTS;
+    for (size_t place = 0; place < count; place++) {
+        first = (first ^ words[place]) * 0xff51afd7ed558ccdu;
         first ^= first >> 32;
         second = (second + first) * 0xc4ceb9fe1a85ec53u;
         second ^= second >> 29;
@@ -39,13 +40,34 @@ static Task task_of(const State &state, unsigned subtask) {
     return task;
 }
 
+Small found(const Target &target) {
+    Small records = 0;
+    for (unsigned record = 1; record <= LAST_RECORD; record++) {
+        records |= target.prepared[record] ? bit(record) : 0;
+    }
+    return records;
+}
+
+// What a new task has of the record that the job is restored to.
+static Flow flow_of(const State &state, unsigned subtask) {
+    Flow flow = {};
+    const u8 choice = scope.has_elements() ? library.facts(state.current.image).choice : 0;
+    flow.now = choice ? state.target.parts[choice][subtask] : Snapshot{};
+    flow.cut = flow.now;
+    flow.begun = choice;
+    flow.opening = subtask == sink_of_job() && found(state.target) ? 2 : 0;
+    return flow;
+}
+
 void start_tasks(State *state) {
     for (unsigned place = MOST_TASKS; place-- > scope.subtasks;) {
         state->tasks[place] = state->tasks[place - scope.subtasks];
+        state->flows[place] = state->flows[place - scope.subtasks];
     }
     state->incarnation++;
     for (unsigned subtask = 0; subtask < scope.subtasks; subtask++) {
         state->tasks[subtask] = subtask < state->current.width ? task_of(*state, subtask) : Task{};
+        state->flows[subtask] = flow_of(*state, subtask);
     }
 }
 
@@ -59,7 +81,9 @@ void clear_work(Task *task, bool keeps_file) {
 }
 
 static bool is_idle_for_good(const State &state, const Task &task) {
-    return task.incarnation && task.record == 0 && task.barrier == 0 && state.used[ZOMBIE_BARRIERS] >= scope.limit[ZOMBIE_BARRIERS];
+    const bool may_publish = scope.has_elements() && !scope.is_on[TARGET_FENCE];
+    return task.incarnation && task.record == 0 && task.barrier == 0 && !may_publish &&
+           state.used[ZOMBIE_BARRIERS] >= scope.limit[ZOMBIE_BARRIERS];
 }
 
 // Moves a task into the place of a newer one that was dropped.
@@ -68,6 +92,7 @@ static void close_gaps(State *state) {
     for (unsigned place = subtasks; place + subtasks < MOST_TASKS; place++) {
         if (state->tasks[place].incarnation == 0) {
             std::swap(state->tasks[place], state->tasks[place + subtasks]);
+            std::swap(state->flows[place], state->flows[place + subtasks]);
         }
     }
 }
@@ -76,6 +101,7 @@ void drop_idle_tasks(State *state) {
     for (unsigned place = scope.subtasks; place < MOST_TASKS; place++) {
         if (is_idle_for_good(*state, state->tasks[place])) {
             state->tasks[place] = {};
+            state->flows[place] = {};
         }
     }
     close_gaps(state);

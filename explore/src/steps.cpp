@@ -1,15 +1,17 @@
 // How steps are offered, told and logged.
 #include "steps.hpp"
 
+#include <algorithm>
 #include <cstdio>
 
 u64 seen[SEEN];
 
 void print_seen() {
-    static const char *const what[SEEN] = {
-        "acks pending", "completed", "late", "messages dropped", "refused", "sweeps", "discards", "late writes", "recoveries"};
+    static const char *const what[SEEN] = {"acks pending", "completed", "late", "messages dropped", "refused", "sweeps", "discards",
+        "late writes", "recoveries", "checkpoints asked for", "settings", "stops", "failed stops", "begins", "ways back", "published",
+        "given up"};
     printf("# seen");
-    for (int place = 0; place < SEEN; place++) {
+    for (int place = 0; place < (scope.has_operations() ? SEEN : SEEN_ALWAYS); place++) {
         printf("%s %s %llu", place == 0 ? "" : ",", what[place], static_cast<unsigned long long>(seen[place]));
     }
     printf("\n");
@@ -21,6 +23,9 @@ void Steps::tell_opening(const State &state) {
     opening.pop_back();
     tell("%s", opening.c_str());
     tell("log synced");
+    if (scope.has_elements() && scope.subtasks == 2) {
+        tell("channel 0.0 to 0.1");
+    }
     for (unsigned place = 0; place < scope.subtasks; place++) {
         tell_task(state.tasks[place], "starts");
     }
@@ -51,8 +56,10 @@ unsigned Steps::of(const State &state, const std::function<void(unsigned)> &visi
     visitor = &visit;
     number = 0;
     of_process();
+    of_operations();
     for (unsigned place = 0; place < MOST_TASKS; place++) {
         if (state.tasks[place].incarnation) {
+            of_elements(place);
             of_task(place);
         }
     }
@@ -101,6 +108,20 @@ void Steps::sync_log() {
     }
 }
 
+static bool has(const u8 *records, u8 record) {
+    return std::find(records, records + MOST_RECORDS, record) != records + MOST_RECORDS;
+}
+
+// A stop fails when its savepoint is dropped. The job runs then.
+static void settle(Process *who) {
+    const Facts &now = library.facts(who->image);
+    const u8 record = stop_record(who->stop);
+    if (who->stop && !has(now.pending, record) && !has(now.savepoints, record)) {
+        seen[STOPS_FAILED]++;
+        who->stop = 0;
+    }
+}
+
 Answer Steps::call(Process *who, const Call &call) {
     const u32 before = who->image;
     const Answer answer = library.call(before, call);
@@ -115,6 +136,7 @@ Answer Steps::call(Process *who, const Call &call) {
         }
     }
     who->image = answer.image;
+    settle(who);
     if (!scope.is_on[ONE_LOG]) {
         // two processes append to one log: it has the calls of both
         const Answer again = library.call(next.durable.image, call);

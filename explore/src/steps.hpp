@@ -68,13 +68,40 @@ private:
     void sweep_known();
     Answer restore(u8 savepoint, u8 width);
     void start();
-    void send_barriers(u8 record);
+    void send_barriers(u8 record, bool stops = false);
+
+    // operations.cpp: what an operator asks for
+    void of_operations();
+    void of_requests();
+    void of_stops();
+    void of_ways_back();
+    void stop_with(u8 record);
+    void go_back(unsigned place);
+    void begin_way_back(unsigned place);
+    void end_way_back();
+    void acknowledge_as(u8 checkpoint, u8 record, const Files *parts);
+    void take_back(u8 record);
+
+    // elements.cpp: a source, a channel, and a sink with its target
+    void of_elements(unsigned place);
+    void read_element(unsigned place);
+    void take_item(unsigned place);
+    void open_sink(unsigned place);
+    void publish_told(unsigned place);
+    bool may_cut(unsigned place) const;
+    void cut(unsigned place);
+    void publish(unsigned place, Small records);
+    void put_into_channel(unsigned place, u8 item);
+    void tell_sink(u8 record);
+    bool may_touch_target(unsigned place) const { return is_running(place) || !scope.is_on[TARGET_FENCE]; }
+    bool has_room_after(unsigned place) const;
 
     // tasks.cpp
     void of_task(unsigned place);
     void begin_record(unsigned place);
     void write(unsigned place);
     void send(unsigned place);
+    void add_ack(unsigned place);
     void give_up(unsigned place);
     void read_answer(unsigned place);
     // With names a task gives names back by a call.
@@ -86,6 +113,7 @@ private:
     void of_messages();
     void deliver(unsigned place, bool is_copy, bool to_old);
     Answer accept(Process *who, Message message);
+    void note_completed(u8 record);
     void note_accepted(Message message, bool is_late);
     void answer_task(Message message, const Answer &answer);
 
@@ -109,7 +137,27 @@ inline Files known(const Facts &facts) {
 }
 
 // What happened how often. It shows that a search that finds nothing saw something.
-enum Seen { PENDING_ACKS, COMPLETED_ACKS, LATE_ACKS, DROPPED_MESSAGES, REFUSED_MESSAGES, SWEEPS, DISCARDS, LATE_WRITES, RECOVERIES, SEEN };
+enum Seen {
+    PENDING_ACKS,
+    COMPLETED_ACKS,
+    LATE_ACKS,
+    DROPPED_MESSAGES,
+    REFUSED_MESSAGES,
+    SWEEPS,
+    DISCARDS,
+    LATE_WRITES,
+    RECOVERIES,
+    SEEN_ALWAYS,
+    REQUESTS = SEEN_ALWAYS,
+    CHANGES,
+    STOPS_DONE,
+    STOPS_FAILED,
+    BEGINS,
+    WAYS_BACK,
+    PUBLISHED,
+    GIVEN_UP,
+    SEEN
+};
 extern u64 seen[SEEN];
 void print_seen();
 

@@ -33,12 +33,13 @@ void Steps::give_back(const Task &task) {
 
 void Steps::begin_record(unsigned place) {
     const Task &task = from->tasks[place];
-    const bool may = task.record == 0 && task.barrier != 0;
+    const bool may = task.record == 0 && task.barrier != 0 && !is_holding(*from, task) && may_cut(place);
     const bool has_name = scope.names ? !from->is_down && facts->next_name <= scope.limit[NAMES] : from->name < scope.limit[NAMES];
     if (offer(may && (task.file != 0 || has_name))) {
         Task &mine = next.tasks[place];
         take_up(&mine);
         tell_task(task, "begins %u", mine.record);
+        cut(place);
         mine.file = mine.file != 0 ? mine.file : new_name(mine);
         if (mine.file == 0) {
             clear_work(&mine, false);
@@ -50,6 +51,7 @@ void Steps::begin_record(unsigned place) {
         take_up(&mine);
         mine.written = 2;
         tell_task(task, "begins %u", mine.record);
+        cut(place);
         made();
     }
     const bool is_late = !is_running(place) && task.record == 0 && task.barrier == 0 && facts->pending[0] && may_use(ZOMBIE_BARRIERS);
@@ -58,6 +60,7 @@ void Steps::begin_record(unsigned place) {
         use(ZOMBIE_BARRIERS);
         mine.barrier = facts->pending[0];
         mine.barrier_base = facts->base[task.subtask];
+        mine.stops = mine.barrier == stop_record(from->current.stop);
         mine.term = scope.is_on[TERM_AT_START] ? mine.term : term_of(from->current);
         tell("barrier %u to 0.%u %u", mine.barrier, task.subtask, task.incarnation);
         if (mine.term != task.term) {
@@ -105,6 +108,16 @@ void Steps::tell_sent(const Task &task) {
     }
 }
 
+void Steps::add_ack(unsigned place) {
+    const Task &mine = next.tasks[place];
+    Message message(mine, false);
+    if (scope.has_elements()) {
+        message.take(next.flows[place].cut);
+    }
+    add_message(&next, message);
+    tell_sent(mine);
+}
+
 void Steps::send(unsigned place) {
     const Task &task = from->tasks[place];
     const bool has_room = from->messages_len < scope.limit[MESSAGES];
@@ -113,8 +126,7 @@ void Steps::send(unsigned place) {
             Task &mine = next.tasks[place];
             mine.sent = 1;
             mine.reused = reuses ? task.base : 0;
-            add_message(&next, Message(mine, false));
-            tell_sent(mine);
+            add_ack(place);
             made();
         }
     }
@@ -131,8 +143,7 @@ void Steps::send(unsigned place) {
         use(DUPLICATES);
         mine.sent = 2;
         mine.told = NOTHING;
-        add_message(&next, Message(mine, false));
-        tell_sent(mine);
+        add_ack(place);
         made();
     }
 }
