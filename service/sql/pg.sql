@@ -1,20 +1,47 @@
--- The tables of a PostgreSQL database of the service.
+-- The tables of a PostgreSQL database of the service, version 1. lite.sql says what those are that SQLite has too.
+create table if not exists schema_version(one boolean primary key check (one), number bigint not null);
 create table if not exists job(
     job bigint primary key, name text not null unique, config text not null, shape text not null,
     started bigint not null, first bigint not null, library text not null);
 create table if not exists call(
     job bigint not null, seq bigint not null, at bigint not null, record bigint, line text not null,
-    answer text not null, ended text, waiting bigint not null, primary key(job, seq));
+    what bigint not null, a bigint not null, b bigint not null, files text, ended text, waiting bigint not null,
+    primary key(job, seq));
 create index if not exists call_record on call(job, record);
+create index if not exists call_event on call(job, seq)
+    where (what in (1, 5, 6, 8, 10, 11, 13, 14, 15, 16, 17) or what in (2, 3, 4) and a > 0);
 create table if not exists request(
     job bigint not null, key text not null, at bigint not null, digest text not null, answers text not null,
     primary key(job, key));
 create index if not exists request_at on request(at);
--- Images, each with the digest of all that it says: what the job is after the call at its place.
 create table if not exists image(
     job bigint not null, seq bigint not null, at bigint not null, digest text not null, shape text not null,
     completed bigint, event bigint not null, bytes bigint not null, text text not null, primary key(job, seq));
-create table if not exists schema_version(one boolean primary key check (one), number bigint not null);
-create table if not exists leader(
-    one boolean primary key check (one), epoch bigint not null, holder text not null, until timestamptz not null);
-insert into leader values(true, 0, '', '-infinity') on conflict do nothing
+create table if not exists image_part(
+    job bigint not null, seq bigint not null, part bigint not null, text text not null, primary key(job, seq, part));
+-- A standby reads the calls and images since a moment.
+create index if not exists call_at on call(at);
+create index if not exists image_at on image(at);
+create table if not exists clock(one boolean primary key check (one), at bigint not null);
+create table if not exists size(job bigint not null, file bigint not null, bytes bigint not null, primary key(job, file));
+create table if not exists ack_size(
+    job bigint not null, seq bigint not null, fresh text not null, bytes bigint not null, primary key(job, seq));
+create table if not exists gone_job(job bigint primary key, name text not null, at bigint not null, is_empty bigint not null);
+create table if not exists summary(
+    job bigint not null, seq bigint not null, part bigint not null, whole bigint not null, text text not null,
+    primary key(job, seq, part));
+create table if not exists past(job bigint not null, id bigint not null, text text not null, primary key(job, id));
+create table if not exists phase(job bigint primary key, phase text not null, record bigint, at bigint, term bigint, failed text);
+-- Jobs are spread over the processes of one database. A process that leads is a member. Each of its commits counts its beat up; a member
+-- whose beat stays the same for the length of its lease is deleted, and its shards are free.
+create table if not exists member(
+    name text primary key, address text not null, spreads boolean not null, beat bigint not null, lease double precision not null,
+    until timestamptz not null);
+-- The jobs whose numbers have this rest, and which member may write them. A change of the owner begins a new epoch.
+create table if not exists shard(
+    number bigint primary key check (number between 0 and 63), owner text references member on delete set null, epoch bigint not null);
+insert into shard select it, null, 0 from generate_series(0, 63) it on conflict do nothing;
+-- Each time a process got a shard: the log's identity since, and how many calls each of its jobs had. The number is the epoch. Those of
+-- a log that was moved here from SQLite are of all shards.
+create table if not exists log_start(
+    shard bigint not null default -1, number bigint not null, name text not null, lengths text not null, primary key(shard, number))

@@ -9,9 +9,9 @@ j as (
 )
 -- part calls
 c as (
-    insert into call select u.job, u.seq, u.at, u.record, u.line, u.answer, u.ended, u.waiting from l, unnest(
-        {1}::bigint[], {2}::bigint[], {3}::bigint[], {4}::bigint[], {5}::text[], {6}::text[], {7}::text[], {8}::bigint[])
-        u(job, seq, at, record, line, answer, ended, waiting)
+    insert into call select u.job, u.seq, u.at, u.record, u.line, u.what, u.a, u.b, u.files, u.ended, u.waiting from l, unnest(
+        {1}::bigint[], {2}::bigint[], {3}::bigint[], {4}::bigint[], {5}::text[], {6}::bigint[], {7}::bigint[], {8}::bigint[], {9}::text[],
+        {10}::text[], {11}::bigint[]) u(job, seq, at, record, line, what, a, b, files, ended, waiting)
     returning 1
 )
 -- part requests
@@ -84,4 +84,11 @@ q as (
     delete from job using l, unnest({1}::bigint[]) u(job) where job.job = u.job
 ), w as (
     insert into gone_job select u.job, u.name, u.at, 0 from l, unnest({1}::bigint[], {2}::text[], {3}::bigint[]) u(job, name, at)
+)
+-- part phases
+f as (
+    insert into phase select u.job, u.phase, u.record, u.at, u.term, u.failed from l, unnest(
+        {1}::bigint[], {2}::text[], {3}::bigint[], {4}::bigint[], {5}::bigint[], {6}::text[]) u(job, phase, record, at, term, failed)
+    on conflict (job) do update set phase = excluded.phase, record = excluded.record, at = excluded.at, term = excluded.term,
+        failed = excluded.failed
 )

@@ -1,5 +1,6 @@
 """What the tests share: a service that is started, killed and stopped, and the oracle that its log is compared with."""
 import atexit
+import ctypes
 import fcntl
 import glob
 import json
@@ -21,7 +22,7 @@ from run import Skipped
 HERE = os.path.dirname(os.path.realpath(__file__))
 SERVICE = os.path.dirname(HERE)
 TOP = os.path.dirname(SERVICE)
-sys.path.insert(0, f"{SERVICE}/client/python")
+sys.path[:0] = [f"{SERVICE}/client/python", f"{TOP}/embed/python"]
 
 # Where service/build puts the library, for the Python package.
 os.environ.setdefault("RELKVANU_LIB", f"{SERVICE}/target/library")
@@ -77,19 +78,19 @@ LOCKED, COMMAND = BUSY * 20, BUSY * 60
 
 class Server:
     """A service in a folder of its own, or over the database of another one. Most tests are of engines that number their files themselves;
-    with `names` a new job gives them out, as by default."""
+    with `names` a new job gives them out, as by default. At another address than that of this machine requests have its token."""
 
-    def __init__(self, folder, database=None, args=(), prefix=(), names=False):
-        self.folder, self.args, self.prefix = folder, list(args), list(prefix)
+    def __init__(self, folder, database=None, args=(), prefix=(), names=False, host="127.0.0.1", token=None):
+        self.folder, self.args, self.prefix, self.host, self.token = folder, list(args), list(prefix), host, token
         self.args += ["--names", "true" if names else "false"]
         self.port = free_port()
-        self.url = f"http://127.0.0.1:{self.port}"
+        self.url = f"http://{host}:{self.port}"
         self.database = database or f"{folder}/relkvanu.db"
         self.log_path = f"{folder}/log-{self.port}"
         self.process = None
 
     def start(self, ready=True):
-        words = [PROGRAM, "serve", "--listen", f"127.0.0.1:{self.port}", "--database", self.database, *self.args]
+        words = [PROGRAM, "serve", "--listen", f"{self.host}:{self.port}", "--database", self.database, *self.args]
         if not any(word.startswith("--history") for word in self.args):
             words += ["--history", f"{self.folder}/history-{self.port}"]
         with open(self.log_path, "ab") as log:
@@ -158,10 +159,10 @@ class Server:
         import http.client
 
         # longer than the longest poll
-        connection = http.client.HTTPConnection("127.0.0.1", self.port, timeout=60 + BUSY * 10)
+        connection = http.client.HTTPConnection(self.host, self.port, timeout=60 + BUSY * 10)
         sent = {"Content-Type": "application/json", **dict(headers)}
-        if token:
-            sent["Authorization"] = f"Bearer {token}"
+        if token or self.token:
+            sent["Authorization"] = f"Bearer {token or self.token}"
         try:
             connection.request(method, path, body if body is None or isinstance(body, (str, bytes)) else json.dumps(body), sent)
             answer = connection.getresponse()
@@ -345,8 +346,26 @@ def begins_term(line):
     return line.startswith("term ") and line != "term 1"
 
 
-CALL = "job, seq, at, record, line, answer, ended, waiting"
+# Numbers of answers in include/relkvanu.h.
+SAVEPOINT_TRIGGERED, ACK_PENDING, ACK_COMPLETED, TAKEN, RESERVED, NAMED = 6, 7, 8, 18, 56, 59
+CALL = "job, seq, at, record, line, what, a, b, files, ended, waiting"
 WHOLE = f"(select {CALL} from archive union all select {CALL} from call)"
+
+
+def text_of(what, a, b, files):
+    """The text of an answer as a row of the log has it: what the library says of its numbers, or what docs/LOGS.md has for a log alone."""
+    if what in (TAKEN, RESERVED, NAMED):
+        return {TAKEN: f"take {files}", RESERVED: f"reserved {a}", NAMED: "term 1"}[what]
+    from relkvanu import coordinator, header  # loads the library, which a load needs not
+
+    text, answer = (ctypes.c_uint8 * 100)(), header.relkvanu_answer(header.DONE, what, a % (1 << 64), b % (1 << 64))
+    length = coordinator._shared().relkvanu_answer_text(ctypes.byref(answer), text, len(text))
+    assert 0 < length <= len(text), (what, a, b)
+    return bytes(text[:length]).decode()
+
+
+def entry_of(seq, at, line, *answer):
+    return {"seq": seq, "at": at, "line": line, "answer": text_of(*answer)}
 
 
 class Archive:
@@ -364,8 +383,8 @@ class Archive:
 
     def log(self, job):
         with self.base() as base:
-            rows = base.execute(f"select seq, at, line, answer from {WHOLE} where job = (select job from job where name = ?) order by seq", (job,))
-            return [dict(zip(("seq", "at", "line", "answer"), row)) for row in rows]
+            rows = base.execute(f"select seq, at, line, what, a, b, files from {WHOLE} where job = (select job from job where name = ?) order by seq", (job,))
+            return [entry_of(*row) for row in rows]
 
     def cut(self, job):
         """The last call that was cut."""
@@ -388,8 +407,8 @@ class PgArchive:
             create trigger archived before delete on call for each row execute function archived()""")
 
     def log(self, job):
-        rows = f"select seq, at, line, answer from {WHOLE} it where job = (select job from job where name = '{job}') order by seq"
-        return json.loads(self.database.sql(f"select coalesce(json_agg(it), '[]') from ({rows}) it"))
+        rows = f"select seq, at, line, what, a, b, files from {WHOLE} it where job = (select job from job where name = '{job}') order by seq"
+        return [entry_of(*row.values()) for row in json.loads(self.database.sql(f"select coalesce(json_agg(it), '[]') from ({rows}) it"))]
 
     def cut(self, job):
         return int(self.database.sql(f"select coalesce(max(seq), 0) from archive where job = (select job from job where name = '{job}')"))

@@ -81,6 +81,8 @@ class Floor:
 class Client(Writer):
     """A writer that also looks whether what it reads is as new as all that was answered before it asked."""
 
+    LEAST = LEAST
+
     def __init__(self, urls, job, number, floor):
         super().__init__(urls, job, number)
         self.floor, self.reads = floor, 0
@@ -156,7 +158,7 @@ class Faults:
         end(clients)
 
     def is_too_little(self, clients):
-        return 0 in self.made.values() or min(len(client.made) for client in clients) < LEAST
+        return 0 in self.made.values() or any(len(client.made) < client.LEAST for client in clients)
 
     def epoch(self):
         return int(self.database.sql("select max(epoch) from shard"))

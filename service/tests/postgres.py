@@ -16,9 +16,9 @@ os.environ.setdefault("PGCTLTIMEOUT", "600")
 
 class Postgres:
     """In a folder that exists. The options are those of initdb, and the environment is that of the server. It waits for the disk only if it
-    `syncs`, as for a measurement: here no power is lost."""
+    `syncs`, as for a measurement: here no power is lost. `within` are words before those of its programs, as of a machine with this address."""
 
-    def __init__(self, at, *options, environment=None, syncs=False):
+    def __init__(self, at, *options, environment=None, syncs=False, within=(), host="127.0.0.1"):
         found = sorted(glob.glob("/usr/lib/postgresql/*/bin/pg_ctl"))
         if not found:
             raise Skipped("PostgreSQL", "it is not here")
@@ -28,15 +28,17 @@ class Postgres:
         self.environment = {**os.environ, **(environment or {})}
         if not syncs:
             self.environment["LD_PRELOAD"] = " ".join([built(at, "unsynced"), *self.environment.get("LD_PRELOAD", "").split()])
-        self.url = f"postgres://postgres@127.0.0.1:{self.port}/postgres"
+        self.url = f"postgres://postgres@{host}:{self.port}/postgres"
         os.mkdir(self.data)
-        self.user = []
+        self.user = list(within)
         if os.geteuid() == 0:
             shutil.chown(self.data, "postgres", "postgres")
-            self.user = ["setpriv", f"--reuid={pwd.getpwnam('postgres').pw_uid}", f"--regid={pwd.getpwnam('postgres').pw_gid}", "--clear-groups"]
+            self.user += ["setpriv", f"--reuid={pwd.getpwnam('postgres').pw_uid}", f"--regid={pwd.getpwnam('postgres').pw_gid}", "--clear-groups"]
         self.run("initdb", "-D", self.data, "-U", "postgres", "-A", "trust", "--no-sync", *options)
         with open(f"{self.data}/postgresql.conf", "a", encoding="utf-8") as it:
-            it.write(f"port = {self.port}\nlisten_addresses = '127.0.0.1'\nunix_socket_directories = ''\nshared_buffers = 32MB\nlog_min_messages = fatal\n")
+            it.write(f"port = {self.port}\nlisten_addresses = '{host}'\nunix_socket_directories = ''\nshared_buffers = 32MB\nlog_min_messages = fatal\n")
+        with open(f"{self.data}/pg_hba.conf", "a", encoding="utf-8") as it:
+            it.write("host all all 10.9.0.0/16 trust\n")
         self.start()
 
     def run(self, program, *words, environment=None):

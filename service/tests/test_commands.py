@@ -10,7 +10,7 @@ import subprocess
 import threading
 import time
 
-from harness import COMMAND, PROGRAM, SERVICE, TOP, Server, caught_up, folder, free_port, served, until
+from harness import ACK_COMPLETED, COMMAND, PROGRAM, SERVICE, TOP, Server, caught_up, folder, free_port, served, until
 from postgres import postgres
 from relkvanu_service import Service, ack, deleted, dispose, savepoint
 from run import Skipped
@@ -204,13 +204,13 @@ def test_check():
         assert first > 1
         # an answer, an image that its digest fits, an image that it does not, a gap, and a row that can't be read
         base = one(database, f"select min(seq) from image where job = 1 and seq >= {first - 1}")[0]
-        place, was = one(database, f"select seq, answer from call where job = 1 and seq > {base} and answer like 'ack completed%' order by seq limit 1")
-        changed(database, "update call set answer = 'ack completed 7 7' where job = 1 and seq = ?", (place,))
+        place, *was = one(database, f"select seq, a, b from call where job = 1 and seq > {base} and what = {ACK_COMPLETED} order by seq limit 1")
+        changed(database, "update call set a = 7, b = 7 where job = 1 and seq = ?", (place,))
         told = ran(*check, status=1)
-        assert f'job orders, call {place} ' in told and f'the log says "ack completed 7 7", and this program answers "{was}"' in told, told
+        assert f'job orders, call {place} ' in told and f'the log says "ack completed 7 7", and this program answers "ack completed {was[0]} {was[1]}"' in told, told
         assert "job users: 1 calls" in told and json.loads(ran(*check, "--json", "--job", "orders", status=1))["alike"] is False
         ran(*check, "--job", "users")
-        changed(database, "update call set answer = ? where job = 1 and seq = ?", (was, place))
+        changed(database, "update call set a = ?, b = ? where job = 1 and seq = ?", (*was, place))
         row = one(database, "select job, seq, at, shape, completed, event, text, digest from image where job = 1 order by seq desc limit 1")
         moved = (*row[:5], row[5] - 1, row[6])
         completed = "None" if row[4] is None else f"Some({row[4]})"
@@ -222,7 +222,7 @@ def test_check():
         changed(database, "update image set event = ?, digest = ? where job = 1 and seq = ?", (row[5], row[7], row[1]))
         ran(*check)
         changed(database, "update call set waiting = -1 where job = 1 and seq = ?", (last,))
-        assert "a row of call has Number(-1) in column 8" in ran(*check, status=1)
+        assert "a row of call has Number(-1) in column 11" in ran(*check, status=1)
         changed(database, "delete from call where job = 1 and seq = ?", (last - 1,))
         changed(database, "update call set waiting = 0 where job = 1 and seq = ?", (last,))
         assert f"call {last - 1} is missing" in ran(*check, status=1)
@@ -247,8 +247,8 @@ def test_check_of_other_databases():
         until(lambda: job.state()["first"] > 1)
         told = ran(*check)
         assert "are as this program has them" in told and "and 0 images" not in told, told
-        seq = int(database.sql("select max(seq) from call where answer like 'ack completed%'"))
-        database.sql(f"update call set answer = 'ack completed 5 5' where seq = {seq}")
+        seq = int(database.sql(f"select max(seq) from call where what = {ACK_COMPLETED}"))
+        database.sql(f"update call set a = 5, b = 5 where seq = {seq}")
         assert f"job orders, call {seq} " in ran(*check, status=1)
         assert "there is no job other" in ran(*check, "--job", "other", status=78)
         database.sql("update schema_version set number = 99")

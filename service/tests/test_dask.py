@@ -1,17 +1,20 @@
-"""An engine over the service: the job of embed/dask. Its tasks are killed in the middle of checkpoints, and the service again and again."""
+"""Dask over the service: the fault test of embed/dask, whose tasks are killed in the middle of checkpoints, and the service again and again; and
+checkpoints of relkvanu.daskstream, whose drivers are lost with all that they have."""
 import json
 import os
 import random
 import signal
 import subprocess
+import sys
 import time
 
-from harness import TOP, Server, check_log, folder
+from harness import PROGRAM, TOP, Server, check_log, folder, until
 from relkvanu_service import Service
 from run import Skipped
+from test_events import Copy
 from writers import check_made
 
-ENGINE = f"{TOP}/embed/dask/run"
+FAULT_TEST = f"{TOP}/embed/dask/run"
 SHAPE = [2, 6, 3]
 LONGEST = 900  # seconds, on a busy machine
 MOST = 20  # kills; on a busy machine the engine may not get on between two of them
@@ -21,7 +24,7 @@ def killed_until_ended(server, engine, chance):
     """Kills the service and starts it again, until the engine has ended. Returns how often."""
     end, kills = time.monotonic() + LONGEST, 0
     while engine.poll() is None:
-        assert time.monotonic() < end, "the engine does not end"
+        assert time.monotonic() < end, "the fault test does not end"
         time.sleep(chance.uniform(0.3, 1.2))
         if kills < MOST:
             server.kill()
@@ -36,14 +39,14 @@ def in_use(job):
     return {file for record in live for ack in record["acks"] for file in ack["files"]}
 
 
-def test_an_engine_whose_coordinator_is_killed():
+def test_tasks_whose_coordinator_is_killed():
     if subprocess.run(["/usr/bin/python3", "-c", "import distributed"], stderr=subprocess.DEVNULL, check=False).returncode:
         raise Skipped("python3-distributed", "it is not here")
     with folder() as at:
         storage, answered = f"{at}/storage", f"{at}/answered"
         os.mkdir(storage)
         server = Server(at).start()
-        words = [ENGINE, "1", "--service", server.url, "--storage", storage, "--answered", answered]
+        words = [FAULT_TEST, "1", "--service", server.url, "--storage", storage, "--answered", answered]
         # on a busy machine it may say more than a pipe takes
         with open(f"{at}/said", "w+", encoding="utf-8", errors="replace") as said:
             engine = subprocess.Popen(words, stdout=said, stderr=subprocess.STDOUT, start_new_session=True)
@@ -56,7 +59,7 @@ def test_an_engine_whose_coordinator_is_killed():
                 said.seek(0)
                 told = said.read()[-3000:]
                 if status:
-                    print(f"the engine ended with {status}: {told}")
+                    print(f"the fault test ended with {status}: {told}")
         assert engine.returncode == 0 and kills >= 5, (kills, told)
         job = Service(server.url).job("dask")
         log = list(job.log(terms=True))
@@ -71,3 +74,82 @@ def test_an_engine_whose_coordinator_is_killed():
         server.stop()
         completed = sum(answer.get("ack") == "completed" for _, answer in made)
         return f"{kills} kills, {completed} checkpoints completed; {len(made)} acknowledged calls, {compared} answered alike by ckpt_job; the folder has the {len(files)} files in use"
+
+
+def driver(server, at, create=True):
+    """What a driver over Dask has of its job (relkvanu.records), here with parts of its own process."""
+    from relkvanu.records import Records
+
+    return Records(None, f"{at}/state", Service(server.url).job("words"), create=create)
+
+
+def state_files(at):
+    return {name for name in os.listdir(f"{at}/state") if name.isdecimal()}
+
+
+def refused(kind, function, *words):
+    try:
+        function(*words)
+    except kind as error:
+        return str(error)
+    raise AssertionError(f"it was not refused: {function}")
+
+
+def test_a_driver_over_dask_whose_job_another_one_has_begun():
+    """No library is loaded, and no driver has a file of its own."""
+    sys.path.append(f"{TOP}/embed/python")
+    try:
+        from relkvanu.jobs import Superseded
+        from relkvanu.parts import Failed, PartError
+    except ImportError as error:
+        raise Skipped("python3-distributed", str(error)) from error
+    with folder() as at:
+        os.mkdir(f"{at}/state")
+        server = Server(at, names=True).start()
+        refused(Failed, driver, server, at, False)  # there is no such job
+        old = driver(server, at)
+        assert old.restore() is None
+        assert old.save("one", {"x": [1, 2, 3]})[:3] == (1, 3, 0)
+        assert old.save("two", {"x": [1, 2, 4]})[:3] == (2, 1, 2)
+        old._job.trigger(2)  # and is late from here on
+        new = driver(server, at)
+        found = new.restore()
+        assert (found.meta, [new.value(it) for it in found.parts["x"]]) == ("two", [1, 2, 4]), found
+        refused(Superseded, old.save, "three", {"x": [9, 9, 9]})
+        pending = Service(server.url).job("words").state()["live"][-1]
+        assert not pending["done"], pending  # the old one has triggered it, and the new one takes it
+        assert new.save("three", {"x": [1, 2, 5]})[:3] == (pending["id"], 1, 2)
+        old.close()
+        server.kill()
+        server.start()
+        copy = Copy(server, None)
+        copy.make()
+        assert new.save("four", {"x": [1, 2, 5], "y": [6]})[1:3] == (1, 3)
+        until(lambda: new.counts() == (5, 0))
+        names = state_files(at)
+        assert names == in_use(Service(server.url).job("words")) and len(names) == 5, names
+        copy.restore()
+        refused(Superseded, new.save, "five", {"x": [1, 2, 7]})
+        new.close()
+        late = driver(server, at)
+        refused(PartError, late.restore)  # the list of the third record is deleted, as it was released
+        refused(Failed, late.sweep)
+        late.close()
+        assert state_files(at) - names == set() == names - state_files(at), (names, state_files(at))  # those of the fourth, which nobody knows any more
+        assert "relkvanu.coordinator" not in sys.modules, "the library"
+        server.stop()
+        return f"the late driver is refused, and that before a restored backup; {len(names)} files stay"
+
+
+def test_a_stream_over_dask_whose_driver_and_service_are_killed():
+    """embed/distributed/kills.py: each driver begins without a file."""
+    if subprocess.run(["/usr/bin/python3", "-c", "import streamz, distributed, pandas, xxhash"], stderr=subprocess.DEVNULL, check=False).returncode:
+        raise Skipped("python3-streamz", "not all packages of embed/distributed/setup are here")
+    with folder() as at:
+        words = ["/usr/bin/python3", f"{TOP}/embed/distributed/kills.py", "words", os.environ.get("RELKVANU_DASK_KILLS", "1"), "1", f"{at}/words",
+                 "--service", PROGRAM]
+        paths = ("embed/python", "embed/distributed", "service/client/python")
+        told = subprocess.run(words, stdout=subprocess.PIPE, stderr=subprocess.STDOUT, text=True, check=False, timeout=LONGEST,
+                              env={**os.environ, "PYTHONPATH": ":".join(f"{TOP}/{it}" for it in paths), "RELKVANU_LIB": "/nowhere"})
+        assert told.returncode == 0, told.stdout[-3000:]
+        return told.stdout.strip().split("\n")[-1]

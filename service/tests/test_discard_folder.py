@@ -158,7 +158,7 @@ def test_two_jobs_in_a_folder():
         ended(discard(server, folder, "--once", prefix="t-", job="b"), 0, "deleted=2")
         ended(discard(server, folder, "--once"), 0, "")
         assert there() == ["s-2"]
-        # an earlier version has not said how the files are named: somebody has to look at the first run
+        # nobody has said how the files are named: somebody has to look at the first run
         os.remove(f"{folder}/.relkvanu-a.names")
         Service(server.url).open("c", SETTINGS, [1])
         for more in ([], ["--init"]):
@@ -242,7 +242,7 @@ def test_a_job_that_is_named_as_a_file_of_another_job():
         return "refused in each order, by the discarder, `--init` and the sweeper"
 
 
-def test_a_marker_that_is_named_as_a_file_of_an_earlier_version():
+def test_a_marker_whose_name_begins_as_that_of_another_job():
     """`a.new` works beside `a`, and a third job heeds both."""
     with served(names=True) as server:
         folder = f"{server.folder}/files"
@@ -259,10 +259,6 @@ def test_a_marker_that_is_named_as_a_file_of_an_earlier_version():
             assert f"as .relkvanu-{name} says" in told, told
         assert contents(folder) == before
         ended(discard(server, folder, "--once", job="b", prefix="u-"), 0, "is marked")
-        # what an earlier version left of a marker that it was writing is none
-        with open(f"{folder}/.relkvanu-b.new", "w", encoding="utf-8") as it:
-            it.write(contents(folder)[".relkvanu-b"])
-        ended(discard(server, folder, "--once", job="b", prefix="u-"), 0, "")
         return "two jobs with a prefix each; a third one needs its own"
 
 

@@ -141,36 +141,16 @@ def restored(server, database):
     return "410 after a restore, before and after the log grew beyond the place; none after a start"
 
 
-def of_version_1(server, database):
-    """The tables are as a program had them before the log had an identity."""
-    server.stop()
-    if database:
-        database.sql("drop index call_event; alter table call drop column event; drop table log_start; update schema_version set number = 1")
-    else:
-        with contextlib.closing(sqlite3.connect(server.database)) as base:
-            base.executescript("drop index call_event; alter table call drop column event; drop table log_start; pragma user_version = 1")
-    server.start()
-    job = Service(server.url).job("a")
-    state = job.state()
-    assert state["log"] and job.poll(state["seq"]) == {"first": 1, "log": state["log"], "upto": state["seq"], "events": []}
-    follower = job.follower(state["seq"], state["log"])
-    server.kill()
-    server.start()
-    job.call(savepoint())
-    assert [event["seq"] for event in follower.next(5)] == [state["seq"] + 1]
-    return "an older database gets an identity"
-
-
 def test_after_a_restored_backup():
     with served() as server:
-        return f"{restored(server, None)}; {of_version_1(server, None)}"
+        return restored(server, None)
 
 
 def test_after_a_restored_dump_of_postgres():
     with postgres() as database, folder() as at:
         server = Server(at, database.url, configured(at, "lease_seconds = 2\n")).start()
         try:
-            return f"{restored(server, database)}; {of_version_1(server, database)}"
+            return restored(server, database)
         finally:
             server.stop()
 
@@ -217,7 +197,7 @@ def test_an_engine_in_rust_hears_of_others():
         return "it begins again after a restore, and ends after a cancel"
 
 
-def test_the_dask_engine_over_a_cut():
+def test_the_dask_fault_test_over_a_cut():
     """Its driver is suspended while its job fails over and the log is cut behind that. It restores the job, and completes checkpoints."""
     if subprocess.run(["/usr/bin/python3", "-c", "import distributed"], stderr=subprocess.DEVNULL, check=False).returncode:
         raise Skipped("python3-distributed", "it is not here")
@@ -239,7 +219,7 @@ def test_the_dask_engine_over_a_cut():
             assert engine.poll() is None
         except AssertionError:
             with open(f"{server.folder}/said", encoding="utf-8", errors="replace") as said:
-                print(f"the engine said: {said.read()[-3000:]}")
+                print(f"the fault test said: {said.read()[-3000:]}")
             raise
         finally:
             os.killpg(engine.pid, signal.SIGKILL)  # its workers are there, even if it has ended
@@ -268,7 +248,7 @@ class Driver:
         self.failures.append(reply)
 
 
-def test_the_dask_engine_over_a_restored_backup():
+def test_the_dask_fault_test_over_a_restored_backup():
     sys.path += [f"{TOP}/embed/dask", f"{TOP}/embed/python"]
     from over_service import OverService
     from relkvanu import Fenced, Refused

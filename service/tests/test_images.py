@@ -8,7 +8,7 @@ import subprocess
 import threading
 import time
 
-from harness import COMMAND, PROGRAM, TOP, Archive, PgArchive, Server, caught_up, check_log, configured, folder, lose_history, over_copy, served, until
+from harness import ACK_PENDING, COMMAND, PROGRAM, TOP, Archive, PgArchive, Server, caught_up, check_log, configured, folder, lose_history, over_copy, served, until
 from load import processor_times
 from postgres import postgres
 from relkvanu_service import Service, ack, deleted, dispose, savepoint
@@ -152,31 +152,39 @@ def test_an_image_that_is_damaged_stops_the_start():
         image = job.state()["image"]["seq"]
         server.stop()
         # calls after the image are made again, and compared
-        place, was = base.execute("select seq, answer from call where seq > ? and answer like 'ack pending%' order by seq limit 1", (image,)).fetchone()
-        base.execute("update call set answer = 'ack pending 7' where seq = ?", (place,))
+        place, was = base.execute("select seq, a from call where seq > ? and what = ? order by seq limit 1", (image, ACK_PENDING)).fetchone()
+        base.execute("update call set a = 7 where seq = ?", (place,))
         refused(server, f'job orders, call {place} ')
-        base.execute("update call set answer = ? where seq = ?", (was, place))
+        base.execute("update call set a = ? where seq = ?", (was, place))
         base.execute("delete from call where seq = ?", (place - 1,))
         refused(server, f"call {place - 1} is missing")
         return "3 that say something else, 3 that the library refuses, the one before it, an answer and a gap after it"
 
 
-def test_databases_of_other_versions():
-    with served(args=["--image-calls", "0"]) as server:
-        job = Service(server.url).open("orders", SETTINGS, [2])
-        worked(job, 20)
-        before = seen(job, [])[0]
+def test_databases_of_a_newer_version():
+    """They are refused, and stay as they are."""
+    with served(args=KEEPING) as server:
+        Service(server.url).open("orders", SETTINGS, [2]).call(savepoint())
         server.stop()
         base = sqlite3.connect(server.database, isolation_level=None)
-        base.executescript("drop index call_event; alter table call drop column event; drop table image; pragma user_version = 0;")
-        server.args = KEEPING
+        for version in (2, 99):
+            base.executescript(f"pragma user_version = {version};")
+            refused(server, f"the tables of the database have version {version}, and this program knows those up to 1")
+        base.executescript("pragma user_version = 1;")
         server.start()
-        assert server.replayed()[-1] == before["seq"]
-        until(lambda: base.execute("select count(*) from image").fetchone()[0] == 1 and job.state()["image"])
+        assert Service(server.url).job("orders").state()["seq"] == 1
+    with postgres() as database, folder() as at:
+        server = Server(at, database.url, KEEPING).start()
+        Service(server.url).open("orders", SETTINGS, [2]).call(savepoint())
         server.stop()
-        base.executescript("pragma user_version = 99;")
-        refused(server, "the tables of the database have version 99, and this program knows those up to 6")
-        return "one without images, and a newer one"
+        assert database.sql("select number from schema_version") == "1"
+        database.sql("update schema_version set number = 2")
+        refused(server, "the tables of the database have version 2")
+        database.sql("update schema_version set number = 1")
+        server.start()
+        assert Service(server.url).job("orders").state()["seq"] == 1
+        server.stop()
+        return "both databases"
 
 
 def test_a_history_that_is_lost_after_a_cut():
@@ -222,23 +230,6 @@ def test_a_backup_while_images_are_made():
                 check_log(state, [2], check_kept(whole[: state["seq"]], log, state["first"]))
                 assert restored.replayed()[-1] < 60, restored.replayed()
         return f"{state['seq']} of {len(whole)} calls in the copy, {state['first'] - 1} of them cut"
-
-
-def test_postgresql_of_other_versions():
-    with postgres() as database, folder() as at:
-        server = Server(at, database.url, ["--image-calls", "0"]).start()
-        job = Service(server.url).open("orders", SETTINGS, [2])
-        worked(job, 10)
-        server.stop()
-        server.args = KEEPING
-        database.sql("update schema_version set number = 99")
-        refused(server, "the tables of the database have version 99")
-        database.sql("drop index call_event; alter table call drop column event; drop table schema_version; drop table image")
-        server.start()
-        until(lambda: job.state()["image"])
-        server.stop()
-        assert database.sql("select number from schema_version") == "6" and database.sql("select count(*) from image") == "1"
-        return "one without images, and a newer one"
 
 
 def test_a_standby_that_is_slower_than_the_cuts():

@@ -1,5 +1,6 @@
 """Jobs that are deleted, with what was kept of them; and logs that are cut by their bytes."""
 import json
+import shutil
 import signal
 import sqlite3
 import subprocess
@@ -8,6 +9,7 @@ import threading
 from harness import LOCKED, PROGRAM, Server, caught_up, configured, folder, served, until
 from postgres import postgres
 from relkvanu_service import Failed, Service, ack, cancel, deleted, dispose, savepoint
+from run import Skipped
 from test_images import SETTINGS, worked
 from test_metrics import scraped
 
@@ -87,6 +89,35 @@ def test_a_job_is_deleted_with_what_was_kept_of_it():
         base.close()
         assert other.state()["seq"] > 20 and len(other.records()) == 5
         return "and its name belongs to a new job"
+
+
+def test_a_deletion_waits_for_one_sync():
+    """Of SQLite's log: that of its commit. What it leaves is deleted in pieces that wait for none, so no call of another job does."""
+    with folder() as at:
+        trace, count = f"{at}/trace", 10
+        strace = ["strace", "-D", "-f", "-y", "-o", trace, "-e", "trace=fsync,fdatasync"]  # signals go to the service
+        if not shutil.which("strace"):
+            raise Skipped("strace", "it is not here")
+        server = Server(at, prefix=strace).start()
+        service = Service(server.url)
+        jobs = [service.open(f"j{number}", SETTINGS, [2]) for number in range(count)]
+        for job in jobs:
+            job.calls([savepoint(), ack(1, "0.0", [1], sizes=[5]), ack(1, "0.1", [2]), cancel()], key="once")
+            caught_up(job)
+
+        def synced():
+            with open(trace, encoding="utf-8", errors="replace") as it:
+                return sum("sync(" in line and "relkvanu.db-wal>" in line for line in it)
+
+        before = synced()
+        for number in range(count):
+            assert service.delete(f"j{number}", abandon=True)
+        until(lambda: server.log().count("nothing is left of it") == count)
+        wanted = synced() - before
+        assert count <= wanted <= count + 1, wanted
+        assert not [row for number in range(1, count + 1) for row in rows(server.database, TABLES, number)]
+        server.stop()
+        return f"{wanted} for {count} deletions"
 
 
 def test_a_kill_leaves_nothing_behind():

@@ -34,11 +34,11 @@ class Engine(threading.Thread):
         self.code, self.ended = page_code(1, *replaced, ("/srv/orders", folder)), None
         self.task = page_code(2, ("/srv/orders", folder))
         self.starts, self.terms, self.sessions, self.take_part = [], [], [], None
-        self.acknowledges, self.told, self.said = threading.Event(), [], []
+        self.acknowledges, self.told, self.sinks, self.said = threading.Event(), [], [], []
         self.acknowledges.set()
 
     def run(self):
-        names = {name: getattr(self, name) for name in ("end_tasks", "numbers_of_files", "start_tasks", "tell_sources", "tell_tasks")}
+        names = {name: getattr(self, name) for name in ("end_tasks", "numbers_of_files", "start_tasks", "tell_sources", "tell_tasks", "tell_sinks")}
         names["print"] = lambda *said, **_: self.said.append(" ".join(said))
         try:
             exec(self.code, names)
@@ -69,6 +69,10 @@ class Engine(threading.Thread):
 
     def tell_tasks(self, record):
         self.told.append(record)
+
+    def tell_sinks(self, savepoint):
+        assert not self.take_part
+        self.sinks.append(savepoint)
 
 
 def write(path, state):
@@ -151,12 +155,19 @@ def test_the_loop_of_the_page():
                 except OldTerm:
                     pass
             until(lambda: not os.path.exists(f"{files}/state-{name}.bin"))
+            # somebody stops the job: its tasks take part, its sinks hear of it, and no task is started until it begins
+            last = job.stop_job()["id"]
+            until(lambda: engine.sinks == [last])
+            assert job.state()["phase"] == "stopped" and len(engine.starts) == 2, engine.starts
+            job.begin_job()
+            until(lambda: len(engine.starts) == 3)
+            assert engine.starts[2][0] == last and sorted(engine.starts[2][1]) == SUBTASKS, engine.starts
             # no task acknowledges, so the job fails; the service is killed meanwhile
             engine.acknowledges.clear()
-            until(lambda: len(engine.starts) == 3)
+            until(lambda: len(engine.starts) == 4)
             server.kill()
             server.start()
-            until(lambda: len(engine.starts) > 3)
+            until(lambda: len(engine.starts) > 4)
             engine.acknowledges.set()
             count = len(engine.told)
             until(lambda: len(engine.told) > count + 2)
@@ -208,12 +219,12 @@ def test_the_loop_ends_if_a_backup_was_restored():
         assert isinstance(engine.ended, SystemExit) and engine.ended.code == 78, engine.ended
         assert len(engine.said) == 1 and f"checkpoint {latest} lacks the files" in engine.said[0], engine.said
         # the savepoint has all of its files. Tasks get no names of files that are there
-        job.call(restore(first))
         listed = subprocess.run([PROGRAM, "sweep", "orders", "--folder", files, *NAMES, "--url", server.url], stdout=subprocess.PIPE, text=True, check=False)
         greatest = max(engine.numbers_of_files())
         assert greatest < job.term()["next_name"] or f"unissued state-{greatest}.bin " in listed.stdout, listed
-        passed = subprocess.run([PROGRAM, "fence", "orders", str(greatest + 1), "--url", server.url], stdout=subprocess.PIPE, text=True, check=False)
+        passed = subprocess.run([PROGRAM, "advance", "orders", "--url", server.url], stdout=subprocess.PIPE, text=True, check=False)
         assert passed.returncode == 0 and job.term()["next_name"] > greatest, passed
+        job.call(restore(first))
         with engine_of(server, files, settings) as engine:
             until(lambda: len(engine.told) > 2)
             assert engine.starts[0][0] == first, engine.starts

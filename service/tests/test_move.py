@@ -21,7 +21,7 @@ from test_loop import NAMES, engine_of, known, sweep, sweeping
 KILLS = int(os.environ.get("RELKVANU_MOVE_KILLS", "4"))
 SETTINGS = {"interval": 1 << 40, "retained": 2}
 KEEPING = "image_calls = 20\nkeep_calls = 30\n"
-TABLES = ["job", "call", "request", "image", "image_part", "log_start", "clock", "size", "ack_size", "gone_job", "summary", "past"]
+TABLES = ["job", "call", "request", "image", "image_part", "log_start", "clock", "size", "ack_size", "gone_job", "summary", "past", "phase"]
 MOVED = 1_000_000  # is added to the version of the tables of a marked database
 
 
@@ -137,7 +137,7 @@ class Filled:
         """Once images were made, the log was cut, and the database has what the history read of it."""
         for job in (self.orders, self.users):
             caught_up(job)
-        until(lambda: all(count > 0 for name, count in rows_of(self.server.database).items() if name != "image_part"), told=lambda: rows_of(self.server.database))
+        until(lambda: all(count > 0 for name, count in rows_of(self.server.database).items() if name not in ("image_part", "phase")), told=lambda: rows_of(self.server.database))
         assert min(entry["seq"] for entry in self.orders.log(terms=True)) > 1, "the log was not cut"
         for job in (self.orders, self.users):
             read_and_cut(job, 0)
@@ -297,10 +297,15 @@ def nasty(path, rows, long=0):
     numbers = [place if place % 2 else -place - (1 << 62) for place in range(rows)]
     now = int(time.time() * 1000)  # a service deletes old keys
     base.executemany("insert into request values(900, ?, ?, ?, ?)", ((it, now + place, it, it * 9) for place, it in enumerate(text)))
-    base.executemany("insert into call values(900, ?, ?, ?, ?, ?, ?, ?)", ((place, place, place if place % 3 else None, it, it, it if place % 2 else None, 1) for place, it in enumerate(text)))
+    calls = ((place, place, place if place % 3 else None, it, place, numbers[place], -numbers[place], it if place % 5 else None, it if place % 2 else None)
+             for place, it in enumerate(text))
+    base.executemany("insert into call values(900, ?, ?, ?, ?, ?, ?, ?, ?, ?, 1)", calls)
     base.executemany("insert into size values(900, ?, ?)", ((it, place) for place, it in enumerate(numbers)))
     base.executemany("insert into ack_size values(900, ?, ?, ?)", ((place, it, place) for place, it in enumerate(text)))
     base.executemany("insert into past values(900, ?, ?)", enumerate(text))
+    # (a service reads all of these)
+    phases = (("stopped", place, place, numbers[place] if numbers[place] > 0 else None, None) if place % 3 else ("running", place, place, None, "expired") for place in range(rows))
+    base.executemany("insert into phase values(?, ?, ?, ?, ?, ?)", ((900 + place, *phase) for place, phase in enumerate(phases)))
     for table in ("summary", "image_part"):
         columns = "900, 1, ?, 0, ?" if table == "summary" else "900, 1, ?, ?"
         base.executemany(f"insert into {table} values({columns})", enumerate(text[:20] + ["x" * (3 << 20)] * long))
@@ -568,7 +573,7 @@ def check_back(database, url, server):
     assert "is not marked" in move(path, url, "--back") and "rows=" in move(path, url)
     assert state_of(database, url, path) == (True, True)
     # a log that was there whole, and is lost, is not replaced by the old one
-    asked(database, url, f"drop table moved_from, schema_version, leader, member, shard, {', '.join(TABLES)}")
+    asked(database, url, f"drop table moved_from, schema_version, member, shard, {', '.join(TABLES)}")
     for more in ((), ("--back",)):
         assert "is not there any more" in move(path, url, *more, status=78)
     kept_out(path, server.folder, "postgres://relkvanu@127.0.0.1")
@@ -764,50 +769,6 @@ def check_words(at, path, url):
     assert "no tables of a service" in move(f"{at}/foreign.db", url, status=78) and "not a database" in move(f"{at}/text", url, status=78)
     told = move(path, re.sub(r"@127.0.0.1:\d+", ":secret@127.0.0.1:1", url), status=75)
     assert "Connection refused" in told and "secret" not in told, told
-
-
-# from version 6 of the tables to these
-EARLIER = {5: "drop index call_event; alter table call drop column event"}
-EARLIER[2] = f"{EARLIER[5]}; drop table size; drop table ack_size; drop table gone_job; drop table image_part"
-
-
-def make_earlier(path, version, mark=0):
-    """The tables as a program had them whose version this was."""
-    base = sqlite3.connect(path)
-    base.executescript(f"{EARLIER[version]}; pragma user_version = {mark + version}; pragma wal_checkpoint(truncate)")
-    base.close()
-
-
-def test_tables_of_an_earlier_version_are_moved():
-    with postgres() as database, folder() as at:
-        server, url = made(at), new_database(database, "relkvanu")
-        make_earlier(server.database, 2)
-        move(server.database, url)
-        assert rows_there(database, url)["call"] == 4 and mark_of(server.database)[0]
-        serves(Server(at, url))
-    return f"version 2, and marks of versions {check_an_earlier_mark()}"
-
-
-def check_an_earlier_mark():
-    """A program of an earlier version has marked a database, and was killed before its commit. This program goes on, and may be killed there
-    too, or it goes back: then the tables keep their version, until a service starts."""
-    with postgres() as database, folder() as at:
-        source = made(at, 20).database
-        for version in EARLIER:
-            for more, wanted in (((), (True, True)), (("--back",), (False, False))):
-                path, url = shutil.copy(source, f"{at}/earlier.db"), new_database(database, f"e{version}{len(more)}")
-                with held(database, path, url, b"commit\0"):
-                    pass
-                make_earlier(path, version, MOVED)
-                assert state_of(database, url, path) == (True, False)
-                if not more:
-                    with held(database, path, url, b"commit\0"):
-                        pass
-                    assert state_of(database, url, path) == (True, False)
-                move(path, url, *more)
-                assert state_of(database, url, path) == wanted
-                serves(Server(at, path if more else url))
-    return " and ".join(map(str, EARLIER))
 
 
 def test_a_full_disk():

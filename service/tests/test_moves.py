@@ -104,6 +104,9 @@ def test_metrics_of_alerts_move():
         stuck(server, seen)
         service.job("orders").calls([{"call": "tick"}] * 1000)
         values = seen.look()
+        stops = service.open("stops", {"interval": 1 << 40, "timeout": 60_000}, [1])
+        until(lambda: any(key.startswith("relkvanu_phase{") and '"stops"' in key for key in seen.look()))
+        stops.stop_job()
         service.job("orders").call(cancel())
         size = os.statvfs(server.folder)
         sizes = [value for key, value in values.items() if key.partition("{")[0] == "relkvanu_disk_size_bytes"]

@@ -5,13 +5,12 @@ import os
 import random
 import re
 import signal
-import sqlite3
 import subprocess
 import threading
 import time
 
 import kills
-from harness import COMMAND, HERE, PROGRAM, WHOLE, Archive, Server, caught_up, check_log, configured, folder, leader_and_standby, served, until
+from harness import COMMAND, PROGRAM, WHOLE, Archive, Server, caught_up, check_log, configured, entry_of, folder, leader_and_standby, served, until
 from postgres import postgres
 from relkvanu_service import Failed, Fenced, OldTerm, Refused, Service, ack, cancel, decline, deleted, dispose, reserve, restore, savepoint
 
@@ -334,8 +333,8 @@ def test_garbage_is_never_in_use():
             thread.join(COMMAND)
         assert not errors, errors[:3]
         with keeps.base() as base:
-            rows = base.execute(f"select seq, line, answer, ended from {WHOLE} order by seq").fetchall()
-        log = [{"seq": seq, "line": line, "answer": answer, "ended": [int(it) for it in (ended or "").split()]} for seq, line, answer, ended in rows]
+            rows = base.execute(f"select ended, seq, at, line, what, a, b, files from {WHOLE} order by seq").fetchall()
+        log = [{**entry_of(*row), "ended": [int(it) for it in (ended or "").split()]} for ended, *row in rows]
         assert [entry["seq"] for entry in log] == list(range(1, len(log) + 1)), "the log has gaps"
         last = {}
         for file, _, end in uses(log):
@@ -388,42 +387,6 @@ def test_a_job_is_turned():
         return "refused at a known file, then turned once"
 
     return over_both(turned)
-
-
-def test_a_database_of_before():
-    """A database that an earlier version made (`before_names.sql`) is served as it was, and its job is turned."""
-    with folder() as at:
-        with open(f"{HERE}/before_names.sql", encoding="utf-8") as it, sqlite3.connect(f"{at}/relkvanu.db") as base:
-            base.executescript(it.read())
-        with open(f"{HERE}/before_names.json", encoding="utf-8") as it:
-            before = json.load(it)
-        words = [PROGRAM, "check", "--database", f"{at}/relkvanu.db"]
-        assert subprocess.run(words, stdout=subprocess.DEVNULL, check=False).returncode == 0
-        server = Server(at, f"{at}/relkvanu.db", ["--accept-clock"], names=True).start()
-        service = Service(server.url)
-        job = service.job("orders")
-        caught_up(job)
-        told = {"state": job.state(), "log": list(job.log()), "record": job.record(5), "users": service.job("users").state(), "file": job.file(1)}
-        for state in (told["state"], told["users"]):
-            assert state.pop("names") is False and state.pop("next_name") is None
-        for name in ("now", "log"):
-            for it in (told, before):
-                it["state"].pop(name), it["users"].pop(name)
-        assert told == before, [(name, told[name], before[name]) for name in told if told[name] != before[name]]
-        # an engine of before finds its job, and goes on
-        again = service.open("orders", {"interval": 1 << 40, "timeout": 1 << 40, "retained": 2}, [1, 1])
-        assert again.call(ack(6, "1.0", [101]))["ack"] == "pending" and again.begin(5).files["1.0"] == [15]
-        files = job.state()["files"]
-        assert refused(Fenced, lambda: job.fence(100)).name == "NameInUse" and job.fence(1000)["term"] == 1
-        start = job.begin(5)
-        task = start.session(block=2)
-        assert (start.term, task.name(), job.state()["files"]) == (2, 1000, files)
-        known = {file for file in range(1, 1002) if file not in job.garbage(range(1, 1002))[0]}
-        assert len(known) == sum(files.values()) + 2, (known, files)
-        check_log(job.state(), [1, 1], list(job.log(terms=True)))
-        server.stop()
-        assert subprocess.run(words, stdout=subprocess.DEVNULL, check=False).returncode == 0
-        return f"{before['state']['seq']} calls, an image after {before['state']['image']['seq']}, {len(known)} files known after the turn"
 
 
 def test_images_and_checks_of_a_job_with_names():

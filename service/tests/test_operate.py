@@ -7,7 +7,7 @@ import time
 import requests
 
 from harness import COMMAND, PROGRAM, Server, caught_up, folder, served, until
-from relkvanu_service import Failed, Refused, Service, ack, cancel
+from relkvanu_service import Failed, Fenced, Refused, Service, ack, cancel
 
 NEVER = 1 << 40
 DEFAULTS = {"pause": 0, "at_once": 1, "timeout": 600_000, "tolerable": 0, "retained": 1, "keep_on_cancel": False}
@@ -249,6 +249,57 @@ def back(names):
             assert told.returncode == 0, told
         finally:
             server.stop()
+
+
+def test_an_advance():
+    """The job goes on above all terms and names that were given out: as after a restored backup, which lacks some."""
+    with served(names=True) as server:
+        job = Service(server.url).open("orders", {"interval": NEVER}, [1])
+        task, made = job.begin().session(), job.checkpoint()["id"]
+        task.ack(made, "0.0", [task.name()])
+        told = job.advance(100, 5000)
+        assert (told["restore"], told["id"], told["term"]) == ("checkpoint", made, 101) and job.term() == {"term": 101, "next_name": 5000}, told
+        late = [lambda: task.ack(made, "0.0"), lambda: job.session(100).name()]
+        assert [fenced(make) for make in late] == ["OldTerm"] * 2 and job.session(101).name() == 5000
+        # a file of the lost part is garbage, and one of a record is not
+        assert job.garbage([1, 4000, 9000]) == ([4000], [9000])
+        # smaller ones lower nothing, and one under a key is made once
+        assert [job.advance(0, 1, "k")["term"] for _ in range(2)] == [102, 102] and job.term() == {"term": 102, "next_name": 6000}
+        [first, *_] = [entry for entry in job.log() if entry["line"].startswith("advance")]
+        assert first["line"].split()[2:] == ["*", "5000"] and next(entry for entry in job.log(terms=True) if entry["seq"] == first["seq"])["line"].split()[2:] == ["100", "5000"], first
+        told = ran(server, "advance", "orders")
+        assert told == f"the job begins again, from checkpoint {made}; files that wait for deletion now: 0 more; the term is {102 + 2**32 + 1}\n", told
+        assert job.term()["next_name"] == 6000 + 2**40
+        ran(server, "advance", "orders", "--term", 2**33, "--name", 2**41)
+        before = job.term()
+        assert before == {"term": 2**33 + 1, "next_name": 2**41} and server.log().count("calls=advance") == 5, before
+        server.kill()
+        server.start()
+        assert job.term() == before and job.session(before["term"]).name() == 2**41
+        for body, field in (({"term": 1}, "first_name"), ({"first_name": "1"}, "term"), ({"term": -1, "first_name": 1}, "term"), ({"term": 1, "first_name": 0}, "first_name")):
+            status, _, told = server.request("POST", "/v1/jobs/orders/advance", body)
+            assert (status, told["field"]) == (400, field), told
+        # one that has stopped stays so, in a later term
+        savepoint = job.stop_job()["id"]
+        job.call(ack(savepoint, "0.0", term=before["term"]))
+        assert job.advance(0, 1)["id"] == savepoint and job.state()["phase"] == "stopped"
+        job.begin_job()
+        job.call(cancel())
+        assert refused(lambda: job.advance(0, 1)) == "NotRunning"
+        Service(server.url).open("users", {"interval": NEVER}, [1], names=False)
+        assert "NoNames" in ran(server, "advance", "users", status=1) and fenced(lambda: Service(server.url).job("users").advance(0, 1)) == "NoNames"
+        assert server.stop() == 0
+        told = subprocess.run([PROGRAM, "check", "--database", server.database], stdout=subprocess.PIPE, stderr=subprocess.STDOUT, text=True, timeout=COMMAND, check=False)
+        assert told.returncode == 0, told
+        return f"terms up to {before['term']}"
+
+
+def fenced(make):
+    try:
+        make()
+    except Fenced as told:
+        return told.name
+    return None
 
 
 def test_back_to_an_older_checkpoint():

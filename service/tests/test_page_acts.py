@@ -178,6 +178,74 @@ def acted(page, server):
     return f"{calls} calls, {first!r}"
 
 
+def test_a_stop_and_older_checkpoints():
+    page = test_page.started(1200, 1000)
+    try:
+        with served() as server:
+            return stopped_and_back(page, server, Service(server.url).open("orders", {**SETTINGS, "retained": 3}, [1]))
+    finally:
+        page.quit()
+
+
+def stopped_and_back(page, server, job):
+    from selenium.webdriver.common.keys import Keys
+
+    def are(*wanted):
+        """What the buttons of a stop, a beginning, a restore and a checkpoint may be pressed, and what the job does."""
+        ids = ["do-stop", "do-begin", "do-restore", "do-checkpoint"]
+        until(lambda: [page.execute_script("return !document.getElementById(arguments[0]).disabled", one) for one in ids] == list(wanted[1:]), 10)
+        until(lambda: test_page.texts(page, "[data-fact='Mode']") == [wanted[0]] == test_page.texts(page, "#jobs .mode"), 10)
+
+    def done(button, said_then):
+        opened(page, button)
+        assert nameless(page) == [], nameless(page)
+        page.execute_script("document.getElementById('ask-yes').focus()")
+        keys(page, Keys.ENTER)
+        until(lambda: not is_asking(page), 10)
+        assert test_page.texts(page, "#done") == [said_then], test_page.texts(page, "#done")
+
+    page.get(f"{server.url}/#/jobs/orders")
+    are("running", True, False, True, True)
+    done("#do-stop", "The job stops: savepoint 1 is triggered, as call 1.")
+    assert said(page) == "POST /v1/jobs/orders/stop\n{}", said(page)
+    are("stopping", False, False, True, True)
+    assert "waits for the acknowledgements of savepoint 1" in test_page.texts(page, "#hint")[0]
+    job.call(ack(1, "0.0", [1]))
+    are("stopped", False, True, False, False)
+    assert "has stopped at savepoint 1" in test_page.texts(page, "#hint")[0] and test_page.texts(page, "[data-fact='Next is due']") == ["not while it is stopped"]
+    assert test_page.contrast(page) >= 4.5
+    done("#do-begin", "The job begins again from savepoint 1, as call 4.")
+    are("running", True, False, True, True)
+    # a stop that fails
+    job.stop_job()
+    job.call(decline(2, "0.0"))
+    until(lambda: "savepoint 2 has ended (declined)" in test_page.texts(page, "#hint")[0], 10)
+    # the older checkpoints that are retained, and the word of consent
+    for number in (3, 4, 5):
+        job.checkpoint()
+        job.call(ack(number, "0.0", [number]))
+    until(lambda: test_page.texts(page, "[data-fact='Would restart']") == ["from checkpoint 5"], 10)
+    opened(page, "#do-restore")
+    offered = test_page.texts(page, "#restore-from option")
+    assert offered == ["the latest: checkpoint 5", "savepoint 1", "checkpoint 4, an older one", "checkpoint 3, an older one"], offered
+    hidden = "return document.getElementById('restore-consent').parentElement.hidden"
+    assert page.execute_script(hidden) and nameless(page) == []
+    page.execute_script("const it = document.getElementById('restore-from'); it.selectedIndex = 3; it.dispatchEvent(new Event('input', {bubbles: true}))")
+    assert not page.execute_script(hidden) and '"checkpoint": 3' in said(page) and '"accept_published": false' in said(page), said(page)
+    page.execute_script("document.getElementById('ask-yes').focus()")
+    keys(page, Keys.ENTER)
+    until(lambda: "not taken back" in test_page.texts(page, "#ask-wrong")[0], 10)
+    page.execute_script("document.getElementById('restore-consent').focus()")
+    keys(page, Keys.SPACE)
+    assert '"accept_published": true' in said(page), said(page)
+    page.execute_script("document.getElementById('ask-yes').focus()")
+    keys(page, Keys.ENTER)
+    until(lambda: not is_asking(page), 10)
+    assert test_page.texts(page, "#done")[0].startswith("The job begins again from savepoint 6"), test_page.texts(page, "#done")
+    assert job.state()["choice"] == {"kind": "savepoint", "id": 6}
+    return "a stop, a beginning, a stop that failed, and the way back to checkpoint 3"
+
+
 def test_a_record_and_older_ones():
     page = test_page.started(1200, 1000)
     try:

@@ -223,12 +223,14 @@ def test_the_page_restores_files_of_a_bucket():
         server.start()
         status, lines, told = ran(find)
         assert (status, [line.split()[4:] for line in lines[1:]]) == (0, [["none"], ["1:", "3"]]), (status, lines, told)
+        status, lines, told = ran(sweeper)
+        assert (status, sorted(lines)[-2:]) == (3, ["unissued s-5 5", "unissued s-6 5"]), (status, lines, told)
+        subprocess.run([PROGRAM, "advance", "orders", "--url", server.url], check=True, stdout=subprocess.DEVNULL, timeout=COMMAND)
         job.call(restore(1))
         assert ran(discarder)[0] == 0 and job.state()["files"]["waiting"] == 0
+        assert job.begin().session().name() > 1 << 40
         status, lines, told = ran(sweeper)
-        assert (status, sorted(lines[:-1])) == (3, ["unissued s-5 5", "unissued s-6 5"]), (status, lines, told)
-        subprocess.run([PROGRAM, "fence", "orders", "1000", "--url", server.url], check=True, stdout=subprocess.DEVNULL, timeout=COMMAND)
-        assert job.begin().session().name() == 1000
+        assert (status, sorted(line.split()[1] for line in lines[:-1])) == (0, ["s-5", "s-6"]), (status, lines, told)
         assert ran([*sweeper, "--delete"])[0] == 0 and names_in(files) == ["s-1", "s-2"], names_in(files)
         server.stop()
         return "a savepoint that has its files"

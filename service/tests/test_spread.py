@@ -8,7 +8,7 @@ import threading
 import time
 from contextlib import contextmanager
 
-from harness import BUSY, COMMAND, PROGRAM, PgArchive, Server, configured, folder, free_port, until
+from harness import BUSY, COMMAND, PROGRAM, SAVEPOINT_TRIGGERED, PgArchive, Server, configured, folder, free_port, until
 from partition import Line
 from postgres import postgres
 from preloaded import Clocks
@@ -289,7 +289,7 @@ def test_a_poll_that_reads_late():
         first = member(at, database.url).start()
         opened([first], SHARDS)
         job, statuses = database.sql(f"select name from job where job & 63 = {SHARDS - 1}"), []
-        for words, is_of_before in ((b"event is not null", False), (b"from its where number", True)):
+        for words, is_of_before in ((b"and (what in (1, 5, ", False), (b"from its where number", True)):
             earlier, seq = Service(first.url).job(job).state()["log"], Service(first.url).job(job).call(savepoint())["seq"]
             assert first.stop() == 0
             line = Late(database.port, words)
@@ -605,7 +605,7 @@ def test_a_damaged_job_keeps_its_shard_alone():
         names = opened(servers, 10)
         bad = owned(database, servers[0])
         Service(servers[0].url).job(bad).call(savepoint())
-        database.sql(f"update call set answer = 'savepoint triggered 9' from job where job.job = call.job and name = '{bad}'")
+        database.sql(f"update call set a = 9 from job where job.job = call.job and name = '{bad}' and what = {SAVEPOINT_TRIGGERED}")
         servers[0].kill()
         until(lambda: shards(servers[1]) == SHARDS - 1)
         statuses = {name: servers[1].get(f"/v1/jobs/{name}")[0] for name in names}
@@ -616,20 +616,14 @@ def test_a_damaged_job_keeps_its_shard_alone():
 
 
 def test_the_way_from_one_leader_and_back():
-    """A database of an earlier version, whose processes write nothing any more; then processes that do not share."""
+    """Processes that share the jobs of one that was alone, then one that does not share."""
     with postgres() as database, folder() as at:
         alone = Server(at, database.url, configured(at, CONFIG)).start()
         names = opened([alone], 6)
         log = Service(alone.url).job("j0").state()["log"]
         Service(alone.url).job("j0").call(savepoint())
         assert alone.stop() == 0
-        earlier(database, 7)
         servers = members(at, database.url, 2)
-        assert set(database.sql("select distinct epoch from shard").split()) <= {"8", "9"}, database.sql("select * from shard")
-        # what a process of the earlier version says that leads, one that looks, and one that takes over
-        says = ["update leader set until = clock_timestamp() where epoch = 7 returning 1", "select epoch from leader",
-                "update leader set epoch = epoch + 1, holder = 'x', until = clock_timestamp() where epoch = 7 returning epoch"]
-        assert [database.sql(text) for text in says] == ["", "", ""]
         # an engine that follows the log goes on
         polled = Service(servers[1].url).job("j0").follower(0, log).next(5)
         assert [event["seq"] for event in polled] == [1], polled
@@ -646,31 +640,24 @@ def test_the_way_from_one_leader_and_back():
         return "by way of two that share"
 
 
-def test_a_leader_of_an_earlier_version_that_runs():
-    """When the tables get shards its lease is not over, so it may still answer. Until it is, nobody has its jobs."""
-    took = []
+def test_shards_that_can_not_be_made_free():
+    """The database frees none of the shards that a process has given up: it ends after its lease, and the other one has its jobs."""
     with postgres() as database, folder() as at:
-        for spreads in (False, True):
-            alone = Server(at, database.url, configured(at, CONFIG)).start()
-            opened([alone], 2)
-            assert alone.stop() == 0
-            earlier(database, 7, f"clock_timestamp() + interval '{LEASE} s'", LEASE)
-            upgraded, started = member(at, database.url) if spreads else Server(at, database.url, configured(at, CONFIG)), time.monotonic()
-            upgraded.start()
-            until(lambda: shards(upgraded) == SHARDS)
-            took.append(time.monotonic() - started)
-            assert database.sql("select count(*) from leader") == "0" and len(listed(upgraded)) == 2
-            assert upgraded.stop() == 0
-        assert min(took) >= LEASE and max(took) < LEASE + 10 * BUSY, took
-        return f"{', '.join(f'{seconds:.1f}' for seconds in took)} s with a lease of {LEASE} s"
-
-
-def earlier(database, epoch, until="'-infinity'", lease=5):
-    """The tables are as version 4 had them, with a leader that is gone, or one that has a lease."""
-    database.sql(f"""drop index call_event; alter table call drop column event; drop table shard; drop table member;
-        delete from log_start where shard != 1; alter table log_start drop constraint log_start_pkey;
-        alter table log_start drop column shard; alter table log_start add primary key (number); insert into leader values(true, {epoch}, 'x', {until}, {lease});
-        update schema_version set number = 4""")
+        first, second = member(at, database.url).start(), member(at, database.url)
+        names = opened([first], 8)
+        # of a member that is there: those of one that was deleted become free
+        database.sql("""create function held() returns trigger language plpgsql as $$ begin
+            if new.owner is null and exists (select from member where name = old.owner) then raise exception 'it is held'; end if;
+            return new; end $$; create trigger held before update on shard for each row execute function held()""")
+        started = time.monotonic()
+        second.start(ready=False)
+        status, took = first.ended(30 + LEASE), time.monotonic() - started
+        assert status == 75 and "can't be made free: it ends, so that others get them" in first.log(), (status, first.log()[-600:])
+        assert "it is held" in first.log() and took >= LEASE, (took, first.log()[-600:])
+        until(lambda: shards(second) == SHARDS, 30 + 2 * LEASE)
+        assert sorted(listed(second)) == sorted(names)
+        second.stop()
+        return f"after {took:.1f} s with a lease of {LEASE} s"
 
 
 def test_settings_of_sharing():

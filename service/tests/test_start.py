@@ -5,7 +5,7 @@ import subprocess
 import threading
 import time
 
-from harness import COMMAND, PROGRAM, Server, check_log, folder, over_copy, served, until
+from harness import ACK_COMPLETED, COMMAND, PROGRAM, Server, check_log, folder, over_copy, served, until
 from relkvanu_service import Service
 from run import Skipped
 
@@ -76,13 +76,16 @@ def test_a_log_that_answers_otherwise_stops_the_start():
         driven(server)
         server.stop()
         base = sqlite3.connect(server.database)
-        was = base.execute("select seq, answer from call where answer like 'ack completed%' order by seq limit 1").fetchone()
-        base.execute("update call set answer = 'ack completed 7 7' where seq = ?", (was[0],))
+        was = base.execute("select seq, a, b from call where what = ? order by seq limit 1", (ACK_COMPLETED,)).fetchone()
+        base.execute("update call set a = 7, b = 7 where seq = ?", (was[0],))
         base.commit()
         args = ["--database", server.database, "--listen", "127.0.0.1:0"]
         refused(args, 78, f'job orders, call {was[0]} ')
-        refused(args, 78, f'the log says "ack completed 7 7", and this program answers "{was[1]}"')
-        base.execute("update call set answer = ? where seq = ?", (was[1], was[0]))
+        refused(args, 78, f'the log says "ack completed 7 7", and this program answers "ack completed {was[1]} {was[2]}"')
+        base.execute("update call set what = 200, a = 7, b = 7 where seq = ?", (was[0],))
+        base.commit()
+        refused(args, 78, 'the log says "unknown 200 7 7"')
+        base.execute("update call set what = ?, a = ?, b = ? where seq = ?", (ACK_COMPLETED, *was[1:], was[0]))
         base.execute("delete from call where seq = 2")
         base.commit()
         refused(args, 78, "job orders, call 3: call 2 is missing")
@@ -101,7 +104,7 @@ def test_a_database_that_is_damaged_stops_the_start():
         args = ["--database", server.database, "--listen", "127.0.0.1:0"]
         for table, column, value, cell in [
             ("job", "config", "config 1 2", 'Text("config 1 2") in column 3'), ("job", "shape", "1 x", 'Text("1 x") in column 4'),
-            ("call", "waiting", -1, "Number(-1) in column 8"), ("call", "line", "cast(x'ff' as text)", None),
+            ("call", "waiting", -1, "Number(-1) in column 11"), ("call", "line", "cast(x'ff' as text)", None),
         ]:
             base = sqlite3.connect(server.database)
             was = base.execute(f"select {column} from {table} limit 1").fetchone()[0]

@@ -1,12 +1,13 @@
 """While the database takes no commits, or does not answer: what health checks, metrics and reads say then, and what they do not."""
 import asyncio
 import os
+import re
 import sqlite3
 import subprocess
 import threading
 import time
 
-from harness import COMMAND, LOCKED, PROGRAM, Server, folder, free_port, served, until
+from harness import COMMAND, LOCKED, PROGRAM, SERVICE, Server, folder, free_port, served, until
 from postgres import postgres
 from test_api import JOB
 from test_connections import within
@@ -151,15 +152,17 @@ def kept_alive(port):
 
 
 def test_events_are_read_by_an_index():
+    with open(f"{SERVICE}/src/store/rows.rs", encoding="utf-8") as it:
+        is_event = re.search('IS_EVENT: &str = "(.*)"', it.read())[1]
     with served() as server:
         plan = sqlite3.connect(server.database).execute(
-            "explain query plan select * from call indexed by call_event where job = ? and seq > ? and event is not null order by seq limit ?", (1, 0, 10)).fetchall()
+            f"explain query plan select * from call indexed by call_event where job = ? and seq > ? and {is_event} order by seq limit ?", (1, 0, 10)).fetchall()
         assert len(plan) == 1 and "USING INDEX call_event (job=? AND seq>?)" in plan[0][3], plan
     with folder() as at, postgres() as database:
         server = Server(at, database=database.url).start()
         told = database.sql(
             "set enable_seqscan = off; set enable_bitmapscan = off;"
-            "explain select * from call where job = 1 and seq > 0 and event is not null order by seq limit 10"
+            f"explain select * from call where job = 1 and seq > 0 and {is_event} order by seq limit 10"
         )
         assert "Index Scan using call_event" in told and "Sort" not in told, told
         server.stop()

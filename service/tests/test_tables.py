@@ -1,5 +1,4 @@
 """Tables that are made or upgraded only where their version says so."""
-import sqlite3
 import subprocess
 import time
 
@@ -51,27 +50,3 @@ def test_a_standby_that_starts_beside_a_vacuum():
         database.stop()
         vacuum.wait()
         return f"the longest gap of the leader's answers was {gap:.2f} s"
-
-
-def test_tables_of_an_earlier_version_are_upgraded():
-    """With what they have."""
-    with postgres() as database, folder() as at:
-        for url in (None, database.url):
-            server = Server(at, url).start()
-            job = Service(server.url).open("orders", SETTINGS, [1])
-            assert all(tick(server) for _ in range(5))
-            before = job.state()["seq"]
-            server.stop()
-            if url:
-                database.sql("drop index call_event; alter table call drop column event; drop table size, ack_size, gone_job; drop table clock")
-                database.sql("drop index call_at, image_at; alter table leader drop column lease; update schema_version set number = 1")
-            else:
-                base = sqlite3.connect(server.database)
-                base.executescript("drop index call_event; alter table call drop column event; drop table size; drop table ack_size; drop table gone_job; drop table clock; pragma user_version = 1")
-                base.close()
-            server.start()
-            assert job.state()["seq"] == before and tick(server)
-            server.stop()
-        assert database.sql("select number from schema_version") == "6"
-        assert database.sql("select count(*) from pg_indexes where indexname in ('call_at', 'image_at')") == "2"
-        return "both databases, from version 1"

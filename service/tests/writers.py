@@ -14,9 +14,11 @@ PATIENCE = harness.BUSY * 60  # seconds, in which a service or its database is t
 class Writer(threading.Thread):
     """Calls one job until it is stopped. `made` has each acknowledged call, with its answer."""
 
+    TOKEN = None
+
     def __init__(self, urls, job, number):
         super().__init__(daemon=True)
-        self.service = Service(*urls, patience=PATIENCE)
+        self.service = Service(*urls, token=self.TOKEN, patience=PATIENCE)
         self.job = self.service.job(job)
         self.name_of_job = job
         self.random = random.Random(number)

@@ -29,6 +29,26 @@ export function savepoint(job) {
   };
 }
 
+export function stop(job) {
+  return {
+    title: `Stop ${job.name}`,
+    question: "The job triggers a savepoint and no checkpoint any more. Once each task has acknowledged it, the job has stopped there, and its engine ends. Nothing expires until you begin it again.",
+    button: `Stop ${job.name}`,
+    request: () => ({ method: "POST", path: `/jobs/${job.name}/stop`, body: {} }),
+    outcome: (told) => [`The job stops: savepoint ${told.id} is triggered, as call ${told.seq}.`, true],
+  };
+}
+
+export function begin(job) {
+  return {
+    title: `Begin ${job.name} again`,
+    question: `The job begins again from savepoint ${job.stop?.savepoint}, with which it has stopped. Then start its engine, if it does not wait for this.`,
+    button: `Begin ${job.name}`,
+    request: () => ({ method: "POST", path: `/jobs/${job.name}/begin`, body: {} }),
+    outcome: begun,
+  };
+}
+
 export function dispose(job, id) {
   return {
     title: `Dispose of savepoint ${id} of ${job.name}`,
@@ -69,10 +89,26 @@ function shape(text) {
   return words.length === 0 ? {} : { shape: words.map(Number) };
 }
 
+// The complete checkpoints but for the latest, which a restore begins from anyway.
+function older(job) {
+  const latest = job.choice.kind === "checkpoint" ? job.choice.id : null;
+  return job.live.filter((one) => one.done && one.kind === "checkpoint" && one.id !== latest).reverse();
+}
+
+// What a restore begins from, as a request says it. An older checkpoint needs the consent.
+function begins(from, consent) {
+  if (from.value === "latest") return { from: "latest" };
+  const [id, kind] = from.value.split(" ");
+  return kind === undefined ? { from: Number(id) } : { from: { checkpoint: Number(id) }, accept_published: consent.checked };
+}
+
 export function restore(job, savepoints) {
   const choice = job.choice.kind === "fresh" ? "from nothing" : `${job.choice.kind} ${job.choice.id}`;
   const from = element("select", { id: "restore-from" }, element("option", { value: "latest" }, `the latest: ${choice}`));
   from.append(...savepoints.map((one) => element("option", { value: one.id }, `savepoint ${one.id}`)));
+  from.append(...older(job).map((one) => element("option", { value: `${one.id} checkpoint` }, `checkpoint ${one.id}, an older one`)));
+  const consent = element("input", { id: "restore-consent", type: "checkbox" });
+  const accept = element("p", { hidden: "" }, consent, element("label", { for: "restore-consent" }, " I accept that what sinks published for records after it is not taken back"));
   const into = element("input", { id: "restore-shape", placeholder: job.shape.join(" "), pattern: "[0-9 ,·]*", "aria-describedby": "restore-help" });
   return {
     title: `Restore ${job.name}`,
@@ -81,9 +117,13 @@ export function restore(job, savepoints) {
     isFinal: true,
     fields: [
       element("p", {}, element("label", { for: "restore-from" }, "Begin from "), from),
+      accept,
       element("p", {}, element("label", { for: "restore-shape" }, "In the shape "), into, element("span", { id: "restore-help" }, " the parallelism of each vertex; empty: as it is")),
     ],
-    request: () => calls(job, { call: "restore", from: from.value === "latest" ? "latest" : Number(from.value), ...shape(into.value) }),
+    request: () => {
+      accept.hidden = !from.value.endsWith(" checkpoint");
+      return calls(job, { call: "restore", ...begins(from, consent), ...shape(into.value) });
+    },
   };
 }
 
@@ -97,9 +137,14 @@ export function outcome(told) {
   if (answer.savepoint) return [`Savepoint ${answer.id} is triggered${seq}.`, true];
   if (answer.dispose) return [`The savepoint is disposed of${seq}; ${answer.released} files wait for deletion now.`, true];
   if (answer.cancel) return [`The job is cancelled${seq}; ${answer.released} files wait for deletion now.`, true];
+  return begun(answer);
+}
+
+// A restore in words.
+function begun(answer) {
   const from = answer.restore === "fresh" ? "nothing" : `${answer.restore} ${answer.id}`;
   const term = answer.term === undefined ? "" : ` The term is ${answer.term}.`;
-  return [`The job begins again from ${from}${seq}.${term}`, true];
+  return [`The job begins again from ${from}, as call ${answer.seq}.${term}`, true];
 }
 
 const asking = { action: null, key: null, text: "", then: null, opener: null };

@@ -62,8 +62,12 @@ function showJob(told, rows) {
   at("job-name").textContent = job.name;
   at("hint").textContent = views.hint(job);
   at("hint").hidden = at("hint").textContent === "";
-  for (const id of ["do-checkpoint", "do-savepoint"]) at(id).disabled = job.mode !== "running";
-  at("do-restore").disabled = at("do-cancel").disabled = job.mode === "cancelled";
+  const doing = views.doing(job);
+  for (const id of ["do-checkpoint", "do-savepoint"]) at(id).disabled = job.mode !== "running" || doing === "stopped";
+  at("do-stop").disabled = doing !== "running";
+  at("do-begin").disabled = doing !== "stopped";
+  at("do-restore").disabled = job.mode === "cancelled" || doing === "stopped";
+  at("do-cancel").disabled = job.mode === "cancelled";
   at("do-delete").disabled = job.mode === "running";
   at("do-term").hidden = !job.names;
   // an event since may have ended the term
@@ -196,6 +200,8 @@ at("file-form").addEventListener("submit", (event) => {
 });
 at("do-checkpoint").addEventListener("click", () => act(actions.checkpoint(shown.told.job)));
 at("do-savepoint").addEventListener("click", () => act(actions.savepoint(shown.told.job)));
+at("do-stop").addEventListener("click", () => act(actions.stop(shown.told.job)));
+at("do-begin").addEventListener("click", () => act(actions.begin(shown.told.job)));
 at("do-restore").addEventListener("click", () => act(actions.restore(shown.told.job, shown.told.savepoints)));
 at("do-cancel").addEventListener("click", () => act(actions.cancel(shown.told.job)));
 at("do-delete").addEventListener("click", () => act(actions.remove(shown.told.job)));

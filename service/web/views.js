@@ -53,7 +53,13 @@ export function bytes(number) {
   return `${place === 0 || rest >= 100 ? Math.round(rest) : rest.toFixed(1)} ${units[place]}`;
 }
 
-const MODES = { running: "good", failed: "bad", cancelled: "other" };
+const MODES = { running: "good", stopping: "other", stopped: "other", failed: "bad", cancelled: "other" };
+
+// What a job is doing. One that stops or has stopped runs as far as its mode says.
+export function doing(job) {
+  return job.phase === "stopping" || job.phase === "stopped" ? job.phase : job.mode;
+}
+
 const GOOD = new Set(["completed"]);
 const BAD = new Set(["expired", "declined", "failed over"]);
 
@@ -63,7 +69,7 @@ export function tone(how) {
 
 export function jobLink(job, isCurrent) {
   const link = element("a", { href: `#/jobs/${job.name}`, "aria-current": isCurrent ? "true" : null }, `${job.name} `);
-  link.append(element("span", { class: `mode ${MODES[job.mode]}` }, job.mode));
+  link.append(element("span", { class: `mode ${MODES[doing(job)]}` }, doing(job)));
   return element("li", {}, link);
 }
 
@@ -81,8 +87,11 @@ function choiceOf(job) {
   return job.choice.kind === "fresh" ? "from nothing" : `from ${job.choice.kind} ${job.choice.id}`;
 }
 
-// How a job goes on that does not run; nothing of one that does.
+// How a job goes on that does not run, or was to stop; nothing of one that runs as it should.
 export function hint(job) {
+  if (job.phase === "stopping") return `The job stops: it waits for the acknowledgements of savepoint ${job.stop.savepoint}, and triggers no checkpoint.`;
+  if (job.phase === "stopped") return `The job has stopped at savepoint ${job.stop.savepoint}. It goes on from there once you begin it.`;
+  if (job.mode === "running" && job.stop?.failed) return `The job was to stop and runs on: savepoint ${job.stop.savepoint} has ended (${job.stop.failed}).`;
   if (job.mode === "failed") return `The job failed. End its tasks, call restore, and start them again: it goes on ${choiceOf(job)}.`;
   if (job.mode === "cancelled") return "The job was cancelled. It does not go on; its files wait for deletion or are kept, as its settings say.";
   return "";
@@ -90,7 +99,7 @@ export function hint(job) {
 
 // When the next checkpoint is due, or what it waits for.
 function next(job, pending) {
-  if (job.mode !== "running") return `not while it is ${job.mode}`;
+  if (doing(job) !== "running") return `not while it is ${doing(job)}`;
   if (job.due > job.now) return `in ${duration(job.due - job.now)}`;
   const most = job.settings.pause > 0 ? 1 : job.settings.at_once;
   const waiting = pending.filter((record) => record.kind === "checkpoint");
@@ -141,7 +150,7 @@ function sizes(job) {
 export function facts(job, waiting) {
   const completed = job.last_completed === null ? "none yet" : `${duration(Math.max(0, job.now - job.last_completed))} ago`;
   return [
-    fact("Mode", job.mode, `mode ${MODES[job.mode]}`),
+    fact("Mode", doing(job), `mode ${MODES[doing(job)]}`),
     fact("Last checkpoint", completed),
     fact("Next is due", next(job, waiting)),
     fact("Interval", duration(job.settings.interval)),

@@ -43,6 +43,7 @@ _COUNT_BITS = 24  # of a file's number; random ones are above them
 _RESERVED = 1000  # names that a task reserves at once
 _BESIDE = (".names", ".begun")  # what follows a marker's name in the names of the files that a discarder writes beside it
 _MOST_FORFEITED, _MOST_GARBAGE = 4096, 10_000  # of a call, and of a request
+_LONG_POLL = 25  # seconds that a poll waits for the next event
 _ONE_LOOK, _HISTORY_PATIENCE = 0.1, 60.0  # seconds between two looks at how far the history is, and until they end
 # A proxy, a standby or a service that starts answers so; another try may be answered otherwise.
 _PASSING = {429, 502, 503, 504}
@@ -354,6 +355,10 @@ class Job:
         """The same job, which makes a request again for this many seconds, or for ever if that is None."""
         return Job(self._service.within(seconds), self.name)
 
+    def open(self, settings, shape, names=None):
+        """Opens this job, or finds it, as `Service.open` does."""
+        return self._service.open(self.name, settings, shape, names)
+
     def calls(self, calls, key=None):
         """Makes calls in order and returns the answer of each, a refusal too. They are no transaction. The service makes them once
         under a key, which is new if none is given. A caller that gave up and comes back gives the same key again."""
@@ -438,6 +443,33 @@ class Job:
         as `settings`. Raises `Failed` if one is not within its limits, and `Refused` if more checkpoints are pending than may be from then
         on, or the job is cancelled."""
         return self._service.request("PATCH", f"{self._path}/settings", settings)
+
+    def stop_job(self, key=None):
+        """Stops the job with a savepoint, whose number is the answer's `id`: the timer rests, and with the last acknowledgement the job has
+        stopped at it, until `begin_job`. Raises `Refused` if the job stops or has stopped already, or does not run."""
+        key = uuid.uuid4().hex if key is None else key
+        return self._service.request("POST", f"{self._path}/stop", {}, key)
+
+    def begin_job(self, key=None):
+        """Begins the job again where it has stopped. Engines that wait for it then make `begin`. Raises `Refused` if the job has not stopped."""
+        key = uuid.uuid4().hex if key is None else key
+        return self._service.request("POST", f"{self._path}/begin", {}, key)
+
+    def advance(self, term, first_name, key=None):
+        """Lets the job go on from an older copy of the service's log, as a backup: it begins again, as by `begin`, in a term above `term`, which is
+        at least each that was told, and gives out names from `first_name` on, which is above each that was given out. Raises `Fenced` if the
+        job has no names, and `Refused` if it is cancelled."""
+        key = uuid.uuid4().hex if key is None else key
+        return self._service.request("POST", f"{self._path}/advance", {"term": term, "first_name": str(first_name)}, key)
+
+    def until_begun(self):
+        """Waits as long as the job has stopped: an engine that starts does so before `begin`. Returns the state of the job."""
+        while (state := self.state()).get("phase") == "stopped":
+            try:
+                self.poll(state["seq"], _LONG_POLL)
+            except Gone:
+                pass  # the state says what came instead of the events
+        return state
 
     def garbage(self, files):
         """Those of these files that may be deleted, and those whose names were never given out, which nobody deletes: a file of another

@@ -29,6 +29,8 @@ pub enum Ended {
     Incomplete(&'static str, u64),
     #[error("{0} {1} is not complete yet")]
     Late(&'static str, u64),
+    #[error("the job has not stopped at savepoint {0}: {1}")]
+    RunsOn(u64, String),
     #[error("{}: {why}", .path.display())]
     Folder { path: PathBuf, why: io::Error },
     #[error("no such record has all its files in the folder")]
@@ -49,7 +51,7 @@ impl Ended {
     /// 1 if the answer is no, 75 if another try may be answered otherwise, and 78 if somebody has to look first.
     pub fn status(&self) -> u8 {
         match self {
-            Ended::Refused(_) | Ended::Incomplete(..) | Ended::NoJob(_) => NO,
+            Ended::Refused(_) | Ended::Incomplete(..) | Ended::RunsOn(..) | Ended::NoJob(_) => NO,
             Ended::Asked(Asked::Status { status: NOT_FOUND | CONFLICT, .. }) => NO,
             Ended::NoneWhole
             | Ended::AtWork(_)

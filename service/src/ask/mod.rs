@@ -21,6 +21,11 @@ const PAGE: u64 = 1000;
 const MOST_NAMES: u64 = 65_536;
 const MOST_CALLS: u64 = 1000;
 const HAS_NAMES: &str = "HasNames";
+/// How many terms and names a part of a log that was lost may have had at most, if nobody says it.
+const LOST_TERMS: u64 = 1 << 32;
+const LOST_NAMES: u64 = 1 << 40;
+/// Refusals of a stop that somebody has asked for already.
+const STANDS: [&str; 2] = ["Stopping", "Stopped"];
 /// How long one poll waits, in seconds.
 const POLL: u64 = 20;
 
@@ -53,6 +58,8 @@ async fn asked(given: &Ask) -> Result<(), Ended> {
         Ask::Savepoint(given) => savepoint(&service.job(&given.job), given).await,
         Ask::Checkpoint(given) => checkpoint(&service.job(&given.job), given).await,
         Ask::Set(given) => set(&service.job(&given.job), given).await,
+        Ask::Stop(given) => stop(&service.job(&given.job), given).await,
+        Ask::Begin(given) => said(at.json, &service.job(&given.job).begin_job().await?, tables::made),
         Ask::Dispose(given) => {
             call(&service.job(&given.job), at.json, Call::Dispose { id: given.id }).await.map(|_| ())
         }
@@ -66,6 +73,7 @@ async fn asked(given: &Ask) -> Result<(), Ended> {
         }
         Ask::Term(given) => said(at.json, &service.job(&given.job).term().await?, tables::term),
         Ask::Fence(given) => fence(&service.job(&given.job), given).await,
+        Ask::Advance(given) => advance(&service.job(&given.job), given).await,
         Ask::Cancel(given) => call(&service.job(&given.job), at.json, Call::Cancel).await.map(|_| ()),
         Ask::Delete(given) => delete(&service, given).await,
     }
@@ -129,6 +137,15 @@ async fn call(job: &Job, json: bool, call: Call) -> Result<Value, Ended> {
     }
 }
 
+/// Lets a job go on above what it lost. By default this is further than any job gets: each costs a number and no memory.
+async fn advance(job: &Job, given: &words::Advance) -> Result<(), Ended> {
+    let now = job.term().await?;
+    let next_name = now["next_name"].as_str().and_then(|name| name.parse().ok()).unwrap_or(u64::MAX);
+    let term = given.term.unwrap_or(now["term"].as_u64().unwrap_or_default().saturating_add(LOST_TERMS));
+    let first_name = given.name.unwrap_or(u64::saturating_add(next_name, LOST_NAMES));
+    said(given.at.json, &job.advance(term, first_name).await?, tables::made)
+}
+
 /// Makes the job give out names from a first one on. One that gives out names already goes on there.
 async fn fence(job: &Job, given: &words::Fence) -> Result<(), Ended> {
     match job.fence(given.first_name).await {
@@ -189,6 +206,40 @@ async fn checkpoint(job: &Job, given: &words::Checkpoint) -> Result<(), Ended> {
     }
     complete(job, "checkpoint", id, seq, began + Duration::from_secs(given.wait)).await?;
     said(given.at.json, &json!({"completed": id}), |_| format!("checkpoint {id} is complete\n"))
+}
+
+/// Stops a job. One that stops already, or has stopped, is not stopped again.
+async fn stop(job: &Job, given: &words::Stop) -> Result<(), Ended> {
+    let until = Instant::now() + Duration::from_secs(given.wait);
+    match job.stop_job().await {
+        Ok(reply) => said(given.at.json, &reply, tables::stopping)?,
+        Err(Error::Refused(name)) if STANDS.contains(&name.as_str()) => {}
+        Err(error) => return Err(error.into()),
+    }
+    if given.wait == 0 {
+        return Ok(());
+    }
+    let id = stopped(job, until).await?;
+    said(given.at.json, &json!({"stopped": id}), |_| format!("the job has stopped at savepoint {id}\n"))
+}
+
+/// Waits until a job has stopped, and returns the savepoint.
+async fn stopped(job: &Job, until: Instant) -> Result<u64, Ended> {
+    loop {
+        let state = job.state().await?;
+        let stop = &state["stop"];
+        let id = stop["savepoint"].as_u64().unwrap_or_default();
+        match state["phase"].as_str() {
+            Some("stopped") => return Ok(id),
+            Some("stopping") => {}
+            _ => return Err(Ended::RunsOn(id, stop["failed"].as_str().unwrap_or("it has begun again").to_string())),
+        }
+        let left = until.saturating_duration_since(Instant::now());
+        if left.is_zero() {
+            return Err(Ended::Late("savepoint", id));
+        }
+        job.events(state["seq"].as_u64().unwrap_or_default(), left.as_secs().clamp(1, POLL)).await?;
+    }
 }
 
 async fn set(job: &Job, given: &words::Set) -> Result<(), Ended> {

@@ -26,8 +26,8 @@ pub fn jobs(jobs: &Value) -> String {
     for job in items(jobs) {
         let pending = items(&job["live"]).iter().filter(|record| record["done"] == false).count();
         let files = ["in_use", "waiting", "taken"].map(|name| cell(&job["files"][name])).join("\t");
-        let (name, mode, calls, last) =
-            (cell(&job["name"]), cell(&job["mode"]), cell(&job["seq"]), at(&job["last_completed"]));
+        let (name, calls, last) = (cell(&job["name"]), cell(&job["seq"]), at(&job["last_completed"]));
+        let mode = mode(job);
         rows.push(format!("{name}\t{mode}\t{calls}\t{pending}\t{files}\t{last}"));
     }
     table(&rows)
@@ -39,7 +39,7 @@ pub fn job(job: &Value) -> String {
     let choice = &job["choice"];
     let mut rows = vec![
         format!("job\t{}", cell(&job["name"])),
-        format!("mode\t{}", cell(&job["mode"])),
+        format!("mode\t{}", mode(job)),
         format!("shape\t{}", list(&job["shape"])),
         format!("settings\t{}", settings(&job["settings"])),
         format!("opened\t{}", at(&job["opened"])),
@@ -77,6 +77,23 @@ pub fn job(job: &Value) -> String {
         ));
     }
     format!("{}\n{}", table(&rows), table(&records))
+}
+
+/// What a job is doing. One that stops or has stopped runs as far as the coordinator knows.
+fn mode(job: &Value) -> String {
+    let stop = &job["stop"];
+    match job["phase"].as_str() {
+        Some(phase @ ("stopping" | "stopped")) => format!("{phase}, savepoint {}", cell(&stop["savepoint"])),
+        _ if stop["failed"].is_string() => {
+            format!("{}; its last stop failed: {}", cell(&job["mode"]), cell(&stop["failed"]))
+        }
+        _ => cell(&job["mode"]),
+    }
+}
+
+/// A job that stops from here on.
+pub fn stopping(told: &Value) -> String {
+    format!("the job stops: savepoint {} is triggered\n", cell(&told["id"]))
 }
 
 /// A record, and what is known of it.

@@ -26,6 +26,10 @@ pub enum Ask {
     Checkpoint(Checkpoint),
     /// Change settings of a job while it runs
     Set(Set),
+    /// Stop a job with a savepoint, until it begins again
+    Stop(Stop),
+    /// Begin a job again that has stopped
+    Begin(Begin),
     /// Dispose of a savepoint
     Dispose(Dispose),
     /// Begin a job again from its latest record, or from a savepoint
@@ -34,6 +38,8 @@ pub enum Ask {
     Term(Term),
     /// Make a job give out the names of its files, between the end of all its tasks and their restart
     Fence(Fence),
+    /// Let a job go on from a restored backup, above the terms and names that it lost
+    Advance(Advance),
     /// Cancel a job permanently: its checkpoints are dropped, unless it has `keep_on_cancel`
     Cancel(Cancel),
     /// Delete a job that was cancelled or has failed, with its log and its history
@@ -190,6 +196,27 @@ fn setting(text: &str) -> Result<(String, Value), String> {
 }
 
 #[derive(Args)]
+pub struct Stop {
+    /// The job
+    #[arg(value_parser = job_name)]
+    pub job: String,
+    /// Wait so long until it has stopped
+    #[arg(long, value_name = "SECONDS", default_value_t = 0)]
+    pub wait: u64,
+    #[command(flatten)]
+    pub at: At,
+}
+
+#[derive(Args)]
+pub struct Begin {
+    /// The job
+    #[arg(value_parser = job_name)]
+    pub job: String,
+    #[command(flatten)]
+    pub at: At,
+}
+
+#[derive(Args)]
 pub struct Dispose {
     /// The job
     #[arg(value_parser = job_name)]
@@ -226,6 +253,21 @@ pub struct Term {
     /// The job
     #[arg(value_parser = job_name)]
     pub job: String,
+    #[command(flatten)]
+    pub at: At,
+}
+
+#[derive(Args)]
+pub struct Advance {
+    /// The job
+    #[arg(value_parser = job_name)]
+    pub job: String,
+    /// The greatest term that was told [default: 2^32 above that of the job]
+    #[arg(long, value_name = "TERM")]
+    pub term: Option<u64>,
+    /// The first name, above each that was given out [default: 2^40 above the next one of the job]
+    #[arg(long, value_name = "NAME")]
+    pub name: Option<u64>,
     #[command(flatten)]
     pub at: At,
 }
@@ -275,10 +317,13 @@ impl Ask {
             Ask::Savepoint(given) => &given.at,
             Ask::Checkpoint(given) => &given.at,
             Ask::Set(given) => &given.at,
+            Ask::Stop(given) => &given.at,
+            Ask::Begin(given) => &given.at,
             Ask::Dispose(given) => &given.at,
             Ask::Restore(given) => &given.at,
             Ask::Term(given) => &given.at,
             Ask::Fence(given) => &given.at,
+            Ask::Advance(given) => &given.at,
             Ask::Cancel(given) => &given.at,
             Ask::Delete(given) => &given.at,
         }

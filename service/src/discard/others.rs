@@ -11,8 +11,8 @@ use std::path::Path;
 
 /// How the name of each marker begins.
 pub const MARK: &str = ".relkvanu-";
-/// What follows a marker's name in the names of the files beside it. An earlier version wrote `.new` first.
-const BESIDE: [&str; 3] = [NAMES, BEGUN, ".new"];
+/// What follows a marker's name in the names of the files beside it.
+const BESIDE: [&str; 2] = [NAMES, BEGUN];
 /// The file in which a discarder says how its files are named.
 const NAMES: &str = ".names";
 /// The file in which it says which files it deletes now.

@@ -171,8 +171,7 @@ impl Historian {
         Ok(())
     }
 
-    /// The next calls were cut. So the history goes on from a summary, or from an image if an earlier version of the program
-    /// cut them.
+    /// The next calls were cut. So the history goes on from a summary, or from an image if there is none.
     fn bridge(&mut self, tables: &Tables, follower: &mut Follower) -> Result<(), Error> {
         let from = follower.upto;
         if follower.load(tables, self.reader.as_mut())? {

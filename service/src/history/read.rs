@@ -35,10 +35,8 @@ pub struct RecordRow {
     pub missing: Vec<String>,
     /// How many more were missing.
     pub more_missing: u64,
-    /// The bytes of its new files, and of all files that its acknowledgements name. Summaries of earlier versions have none.
-    #[serde(default)]
+    /// The bytes of its new files, and of all files that its acknowledgements name.
     pub fresh_bytes: Option<i64>,
-    #[serde(default)]
     pub full_bytes: Option<i64>,
 }
 
@@ -159,7 +157,8 @@ impl HistoryReader {
 
     /// The calls at these places, without their lists of files.
     pub fn places(&self, job: i64, places: &[u64]) -> Result<Vec<Entry>, Error> {
-        let sql = "select job, seq, at, record, line, answer, ended, waiting from place where job = ? and seq = ?";
+        let sql =
+            "select job, seq, at, record, line, what, a, b, null, ended, waiting from place where job = ? and seq = ?";
         let at = |seq: &u64| self.all(sql, params![job, bits(*seq)], entry_of);
         Ok(places.iter().map(at).collect::<Result<Vec<_>, Error>>()?.concat())
     }

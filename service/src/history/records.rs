@@ -211,7 +211,7 @@ fn how_pending_ended(call: &Call, entry: &Entry, id: u64, is_expired: bool) -> &
         Call::Tick if is_expired => "expired",
         Call::Decline { .. } if entry.record == Some(id) => DECLINED,
         Call::Tick | Call::Decline { .. } => "failed over",
-        Call::Restore { .. } => "restored",
+        Call::Restore { .. } | Call::Advance { .. } => "restored",
         Call::Cancel => "cancelled",
         _ => "subsumed",
     }

@@ -10,8 +10,8 @@ use serde::{Deserialize, Serialize};
 
 /// The columns of a file that was not reported as deleted: its number, and the places of `born`, `released` and `taken`.
 type File = (i64, Option<i64>, Option<i64>, Option<i64>);
-/// The columns of a call that files name: `seq`, `at`, `record`, `line`, `answer`, `ended` and `waiting`.
-type Place = (i64, i64, Option<i64>, String, String, Option<String>, i64);
+/// The columns of a call that files name: `seq`, `at`, `record`, `line`, `what`, `a`, `b`, `ended` and `waiting`.
+type Place = (i64, i64, Option<i64>, String, i64, i64, i64, Option<String>, i64);
 
 /// All but the records that ended.
 #[derive(Serialize, Deserialize, Debug)]
@@ -25,8 +25,7 @@ pub struct Summary {
     /// The calls that released the files that wait, and of how many files each.
     queue: Vec<(i64, i64)>,
     places: Vec<Place>,
-    /// The files whose bytes are known, and these. Earlier versions have none, and pass over it.
-    #[serde(default)]
+    /// The files whose bytes are known, and these.
     sizes: Vec<(i64, i64)>,
 }
 
@@ -35,7 +34,7 @@ impl Summary {
     pub fn of(tables: &Tables, follower: &Follower) -> rusqlite::Result<Summary> {
         let job = follower.job;
         let files = "select file, born, released, taken from file where job = ? and deleted is null";
-        let places = "select seq, at, record, line, answer, ended, waiting from place where job = ?1 and seq in (
+        let places = "select seq, at, record, line, what, a, b, ended, waiting from place where job = ?1 and seq in (
             select born from file where job = ?1 and deleted is null
             union select released from file where job = ?1 and deleted is null
             union select taken from file where job = ?1 and deleted is null
@@ -91,9 +90,9 @@ impl Summary {
         for (place, (released, files)) in (0_i64..).zip(&self.queue) {
             tables.run("insert into queue values(?, ?, ?, ?)", params![job, place, released, files])?;
         }
-        let sql = "insert or replace into place values(?, ?, ?, ?, ?, ?, ?, ?)";
-        for (seq, at, record, line, answer, ended, waiting) in &self.places {
-            tables.run(sql, params![job, seq, at, record, line, answer, ended, waiting])?;
+        let sql = "insert or replace into place values(?, ?, ?, ?, ?, ?, ?, ?, ?, ?)";
+        for (seq, at, record, line, what, a, b, ended, waiting) in &self.places {
+            tables.run(sql, params![job, seq, at, record, line, what, a, b, ended, waiting])?;
         }
         Ok(())
     }

@@ -2,8 +2,8 @@
 use super::error::Error;
 use super::files::{Born, Run};
 use super::records::Pending;
-use super::version::{foreign, steps_after, version};
-use crate::model::{shape_words, Call, Entry, Kind, SavedRecord};
+use super::version::{foreign, upgrade, STEPS};
+use crate::model::{kind_of, shape_words, Call, Entry, SavedRecord};
 use crate::store::{many, ERASE};
 use crate::writer::JobState;
 use rusqlite::{params, Connection, OptionalExtension, Params, Row};
@@ -38,10 +38,7 @@ impl Tables {
         connection.pragma_update(None, "journal_mode", "wal")?;
         connection.pragma_update(None, "synchronous", "normal")?;
         connection.pragma_update_and_check(None, ERASE.0, ERASE.1, |_| Ok(()))?;
-        let steps = steps_after(version(&connection)?)?;
-        if !steps.is_empty() {
-            connection.execute_batch(&format!("begin immediate; {} commit", steps.concat()))?;
-        }
+        upgrade(&connection, &STEPS)?;
         connection.prepare(PROGRESS).map_err(foreign)?;
         connection.set_prepared_statement_cache_capacity(64);
         Ok(Tables(connection))
@@ -169,11 +166,10 @@ impl Tables {
             Call::Ack { .. } => words(&entry.line, 6),
             _ => entry.line.clone(),
         };
-        let answer = if matches!(call, Call::Take { .. }) { "take" } else { entry.answer.as_str() };
-        let record = entry.record.map(signed);
+        let (record, [what, a, b]) = (entry.record.map(signed), entry.told.numbers());
         let ([seq, at, waiting], ended) = ([entry.seq, entry.at, entry.waiting].map(signed), &entry.ended);
-        let given = params![entry.job, seq, at, record, line, answer, ended, waiting];
-        self.run("insert or replace into place values(?, ?, ?, ?, ?, ?, ?, ?)", given)
+        let given = params![entry.job, seq, at, record, line, what, a, b, ended, waiting];
+        self.run("insert or replace into place values(?, ?, ?, ?, ?, ?, ?, ?, ?, ?)", given)
     }
 
     /// Forgets files that were deleted before the log's first call, and calls before it that no file names.
@@ -193,7 +189,7 @@ impl Tables {
         let mut query = self.0.prepare(PENDING)?;
         let rows = query.query_map([job], |row| {
             let (kind, shape): (String, String) = (row.get(1)?, row.get(2)?);
-            let kind = kind.parse().unwrap_or(Kind::Checkpoint);
+            let kind = kind_of(&kind);
             let shape = shape.split(' ').filter_map(|word| word.parse().ok()).collect();
             let moment = |at: usize| Ok::<_, rusqlite::Error>(row.get::<_, Option<i64>>(at)?.map(unsigned));
             let mut pending = Pending::new(kind, shape, unsigned(row.get(3)?));

@@ -1,14 +1,10 @@
 //! The version of the history's tables, and what makes or upgrades them.
 use super::error::Error;
+use crate::store::steps_after;
 use rusqlite::Connection;
 
-/// What makes each version of the tables from the one before. The first is 2.
-const STEPS: [&str; 3] = [
-    include_str!("../../sql/history.sql"),
-    include_str!("../../sql/history_3.sql"),
-    include_str!("../../sql/history_4.sql"),
-];
-const FIRST_VERSION: i64 = 2;
+/// What makes each version of the tables from the one before.
+pub const STEPS: [&str; 1] = [include_str!("../../sql/history.sql")];
 
 /// The table of a service's calls, which no history has.
 const CALLS: &str = "call";
@@ -24,14 +20,18 @@ pub fn version(connection: &Connection) -> Result<i64, Error> {
     }
 }
 
-/// What is left to do for tables of this version.
-pub fn steps_after(version: i64) -> Result<&'static [&'static str], Error> {
-    let newest = FIRST_VERSION + STEPS.len() as i64 - 1;
-    match version {
-        0 => Ok(&STEPS),
-        _ if version > newest => Err(Error::Newer(version)),
-        _ if version < FIRST_VERSION => Err(Error::Foreign(format!("version {version}"))),
-        _ => Ok(&STEPS[usize::try_from(version - FIRST_VERSION).map_or(STEPS.len(), |done| done + 1)..]),
+/// Makes or upgrades the tables, of which each version has a step, and writes down the version.
+pub fn upgrade(connection: &Connection, steps: &[&str]) -> Result<(), Error> {
+    let (found, newest) = (version(connection)?, steps.len() as i64);
+    match found {
+        _ if found == newest => Ok(()),
+        _ if found > newest => Err(Error::Newer(found)),
+        _ if found < 0 => Err(Error::Foreign(format!("version {found}"))),
+        _ => {
+            let steps = steps_after(found, steps).concat();
+            let number = format!("delete from version; insert into version values({newest});");
+            Ok(connection.execute_batch(&format!("begin immediate; {steps} {number} commit"))?)
+        }
     }
 }
 

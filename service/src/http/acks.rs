@@ -101,6 +101,7 @@ fn part(rising: &[u64], hundredths: usize) -> Option<u64> {
 #[cfg(test)]
 mod tests {
     use super::*;
+    use crate::model::Told;
 
     #[test]
     fn parts_of_a_hundred() {
@@ -112,20 +113,20 @@ mod tests {
 
     #[test]
     fn other_calls_are_no_acknowledgements() {
-        let entry = |line: &str, answer: &str| Entry {
+        let entry = |line: &str, answer: Answer| Entry {
             job: 1,
             seq: 4,
             at: 30,
             record: Some(1),
             line: line.to_string(),
-            answer: answer.to_string(),
+            told: Told::of(&Made::Answered(answer)),
             ended: None,
             waiting: 0,
         };
-        let ack = Ack::of(&entry("ack 30 1 0.1 +5 +6 =2", "ack pending 1"));
+        let ack = Ack::of(&entry("ack 30 1 0.1 +5 +6 =2", Answer::AckPending { missing: 1 }));
         let told = ack.map(|ack| (ack.subtask.to_string(), ack.is_late, ack.fresh, ack.reused));
         assert_eq!(told, Some(("0.1".to_string(), false, 2, 1)));
-        assert!(Ack::of(&entry("ack 30 1 0.1", "ack late 0")).is_some_and(|ack| ack.is_late));
-        assert!(Ack::of(&entry("decline 30 1 0.1", "decline late")).is_none());
+        assert!(Ack::of(&entry("ack 30 1 0.1", Answer::AckLate { handed_out: 0 })).is_some_and(|ack| ack.is_late));
+        assert!(Ack::of(&entry("decline 30 1 0.1", Answer::DeclineLate)).is_none());
     }
 }

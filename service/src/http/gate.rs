@@ -7,6 +7,7 @@ use super::seats::{Kind, Seat};
 use super::{names, operate, others, page, reads, room, stream, trace, view, writes, App};
 use crate::auth::Caller;
 use crate::log;
+use crate::model::Call;
 use hyper::header::{HeaderMap, HeaderName, ALLOW, CONNECTION, CONTENT_TYPE, HOST, RETRY_AFTER, WWW_AUTHENTICATE};
 use hyper::{Body, Request};
 use std::net::IpAddr;
@@ -112,8 +113,11 @@ async fn dispatch(app: &Arc<App>, route: Route, caller: &Caller, request: Reques
         Route::DeleteJob(job) => writes::delete_job(app, job, request.uri().query().unwrap_or("")).await,
         Route::Calls(job) => writes::calls(app, caller, job, request).await,
         Route::Fence(job) => names::fence(app, caller, job, request).await,
+        Route::Advance(job) => names::advance(app, caller, job, request).await,
         Route::Garbage(job) => names::garbage(app, caller, job, request).await,
-        Route::Checkpoint(job) => operate::checkpoint(app, caller, job, request).await,
+        Route::Checkpoint(job) => operate::one(app, caller, job, Call::Trigger, request).await,
+        Route::Stop(job) => operate::one(app, caller, job, Call::Stop, request).await,
+        Route::Begin(job) => operate::one(app, caller, job, Call::Begin, request).await,
         Route::Settings(job) => operate::settings(app, caller, job, request).await,
         Route::Stream(job) => stream::answer(app, job, caller, &request).await,
         read => reads::answer(app, read, caller, request.uri().query().unwrap_or("")).await,

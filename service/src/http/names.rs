@@ -1,5 +1,6 @@
 //! Terms and names: a job that gets names, the term for whoever starts tasks, and which files may be deleted.
 use super::audit::Did;
+use super::operate::answered;
 use super::query::numbers;
 use super::reply::{bad_field, error, invalid, json_reply, refusal, Reply};
 use super::writes::{key_name, read_body};
@@ -8,8 +9,10 @@ use crate::auth::Caller;
 use crate::model::{sha256, Call, Fault, Garbage, Outcome};
 use crate::writer::{CallsDone, Key, Message, Read, ReadDone};
 use hyper::{Body, Request};
-use relkvanu::Fenced;
 use serde_json::{json, Value};
+
+/// A job that gives out no names.
+const NO_NAMES: &str = "NoNames";
 
 /// Gives a job names, from a first one on. The call is in its log, and is made once under a key.
 pub async fn fence(app: &App, caller: &Caller, job: String, request: Request<Body>) -> Result<Reply, Box<Reply>> {
@@ -22,7 +25,7 @@ pub async fn fence(app: &App, caller: &Caller, job: String, request: Request<Bod
     let did = Did::of(&calls);
     let mut reply = match app.ask(|reply| Message::Calls { job, calls, key, reply }).await? {
         CallsDone::Made(epoch, outcomes) => match &outcomes[..] {
-            [Outcome::Refused(Fault::Fenced(why))] => fenced(*why),
+            [Outcome::Refused(Fault::Fenced(why))] => fenced(&why.name()),
             _ => turned(&app.board.answers(epoch, &outcomes), first_name),
         },
         CallsDone::Known(answers) => turned(&answers, first_name),
@@ -35,12 +38,25 @@ pub async fn fence(app: &App, caller: &Caller, job: String, request: Request<Bod
     Ok(reply)
 }
 
+/// Lets a job go on from an older copy of its log: it begins again above the terms and names that it lost. Under a key it is made once.
+pub async fn advance(app: &App, caller: &Caller, job: String, request: Request<Body>) -> Result<Reply, Box<Reply>> {
+    app.number(&job)?;
+    let name = key_name(request.headers())?;
+    let (bytes, _room) = read_body(app, caller, request.into_body()).await?;
+    let (term, first_name) = wire::advance(&bytes).map_err(|why| invalid(&why))?;
+    let key = name.map(|name| Key { name, digest: sha256(&bytes) });
+    let (at, calls) = (job.clone(), vec![Call::Advance { term, first_name }]);
+    let did = Did::of(&calls);
+    let done = app.ask(|reply| Message::Calls { job, calls, key, reply }).await?;
+    Ok(answered(app, &at, done, did))
+}
+
 /// What the answer of the one call says.
 fn turned(answers: &str, first_name: u64) -> Reply {
     let mut told: Value = serde_json::from_str(answers).unwrap_or_default();
     let mut answer = told["answers"][0].take();
     if let Some(why) = answer["fenced"].as_str() {
-        return why.parse().map_or_else(|_| fenced_as(why, why), fenced);
+        return fenced(why);
     }
     if let Some(why) = answer["refused"].as_str() {
         return bad_field("first_name", &format!("is refused: {why}"));
@@ -54,19 +70,14 @@ fn turned(answers: &str, first_name: u64) -> Reply {
     json_reply(200, &answer)
 }
 
-/// What the term or the names refuse.
-fn fenced(why: Fenced) -> Reply {
-    let name = why.name();
-    let text = match why {
-        Fenced::NoNames => "the job gives out no names; POST /v1/jobs/JOB/fence makes it do so, between the end of all its tasks and their restart",
-        Fenced::HasNames => "the job gives out names already",
-        Fenced::NameInUse => "first_name: a file of the job has this number or a greater one",
-        _ => &name,
+/// What the term or the names refuse, by its name.
+fn fenced(name: &str) -> Reply {
+    let text = match name {
+        NO_NAMES => "the job gives out no names; POST /v1/jobs/JOB/fence makes it do so, between the end of all its tasks and their restart",
+        "HasNames" => "the job gives out names already",
+        "NameInUse" => "first_name: a file of the job has this number or a greater one",
+        _ => name,
     };
-    fenced_as(text, &name)
-}
-
-fn fenced_as(text: &str, name: &str) -> Reply {
     refusal(409, json!({"error": text, "fenced": name}))
 }
 
@@ -78,7 +89,7 @@ pub async fn term(app: &App, job: String, query: &str) -> Result<Reply, Box<Repl
             let told = json!({"term": now.term, "next_name": now.next_name.to_string(), "log": app.board.log()});
             Ok(json_reply(200, &told))
         }
-        ReadDone::Term(None) => Err(fenced(Fenced::NoNames).into()),
+        ReadDone::Term(None) => Err(fenced(NO_NAMES).into()),
         _ => Err(no_job(&job).into()),
     }
 }
@@ -100,7 +111,7 @@ pub async fn garbage(app: &App, caller: &Caller, job: String, request: Request<B
                 &json!({"garbage": texts(garbage), "unissued": texts(unissued), "log": app.board.log()}),
             ))
         }
-        ReadDone::Garbage(Err(Fault::Fenced(why))) => Err(fenced(why).into()),
+        ReadDone::Garbage(Err(Fault::Fenced(why))) => Err(fenced(&why.name()).into()),
         ReadDone::Garbage(Err(_)) => Err(error(507, "memory ran out").into()),
         _ => Err(no_job(&job).into()),
     }

@@ -1,4 +1,4 @@
-//! What an operator does to a job that is open: a checkpoint now, and other settings.
+//! What an operator does to a job that is open: a checkpoint now, a stop and the beginning after it, and other settings.
 use super::audit::Did;
 use super::reply::{error, invalid, json_reply, refusal, Reply};
 use super::writes::{key_name, key_used, read_body};
@@ -9,14 +9,20 @@ use crate::writer::{CallsDone, Key, Message};
 use hyper::{Body, Request};
 use serde_json::{json, Value};
 
-/// Triggers a checkpoint, whatever the interval and the pause. Under a key it is triggered once.
-pub async fn checkpoint(app: &App, caller: &Caller, job: String, request: Request<Body>) -> Result<Reply, Box<Reply>> {
+/// Makes the one call that a path is of. Under a key it is made once.
+pub async fn one(
+    app: &App,
+    caller: &Caller,
+    job: String,
+    call: Call,
+    request: Request<Body>,
+) -> Result<Reply, Box<Reply>> {
     app.number(&job)?;
     let name = key_name(request.headers())?;
     let (bytes, _room) = read_body(app, caller, request.into_body()).await?;
     wire::nothing(&bytes).map_err(|why| invalid(&why))?;
     let key = name.map(|name| Key { name, digest: sha256(&bytes) });
-    let (at, calls) = (job.clone(), vec![Call::Trigger]);
+    let (at, calls) = (job.clone(), vec![call]);
     let did = Did::of(&calls);
     let done = app.ask(|reply| Message::Calls { job, calls, key, reply }).await?;
     Ok(answered(app, &at, done, did))
@@ -32,7 +38,7 @@ pub async fn settings(app: &App, caller: &Caller, job: String, request: Request<
     Ok(answered(app, &at, done, Some(Did::settings(&change))))
 }
 
-fn answered(app: &App, job: &str, done: CallsDone, did: Option<Did>) -> Reply {
+pub(super) fn answered(app: &App, job: &str, done: CallsDone, did: Option<Did>) -> Reply {
     let mut reply = match done {
         CallsDone::Made(epoch, outcomes) => turned(&app.board.answers(epoch, &outcomes)),
         CallsDone::Known(answers) => turned(&answers),
@@ -49,6 +55,9 @@ fn answered(app: &App, job: &str, done: CallsDone, did: Option<Did>) -> Reply {
 fn turned(answers: &str) -> Reply {
     let mut told: Value = serde_json::from_str(answers).unwrap_or_default();
     let mut answer = told["answers"][0].take();
+    if let Some(why) = answer["fenced"].as_str() {
+        return refusal(409, json!({"error": format!("its terms or names refuse it: {why}"), "fenced": why}));
+    }
     if let Some(why) = answer["refused"].as_str() {
         return refusal(409, json!({"error": format!("the coordinator refuses it: {why}"), "refused": why}));
     }
@@ -73,6 +82,7 @@ mod tests {
         assert_eq!(status(json!({"tick": "triggered", "expired": 0, "id": 3, "seq": 7})), 200);
         assert_eq!(status(json!({"configure": "configured", "dropped": 0, "released": 0, "seq": 7})), 200);
         assert_eq!(status(json!({"refused": "AtOnce"})), 409);
+        assert_eq!(status(json!({"fenced": "NoNames"})), 409);
         assert_eq!(status(json!({"no_memory": true})), 507);
     }
 }

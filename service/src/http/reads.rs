@@ -51,6 +51,9 @@ pub async fn answer(app: &App, route: Route, caller: &Caller, query: &str) -> Re
         | Route::Settings(_)
         | Route::Jobs
         | Route::View(_)
+        | Route::Stop(_)
+        | Route::Begin(_)
+        | Route::Advance(_)
         | Route::Stream(_) => Err(error(404, "is no read").into()),
     }
 }

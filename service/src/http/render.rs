@@ -38,6 +38,8 @@ pub fn job(state: &JobState, log: &str) -> Value {
         "shape": state.shape,
         "opened": state.opening.started,
         "mode": mode(state.mode),
+        "phase": state.phase.word(),
+        "stop": state.phase.stop_json(),
         "log": log,
         "seq": state.seq,
         "now": state.now,
@@ -64,7 +66,7 @@ pub struct Row<'a> {
     at: u64,
     record: Option<u64>,
     line: Cow<'a, str>,
-    answer: &'a str,
+    answer: String,
     ended: Vec<u64>,
     waiting: u64,
 }
@@ -72,9 +74,9 @@ pub struct Row<'a> {
 impl Row<'_> {
     /// The row with its term, or without it.
     fn of(entry: &Entry, has_term: bool) -> Row<'_> {
-        let Entry { seq, at, record, line, answer, waiting, .. } = entry;
+        let Entry { seq, at, record, line, told, waiting, .. } = entry;
         let line = if has_term { Cow::Borrowed(line.as_str()) } else { without_term(line) };
-        Row { seq: *seq, at: *at, record: *record, line, answer, ended: entry.ended(), waiting: *waiting }
+        Row { seq: *seq, at: *at, record: *record, line, answer: told.text(), ended: entry.ended(), waiting: *waiting }
     }
 }
 

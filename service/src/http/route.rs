@@ -27,6 +27,12 @@ pub enum Route {
     Checkpoint(String),
     /// Other settings of a job that is open.
     Settings(String),
+    /// The job stops with a savepoint.
+    Stop(String),
+    /// A job that has stopped begins again.
+    Begin(String),
+    /// A job goes on from an older copy of its log, above the terms and names that it lost.
+    Advance(String),
     Records(String),
     Record(String, u64),
     /// When each subtask acknowledged a record.
@@ -55,7 +61,7 @@ pub enum NoRoute {
 
 /// All routes of the API. The description must have each.
 #[cfg(test)]
-pub const API: [(&str, &str); 25] = [
+pub const API: [(&str, &str); 28] = [
     ("get", "/healthz"),
     ("get", "/readyz"),
     ("get", "/metrics"),
@@ -70,6 +76,9 @@ pub const API: [(&str, &str); 25] = [
     ("post", "/v1/jobs/{job}/garbage"),
     ("post", "/v1/jobs/{job}/checkpoints"),
     ("patch", "/v1/jobs/{job}/settings"),
+    ("post", "/v1/jobs/{job}/stop"),
+    ("post", "/v1/jobs/{job}/begin"),
+    ("post", "/v1/jobs/{job}/advance"),
     ("get", "/v1/jobs/{job}/records"),
     ("get", "/v1/jobs/{job}/records/{id}"),
     ("get", "/v1/jobs/{job}/records/{id}/acks"),
@@ -116,6 +125,9 @@ impl Route {
             ["fence"] => Some(Route::Fence(name.clone())),
             ["garbage"] => Some(Route::Garbage(name.clone())),
             ["checkpoints"] => Some(Route::Checkpoint(name.clone())),
+            ["stop"] => Some(Route::Stop(name.clone())),
+            ["begin"] => Some(Route::Begin(name.clone())),
+            ["advance"] => Some(Route::Advance(name.clone())),
             _ => None,
         };
         if let Some(route) = posted {
@@ -155,8 +167,8 @@ impl Route {
         match self {
             Route::Asset(_) | Route::Health | Route::Ready => None,
             Route::NewJob | Route::Calls(_) | Route::DeleteJob(_) => Some(Access::Write),
-            Route::Fence(_) | Route::Term(_) | Route::Garbage(_) => Some(Access::Write),
-            Route::Checkpoint(_) | Route::Settings(_) => Some(Access::Write),
+            Route::Fence(_) | Route::Term(_) | Route::Garbage(_) | Route::Advance(_) => Some(Access::Write),
+            Route::Checkpoint(_) | Route::Settings(_) | Route::Stop(_) | Route::Begin(_) => Some(Access::Write),
             _ => Some(Access::Read),
         }
     }
@@ -167,8 +179,8 @@ impl Route {
             Route::Job(job) | Route::DeleteJob(job) | Route::Calls(job) | Route::Records(job) => Some(job),
             Route::Record(job, _) | Route::Acks(job, _) | Route::Files(job) | Route::File(job, _) => Some(job),
             Route::Log(job) | Route::Events(job) | Route::Stream(job) | Route::Samples(job) => Some(job),
-            Route::Fence(job) | Route::Term(job) | Route::Garbage(job) => Some(job),
-            Route::Checkpoint(job) | Route::Settings(job) => Some(job),
+            Route::Fence(job) | Route::Term(job) | Route::Garbage(job) | Route::Advance(job) => Some(job),
+            Route::Checkpoint(job) | Route::Settings(job) | Route::Stop(job) | Route::Begin(job) => Some(job),
             Route::View(job) => job.as_deref(),
             Route::Asset(_) | Route::Health | Route::Ready | Route::Metrics | Route::Jobs | Route::NewJob => None,
         }
@@ -176,8 +188,8 @@ impl Route {
 
     /// Whether it has a body of JSON. A page of another site can't send that type, nor a DELETE.
     pub fn has_body(&self) -> bool {
-        matches!(self, Route::NewJob | Route::Calls(_) | Route::Fence(_) | Route::Garbage(_))
-            || matches!(self, Route::Checkpoint(_) | Route::Settings(_))
+        matches!(self, Route::NewJob | Route::Calls(_) | Route::Fence(_) | Route::Garbage(_) | Route::Advance(_))
+            || matches!(self, Route::Checkpoint(_) | Route::Settings(_) | Route::Stop(_) | Route::Begin(_))
     }
 
     /// The kind of place that its connection takes.
@@ -212,6 +224,9 @@ impl Route {
             Route::Garbage(_) => "garbage",
             Route::Checkpoint(_) => "checkpoint",
             Route::Settings(_) => "settings",
+            Route::Stop(_) => "stop",
+            Route::Begin(_) => "begin",
+            Route::Advance(_) => "advance",
             Route::Records(_) => "records",
             Route::Record(..) => "record",
             Route::Acks(..) => "acks",
@@ -289,8 +304,8 @@ mod tests {
         assert_eq!(Route::of(&Method::PUT, "/v1/jobs"), Err(NoRoute::Method("GET, POST")));
         assert_eq!(Route::of(&Method::PUT, "/v1/jobs/a"), Err(NoRoute::Method("GET, DELETE")));
         assert_eq!(Route::of(&Method::DELETE, "/v1/jobs/a/log"), Err(NoRoute::Method("GET")));
-        for path in ["/v1/jobs/a/calls", "/v1/jobs/a/fence", "/v1/jobs/a/garbage", "/v1/jobs/a/checkpoints"] {
-            assert_eq!(Route::of(&Method::GET, path), Err(NoRoute::Method("POST")));
+        for path in ["calls", "fence", "garbage", "checkpoints", "stop", "begin", "advance"] {
+            assert_eq!(Route::of(&Method::GET, &format!("/v1/jobs/a/{path}")), Err(NoRoute::Method("POST")));
         }
         assert_eq!(Route::of(&Method::POST, "/v1/jobs/a/term"), Err(NoRoute::Method("GET")));
         assert_eq!(Route::of(&Method::GET, "/v1/jobs/a/settings"), Err(NoRoute::Method("PATCH")));

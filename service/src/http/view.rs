@@ -91,8 +91,11 @@ async fn own(
 ) -> Result<(Shards, Value), Box<Reply>> {
     let (shards, mut jobs) = app.jobs().await?;
     jobs.retain(|job| caller.may_see(&job.opening.name));
-    let names: Vec<Value> =
-        jobs.iter().map(|job| json!({"name": job.opening.name, "mode": render::mode(job.mode)})).collect();
+    let told_of = |job: &JobState| {
+        let (mode, phase) = (render::mode(job.mode), job.phase.word());
+        json!({"name": job.opening.name, "mode": mode, "phase": phase})
+    };
+    let names: Vec<Value> = jobs.iter().map(told_of).collect();
     let mut told = json!({"epoch": app.board.epoch(), "jobs": names, "job": null});
     let shown = jobs.iter().find(|job| Some(&job.opening.name) == name).or(jobs.first());
     if let (Some(job), Some(object)) = (shown, told.as_object_mut()) {

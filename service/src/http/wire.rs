@@ -33,6 +33,14 @@ impl Members<'_> {
         text.parse().map_err(|()| self.wrong("subtask", "is no subtask, as \"1.0\""))
     }
 
+    fn first_name(&mut self) -> Checked<u64> {
+        let value = self.wanted("first_name")?;
+        let number =
+            text(value).map_or_else(|| read::<u64>(value).filter(|it| *it <= GREATEST), |text| parse_file(&text));
+        let wrong = || self.wrong("first_name", "is no whole number from 1 to 2^62, which above 2^53 is a string");
+        number.filter(|number| (1..=LAST_NAME).contains(number)).ok_or_else(wrong)
+    }
+
     fn file(&mut self) -> Checked<u64> {
         let value = self.wanted("file")?;
         file(value, || self.field("file"))
@@ -140,11 +148,17 @@ pub fn new_job(bytes: &[u8]) -> Checked<NewJob> {
 /// Reads the body that gives a job names: the first one, as a string or as a number.
 pub fn first_name(bytes: &[u8]) -> Checked<u64> {
     let mut members = Members::of_body(bytes)?;
-    let value = members.wanted("first_name")?;
+    let number = members.first_name()?;
     members.finish()?;
-    let number = text(value).map_or_else(|| read::<u64>(value).filter(|it| *it <= GREATEST), |text| parse_file(&text));
-    let wrong = || invalid("first_name", "is no whole number from 1 to 2^62, which above 2^53 is a string");
-    number.filter(|number| (1..=LAST_NAME).contains(number)).ok_or_else(wrong)
+    Ok(number)
+}
+
+/// Reads the body of an advance: the greatest term that was told, and the first name that may be given out.
+pub fn advance(bytes: &[u8]) -> Checked<(u64, u64)> {
+    let mut members = Members::of_body(bytes)?;
+    let (term, first_name) = (members.number("term", 0, GREATEST)?, members.first_name()?);
+    members.finish()?;
+    Ok((term, first_name))
 }
 
 /// Reads the body that asks which files may be deleted.
@@ -379,6 +393,16 @@ mod tests {
         for bad in ["0", r#""0""#, r#""4611686018427387905""#, "9007199254740993", "1.5", r#""x""#, "null", "[]"] {
             let body = format!(r#"{{"first_name":{bad}}}"#);
             assert_eq!(first_name(body.as_bytes()).err().map(|it| it.field).as_deref(), Some("first_name"), "{bad}");
+        }
+        assert_eq!(advance(br#"{"term":3,"first_name":"20"}"#), Ok((3, 20)));
+        for (bad, field) in [
+            (r#"{"first_name":"20"}"#, "term"),
+            (r#"{"term":-1,"first_name":"20"}"#, "term"),
+            (r#"{"term":3}"#, "first_name"),
+            (r#"{"term":3,"first_name":"0"}"#, "first_name"),
+            (r#"{"term":3,"first_name":"20","shape":[1]}"#, "shape"),
+        ] {
+            assert_eq!(advance(bad.as_bytes()).err().map(|it| it.field).as_deref(), Some(field), "{bad}");
         }
         assert_eq!(garbage(br#"{"files":["7","8"]}"#), Ok(vec![7, 8]));
         let field = |body: &str| garbage(body.as_bytes()).err().map(|it| it.field).unwrap_or_default();

@@ -1,11 +1,12 @@
 //! The gauges of jobs, which each scrape sets anew.
 use super::{forget, gauge, seconds, set, set_seconds, Families, KINDS, STATES};
-use crate::model::Mode;
+use crate::model::{Mode, Phase};
 use crate::writer::JobState;
 use prometheus::{GaugeVec, IntGaugeVec};
 
 pub struct Gauges {
     mode: IntGaugeVec,
+    phase: IntGaugeVec,
     interval: GaugeVec,
     timeout: GaugeVec,
     completed: GaugeVec,
@@ -29,6 +30,11 @@ impl Gauges {
     pub fn new() -> Result<Gauges, prometheus::Error> {
         Ok(Gauges {
             mode: gauge("relkvanu_mode", "What the job is doing: 1 running, 2 failed, 3 cancelled.", &["job_name"])?,
+            phase: gauge(
+                "relkvanu_phase",
+                "Whether somebody stops the job: 1 it runs, 2 it stops, 3 it has stopped.",
+                &["job_name"],
+            )?,
             interval: seconds("relkvanu_interval_seconds", "From one trigger to the next, the pause if it is longer.")?,
             timeout: seconds("relkvanu_timeout_seconds", "How long a record may wait for acknowledgements.")?,
             completed: seconds(
@@ -100,9 +106,10 @@ impl Gauges {
     }
 
     /// Those of whole numbers.
-    fn whole(&self) -> [&IntGaugeVec; 11] {
+    fn whole(&self) -> [&IntGaugeVec; 12] {
         let Gauges {
             mode,
+            phase,
             files,
             pending,
             savepoints,
@@ -115,7 +122,20 @@ impl Gauges {
             next_name,
             ..
         } = self;
-        [mode, files, pending, savepoints, log_calls, kept_calls, image_bytes, since_image, history, term, next_name]
+        [
+            mode,
+            phase,
+            files,
+            pending,
+            savepoints,
+            log_calls,
+            kept_calls,
+            image_bytes,
+            since_image,
+            history,
+            term,
+            next_name,
+        ]
     }
 
     pub fn register(&self, all: &mut Families) -> Result<(), prometheus::Error> {
@@ -132,6 +152,12 @@ impl Gauges {
             _ => 0,
         };
         set(&self.mode, &[name], mode);
+        let phase = match job.phase {
+            Phase::Running | Phase::NotStopped(..) => 1,
+            Phase::Stopping(_) => 2,
+            Phase::Stopped(..) => 3,
+        };
+        set(&self.phase, &[name], phase);
         let settings = &job.settings;
         set_seconds(&self.interval, name, settings.interval.max(settings.pause));
         set_seconds(&self.timeout, name, settings.timeout);

@@ -27,7 +27,7 @@ const ROWS: [f64; 8] = [1.0, 4.0, 16.0, 64.0, 256.0, 1024.0, 4096.0, 16384.0];
 const DURATIONS: [f64; 12] = [0.1, 0.25, 0.5, 1.0, 2.5, 5.0, 10.0, 30.0, 60.0, 120.0, 300.0, 600.0];
 
 /// The words of labels, by which the values of a job are found again. A deletion looks at these alone, and not at those of all jobs.
-const CALLS: [&str; 15] = [
+const CALLS: [&str; 18] = [
     "tick",
     "savepoint",
     "ack",
@@ -43,6 +43,9 @@ const CALLS: [&str; 15] = [
     "forfeit",
     "trigger",
     "configure",
+    "stop",
+    "begin",
+    "advance",
 ];
 const OUTCOMES: [&str; 5] = ["made", "fenced", "refused", "no_memory", "not_made"];
 const KINDS: [&str; 2] = Search::KINDS;
@@ -329,8 +332,9 @@ mod tests {
         let forms = api["components"]["schemas"]["Call"]["oneOf"].as_array().cloned().unwrap_or_default();
         let calls: BTreeSet<&str> =
             forms.iter().filter_map(|form| form["properties"]["call"]["enum"][0].as_str()).collect();
-        // two calls have paths of their own
-        let known: BTreeSet<&str> = CALLS.into_iter().filter(|call| !["fence", "configure"].contains(call)).collect();
+        // these have paths of their own
+        let own = ["fence", "configure", "stop", "begin", "advance"];
+        let known: BTreeSet<&str> = CALLS.into_iter().filter(|call| !own.contains(call)).collect();
         assert_eq!(calls, known);
         Ok(())
     }

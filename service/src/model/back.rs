@@ -19,18 +19,22 @@ struct Part {
 }
 
 impl Job {
-    /// Restores the job to a checkpoint that is retained, in a new shape if one is given. Returns the answer of the restore, and the rows of
-    /// all calls, which are for one commit. A refusal of one of them takes back what was done before it, so no file is lost.
-    pub fn go_back(&mut self, checkpoint: u64, shape: Option<&[u64]>, now: u64) -> (Outcome, Vec<Logged>) {
-        let mut made = Vec::new();
-        let outcome = match self.parts(checkpoint) {
+    /// Restores the job to a checkpoint that is retained, in a new shape if one is given. Returns the answer of the restore, and adds the rows
+    /// of all calls, which are for one commit. A refusal of one of them takes back what was done before it, so no file is lost.
+    pub(super) fn go_back(
+        &mut self,
+        checkpoint: u64,
+        shape: Option<&[u64]>,
+        now: u64,
+        made: &mut Vec<Logged>,
+    ) -> Outcome {
+        match self.parts(checkpoint) {
             Err(outcome) => outcome,
             Ok(_) if self.engine().choice() == Choice::Checkpoint(checkpoint) => {
-                self.step(&Call::Restore { target: Target::Latest, shape: shape.map(<[u64]>::to_vec) }, now, &mut made)
+                self.step(&Call::Restore { target: Target::Latest, shape: shape.map(<[u64]>::to_vec) }, now, made)
             }
-            Ok(parts) => self.restore_copy(&parts, shape, now, &mut made),
-        };
-        (outcome, made)
+            Ok(parts) => self.restore_copy(&parts, shape, now, made),
+        }
     }
 
     /// What each subtask has in a checkpoint, if the job can go back to it.
@@ -77,12 +81,6 @@ impl Job {
         }
         outcome
     }
-
-    fn step(&mut self, call: &Call, now: u64, made: &mut Vec<Logged>) -> Outcome {
-        let (outcome, logged) = self.call(call, now);
-        made.extend(logged);
-        outcome
-    }
 }
 
 #[cfg(test)]
@@ -120,12 +118,16 @@ mod tests {
         Ok(job)
     }
 
+    fn go_back(job: &mut Job, checkpoint: u64, now: u64) -> (Outcome, Vec<Logged>) {
+        job.operate(&Call::Restore { target: Target::Checkpoint(checkpoint), shape: None }, now)
+    }
+
     #[test]
     fn an_older_checkpoint_is_one_to_go_back_to() -> Result<(), Box<dyn Error>> {
         let mut job = with_three()?;
         let before = job.engine().counts().in_use;
         assert_eq!(before, 6);
-        let (outcome, made) = job.go_back(2, None, 40);
+        let (outcome, made) = go_back(&mut job, 2, 40);
         let lines: Vec<&str> = made.iter().map(|one| one.entry.line.as_str()).collect();
         assert_eq!(lines, ["savepoint 40", "ack 40 4 0.0 =10 =20", "ack 40 4 0.1 =21", "restore 40 4"]);
         assert!(matches!(outcome, Outcome::Made { beside: Beside::Nothing, .. }), "{outcome:?}");
@@ -138,7 +140,7 @@ mod tests {
     #[test]
     fn the_latest_needs_no_savepoint() -> Result<(), Box<dyn Error>> {
         let mut job = with_three()?;
-        let (_, made) = job.go_back(3, None, 40);
+        let (_, made) = go_back(&mut job, 3, 40);
         let lines: Vec<&str> = made.iter().map(|one| one.entry.line.as_str()).collect();
         assert_eq!((lines, job.live().len()), (vec!["restore 40 latest"], 3));
         Ok(())
@@ -149,13 +151,13 @@ mod tests {
         let mut job = with_three()?;
         let (seq, image) = (job.seq, job.engine().image());
         for id in [0, 4, 9] {
-            let (outcome, made) = job.go_back(id, None, 40);
+            let (outcome, made) = go_back(&mut job, id, 40);
             assert_eq!((outcome, made.len()), (Outcome::Unable(Unable::NoSuchCheckpoint), 0));
         }
         assert_eq!((job.seq, job.engine().image()), (seq, image));
         job.call(&Call::Restore { target: Target::Latest, shape: Some(vec![1]) }, 50);
         let (seq, image) = (job.seq, job.engine().image());
-        let (outcome, made) = job.go_back(2, None, 60);
+        let (outcome, made) = go_back(&mut job, 2, 60);
         assert_eq!((outcome, made.len()), (Outcome::Unable(Unable::OtherShape), 0));
         assert_eq!((job.seq, job.engine().image()), (seq, image));
         Ok(())
@@ -168,7 +170,7 @@ mod tests {
         job.call(&Call::Decline { term: 0, id: 4, subtask: Subtask { vertex: 0, index: 0 } }, 51);
         // no failed checkpoint is tolerated, so the job has failed
         let (seq, image) = (job.seq, job.engine().image());
-        let (outcome, made) = job.go_back(1, None, 60);
+        let (outcome, made) = go_back(&mut job, 1, 60);
         assert_eq!((outcome.json()["refused"].as_str(), made.len()), (Some("NotRunning"), 0));
         assert_eq!((job.seq, job.engine().image()), (seq, image));
         Ok(())

@@ -48,7 +48,7 @@ impl From<(u16, u16)> for Subtask {
 pub enum Target {
     Latest,
     Savepoint(u64),
-    /// An older checkpoint that is retained. The job makes several calls of it ([`Job::go_back`](super::job::Job::go_back)).
+    /// An older checkpoint that is retained. The job makes several calls of it ([`Job::operate`](super::job::Job::operate)).
     Checkpoint(u64),
 }
 
@@ -101,12 +101,21 @@ pub enum Call {
     Take {
         most: u64,
     },
+    /// Triggers the savepoint with which the job stops. The job makes several calls of it ([`Job::operate`](super::job::Job::operate)).
+    Stop,
+    /// Begins the job again where it has stopped.
+    Begin,
     /// From here on the job has these settings, as [`Settings::numbers`](relkvanu::Settings::numbers) gives them.
     Configure {
         numbers: [u64; 7],
     },
     /// From here on the job gives out names, from this one on.
     Fence {
+        first_name: u64,
+    },
+    /// The job goes on from an older copy of its log: it begins again in a term above this one, and gives out names from this one on.
+    Advance {
+        term: u64,
         first_name: u64,
     },
     /// A task of this term reserves so many names.
@@ -138,8 +147,11 @@ impl Call {
             Call::Decline { .. } => "decline",
             Call::Restore { .. } => "restore",
             Call::Take { .. } => "take",
+            Call::Stop => "stop",
+            Call::Begin => "begin",
             Call::Configure { .. } => "configure",
             Call::Fence { .. } => "fence",
+            Call::Advance { .. } => "advance",
             Call::Reserve { .. } => "reserve",
             Call::Forfeit { .. } => "forfeit",
         }

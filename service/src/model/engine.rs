@@ -108,19 +108,6 @@ impl Engine {
         }
     }
 
-    /// Makes the call of a line, as the library reads it.
-    pub fn make_line(&mut self, line: &str) -> Result<Reply, Fault> {
-        let line = line.as_bytes();
-        match self.0.line(line, &mut []) {
-            // files to take: nothing has changed
-            Err(Fault::TooShort { places }) => {
-                let mut files = vec![0; usize::try_from(places).unwrap_or(0)];
-                reply(self.0.line(line, &mut files))
-            }
-            said => reply(said),
-        }
-    }
-
     pub fn mode(&self) -> Mode {
         self.0.mode()
     }

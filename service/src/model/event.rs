@@ -1,5 +1,4 @@
-//! Which answers are events for engines. The log has the word of each: the database makes it of the answer (`sql/event.sql`), and a test
-//! compares it with what is said here.
+//! Which answers are events for engines. An index of the log has their rows, and a test compares its condition with what is said here.
 use super::outcome::Reply;
 use relkvanu::{Answer, Choice};
 
@@ -72,76 +71,87 @@ pub fn kind(reply: &Reply) -> Option<&'static str> {
 
 #[cfg(test)]
 mod tests {
+    use super::super::told::Told;
     use super::*;
-    use crate::store::EVENT;
+    use crate::store::{IS_EVENT, LITE, PG};
     use rusqlite::Connection;
+    use Answer as A;
 
-    /// Lines with their answers, as docs/RULES.md says; the event that each is, by docs/SERVICE-API.md.
-    const CALLS: [(&str, &str, Option<&str>); 33] = [
-        ("tick 9", "tick expired 0 triggered 1", Some("triggered")),
-        ("tick 9", "tick expired 2 triggered 3", Some("triggered")),
-        ("tick 9", "tick expired 0 held interval", None),
-        ("tick 9", "tick expired 1 held interval", Some("expired")),
-        ("tick 9", "tick expired 0 held at-once", None),
-        ("tick 9", "tick expired 1 held at-once", Some("expired")),
-        ("tick 9", "tick expired 0 held pause", None),
-        ("tick 9", "tick expired 3 held pause", Some("expired")),
-        ("tick 9", "tick expired 1 failed", Some("failed")),
-        ("savepoint 9", "savepoint triggered 4", Some("triggered")),
-        ("ack 9 1 0.0 +1", "ack pending 2", None),
-        ("ack 9 1 0.0", "ack completed 0 0", Some("completed")),
-        ("ack 9 1 0.0", "ack completed 1 2", Some("completed")),
-        ("ack 9 1 0.0 +7", "ack late 1", None),
-        ("decline 9 1 0.0", "decline aborted 0", Some("declined")),
-        ("decline 9 1 0.0", "decline failed 2", Some("failed")),
-        ("decline 9 1 0.0", "decline late", None),
-        ("dispose 1", "disposed 0", Some("disposed")),
-        ("restore 9 latest", "restored checkpoint 1 0", Some("restored")),
-        ("restore 9 4 1 2", "restored savepoint 4 3", Some("restored")),
-        ("restore 9 latest", "restored fresh 0", Some("restored")),
-        ("cancel 9", "cancelled 0 0", Some("cancelled")),
-        ("cancel 9", "cancelled 1 2", Some("cancelled")),
-        ("take 3", "take 7 8 9", None),
-        ("deleted 7", "deleted 7", None),
-        ("undeleted 7", "undeleted 7", None),
-        ("fence 20", "term 1", None),
-        ("reserve 3 1000", "reserved 20", None),
-        ("forfeit 3 20", "forfeited", None),
-        ("in 3 ack 9 1 0.0 +20", "ack pending 2", None),
-        ("in 3 ack 9 1 0.0 +20", "ack completed 1 2", Some("completed")),
-        ("in 3 decline 9 1 0.0", "decline aborted 0", Some("declined")),
-        ("in 3 decline 9 1 0.0", "decline late", None),
-    ];
+    const fn said(answer: Answer) -> Reply {
+        Reply::Answered(answer)
+    }
 
-    #[test]
-    fn each_answer_is_the_event_that_it_should_be() -> Result<(), relkvanu::ParseError> {
-        for (line, answer, word) in CALLS {
-            let reply: Reply = answer.parse()?;
-            assert_eq!((reply.text().as_str(), Event::of(&reply).map(Event::word)), (answer, word), "{line}");
-        }
-        let kinds =
-            ["tick expired 0 triggered 1", "savepoint triggered 4", "restored savepoint 4 3", "restored fresh 0"];
-        let kinds = kinds.map(|answer| answer.parse().map(|reply| kind(&reply)));
-        assert_eq!(kinds, [Ok(Some("checkpoint")), Ok(Some("savepoint")), Ok(Some("savepoint")), Ok(Some("fresh"))]);
-        Ok(())
+    /// Answers, as docs/RULES.md says; the event that each is, by docs/SERVICE-API.md. None is left out.
+    fn answers() -> Vec<(Reply, Option<&'static str>)> {
+        let restored = |from| said(A::Restored { from, released: 3 });
+        vec![
+            (said(A::Triggered { expired: 0, id: 1 }), Some("triggered")),
+            (said(A::Triggered { expired: 2, id: 3 }), Some("triggered")),
+            (said(A::HeldInterval { expired: 0 }), None),
+            (said(A::HeldInterval { expired: 1 }), Some("expired")),
+            (said(A::HeldAtOnce { expired: 0 }), None),
+            (said(A::HeldAtOnce { expired: 1 }), Some("expired")),
+            (said(A::HeldPause { expired: 0 }), None),
+            (said(A::HeldPause { expired: 3 }), Some("expired")),
+            (said(A::Failed { expired: 0 }), Some("failed")),
+            (said(A::Failed { expired: 1 }), Some("failed")),
+            (said(A::SavepointTriggered(4)), Some("triggered")),
+            (said(A::AckPending { missing: 2 }), None),
+            (said(A::AckCompleted { dropped: 0, released: 0 }), Some("completed")),
+            (said(A::AckCompleted { dropped: 1, released: 2 }), Some("completed")),
+            (said(A::AckLate { handed_out: 1 }), None),
+            (said(A::DeclineAborted { released: 0 }), Some("declined")),
+            (said(A::DeclineFailed { released: 2 }), Some("failed")),
+            (said(A::DeclineLate), None),
+            (said(A::Disposed { released: 0 }), Some("disposed")),
+            (restored(Choice::Checkpoint(1)), Some("restored")),
+            (restored(Choice::Savepoint(4)), Some("restored")),
+            (restored(Choice::Fresh), Some("restored")),
+            (said(A::Cancelled { dropped: 0, released: 0 }), Some("cancelled")),
+            (said(A::Cancelled { dropped: 1, released: 2 }), Some("cancelled")),
+            (said(A::Configured { checkpoints: 1, released: 2 }), None),
+            (said(A::Deleted(u64::MAX)), None),
+            (said(A::Undeleted(7)), None),
+            (said(A::Counted { file: 7, uses: 1 }), None),
+            (said(A::Named), None),
+            (said(A::Reserved(20)), None),
+            (said(A::Forfeited), None),
+            (Reply::Taken(vec![7, 8, 9]), None),
+        ]
     }
 
     #[test]
-    fn the_database_has_the_same_words() -> rusqlite::Result<()> {
+    fn each_answer_is_the_event_that_it_should_be() {
+        for (reply, word) in answers() {
+            assert_eq!(Event::of(&reply).map(Event::word), word, "{reply:?}");
+        }
+        let listed: Vec<u32> = answers().iter().map(|(reply, _)| Told::of(reply).what).collect();
+        let left_out = (0..200).find(|what| Answer::of_numbers(*what, 0, 0).is_some() && !listed.contains(what));
+        assert_eq!(left_out, None);
+        let restored = |from| said(A::Restored { from, released: 0 });
+        let kinds = [
+            said(A::Triggered { expired: 0, id: 1 }),
+            said(A::SavepointTriggered(4)),
+            restored(Choice::Savepoint(4)),
+            restored(Choice::Fresh),
+        ];
+        assert_eq!(
+            kinds.map(|reply| kind(&reply)),
+            [Some("checkpoint"), Some("savepoint"), Some("savepoint"), Some("fresh")]
+        );
+    }
+
+    /// The index of each database has the rows that are events, by the condition that the statements have.
+    #[test]
+    fn the_databases_have_the_same_events() -> rusqlite::Result<()> {
+        assert!(LITE.contains(IS_EVENT) && PG.contains(IS_EVENT));
         let base = Connection::open_in_memory()?;
-        let sql = format!("select {EVENT} from (select ?1 as answer)");
-        for (line, answer, word) in CALLS {
-            let found: Option<String> = base.query_row(&sql, [answer], |row| row.get(0))?;
-            assert_eq!(found.as_deref(), word, "{line}: {answer}");
+        for (reply, word) in answers() {
+            let [what, a, _] = Told::of(&reply).numbers();
+            let sql = format!("select {IS_EVENT} from (select ?1 as what, ?2 as a)");
+            let is_event: bool = base.query_row(&sql, [what, a], |row| row.get(0))?;
+            assert_eq!(is_event, word.is_some(), "{reply:?}");
         }
         Ok(())
-    }
-
-    #[test]
-    fn what_is_no_reply_is_refused() {
-        for text in ["", "take", "take x", "take 1 none", "take none 1", "take 01", "refused InUse", "held"] {
-            assert!(text.parse::<Reply>().is_err(), "{text}");
-        }
-        assert_eq!("take none".parse(), Ok(Reply::Taken(vec![])));
     }
 }

@@ -151,9 +151,17 @@ struct Ack {
 impl From<Record> for SavedRecord {
     fn from(record: Record) -> SavedRecord {
         let Record { id, kind, state, shape, started, acks } = record;
-        let kind = kind.parse().unwrap_or(Kind::Checkpoint);
+        let kind = kind_of(&kind);
         let acked = acks.into_iter().map(|Ack { vertex, index }| Subtask { vertex, index }).collect();
         SavedRecord { id, kind, is_done: state == "done", shape, started, acked }
+    }
+}
+
+/// The kind of this name.
+pub fn kind_of(name: &str) -> Kind {
+    match name {
+        "savepoint" => Kind::Savepoint,
+        _ => Kind::Checkpoint,
     }
 }
 

@@ -6,8 +6,10 @@ use super::image::Image;
 use super::kept::Kept;
 use super::live::{ended, Live};
 use super::outcome::{Beside, Outcome, Reply};
+use super::phase::Phase;
 use super::settings::pending_limit;
 use super::sizes::{FileBytes, SizeChange, Sizes, Use};
+use super::told::Told;
 use relkvanu::{Answer, Choice, Fault, Kind, Live as LiveRecord, Mode, Settings};
 use std::collections::HashSet;
 use std::ops::Range;
@@ -34,7 +36,7 @@ pub struct Entry {
     /// The record that the call is about.
     pub record: Option<u64>,
     pub line: String,
-    pub answer: String,
+    pub told: Told,
     /// The numbers of the records that the call ended, with a space between them.
     pub ended: Option<String>,
     /// How many files the call added to those that wait for deletion.
@@ -42,9 +44,14 @@ pub struct Entry {
 }
 
 impl Entry {
-    /// The answer; `None` if the text is none.
+    /// The answer; `None` if the row has none.
     pub fn reply(&self) -> Option<Reply> {
-        self.answer.parse().ok()
+        self.told.reply()
+    }
+
+    /// How many bytes its texts have. Its numbers are few.
+    pub fn bytes(&self) -> usize {
+        self.line.len() + self.told.files.as_ref().map_or(0, String::len)
     }
 
     /// The numbers of the records that the call ended.
@@ -83,6 +90,8 @@ pub struct Job {
     pub sizes: Sizes,
     /// How many milliseconds its moments are ahead of the writer's clock: it came from a process whose clock is ahead of this one's.
     pub ahead: u64,
+    /// As the database has it, and as the calls since have left it.
+    pub phase: Phase,
     pub is_deleted: bool,
     engine: Lendable,
     live: Live,
@@ -108,6 +117,7 @@ impl Job {
             kept,
             sizes,
             ahead,
+            phase: Phase::Running,
             is_deleted,
             engine,
             live,
@@ -175,10 +185,9 @@ impl Job {
         let (record, ended) = self.take_in(call, now, &reply);
         let waiting = released.end.saturating_sub(released.start);
         let sizes = self.resize(call, &reply, released);
-        let answer = reply.text();
-        self.kept.note((line.len() + answer.len()) as u64);
         let (job, seq, at) = (self.opening.number, self.seq, self.at);
-        let entry = Entry { job, seq, at, record, line, answer, ended, waiting };
+        let entry = Entry { job, seq, at, record, line, told: Told::of(&reply), ended, waiting };
+        self.kept.note(entry.bytes() as u64);
         let beside = self.beside(call);
         (Outcome::Made { seq: Some(self.seq), reply, beside }, Some(Logged { entry, sizes }))
     }
@@ -211,10 +220,10 @@ impl Job {
         Some(())
     }
 
-    /// Makes the call of a line of the log again.
-    pub fn repeat(&mut self, line: &str, call: &Call, now: u64) -> Outcome {
-        let reply = match self.engine.make_line(line) {
-            Ok(reply) => reply,
+    /// Makes a call of the log again.
+    pub fn repeat(&mut self, call: &Call, now: u64) -> Outcome {
+        let reply = match self.engine.make(call, now) {
+            Ok(made) => made.reply,
             Err(fault) => return fault.into(),
         };
         if reply.changed_nothing() {
@@ -229,7 +238,7 @@ impl Job {
         match call {
             Call::Reserve { count, .. } => Beside::Names(*count),
             Call::Configure { .. } => Beside::Settings(self.settings),
-            Call::Restore { .. } | Call::Cancel | Call::Fence { .. } => {
+            Call::Restore { .. } | Call::Advance { .. } | Call::Cancel | Call::Fence { .. } => {
                 self.engine.term().map_or(Beside::Nothing, |now| Beside::Term(now.term))
             }
             _ => Beside::Nothing,
@@ -270,11 +279,11 @@ impl Job {
         if matches!(reply, Reply::Answered(Answer::AckCompleted { .. })) && is_checkpoint {
             self.last_completed = Some(now);
         }
-        if let Call::Restore { shape, .. } = call {
+        if matches!(call, Call::Restore { .. } | Call::Advance { .. }) {
             self.last_restored = Some(now);
-            if let Some(shape) = shape {
-                self.shape.clone_from(shape);
-            }
+        }
+        if let Call::Restore { shape: Some(shape), .. } = call {
+            self.shape.clone_from(shape);
         }
         if let Call::Configure { numbers } = call {
             self.settings = Settings::of_numbers(numbers).unwrap_or(self.settings);
@@ -292,10 +301,17 @@ impl Job {
         if self.is_deleted || self.engine.is_lent() || self.engine.mode() != Mode::Running {
             return None;
         }
-        let expiry = self.engine.oldest_expiry();
-        let has_room = self.pending(Kind::Checkpoint) < pending_limit(&self.settings);
-        let due = has_room.then(|| self.engine.due());
-        due.into_iter().chain(expiry).min().map(|moment| moment.saturating_sub(self.ahead))
+        let moment = match self.phase {
+            Phase::Stopped(..) => None,
+            Phase::Stopping(stop) => Some(self.stop_wakes(stop)),
+            Phase::Running | Phase::NotStopped(..) => {
+                let expiry = self.engine.oldest_expiry();
+                let has_room = self.pending(Kind::Checkpoint) < pending_limit(&self.settings);
+                let due = has_room.then(|| self.engine.due());
+                due.into_iter().chain(expiry).min()
+            }
+        };
+        moment.map(|moment| moment.saturating_sub(self.ahead))
     }
 
     pub fn pending(&self, kind: Kind) -> usize {

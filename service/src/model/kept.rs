@@ -55,7 +55,7 @@ pub struct Kept {
     mean: (f64, f64),
 }
 
-/// How many bytes a call takes beside its line and its answer, with its indexes.
+/// How many bytes a call takes beside its line and the files of its answer, with its indexes.
 const ROW_BYTES: f64 = 70.0;
 /// Of how many calls the average is that is kept.
 const MEAN_OF: f64 = 1000.0;
@@ -65,7 +65,7 @@ impl Kept {
     pub fn of(images: Vec<KeptImage>, summaries: &[KeptSummary], first: Option<u64>, keeping: Keeping) -> Kept {
         let all_gone = images.last().map_or(0, |image| image.seq);
         let gone = first.map_or(all_gone, |first| first.saturating_sub(1));
-        // calls after a summary are missing if an earlier version of the program has cut the log
+        // a summary is of no use if calls after it are missing
         let is_of_use = |one: &&KeptSummary| one.bytes > 0 && one.seq >= gone;
         let (whole, old): (Vec<_>, Vec<_>) = summaries.iter().partition(is_of_use);
         let places = |these: Vec<&KeptSummary>| these.into_iter().map(|one| one.seq).collect();
@@ -80,7 +80,7 @@ impl Kept {
         self.mean = (bytes as f64 + ROW_BYTES, MEAN_OF);
     }
 
-    /// Notes a call whose line and answer have so many bytes.
+    /// Notes a call whose line and files have so many bytes.
     pub fn note(&mut self, bytes: u64) {
         let (mean, of) = self.mean;
         let of = (of + 1.0).min(MEAN_OF);

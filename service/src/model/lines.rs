@@ -39,8 +39,12 @@ impl Call {
                 C::Restore { now, savepoint: target.savepoint(), shape: shape.as_deref() }
             }
             Call::Take { most } => C::Take { most: *most },
+            // the first calls that are made of them
+            Call::Stop => C::Savepoint { now },
+            Call::Begin => C::Restore { now, savepoint: None, shape: None },
             Call::Configure { numbers } => C::Configure { now, settings: numbers },
             Call::Fence { first_name } => C::Fence { first_name: *first_name },
+            Call::Advance { term, first_name } => C::Advance { now, term: *term, first_name: *first_name },
             Call::Reserve { term, count } => C::Reserve { term: *term, count: *count },
             Call::Forfeit { term, names } => C::Forfeit { term: *term, names },
         }
@@ -49,12 +53,14 @@ impl Call {
 
 /// A line with `*` in place of its term, for whoever must not learn it there.
 pub fn without_term(line: &str) -> Cow<'_, str> {
-    let (word, rest) = line.split_once(' ').unwrap_or((line, ""));
-    if !matches!(word, "in" | "reserve" | "forfeit") {
-        return Cow::Borrowed(line);
-    }
-    let rest = rest.split_once(' ').map(|(_, rest)| format!(" {rest}")).unwrap_or_default();
-    Cow::Owned(format!("{word} *{rest}"))
+    let place = match line.split(' ').next() {
+        Some("in" | "reserve" | "forfeit") => 1,
+        // behind the moment
+        Some("advance") => 2,
+        _ => return Cow::Borrowed(line),
+    };
+    let words = line.split(' ').enumerate().map(|(at, word)| if at == place { "*" } else { word });
+    Cow::Owned(words.collect::<Vec<_>>().join(" "))
 }
 
 /// How often a line is read again for which the library had no memory, and how long after the time before.
@@ -102,8 +108,8 @@ fn changing(said: relkvanu::Call<'_>) -> Option<(u64, Call)> {
         C::Fence { first_name } => (0, Call::Fence { first_name }),
         C::Reserve { term, count } => (0, Call::Reserve { term, count }),
         C::Forfeit { term, names } => (0, Call::Forfeit { term, names: names.to_vec() }),
-        // The service makes no advance, so no log of its jobs has one.
-        C::Advance { .. } | C::Show { .. } | C::Count { .. } => return None,
+        C::Advance { now, term, first_name } => (now, Call::Advance { term, first_name }),
+        C::Show { .. } | C::Count { .. } => return None,
     })
 }
 
@@ -156,6 +162,7 @@ mod tests {
             (Call::Undeleted { file: 9 }, "undeleted 9"),
             (Call::Fence { first_name: 20 }, "fence 20"),
             (Call::Reserve { term: 3, count: 1000 }, "reserve 3 1000"),
+            (Call::Advance { term: 9, first_name: 50 }, "advance 1234 9 50"),
             (Call::Forfeit { term: 3, names: vec![24, 26] }, "forfeit 3 24 26"),
             (Call::Forfeit { term: 3, names: vec![] }, "forfeit 3"),
             (
@@ -204,7 +211,7 @@ mod tests {
                 written.insert(call.name());
             }
         }
-        let in_logs_alone = ["fence", "reserve", "forfeit", "trigger", "configure"];
+        let in_logs_alone = ["fence", "reserve", "forfeit", "advance", "trigger", "configure"];
         for (call, line) in lines() {
             assert!(written.contains(call.name()) || in_logs_alone.contains(&call.name()), "{line}");
         }
@@ -228,6 +235,7 @@ mod tests {
             ("reserve 3 1000", "reserve * 1000"),
             ("forfeit 3 20 21", "forfeit * 20 21"),
             ("forfeit 3", "forfeit *"),
+            ("advance 5 9 50", "advance 5 * 50"),
             ("ack 5 1 0.0 +20", "ack 5 1 0.0 +20"),
             ("fence 20", "fence 20"),
             ("restore 5 latest", "restore 5 latest"),

@@ -1,10 +1,9 @@
-//! The answer to a call: the script's text, which the log has, and the JSON of the API.
+//! The answer to a call: its text for people, and the JSON of the API.
 use super::event::Event;
 use super::settings::settings_json;
-use relkvanu::{Answer, Choice, Fault, LineFault, ParseError, Settings};
+use relkvanu::{Answer, Choice, Fault, LineFault, Settings};
 use serde_json::{json, Value};
 use std::fmt::Write;
-use std::str::FromStr;
 
 /// The answer of a call that was made.
 #[derive(Clone, Debug, PartialEq, Eq)]
@@ -29,13 +28,19 @@ pub enum Outcome {
     NotMade,
 }
 
-/// Why a job can't go back to a checkpoint.
+/// Why the service refuses a call.
 #[derive(Clone, Copy, Debug, PartialEq, Eq)]
 pub enum Unable {
     /// No checkpoint with this number is retained.
     NoSuchCheckpoint,
     /// It has another shape than the job has now.
     OtherShape,
+    /// The job stops: its savepoint is not complete.
+    Stopping,
+    /// The job has stopped, until it begins again.
+    Stopped,
+    /// The job has not stopped.
+    NotStopped,
 }
 
 impl Unable {
@@ -43,11 +48,14 @@ impl Unable {
         match self {
             Unable::NoSuchCheckpoint => "NoSuchCheckpoint",
             Unable::OtherShape => "OtherShape",
+            Unable::Stopping => "Stopping",
+            Unable::Stopped => "Stopped",
+            Unable::NotStopped => "NotStopped",
         }
     }
 }
 
-/// What an answer tells beside the text that the log has of it.
+/// What an answer tells beside what the log has of it.
 #[derive(Clone, Copy, Debug, Default, PartialEq, Eq)]
 pub enum Beside {
     #[default]
@@ -85,26 +93,6 @@ impl Reply {
         Event::of(self).is_some()
     }
 }
-
-/// Reads what [`Reply::text`] writes, and nothing else.
-impl FromStr for Reply {
-    type Err = ParseError;
-
-    fn from_str(text: &str) -> Result<Reply, ParseError> {
-        if text == NONE {
-            return Ok(Reply::Taken(Vec::new()));
-        }
-        let Some(files) = text.strip_prefix("take ") else {
-            return text.parse().map(Reply::Answered);
-        };
-        let files: Option<Vec<u64>> = files.split(' ').map(|word| word.parse().ok()).collect();
-        // what is written otherwise, as with a sign, is no text of ours
-        files.map(Reply::Taken).filter(|reply| reply.text() == text).ok_or(ParseError)
-    }
-}
-
-/// The answer to a take that finds no file.
-const NONE: &str = "take none";
 
 fn answer_json(answer: Answer) -> Value {
     match answer {
@@ -214,7 +202,7 @@ fn file_of(fault: Fault) -> Option<u64> {
 
 fn taken_text(files: &[u64]) -> String {
     if files.is_empty() {
-        return NONE.to_string();
+        return "take none".to_string();
     }
     let mut text = "take".to_string();
     for file in files {

@@ -2,7 +2,8 @@
 use super::error::DbError;
 use super::rows::{Keyed, SavedImage};
 use crate::model::{
-    parse_config, parse_sizes, AckBytes, Entry, FileBytes, Image, KeptImage, KeptSummary, Opening, PastRecord,
+    parse_config, parse_sizes, AckBytes, Entry, FileBytes, Image, KeptImage, KeptSummary, Opening, PastRecord, Phase,
+    Told,
 };
 use rusqlite::types::{Type, ValueRef};
 
@@ -65,6 +66,11 @@ impl Row {
         T::try_from(number).ok().map(Some)
     }
 
+    /// A number of which the cell has the 64 bits, as a signed one.
+    fn bits(&mut self) -> Option<u64> {
+        self.number::<i64>().map(|number| number as u64)
+    }
+
     fn text(&mut self) -> Option<String> {
         self.text_or_null()?
     }
@@ -120,7 +126,7 @@ impl FromRow for Entry {
             at: row.number()?,
             record: row.number_or_null()?,
             line: row.text()?,
-            answer: row.text()?,
+            told: Told { what: row.number()?, a: row.bits()?, b: row.bits()?, files: row.text_or_null()? },
             ended: row.text_or_null()?,
             waiting: row.number()?,
         })
@@ -198,7 +204,17 @@ impl FromRow for FileBytes {
     const TABLE: &'static str = "size";
 
     fn read(row: &mut Row) -> Option<FileBytes> {
-        Some((row.number::<i64>()? as u64, row.number()?))
+        Some((row.bits()?, row.number()?))
+    }
+}
+
+impl FromRow for Phase {
+    const TABLE: &'static str = "phase";
+
+    fn read(row: &mut Row) -> Option<Phase> {
+        let (word, record, at) = (row.text()?, row.number_or_null()?, row.number_or_null()?);
+        let (term, failed) = (row.number_or_null()?, row.text_or_null()?);
+        Phase::of_row((&word, record, at, term, failed.as_deref()))
     }
 }
 
@@ -240,7 +256,7 @@ mod tests {
     use super::*;
     use rusqlite::Connection;
 
-    fn of_pg(cells: [Option<&str>; 8]) -> Row {
+    fn of_pg<const N: usize>(cells: [Option<&str>; N]) -> Row {
         Row::of_pg(cells.into_iter().map(|cell| cell.map(str::to_string)).collect())
     }
 
@@ -251,11 +267,24 @@ mod tests {
 
     #[test]
     fn both_databases_give_the_same() -> Result<(), DbError> {
-        let cells = [Some("1"), Some("9"), Some("3010"), None, Some("tick 3010"), Some("held"), None, Some("0")];
-        let entry: Entry = of_lite("1, 9, 3010, null, 'tick 3010', 'held', null, 0")?.read()?;
+        let cells = [
+            Some("1"),
+            Some("9"),
+            Some("3010"),
+            None,
+            Some("take 2"),
+            Some("18"),
+            Some("2"),
+            Some("-1"),
+            Some("7 8"),
+            None,
+            Some("0"),
+        ];
+        let entry: Entry = of_lite("1, 9, 3010, null, 'take 2', 18, 2, -1, '7 8', null, 0")?.read()?;
         assert_eq!(entry, of_pg(cells).read()?);
         assert_eq!((entry.job, entry.seq, entry.at, entry.record), (1, 9, 3010, None));
-        assert_eq!((entry.line.as_str(), entry.answer.as_str(), entry.ended), ("tick 3010", "held", None));
+        let told = Told { what: 18, a: 2, b: u64::MAX, files: Some("7 8".to_string()) };
+        assert_eq!((entry.line.as_str(), &entry.told, &entry.ended, entry.bytes()), ("take 2", &told, &None, 9));
         let cells = [Some("1"), Some("9"), Some("3010"), Some("d"), Some("2 3"), None, Some("8"), Some("{}")];
         let saved: SavedImage = of_lite("1, 9, 3010, 'd', '2 3', null, 8, '{}'")?.read()?;
         assert_eq!(saved, of_pg(cells).read()?);

@@ -39,7 +39,7 @@ pub enum DbError {
     Odd(&'static str),
     #[error("another process leads, the lease of this one has ended")]
     NotLeading,
-    /// A row is not as any version of this program writes it.
+    /// A row is not as this program writes it.
     #[error("a row of {table} has {cell} in column {column}")]
     BadRow { table: &'static str, column: usize, cell: String },
 }

@@ -5,7 +5,7 @@ use super::files::{self, Opened};
 use super::lite_write::write;
 use super::moved::{self, MOVED};
 use super::rows::{
-    is_event, steps_after, Committed, Group, Keyed, Lead, Store, Written, MOST_STARTS, OF_JOBS, OLD_GONE, VERSION,
+    steps_after, Committed, Group, Keyed, Lead, Store, Written, MOST_STARTS, OF_JOBS, OLD_GONE, VERSION,
 };
 use crate::model::{lengths_text, Held, Shards};
 use rusqlite::config::DbConfig;
@@ -14,21 +14,10 @@ use std::fs::File;
 use std::path::Path;
 use std::time::{Duration, Instant};
 
-pub(super) const STEPS: [&str; VERSION] = [
-    include_str!("../../sql/lite.sql"),
-    concat!(include_str!("../../sql/lite_2.sql"), " ", include_str!("../../sql/lite_history.sql")),
-    include_str!("../../sql/lite_3.sql"),
-    include_str!("../../sql/lite_parts.sql"),
-    include_str!("../../sql/lite_shards.sql"),
-    concat!(
-        include_str!("../../sql/lite_event.sql"),
-        " alter table call add column event text generated always as (",
-        include_str!("../../sql/event.sql"),
-        ") virtual; create index call_event on call(job, seq) where ",
-        is_event!(),
-        ";"
-    ),
-];
+/// What makes the tables.
+pub const TABLES: &str = include_str!("../../sql/lite.sql");
+/// What makes each version of them from the one before.
+pub(super) const STEPS: [&str; VERSION] = [TABLES];
 pub(super) const BUSY: Duration = Duration::from_secs(2);
 /// How long a start waits for readers of another program.
 const SETTLE_FOR: Duration = Duration::from_secs(10);
@@ -54,6 +43,8 @@ pub const ERASE: (&str, &str) = ("secure_delete", "fast");
 /// The writer's connection, and the lock file that keeps other processes out.
 pub struct Lite {
     connection: Connection,
+    /// Whether the connection may not sync its commits now.
+    is_lax: bool,
     opened: Opened,
     _lock: File,
 }
@@ -74,13 +65,38 @@ impl Lite {
         let found = connection.pragma_query_value(None, "user_version", |row| row.get(0)).map_err(&failed)?;
         Unusable::check(found)?;
         let mode = set_commits(&connection).map_err(&failed)?;
-        upgrade(&connection, found).map_err(&failed)?;
+        upgrade(&connection, found, &STEPS).map_err(&failed)?;
         has_log(path, &mode)?;
         // the commit of this start is in the write-ahead log, if there is one: the journal's mode may say so and not be it
         let opened = Opened::now(&real)?;
         settle(&connection).map_err(&failed)?;
         files::sync_folder(&real).map_err(&unread)?;
-        Ok(Lite { connection, opened, _lock: lock })
+        Ok(Lite { connection, is_lax: false, opened, _lock: lock })
+    }
+}
+
+impl Lite {
+    /// Deletes in one transaction, and waits for no sync: what comes back after a loss of power is deleted again. The next commit syncs this
+    /// one too.
+    fn without_sync<T>(&mut self, work: impl FnOnce(&Connection) -> rusqlite::Result<T>) -> Result<T, DbError> {
+        self.is_lax = true;
+        self.connection.pragma_update(None, "synchronous", "normal")?;
+        let worked = self.connection.transaction().and_then(|within| {
+            let done = work(&within)?;
+            within.commit().map(|()| done)
+        });
+        // if memory runs out here, the next commit does it
+        let _ = self.sync_again();
+        Ok(worked?)
+    }
+
+    /// From now on each commit is synced.
+    fn sync_again(&mut self) -> rusqlite::Result<()> {
+        if self.is_lax {
+            self.connection.pragma_update(None, "synchronous", "full")?;
+            self.is_lax = false;
+        }
+        Ok(())
     }
 }
 
@@ -94,10 +110,10 @@ pub(super) fn set_commits(connection: &Connection) -> rusqlite::Result<String> {
     Ok(mode)
 }
 
-/// Writes the version of the tables. If they have an earlier one, makes or upgrades them. A mark stays.
-pub(super) fn upgrade(connection: &Connection, found: i64) -> rusqlite::Result<()> {
-    let steps: String = steps_after(found % MOVED, STEPS).collect();
-    let version = found - found % MOVED + VERSION as i64;
+/// Writes the version of the tables, of which each has a step. If they have an earlier one, makes or upgrades them. A mark stays.
+pub(super) fn upgrade(connection: &Connection, found: i64, steps: &[&str]) -> rusqlite::Result<()> {
+    let version = found - found % MOVED + steps.len() as i64;
+    let steps = steps_after(found % MOVED, steps).concat();
     connection.execute_batch(&format!("begin immediate; {steps} pragma user_version = {version}; commit"))
 }
 
@@ -141,6 +157,7 @@ impl Store for Lite {
     }
 
     fn begin(&mut self, name: &str, _held: &[Held], lengths: &[(i64, u64)]) -> Result<(), DbError> {
+        self.sync_again()?;
         let transaction = self.connection.transaction()?;
         transaction.execute("insert into log_start(name, lengths) values(?, ?)", [name, &lengths_text(lengths)])?;
         let old = "delete from log_start where number <= (select max(number) from log_start) - ?";
@@ -155,7 +172,7 @@ impl Store for Lite {
         if group.is_empty() {
             return Ok(committed);
         }
-        write(&mut self.connection, group).map_err(failure)?;
+        self.sync_again().and_then(|()| write(&mut self.connection, group)).map_err(failure)?;
         self.opened.check().map_err(Failure::Lost)?;
         Ok(committed)
     }
@@ -174,32 +191,32 @@ impl Store for Lite {
     fn forget_keys(&mut self, before: u64, most: u64) -> Result<u64, DbError> {
         let sql =
             "delete from request where (job, key) in (select job, key from request where at < ? order by at limit ?)";
-        Ok(self.connection.execute(sql, [signed(before), signed(most)])? as u64)
+        self.without_sync(|within| Ok(within.execute(sql, [signed(before), signed(most)])? as u64))
     }
 
     fn forget_past(&mut self, job: i64, upto: u64, most: u64) -> Result<(), DbError> {
         let sql = "delete from past where (job, id) in
             (select job, id from past where job = ? and id <= ? order by job, id limit ?)";
-        self.connection.execute(sql, [job, signed(upto), signed(most)])?;
-        Ok(())
+        self.without_sync(|within| within.execute(sql, [job, signed(upto), signed(most)]).map(|_| ()))
     }
 
     fn forget_gone(&mut self, before: u64) -> Result<(), DbError> {
         let sql = format!("delete from gone_job where {}", OLD_GONE.replace("$1", "?1"));
-        self.connection.execute(&sql, [signed(before)])?;
-        Ok(())
+        self.without_sync(|within| within.execute(&sql, [signed(before)]).map(|_| ()))
     }
 
     fn forget_job(&mut self, job: i64) -> Result<bool, DbError> {
-        for (table, columns, most) in OF_JOBS {
-            let rows = format!("select {columns} from {table} where job = ?1 order by {columns} limit ?2");
-            let sql = format!("delete from {table} where ({columns}) in ({rows})");
-            if self.connection.execute(&sql, params![job, signed(most)])? as u64 == most {
-                return Ok(true);
+        self.without_sync(|within| {
+            for (table, columns, most) in OF_JOBS {
+                let rows = format!("select {columns} from {table} where job = ?1 order by {columns} limit ?2");
+                let sql = format!("delete from {table} where ({columns}) in ({rows})");
+                if within.execute(&sql, params![job, signed(most)])? as u64 == most {
+                    return Ok(true);
+                }
             }
-        }
-        self.connection.execute("update gone_job set is_empty = 1 where job = ?", [job])?;
-        Ok(false)
+            within.execute("update gone_job set is_empty = 1 where job = ?", [job])?;
+            Ok(false)
+        })
     }
 
     fn note(&mut self, at: u64) -> Result<(), DbError> {
@@ -238,4 +255,59 @@ fn failure(error: rusqlite::Error) -> Failure {
 /// A number as SQLite keeps it. Moments, places and numbers of records are below 2^62.
 pub(super) fn signed(number: u64) -> i64 {
     i64::try_from(number).unwrap_or(i64::MAX)
+}
+
+#[cfg(test)]
+mod tests {
+    use super::*;
+
+    /// What need not be synced leaves no commit after it without a sync, also if it failed.
+    #[test]
+    fn commits_are_synced_again() -> Result<(), Box<dyn std::error::Error>> {
+        let folder = std::env::temp_dir().join(format!("relkvanu-lite-{}", std::process::id()));
+        std::fs::create_dir(&folder)?;
+        let mut lite = Lite::open(&folder.join("it.db")).map_err(|why| why.to_string())?;
+        let level = |lite: &Lite| lite.connection.pragma_query_value(None, "synchronous", |row| row.get::<_, i64>(0));
+        assert_eq!(level(&lite)?, 2);
+        let within =
+            lite.without_sync(|within| within.pragma_query_value(None, "synchronous", |row| row.get::<_, i64>(0)));
+        assert_eq!((within?, level(&lite)?), (1, 2));
+        assert!(lite.without_sync(|within| within.execute("delete from nothing", [])).is_err());
+        assert_eq!((level(&lite)?, lite.is_lax), (2, false));
+        // as if memory had run out before it was set again
+        lite.connection.pragma_update(None, "synchronous", "normal")?;
+        lite.is_lax = true;
+        let gone = vec![super::super::rows::GoneJob { job: 7, name: "a".to_string(), at: 1 }];
+        lite.commit(&Group { gone, ..Group::default() }).map_err(|why| why.to_string())?;
+        assert_eq!((level(&lite)?, lite.is_lax), (2, false));
+        drop(lite);
+        Ok(std::fs::remove_dir_all(&folder)?)
+    }
+
+    /// A later version, which is made up, upgrades tables with what they have, and this program then refuses them. A mark stays.
+    #[test]
+    fn tables_are_upgraded() -> rusqlite::Result<()> {
+        let base = Connection::open_in_memory()?;
+        let version = || base.pragma_query_value(None, "user_version", |row| row.get::<_, i64>(0));
+        upgrade(&base, 0, &STEPS)?;
+        assert_eq!(version()?, 1);
+        base.execute("insert into call values(7, 1, 30, null, 'tick 30', 2, 0, 0, null, null, 0)", [])?;
+        let later =
+            [STEPS[0], "alter table call add column made_up integer not null default 9; create table made_up(x);"];
+        for (found, wanted) in [(1, 2), (2, 2), (MOVED + 2, MOVED + 2)] {
+            upgrade(&base, found, &later)?;
+            let row: (i64, String, i64) =
+                base.query_row("select job, line, made_up from call", [], |row| row.try_into())?;
+            assert_eq!((row, version()?), ((7, "tick 30".to_string(), 9), wanted));
+        }
+        assert!(matches!(Unusable::check(2), Err(Unusable::Newer(2))));
+        // a step that fails leaves what there was
+        let broken = [STEPS[0], "alter table call add column more integer; create table job(x);"];
+        base.pragma_update(None, "user_version", 1)?;
+        assert!(upgrade(&base, 1, &broken).is_err());
+        base.execute_batch("rollback")?;
+        let columns: i64 = base.query_row("select count(*) from pragma_table_info('call')", [], |row| row.get(0))?;
+        assert_eq!((columns, version()?), (12, 1));
+        Ok(())
+    }
 }

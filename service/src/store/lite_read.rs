@@ -6,7 +6,7 @@ use super::moved;
 use super::reader::Reader;
 use super::room::room_of;
 use super::rows::{image_columns, whole, LogPage, Room, SavedImage, COLUMNS, IS_EVENT, PAGE_BYTES};
-use crate::model::{AckBytes, Entry, FileBytes, KeptImage, KeptSummary, Opening, PastRecord, Shards};
+use crate::model::{AckBytes, Entry, FileBytes, KeptImage, KeptSummary, Opening, PastRecord, Phase, Shards};
 use rusqlite::{params, Connection, OpenFlags, OptionalExtension, Params};
 use std::path::Path;
 
@@ -14,10 +14,8 @@ use std::path::Path;
 const JOINED: &str = "select group_concat(part.text, '') from (
     select text from image_part where image_part.job = image.job and image_part.seq = image.seq order by image_part.part) part";
 
-const HAS_PARTS: &str = "select count(*) from sqlite_master where name = 'image_part'";
-
-/// A connection that only reads, and the columns by which it reads images.
-pub struct LiteReader(Connection, String);
+/// A connection that only reads.
+pub struct LiteReader(Connection);
 
 impl LiteReader {
     /// Opens a database that a [`Lite`](super::Lite) has made.
@@ -25,8 +23,7 @@ impl LiteReader {
         let flags = OpenFlags::SQLITE_OPEN_READ_ONLY | OpenFlags::SQLITE_OPEN_NO_MUTEX;
         let opened = Connection::open_with_flags(path, flags).and_then(|connection| {
             connection.busy_timeout(BUSY)?;
-            let parts: i64 = connection.query_row(HAS_PARTS, [], |row| row.get(0))?;
-            Ok(LiteReader(connection, image_columns((parts > 0).then_some(JOINED))))
+            Ok(LiteReader(connection))
         });
         opened.map_err(DbError::unopened(path))
     }
@@ -46,7 +43,7 @@ impl LiteReader {
         let (mut page, mut bytes) = (LogPage::new(), 0);
         for row in query.query_map(given, Row::of_lite)? {
             let entry: Entry = row?.read()?;
-            bytes += entry.line.len() + entry.answer.len();
+            bytes += entry.bytes();
             page.push(entry);
             if bytes >= PAGE_BYTES {
                 break;
@@ -98,7 +95,7 @@ impl Reader for LiteReader {
     }
 
     fn image(&mut self, job: i64, after: u64) -> Result<Option<SavedImage>, DbError> {
-        let sql = format!("select {} from image where job = ? and seq > ? order by seq limit 1", self.1);
+        let sql = format!("select {} from image where job = ? and seq > ? order by seq limit 1", image_columns(JOINED));
         self.one(&sql, params![job, signed(after)])
     }
 
@@ -134,9 +131,13 @@ impl Reader for LiteReader {
         self.all("select job, is_empty from gone_job", [])
     }
 
+    fn phases(&mut self) -> Result<Vec<(i64, Phase)>, DbError> {
+        self.all("select job, phase, record, at, term, failed from phase", [])
+    }
+
     fn call_bytes(&mut self, jobs: &[i64]) -> Result<Vec<(i64, u64)>, DbError> {
-        let sql = "select job, cast(avg(length(line) + length(answer)) as integer) from
-            (select job, line, answer from call where job = ? order by seq desc limit 100) group by job";
+        let sql = "select job, cast(avg(length(line) + coalesce(length(files), 0)) as integer) from
+            (select job, line, files from call where job = ? order by seq desc limit 100) group by job";
         let of = |job: &i64| self.one(sql, [job]);
         jobs.iter().filter_map(|job| of(job).transpose()).collect()
     }

@@ -48,7 +48,7 @@ impl Source {
     pub fn begin(&mut self) -> Result<(), DbError> {
         let mode = lite::set_commits(&self.connection)?;
         lite::has_log(&self.path, &mode)?;
-        lite::upgrade(&self.connection, self.version)?;
+        lite::upgrade(&self.connection, self.version, &lite::STEPS)?;
         // so a reader that stays is noticed before there is a mark
         settle(&self.connection)?;
         Ok(self.connection.execute_batch("begin immediate")?)

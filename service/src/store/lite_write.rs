@@ -3,7 +3,7 @@ use super::lite::signed;
 use super::many::{insert, maybe, number, text};
 use super::rows::{GoneJob, Group, Keyed, SavedImage};
 use crate::model::{
-    config_line, shape_words, sizes_text, AckBytes, Cut, Entry, ImagePart, Opening, PastRecord, SummaryPart,
+    config_line, shape_words, sizes_text, AckBytes, Cut, Entry, ImagePart, Opening, PastRecord, Phase, SummaryPart,
 };
 use rusqlite::{params, Connection};
 use std::collections::BTreeMap;
@@ -23,6 +23,7 @@ pub fn write(connection: &mut Connection, group: &Group) -> rusqlite::Result<()>
     drop_summaries(&transaction, &group.dropped_summaries)?;
     write_sizes(&transaction, &group.sizes)?;
     write_said(&transaction, &group.said)?;
+    write_phases(&transaction, &group.phases)?;
     drop_jobs(&transaction, &group.gone)?;
     transaction.commit()
 }
@@ -39,9 +40,10 @@ fn write_jobs(within: &Connection, jobs: &[Opening]) -> rusqlite::Result<()> {
 fn write_entries(within: &Connection, entries: &[Entry]) -> rusqlite::Result<()> {
     insert(within, "insert into call", entries, |entry| {
         let [seq, at, waiting] = [entry.seq, entry.at, entry.waiting].map(|it| number(signed(it)));
-        let (record, ended) =
-            (maybe(entry.record.map(|it| number(signed(it)))), maybe(entry.ended.as_deref().map(text)));
-        [number(entry.job), seq, at, record, text(&entry.line), text(&entry.answer), ended, waiting]
+        let record = maybe(entry.record.map(|it| number(signed(it))));
+        let [files, ended] = [&entry.told.files, &entry.ended].map(|it| maybe(it.as_deref().map(text)));
+        let [what, a, b] = entry.told.numbers().map(number);
+        [number(entry.job), seq, at, record, text(&entry.line), what, a, b, files, ended, waiting]
     })
 }
 
@@ -117,6 +119,14 @@ fn write_said(within: &Connection, said: &[AckBytes]) -> rusqlite::Result<()> {
     let mut insert = within.prepare_cached("insert or replace into ack_size values(?, ?, ?, ?)")?;
     said.iter().try_for_each(|it| {
         insert.execute(params![it.job, signed(it.seq), sizes_text(&it.fresh), signed(it.full)]).map(|_| ())
+    })
+}
+
+fn write_phases(within: &Connection, phases: &BTreeMap<i64, Phase>) -> rusqlite::Result<()> {
+    let mut insert = within.prepare_cached("insert or replace into phase values(?, ?, ?, ?, ?, ?)")?;
+    phases.iter().try_for_each(|(job, phase)| {
+        let (word, record, at, term, failed) = phase.row();
+        insert.execute(params![job, word, record.map(signed), at.map(signed), term.map(signed), failed]).map(|_| ())
     })
 }
 

@@ -23,18 +23,24 @@ mod tables;
 
 pub use cells::entry_of;
 pub use error::{is_damage, DbError, Failure, Unusable};
+#[cfg(test)]
+pub use lite::TABLES as LITE;
 pub use lite::{count_no_memory, Lite, ERASE};
 pub use lite_read::LiteReader;
 pub use lite_source::Source;
 pub use moved::{refusal, Mark};
 pub use pg::Pg;
+#[cfg(test)]
+pub use pg::TABLES as PG;
 pub use pg_members::{Member, Members, Shares};
 pub use pg_read::PgReader;
 pub use pg_target::{Found, Target};
 pub use reader::Reader;
 pub use room::room_of;
 pub use rows::Disk;
-pub use rows::{Committed, GoneJob, Group, Keyed, Lead, SavedImage, Store};
 #[cfg(test)]
-pub use rows::{Room, EVENT};
+pub use rows::Room;
+#[cfg(test)]
+pub use rows::IS_EVENT;
+pub use rows::{steps_after, Committed, GoneJob, Group, Keyed, Lead, SavedImage, Store};
 pub use tables::{are_alike, bytes_of, Cells, Table, TABLES};

@@ -1,4 +1,4 @@
-//! The mark of an SQLite database whose log was moved to PostgreSQL. No service starts over it, of this version or of an earlier one.
+//! The mark of an SQLite database whose log was moved to PostgreSQL. No service starts over it, of whatever version.
 use super::error::DbError;
 use rusqlite::{params, Connection};
 
@@ -38,8 +38,7 @@ pub fn refusal(connection: &Connection) -> rusqlite::Result<Option<DbError>> {
     Ok(read(connection)?.map(|mark| DbError::Moved { to: mark.to }))
 }
 
-/// Marks a database, within a transaction of the caller. Its tables keep their version: those of a database that an earlier program has marked
-/// may be of an earlier one.
+/// Marks a database, within a transaction of the caller. Its tables keep their version.
 pub fn write(within: &Connection, mark: &Mark) -> rusqlite::Result<()> {
     within.execute_batch(MADE)?;
     let row = params![mark.id, mark.to, mark.place, mark.is_whole];
@@ -60,16 +59,12 @@ fn version_of_tables(connection: &Connection) -> rusqlite::Result<i64> {
 
 #[cfg(test)]
 mod tests {
-    use super::super::rows::VERSION;
     use super::*;
 
     #[test]
     fn a_mark_comes_and_goes_with_its_transaction() -> rusqlite::Result<()> {
         let base = Connection::open_in_memory()?;
-        for version in 1..=VERSION as i64 {
-            check_a_mark(&base, version)?;
-        }
-        Ok(())
+        (1..4).try_for_each(|version| check_a_mark(&base, version))
     }
 
     fn check_a_mark(base: &Connection, found: i64) -> rusqlite::Result<()> {

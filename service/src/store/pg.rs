@@ -7,26 +7,16 @@ use super::pg_columns::Columns;
 use super::pg_commit::{Statements, CALLS};
 use super::pg_members::{self, Members, Shares, Watch};
 use super::pq::{Connection, Failed, Rows};
-use super::rows::{is_event, steps_after, Committed, Group, Keyed, Lead, Store, Written, OF_JOBS, OLD_GONE, VERSION};
+use super::rows::{steps_after, Committed, Group, Keyed, Lead, Store, Written, OF_JOBS, OLD_GONE, VERSION};
 use crate::model::{Held, Moment, Shards};
 use std::collections::BTreeMap;
 use std::ffi::CStr;
 use std::time::Duration;
 
-const STEPS: [&str; VERSION] = [
-    include_str!("../../sql/pg.sql"),
-    concat!(include_str!("../../sql/pg_2.sql"), "; ", include_str!("../../sql/pg_history.sql")),
-    include_str!("../../sql/pg_3.sql"),
-    include_str!("../../sql/pg_parts.sql"),
-    include_str!("../../sql/pg_shards.sql"),
-    concat!(
-        include_str!("../../sql/pg_event.sql"),
-        "; alter table call add column if not exists event text generated always as (",
-        include_str!("../../sql/event.sql"),
-        ") stored; create index call_event on call(job, seq) where ",
-        is_event!()
-    ),
-];
+/// What makes the tables.
+pub const TABLES: &str = include_str!("../../sql/pg.sql");
+/// What makes each version of them from the one before.
+const STEPS: [&str; VERSION] = [TABLES];
 /// The constraint by which the names of jobs are unique.
 const NAMES: &str = "job_name_key";
 /// A statement of the writer may take this long.
@@ -74,6 +64,14 @@ impl Pg {
     /// The connection by which this process shares the jobs with others.
     pub fn shares(&self, url: &str) -> Result<Shares, DbError> {
         Shares::open(url, &self.name, self.lease)
+    }
+
+    /// Deletes in one transaction, and waits for no sync: what comes back after a loss of power is deleted again.
+    fn without_sync<T>(&mut self, work: impl FnOnce(&mut Connection) -> Result<T, Failed>) -> Result<T, Failed> {
+        self.connection.run("begin; set local synchronous_commit = off")?;
+        let worked = work(&mut self.connection);
+        self.connection.run(if worked.is_ok() { "commit" } else { "rollback" })?;
+        worked
     }
 
     fn write(&mut self, columns: Columns, shards: Shards, renews: bool) -> Result<Rows, Failed> {
@@ -153,36 +151,38 @@ impl Store for Pg {
     fn forget_keys(&mut self, before: u64, most: u64) -> Result<u64, DbError> {
         let sql = "with gone as (delete from request where (job, key) in
             (select job, key from request where at < $1::bigint order by at limit $2::bigint) returning 1) select count(*) from gone";
-        let rows = self.connection.query(sql, &[&before.to_string(), &most.to_string()])?;
+        let rows = self.without_sync(|within| within.query(sql, &[&before.to_string(), &most.to_string()]))?;
         Ok(cell(&rows, 0).and_then(|count| count.parse().ok()).unwrap_or(0))
     }
 
     fn forget_past(&mut self, job: i64, upto: u64, most: u64) -> Result<(), DbError> {
         let sql = "delete from past where (job, id) in
             (select job, id from past where job = $1::bigint and id <= $2::bigint order by job, id limit $3::bigint)";
-        self.connection.query(sql, &[&job.to_string(), &upto.to_string(), &most.to_string()])?;
+        self.without_sync(|within| within.query(sql, &[&job.to_string(), &upto.to_string(), &most.to_string()]))?;
         Ok(())
     }
 
     fn forget_gone(&mut self, before: u64) -> Result<(), DbError> {
         let sql = format!("delete from gone_job where {}", OLD_GONE.replace("$1", "$1::bigint"));
-        self.connection.query(&sql, &[&before.to_string()])?;
+        self.without_sync(|within| within.query(&sql, &[&before.to_string()]))?;
         Ok(())
     }
 
     fn forget_job(&mut self, job: i64) -> Result<bool, DbError> {
-        for (table, columns, most) in OF_JOBS {
-            let rows =
-                format!("select {columns} from {table} where job = $1::bigint order by {columns} limit $2::bigint");
-            let gone = format!("delete from {table} where ({columns}) in ({rows}) returning 1");
-            let sql = format!("with gone as ({gone}) select count(*) from gone");
-            let rows = self.connection.query(&sql, &[&job.to_string(), &most.to_string()])?;
-            if cell(&rows, 0).and_then(|count| count.parse().ok()) == Some(most) {
-                return Ok(true);
+        Ok(self.without_sync(|within| {
+            for (table, columns, most) in OF_JOBS {
+                let rows =
+                    format!("select {columns} from {table} where job = $1::bigint order by {columns} limit $2::bigint");
+                let gone = format!("delete from {table} where ({columns}) in ({rows}) returning 1");
+                let sql = format!("with gone as ({gone}) select count(*) from gone");
+                let rows = within.query(&sql, &[&job.to_string(), &most.to_string()])?;
+                if cell(&rows, 0).and_then(|count| count.parse().ok()) == Some(most) {
+                    return Ok(true);
+                }
             }
-        }
-        self.connection.query("update gone_job set is_empty = 1 where job = $1::bigint", &[&job.to_string()])?;
-        Ok(false)
+            within.query("update gone_job set is_empty = 1 where job = $1::bigint", &[&job.to_string()])?;
+            Ok(false)
+        })?)
     }
 
     fn note(&mut self, at: u64) -> Result<(), DbError> {
@@ -244,7 +244,7 @@ pub(super) fn lock_tables(connection: &mut Connection) -> Result<(), Failed> {
 
 /// Makes the tables after a version, and writes down that they are there.
 pub(super) fn make_tables(connection: &mut Connection, found: i64) -> Result<(), Failed> {
-    for step in steps_after(found, STEPS) {
+    for step in steps_after(found, &STEPS) {
         connection.run(step)?;
     }
     let number = format!(

@@ -2,7 +2,7 @@
 use super::parameter::Parameter;
 use super::rows::{GoneJob, Group, Keyed, SavedImage};
 use crate::model::{
-    config_line, shape_words, sizes_text, AckBytes, Cut, Entry, ImagePart, Opening, PastRecord, SummaryPart,
+    config_line, shape_words, sizes_text, AckBytes, Cut, Entry, ImagePart, Opening, PastRecord, Phase, SummaryPart,
 };
 use std::collections::BTreeMap;
 
@@ -30,6 +30,7 @@ impl Columns {
         columns.add(10, group.sizes.len(), || size_columns(&group.sizes));
         columns.add(11, group.said.len(), || said_columns(&group.said));
         columns.add(12, group.gone.len(), || gone_columns(&group.gone));
+        columns.add(13, group.phases.len(), || phase_columns(&group.phases));
         columns
     }
 
@@ -61,14 +62,18 @@ fn job_columns(jobs: &[Opening]) -> [Parameter; 6] {
     ]
 }
 
-fn call_columns(entries: &[Entry]) -> [Parameter; 8] {
+fn call_columns(entries: &[Entry]) -> [Parameter; 11] {
+    let of_answer = |place: usize| entries.iter().map(move |entry| Some(entry.told.numbers()[place]));
     [
         Parameter::numbers(entries.iter().map(|entry| Some(entry.job))),
         Parameter::numbers(entries.iter().map(|entry| Some(number(entry.seq)))),
         Parameter::numbers(entries.iter().map(|entry| Some(number(entry.at)))),
         Parameter::numbers(entries.iter().map(|entry| entry.record.map(number))),
         Parameter::texts(entries.iter().map(|entry| Some(entry.line.as_str()))),
-        Parameter::texts(entries.iter().map(|entry| Some(entry.answer.as_str()))),
+        Parameter::numbers(of_answer(0)),
+        Parameter::numbers(of_answer(1)),
+        Parameter::numbers(of_answer(2)),
+        Parameter::texts(entries.iter().map(|entry| entry.told.files.as_deref())),
         Parameter::texts(entries.iter().map(|entry| entry.ended.as_deref())),
         Parameter::numbers(entries.iter().map(|entry| Some(number(entry.waiting)))),
     ]
@@ -160,6 +165,18 @@ fn said_columns(said: &[AckBytes]) -> [Parameter; 4] {
         Parameter::numbers(said.iter().map(|it| Some(number(it.seq)))),
         Parameter::texts(said.iter().map(|it| Some(sizes_text(&it.fresh)))),
         Parameter::numbers(said.iter().map(|it| Some(number(it.full)))),
+    ]
+}
+
+fn phase_columns(phases: &BTreeMap<i64, Phase>) -> [Parameter; 6] {
+    let rows = || phases.values().map(Phase::row);
+    [
+        Parameter::numbers(phases.keys().map(|job| Some(*job))),
+        Parameter::texts(rows().map(|(word, ..)| Some(word))),
+        Parameter::numbers(rows().map(|(_, record, ..)| record.map(number))),
+        Parameter::numbers(rows().map(|(_, _, at, ..)| at.map(number))),
+        Parameter::numbers(rows().map(|(_, _, _, term, _)| term.map(number))),
+        Parameter::texts(rows().map(|(.., failed)| failed)),
     ]
 }
 

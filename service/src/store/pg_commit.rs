@@ -97,7 +97,7 @@ mod tests {
         assert!(calls.starts_with(&format!("with l as ({LEASE}), c as (")), "{calls}");
         assert!(
             calls.contains("insert into call select")
-                && calls.contains("delete from call using l, unnest($13::bigint[], $14")
+                && calls.contains("delete from call using l, unnest($16::bigint[], $17")
         );
         assert!(
             calls.contains("$5::bigint[]")
@@ -109,12 +109,19 @@ mod tests {
     #[test]
     fn each_part_has_its_place() {
         let titles: Vec<&str> = PARTS.split(PART).skip(1).filter_map(|part| part.lines().next()).collect();
-        let places =
-            [(0, "jobs"), (1, "calls"), (3, "images"), (6, "calls that go"), (10, "sizes"), (12, "jobs that go")];
-        assert_eq!(titles.len(), 13);
+        let places = [
+            (0, "jobs"),
+            (1, "calls"),
+            (3, "images"),
+            (6, "calls that go"),
+            (10, "sizes"),
+            (12, "jobs that go"),
+            (13, "phases"),
+        ];
+        assert_eq!(titles.len(), 14);
         assert!(places.iter().all(|(place, title)| titles[*place].starts_with(title)), "{titles:?}");
         // in all the parameters of a row of each table
-        let parameters = (0..13).map(|part| numbered(body(PARTS.split(PART).nth(part + 1).unwrap_or("")), 0).1);
-        assert_eq!(parameters.collect::<Vec<_>>(), [6, 8, 5, 9, 4, 2, 3, 5, 3, 2, 5, 4, 3]);
+        let parameters = (0..14).map(|part| numbered(body(PARTS.split(PART).nth(part + 1).unwrap_or("")), 0).1);
+        assert_eq!(parameters.collect::<Vec<_>>(), [6, 11, 5, 9, 4, 2, 3, 5, 3, 2, 5, 4, 3, 6]);
     }
 }

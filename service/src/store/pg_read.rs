@@ -4,7 +4,7 @@ use super::error::DbError;
 use super::pq::{Connection, Failed, Rows};
 use super::reader::Reader;
 use super::rows::{image_columns, whole, LogPage, Room, SavedImage, COLUMNS, IS_EVENT, PAGE_BYTES};
-use crate::model::{shard_of, AckBytes, Entry, FileBytes, KeptImage, KeptSummary, Opening, PastRecord, Shards};
+use crate::model::{shard_of, AckBytes, Entry, FileBytes, KeptImage, KeptSummary, Opening, PastRecord, Phase, Shards};
 use std::time::Duration;
 
 /// A statement of a reader may take this long.
@@ -19,21 +19,17 @@ const JOINED: &str = "select string_agg(part.text, '' order by part.part) from i
     where part.job = image.job and part.seq = image.seq";
 /// The jobs of the shards whose bits $1 has.
 const OF_SHARDS: &str = "($1::bigint >> (job & 63)::int) & 1 = 1";
-const HAS_PARTS: &str = "select 1 where to_regclass('image_part') is not null";
+/// The bytes of a call's texts.
+const BYTES: &str = "(octet_length(line) + coalesce(octet_length(files), 0))";
 
 pub struct PgReader {
     url: String,
     connection: Connection,
-    /// The columns by which it reads images.
-    image: String,
 }
 
 impl PgReader {
     pub fn open(url: &str) -> Result<PgReader, DbError> {
-        let mut connection = connect(url)?;
-        let parts = connection.run(HAS_PARTS)?;
-        let image = image_columns((!parts.is_empty()).then_some(JOINED));
-        Ok(PgReader { url: url.to_string(), connection, image })
+        Ok(PgReader { url: url.to_string(), connection: connect(url)? })
     }
 
     fn query(&mut self, sql: &str, given: &[&str]) -> Result<Rows, DbError> {
@@ -59,9 +55,8 @@ impl PgReader {
 
     /// The rows of `call` up to that with which they have so many bytes. The database counts them, so that it sends no more.
     fn entries(&mut self, rest: &str, given: &[&str]) -> Result<LogPage, DbError> {
-        let bytes = "octet_length(line) + octet_length(answer)";
         let asked = format!("select {COLUMNS} from call where {rest}");
-        let counted = format!("select *, sum({bytes}) over (order by seq) - ({bytes}) as before from ({asked}) asked");
+        let counted = format!("select *, sum({BYTES}) over (order by seq) - {BYTES} as before from ({asked}) asked");
         let sql = format!("select {COLUMNS} from ({counted}) counted where before < {PAGE_BYTES} order by seq");
         self.all(&sql, given)
     }
@@ -117,7 +112,7 @@ impl Reader for PgReader {
 
     fn image(&mut self, job: i64, after: u64) -> Result<Option<SavedImage>, DbError> {
         let rest = "where job = $1::bigint and seq > $2::bigint order by seq limit 1";
-        self.one(&format!("select {} from image {rest}", self.image), &[&job.to_string(), &signed(after)])
+        self.one(&format!("select {} from image {rest}", image_columns(JOINED)), &[&job.to_string(), &signed(after)])
     }
 
     fn images(&mut self, job: i64) -> Result<Vec<KeptImage>, DbError> {
@@ -159,11 +154,16 @@ impl Reader for PgReader {
         self.all("select job, is_empty from gone_job", &[])
     }
 
+    fn phases(&mut self) -> Result<Vec<(i64, Phase)>, DbError> {
+        self.all("select job, phase, record, at, term, failed from phase", &[])
+    }
+
     fn call_bytes(&mut self, jobs: &[i64]) -> Result<Vec<(i64, u64)>, DbError> {
-        let sql = "select u.job, avg(octet_length(line) + octet_length(answer))::bigint
-            from unnest($1::bigint[]) u(job) cross join lateral (
-            select line, answer from call where call.job = u.job order by seq desc limit 100) last group by u.job";
-        self.all(sql, &[&array(jobs.iter())])
+        let sql = format!(
+            "select u.job, avg({BYTES})::bigint from unnest($1::bigint[]) u(job) cross join lateral (
+            select line, files from call where call.job = u.job order by seq desc limit 100) last group by u.job"
+        );
+        self.all(&sql, &[&array(jobs.iter())])
     }
 
     fn room(&mut self) -> Result<Room, DbError> {
@@ -176,7 +176,7 @@ impl Reader for PgReader {
     }
 
     fn lengths_after(&mut self, name: &str, job: i64) -> Result<Option<String>, DbError> {
-        // a process that got a shard twice has its name twice, and those of earlier versions are of all shards
+        // a process that got a shard twice has its name twice, and those that came from SQLite are of all shards
         let sql = "with its as (select * from log_start where shard in ($2::bigint, -1))
             select lengths from its where number > (select max(number) from its where name = $1) order by number limit 1";
         let rows = self.query(sql, &[name, &shard_of(job).to_string()])?;
@@ -220,8 +220,7 @@ impl Reader for PgReader {
             limit $3::bigint"
         );
         // the database counts the bytes, so it sends no more
-        let before =
-            "sum(octet_length(line) + octet_length(answer)) over (rows between unbounded preceding and 1 preceding)";
+        let before = format!("sum({BYTES}) over (rows between unbounded preceding and 1 preceding)");
         let sql = format!(
             "select {COLUMNS} from (select *, {before} as before from ({asked}) asked) counted
             where before is null or before < {PAGE_BYTES}"
@@ -243,7 +242,7 @@ impl Reader for PgReader {
     fn images_at(&mut self, places: &[(i64, u64)]) -> Result<Vec<SavedImage>, DbError> {
         let from = "image join unnest($1::bigint[], $2::bigint[]) u(job, seq) using (job, seq)";
         let [jobs, places] = arrays(places);
-        self.all(&format!("select {} from {from}", self.image), &[&jobs, &places])
+        self.all(&format!("select {} from {from}", image_columns(JOINED)), &[&jobs, &places])
     }
 
     fn firsts(&mut self, jobs: &[i64]) -> Result<Vec<(i64, u64)>, DbError> {

@@ -6,7 +6,7 @@ use super::tables::{Cells, Table, TABLES};
 use std::ffi::CString;
 
 /// What only PostgreSQL has.
-const OTHERS: [&str; 4] = ["schema_version", "leader", "member", "shard"];
+const OTHERS: [&str; 3] = ["schema_version", "member", "shard"];
 /// The name of the move by which the log came here, and the epoch with which the shards begin.
 const MADE: &str =
     "create table moved_from(one boolean primary key check (one), id text not null, epoch bigint not null)";

@@ -1,7 +1,7 @@
 //! What a reader of the database does.
 use super::error::DbError;
 use super::rows::{LogPage, Room, SavedImage, PAGE_BYTES, VERSION};
-use crate::model::{AckBytes, Entry, FileBytes, KeptImage, KeptSummary, Opening, PastRecord, Shards};
+use crate::model::{AckBytes, Entry, FileBytes, KeptImage, KeptSummary, Opening, PastRecord, Phase, Shards};
 
 /// A connection that only reads. A part of a log that it returns has one call at least, if there is one, and [`PAGE_BYTES`] or one call
 /// more at most. So it is no sign of the end that there are fewer calls than were asked for.
@@ -55,7 +55,10 @@ pub trait Reader: Send {
     /// The numbers of jobs that were deleted, and 1 if nothing is left of it.
     fn gone(&mut self) -> Result<Vec<(i64, u64)>, DbError>;
 
-    /// How many bytes the lines and answers of the last calls of jobs have on average.
+    /// The phases of the jobs that somebody has stopped.
+    fn phases(&mut self) -> Result<Vec<(i64, Phase)>, DbError>;
+
+    /// How many bytes the lines and files of the last calls of jobs have on average.
     fn call_bytes(&mut self, jobs: &[i64]) -> Result<Vec<(i64, u64)>, DbError>;
 
     /// How much room the database takes, and has.
@@ -106,7 +109,7 @@ pub trait Reader: Send {
                 break;
             }
             let entries = self.log(*job, *seq, room)?;
-            bytes += entries.iter().map(|entry| entry.line.len() + entry.answer.len()).sum::<usize>();
+            bytes += entries.iter().map(Entry::bytes).sum::<usize>();
             page.extend(entries);
         }
         Ok(page)

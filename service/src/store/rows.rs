@@ -1,6 +1,8 @@
 //! What a database of the service does: commits groups, and reads the log.
 use super::error::{DbError, Failure};
-use crate::model::{AckBytes, Cut, Entry, Held, Image, ImagePart, Logged, Opening, PastRecord, Shards, SummaryPart};
+use crate::model::{
+    AckBytes, Cut, Entry, Held, Image, ImagePart, Logged, Opening, PastRecord, Phase, Shards, SummaryPart,
+};
 use std::collections::BTreeMap;
 use std::time::Duration;
 
@@ -24,6 +26,8 @@ pub struct Group {
     pub sizes: BTreeMap<(i64, u64), Option<u64>>,
     /// What acknowledgements said of sizes.
     pub said: Vec<AckBytes>,
+    /// The phases of jobs as they are after all calls.
+    pub phases: BTreeMap<i64, Phase>,
     /// Jobs to delete.
     pub gone: Vec<GoneJob>,
 }
@@ -38,7 +42,7 @@ pub struct GoneJob {
 }
 
 /// The tables with rows of jobs, by which columns, and how many rows of it one piece of a deletion has at most: some are large.
-pub const OF_JOBS: [(&str, &str, u64); 8] = [
+pub const OF_JOBS: [(&str, &str, u64); 9] = [
     ("call", "job, seq", 1000),
     ("ack_size", "job, seq", 1000),
     ("request", "job, key", 1000),
@@ -47,6 +51,7 @@ pub const OF_JOBS: [(&str, &str, u64); 8] = [
     ("summary", "job, seq, part", 8),
     ("image", "job, seq", 1),
     ("image_part", "job, seq, part", 8),
+    ("phase", "job", 1000),
 ];
 
 impl Group {
@@ -66,7 +71,7 @@ impl Group {
         let dropped = self.dropped.iter().chain(&self.dropped_summaries).map(|(job, _)| *job);
         let history = self.summaries.iter().map(|it| it.job).chain(self.past.iter().map(|it| it.job));
         let sizes = self.sizes.keys().map(|(job, _)| *job).chain(self.said.iter().map(|it| it.job));
-        let cuts = self.cuts.iter().map(|it| it.job);
+        let cuts = self.cuts.iter().map(|it| it.job).chain(self.phases.keys().copied());
         Shards::of_jobs(calls.chain(jobs).chain(images).chain(dropped).chain(history).chain(sizes).chain(cuts))
     }
 
@@ -78,6 +83,7 @@ impl Group {
         self.requests.retain(|it| stays(it.job));
         self.sizes.retain(|(job, _), _| stays(*job));
         self.said.retain(|it| stays(it.job));
+        self.phases.retain(|job, _| stays(*job));
         new
     }
 
@@ -86,7 +92,7 @@ impl Group {
             !(self.gone.is_empty() && self.jobs.is_empty() && self.entries.is_empty() && self.requests.is_empty());
         let has_history = !(self.summaries.is_empty() && self.past.is_empty() && self.dropped_summaries.is_empty());
         let has_images = !(self.images.is_empty() && self.image_parts.is_empty() && self.dropped.is_empty());
-        !has_calls && !has_history && !has_images && self.cuts.is_empty()
+        !has_calls && !has_history && !has_images && self.cuts.is_empty() && self.phases.is_empty()
     }
 }
 
@@ -116,11 +122,12 @@ pub const OLD_GONE: &str = "is_empty = 1 and at < $1 and job not in (select max(
 pub const MOST_STARTS: i64 = 64;
 
 /// The version of the tables. Each database has a step of SQL for each: only a start over tables of an earlier version runs it.
-pub const VERSION: usize = 6;
+pub const VERSION: usize = 1;
 
 /// The steps after a version, each of which makes or changes tables. They can be run again.
-pub fn steps_after(found: i64, steps: [&'static str; VERSION]) -> impl Iterator<Item = &'static str> {
-    steps.into_iter().skip(usize::try_from(found).unwrap_or(0))
+pub fn steps_after<'a>(found: i64, steps: &'a [&'a str]) -> &'a [&'a str] {
+    let done = usize::try_from(found).unwrap_or(0);
+    &steps[done.min(steps.len())..]
 }
 
 /// What a commit did beside its rows.
@@ -192,27 +199,16 @@ pub trait Store: Send {
     fn release(&mut self);
 }
 
-/// Which rows of `call` are events for engines: the index `call_event` has this condition.
-macro_rules! is_event {
-    () => {
-        "event is not null"
-    };
-}
-pub(super) use is_event;
-pub const IS_EVENT: &str = is_event!();
-
-/// What the column `event` says of a row of `call`.
-#[cfg(test)]
-pub const EVENT: &str = include_str!("../../sql/event.sql");
+/// Which rows of `call` are events for engines, as [`Event::of`](crate::model::Event::of) says: the index `call_event` has this condition.
+pub const IS_EVENT: &str = "(what in (1, 5, 6, 8, 10, 11, 13, 14, 15, 16, 17) or what in (2, 3, 4) and a > 0)";
 
 /// The columns of an [`Entry`].
-pub const COLUMNS: &str = "job, seq, at, record, line, answer, ended, waiting";
+pub const COLUMNS: &str = "job, seq, at, record, line, what, a, b, files, ended, waiting";
 
-/// The columns of a [`SavedImage`]. `joined` selects the parts of a long image's text, put together; tables of an earlier version have none.
-/// One statement reads them, so an image that is deleted meanwhile is there whole or not at all.
-pub fn image_columns(joined: Option<&str>) -> String {
-    let text = joined.map_or("text".to_string(), |joined| format!("coalesce(({joined}), text)"));
-    format!("job, seq, at, digest, shape, completed, event, {text}")
+/// The columns of a [`SavedImage`]. `joined` selects the parts of a long image's text, put together. One statement reads them, so an image
+/// that is deleted meanwhile is there whole or not at all.
+pub fn image_columns(joined: &str) -> String {
+    format!("job, seq, at, digest, shape, completed, event, coalesce(({joined}), text)")
 }
 
 /// How many bytes something takes, and what its disk has, if that can be known here.
@@ -239,5 +235,5 @@ pub fn whole(parts: Vec<(String, u64)>) -> Option<String> {
 /// A part of a log, in order.
 pub type LogPage = Vec<Entry>;
 
-/// A part of a log ends behind the call with which its lines and answers have this many bytes, however many calls were asked for.
+/// A part of a log ends behind the call with which its lines and files have this many bytes, however many calls were asked for.
 pub const PAGE_BYTES: usize = 2 << 20;

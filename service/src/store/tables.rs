@@ -25,7 +25,7 @@ pub type Cells = Vec<Value>;
 use Kind::{Number, One, Text};
 
 /// All that a move copies. The members, the shards and their leases are of processes, so PostgreSQL begins with none.
-pub const TABLES: [Table; 12] = [
+pub const TABLES: [Table; 13] = [
     Table {
         name: "job",
         columns: &[
@@ -48,7 +48,10 @@ pub const TABLES: [Table; 12] = [
             ("at", Number),
             ("record", Number),
             ("line", Text),
-            ("answer", Text),
+            ("what", Number),
+            ("a", Number),
+            ("b", Number),
+            ("files", Text),
             ("ended", Text),
             ("waiting", Number),
         ],
@@ -115,6 +118,19 @@ pub const TABLES: [Table; 12] = [
         most: 8,
     },
     Table { name: "past", columns: &[("job", Number), ("id", Number), ("text", Text)], key: "job, id", most: 1000 },
+    Table {
+        name: "phase",
+        columns: &[
+            ("job", Number),
+            ("phase", Text),
+            ("record", Number),
+            ("at", Number),
+            ("term", Number),
+            ("failed", Text),
+        ],
+        key: "job",
+        most: 1000,
+    },
 ];
 
 impl Table {

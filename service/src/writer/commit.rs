@@ -38,6 +38,10 @@ impl Writer {
                 Err(Failure::Again(why) | Failure::TooLarge(why)) if round.upkeep.is_some() => {
                     self.keeper.put_off(&mut self.jobs, round, &self.metrics, &why.to_string());
                 }
+                Err(Failure::Again(why) | Failure::TooLarge(why)) if !round.group.gone.is_empty() => {
+                    log::warn(&format!("jobs are not deleted: {why}"));
+                    round.group.gone.clear();
+                }
                 Err(Failure::NameTaken(why)) if !round.group.jobs.is_empty() => {
                     log::info(&format!("a job is not opened here: {why}"));
                     for place in round.uncreate(&mut self.jobs) {

@@ -1,10 +1,10 @@
 //! Deletion of a job: what is refused, and what the threads and the database forget.
-use super::commit::lose;
 use super::message::{Deletion, NotDeletable};
+use super::round::Round;
 use super::Writer;
 use crate::log;
-use crate::model::{Mode, Moment};
-use crate::store::{Failure, GoneJob, Group};
+use crate::model::Mode;
+use crate::store::GoneJob;
 use tokio::sync::oneshot::Sender;
 
 /// A request to delete a job.
@@ -16,34 +16,57 @@ pub struct Delete {
 }
 
 impl Writer {
-    /// Deletes jobs, each in a commit of its own. What they leave in other tables is deleted in pieces.
-    pub(super) fn delete(&mut self, deletions: Vec<Delete>) {
-        for Delete { job, abandon, reply } in deletions {
-            let _ = reply.send(self.delete_one(&job, abandon));
+    /// Looks at the deletions of a round once its calls are made. Those that may be made are committed with these; the others are answered.
+    pub(super) fn consider(&mut self, round: &mut Round) {
+        for delete in std::mem::take(&mut round.deletions) {
+            match self.refusal(&delete, round) {
+                Ok(gone) => {
+                    round.group.gone.extend(gone);
+                    round.deletions.push(delete);
+                }
+                Err(why) => {
+                    let _ = delete.reply.send(why);
+                }
+            }
         }
     }
 
-    fn delete_one(&mut self, name: &str, abandon: bool) -> Deletion {
-        let Some(place) = self.jobs.place(name) else {
-            return Deletion::NoJob;
+    /// What is to be committed for a deletion, which is nothing if another one of this round is of the same job, or why it is not made.
+    fn refusal(&mut self, delete: &Delete, round: &Round) -> Result<Option<GoneJob>, Deletion> {
+        let Some(place) = self.jobs.place(&delete.job) else {
+            return Err(Deletion::NoJob);
         };
         let job = self.jobs.at(place);
         let (number, files, mode) = (job.opening.number, job.engine().counts(), job.engine().mode());
         if mode == Mode::Running {
-            return Deletion::Refused(NotDeletable::Running);
+            return Err(Deletion::Refused(NotDeletable::Running));
         }
-        if !abandon && files.in_use + files.waiting + files.taken > 0 {
-            return Deletion::Refused(NotDeletable::Files(files));
+        if !delete.abandon && files.in_use + files.waiting + files.taken > 0 {
+            return Err(Deletion::Refused(NotDeletable::Files(files)));
         }
-        let gone = GoneJob { job: number, name: name.to_string(), at: self.clock.now() };
-        let since = Moment::now();
-        match self.store.commit(&Group { gone: vec![gone], ..Group::default() }) {
-            Ok(committed) => self.lease.committed(committed, since),
-            Err(Failure::Again(why) | Failure::TooLarge(why)) => {
-                log::warn(&format!("job {name} was not deleted: {why}"));
-                return Deletion::Busy;
-            }
-            Err(Failure::Lost(why) | Failure::NameTaken(why)) => lose(&why),
+        if round.group.jobs.iter().any(|job| job.number == number) {
+            // one commit can't open and delete it
+            return Err(Deletion::Busy);
+        }
+        let is_new = round.group.gone.iter().all(|gone| gone.job != number);
+        Ok(is_new.then(|| GoneJob { job: number, name: delete.job.clone(), at: self.clock.now() }))
+    }
+
+    /// Answers the deletions of a round that was committed, with these jobs. What they leave in other tables is deleted in pieces.
+    pub(super) fn delete(&mut self, deletions: Vec<Delete>, gone: &[GoneJob]) {
+        for Delete { job, reply, .. } in deletions {
+            let told = match self.jobs.place(&job) {
+                None => Deletion::NoJob,
+                Some(place) => self.forget(place, &job, gone),
+            };
+            let _ = reply.send(told);
+        }
+    }
+
+    fn forget(&mut self, place: usize, name: &str, gone: &[GoneJob]) -> Deletion {
+        let number = self.jobs.at(place).opening.number;
+        if gone.iter().all(|gone| gone.job != number) {
+            return Deletion::Busy;
         }
         self.jobs.delete(place);
         self.keeper.forget(place);

@@ -33,7 +33,7 @@ pub use state::{JobState, RecordState};
 
 use crate::log;
 use crate::metrics::Metrics;
-use crate::model::{millis, nearer, Call, Change, Clock, Keeping, Moment, Outcome, Target};
+use crate::model::{millis, nearer, Call, Change, Clock, Keeping, Moment, Outcome};
 use crate::store::Store;
 use batch::{calls_of, Answered};
 use commit::lose;
@@ -129,14 +129,16 @@ impl Writer {
                 self.take_in(&mut round, &answered, message);
             }
             self.tick_due(&mut round);
+            self.consider(&mut round);
             self.commit(&mut round);
             let (stop, added, keys) = (round.stop, round.group.entries.len(), round.group.requests.len());
             self.keeper.called(&round.touched);
             let (given, deletions) = (std::mem::take(&mut round.given), std::mem::take(&mut round.deletions));
+            let gone = std::mem::take(&mut round.group.gone);
             let (adoptions, given_up) = (std::mem::take(&mut round.adoptions), std::mem::take(&mut round.given_up));
             self.answer(round);
             self.keep(given);
-            self.delete(deletions);
+            self.delete(deletions, &gone);
             self.give_up(given_up);
             self.adopt(adoptions);
             if stop {
@@ -321,17 +323,14 @@ impl Writer {
 
     fn call(&mut self, round: &mut Round, place: usize, call: &Call) -> Outcome {
         let job = self.jobs.at(place);
-        let now = job.moment(self.clock.now());
-        let (outcome, logged) = match call {
-            Call::Restore { target: Target::Checkpoint(id), shape } => job.go_back(*id, shape.as_deref(), now),
-            call => {
-                let (outcome, logged) = job.call(call, now);
-                (outcome, logged.into_iter().collect())
-            }
-        };
+        let (now, phase) = (job.moment(self.clock.now()), job.phase);
+        let (outcome, logged) = job.operate(call, now);
         self.metrics.call(&job.opening.name, call.name(), &outcome);
         for logged in logged {
             round.group.log(logged);
+        }
+        if job.phase != phase {
+            round.group.phases.insert(job.opening.number, job.phase);
         }
         round.touched.insert(place);
         outcome

@@ -1,5 +1,5 @@
 //! One job is brought up to date with its log: by an image, and by the calls after it.
-use crate::model::{parse_line, Entry, Fault, Job, NoJob, Outcome};
+use crate::model::{parse_line, Entry, Fault, Job, NoJob, Outcome, Told};
 use crate::store::{DbError, Failure, SavedImage};
 use thiserror::Error;
 
@@ -72,8 +72,8 @@ pub fn repeat(job: &mut Job, entry: &Entry) -> Result<(), StartError> {
         return Err(damaged(missing(job)));
     }
     let (now, call) = parse_line(&entry.line).ok_or_else(|| damaged(format!("{:?} is no call", entry.line)))?;
-    let answered = match job.repeat(&entry.line, &call, now) {
-        Outcome::Made { reply, .. } if reply.text() == entry.answer => {
+    let answered = match job.repeat(&call, now) {
+        Outcome::Made { reply, .. } if Told::of(&reply) == entry.told => {
             job.at = entry.at;
             return Ok(());
         }
@@ -81,6 +81,6 @@ pub fn repeat(job: &mut Job, entry: &Entry) -> Result<(), StartError> {
         Outcome::NoMemory => return Err(StartError::NoMemory { job: name.clone(), seq: entry.seq }),
         other => other.json().to_string(),
     };
-    let (line, logged) = (entry.line.clone(), entry.answer.clone());
+    let (line, logged) = (entry.line.clone(), entry.told.text());
     Err(StartError::Differs { job: name.clone(), seq: entry.seq, line, logged, answered })
 }

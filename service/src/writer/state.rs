@@ -1,7 +1,9 @@
 //! The state of a job, as reads return it between two commits.
 use super::jobs::Jobs;
 use super::message::{Read, ReadDone};
-use crate::model::{Bytes, Choice, FileCounts, Job, KeptImage, Kind, LiveRecord, Mode, Opening, RunningTerm, Settings};
+use crate::model::{
+    Bytes, Choice, FileCounts, Job, KeptImage, Kind, LiveRecord, Mode, Opening, Phase, RunningTerm, Settings,
+};
 
 #[derive(Clone, Debug)]
 pub struct JobState {
@@ -11,6 +13,7 @@ pub struct JobState {
     /// The shape that the job has now.
     pub shape: Vec<u64>,
     pub mode: Mode,
+    pub phase: Phase,
     pub seq: u64,
     pub now: u64,
     pub due: u64,
@@ -95,6 +98,7 @@ pub fn state(job: &mut Job, now: u64) -> JobState {
         settings: job.settings,
         shape: job.shape.clone(),
         mode,
+        phase: job.phase,
         seq: job.seq,
         now: job.moment(now),
         due,

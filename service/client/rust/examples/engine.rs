@@ -27,6 +27,7 @@ async fn main() -> Result<(), Box<dyn std::error::Error>> {
 /// Begins the job, and takes part in checkpoints until this many have completed, or the job has to begin again: it has failed, or
 /// somebody has restored it. Returns how many have completed. If a backup of the service was restored, the error ends the engine.
 async fn round(job: &Job, wanted: u64) -> Result<u64, Box<dyn std::error::Error>> {
+    job.until_begun().await?;
     let mut start = match job.begin(None, None).await {
         Err(Error::Refused(_)) => return Err("the job was cancelled".into()),
         begun => begun?,

@@ -4,7 +4,7 @@ use crate::{Error, Job};
 use serde_json::{json, Value};
 use std::time::Duration;
 
-const GONE: u16 = 410;
+pub(crate) const GONE: u16 = 410;
 /// The reason if the log never had the place.
 const OTHER_LOG: &str = "other_log";
 

@@ -30,11 +30,14 @@ pub use session::Session;
 pub use start::{file_numbers, Start};
 
 use call::texts;
-use follow::events_of;
+use follow::{events_of, GONE};
 use http::{Asked, Manner, Requests, Told};
 use serde_json::{json, Value};
 use std::sync::Arc;
 use std::time::Duration;
+
+/// How many seconds a poll waits for the next event.
+const LONG_POLL: u64 = 25;
 
 /// A service, at one address or at several of which one leads. Clones share their connections.
 #[derive(Clone)]
@@ -166,21 +169,62 @@ impl Job {
     /// Makes the job give out names, from this one on: all numbers of files that it ever used are below. The call is made between the end of
     /// all tasks and [`begin`](Self::begin).
     pub async fn fence(&self, first_name: u64) -> Result<Value, Error> {
-        let body = json!({"first_name": first_name.to_string()});
-        self.requests.body(&self.manner, Asked::post(format!("{}/fence", self.path), &body, Some(&new_key()))).await
+        self.posted("fence", &json!({"first_name": first_name.to_string()})).await
     }
 
     /// Triggers a checkpoint now, whatever the interval and the pause. Returns its number. Fails with [`Error::Refused`] if as many are
     /// pending as may be, or the job does not run.
     pub async fn checkpoint(&self) -> Result<Value, Error> {
-        let asked = Asked::post(format!("{}/checkpoints", self.path), &json!({}), Some(&new_key()));
-        self.requests.body(&self.manner, asked).await
+        self.operate("checkpoints").await
     }
 
     /// Changes settings of the job, while it runs: those that are given, as `{"interval": 30000}`. Returns all that it has then, under
     /// `settings`. Fails with [`Error::Refused`] if more checkpoints are pending than may be from then on, or the job is cancelled.
     pub async fn set(&self, settings: &Value) -> Result<Value, Error> {
         self.requests.body(&self.manner, Asked::patch(format!("{}/settings", self.path), settings)).await
+    }
+
+    /// Stops the job with a savepoint, whose number is the answer's `id`: the timer rests, and with the last acknowledgement the job has stopped
+    /// at it, until [`begin_job`](Self::begin_job). Fails with [`Error::Refused`] if the job stops or has stopped already, or does not run.
+    pub async fn stop_job(&self) -> Result<Value, Error> {
+        self.operate("stop").await
+    }
+
+    /// Begins the job again where it has stopped. Engines that wait for it then make [`begin`](Self::begin). Fails with [`Error::Refused`] if the
+    /// job has not stopped.
+    pub async fn begin_job(&self) -> Result<Value, Error> {
+        self.operate("begin").await
+    }
+
+    /// Waits as long as the job has stopped: an engine that starts does so before [`begin`](Self::begin). Returns the state of the job.
+    pub async fn until_begun(&self) -> Result<Value, Error> {
+        loop {
+            let state = self.state().await?;
+            if state["phase"] != "stopped" {
+                return Ok(state);
+            }
+            match self.events(state["seq"].as_u64().unwrap_or_default(), LONG_POLL).await {
+                // the state says what came instead of the events
+                Ok(_) | Err(Error::Status { status: GONE, .. }) => {}
+                Err(error) => return Err(error),
+            }
+        }
+    }
+
+    /// Lets the job go on from an older copy of the service's log, as a backup: it begins again, as by [`begin`](Self::begin), in a term above
+    /// this one, and gives out names from this one on. The first is at least each term that was told, and the second above each name that
+    /// was given out. Fails with [`Error::Fenced`] if the job has no names, and [`Error::Refused`] if it is cancelled.
+    pub async fn advance(&self, term: u64, first_name: u64) -> Result<Value, Error> {
+        self.posted("advance", &json!({"term": term, "first_name": first_name.to_string()})).await
+    }
+
+    async fn operate(&self, what: &str) -> Result<Value, Error> {
+        self.posted(what, &json!({})).await
+    }
+
+    async fn posted(&self, what: &str, body: &Value) -> Result<Value, Error> {
+        let asked = Asked::post(format!("{}/{what}", self.path), body, Some(&new_key()));
+        self.requests.body(&self.manner, asked).await
     }
 
     /// Of these files, at most 10,000, those that may be deleted, and those whose names were never given out, which nobody deletes. The

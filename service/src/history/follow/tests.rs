@@ -1,6 +1,7 @@
-//! A history that goes on from a summary, and tables of each version.
+//! A history that goes on from a summary, and tables of other versions.
+use super::super::version::{upgrade, STEPS};
 use super::*;
-use crate::model::{parse_config, FileBytes, PastRecord, Shards};
+use crate::model::{parse_config, FileBytes, PastRecord, Phase, Shards, Told};
 use crate::store::{Room, SavedImage};
 use std::path::PathBuf;
 
@@ -63,6 +64,10 @@ impl Reader for Memory {
     fn gone(&mut self) -> Result<Vec<(i64, u64)>, DbError> {
         Ok(vec![])
     }
+    fn phases(&mut self) -> Result<Vec<(i64, Phase)>, DbError> {
+        Ok(Vec::new())
+    }
+
     fn call_bytes(&mut self, _: &[i64]) -> Result<Vec<(i64, u64)>, DbError> {
         Ok(vec![])
     }
@@ -86,28 +91,33 @@ fn opening() -> Opening {
     Opening { number: 1, name: "a".to_string(), settings, shape: vec![2], started: 1 }
 }
 
+const COMPLETED: Answer = Answer::AckCompleted { dropped: 0, released: 0 };
+
 /// Six savepoints of two files each, all but the last two disposed of; files that were taken, deleted and not deleted.
 fn log() -> Vec<Entry> {
     let mut log: Vec<Entry> = Vec::new();
-    let mut add = |record: Option<u64>, line: String, answer: &str, ended: Option<&str>, waiting| {
+    let mut add = |record: Option<u64>, line: String, reply: Reply, ended: Option<&str>, waiting| {
         let seq = log.len() as u64 + 1;
-        let (answer, ended) = (answer.to_string(), ended.map(str::to_string));
-        log.push(Entry { job: 1, seq, at: 1000 + seq, record, line, answer, ended, waiting });
+        let (told, ended) = (Told::of(&reply), ended.map(str::to_string));
+        log.push(Entry { job: 1, seq, at: 1000 + seq, record, line, told, ended, waiting });
     };
+    let said = Reply::Answered;
     for id in 1..=6_u64 {
-        add(Some(id), format!("savepoint {}", id * 10), &format!("savepoint triggered {id}"), None, 0);
-        add(Some(id), format!("ack {} {id} 0.0 +{}", id * 10, id * 100), "ack pending 1", None, 0);
+        add(Some(id), format!("savepoint {}", id * 10), said(Answer::SavepointTriggered(id)), None, 0);
+        let pending = said(Answer::AckPending { missing: 1 });
+        add(Some(id), format!("ack {} {id} 0.0 +{}", id * 10, id * 100), pending, None, 0);
         if id == 6 {
             break;
         }
-        add(Some(id), format!("ack {} {id} 0.1 +{}", id * 10, id * 100 + 1), "ack completed 0 0", None, 0);
+        add(Some(id), format!("ack {} {id} 0.1 +{}", id * 10, id * 100 + 1), said(COMPLETED), None, 0);
         if let Some(old) = id.checked_sub(2).filter(|old| *old > 0) {
-            add(Some(old), format!("dispose {old}"), "disposed 2", Some(&old.to_string()), 2);
-            add(None, "take 1".to_string(), &format!("take {}", old * 100), None, 0);
+            let disposed = said(Answer::Disposed { released: 2 });
+            add(Some(old), format!("dispose {old}"), disposed, Some(&old.to_string()), 2);
+            add(None, "take 1".to_string(), Reply::Taken(vec![old * 100]), None, 0);
         }
         if id == 4 {
-            add(None, "deleted 100".to_string(), "deleted 1", None, 0);
-            add(None, "undeleted 200".to_string(), "undeleted 1", None, 1);
+            add(None, "deleted 100".to_string(), said(Answer::Deleted(100)), None, 0);
+            add(None, "undeleted 200".to_string(), said(Answer::Undeleted(200)), None, 1);
         }
     }
     log
@@ -212,7 +222,7 @@ fn a_summary_and_the_rest_of_the_log_give_the_same_history() -> Result<(), Error
         let mut follower = Follower::open(&new, &mut memory, &opening())?;
         let last = Entry {
             line: "ack 70 6 0.1".to_string(),
-            answer: "ack completed 0 0".to_string(),
+            told: Told::of(&Reply::Answered(COMPLETED)),
             seq: whole.len() as u64 + 1,
             record: Some(6),
             ..whole[0].clone()
@@ -228,27 +238,41 @@ fn a_summary_and_the_rest_of_the_log_give_the_same_history() -> Result<(), Error
 }
 
 #[test]
-fn tables_of_each_version() -> Result<(), Error> {
+fn tables_of_other_versions() -> Result<(), Error> {
     let file = File::new("versions");
-    Tables::open(&file.0)?.run("update version set number = 5", [])?;
-    assert!(matches!(Tables::open(&file.0), Err(error @ Error::Newer(5)) if !error.is_damage()));
-    let base = rusqlite::Connection::open(&file.0)?;
-    base.execute_batch(
-        "update version set number = 2; drop index sample_at; drop index record_unsaved; alter table record drop column saved;
-        alter table record drop column fresh_bytes; alter table record drop column full_bytes; alter table file drop column bytes",
-    )?;
     let tables = Tables::open(&file.0)?;
-    assert_eq!((tables.drop_samples(1, 1)?, tables.unsaved(1, 1)?), (0, vec![]));
-    base.execute_batch("update version set number = 1")?;
-    assert!(matches!(Tables::open(&file.0), Err(error @ Error::Foreign(_)) if error.is_damage()));
-    base.execute_batch("drop table version")?;
+    tables.run("insert into queue values(1, 2, 3, 4)", [])?;
+    tables.run("update version set number = 2", [])?;
+    assert!(matches!(Tables::open(&file.0), Err(error @ Error::Newer(2)) if !error.is_damage()));
+    let base = rusqlite::Connection::open(&file.0)?;
+    for other in
+        ["update version set number = 0", "update version set number = -1", "delete from version", "drop table version"]
+    {
+        base.execute_batch(&format!("{other}; pragma wal_checkpoint(truncate)"))?;
+        assert!(matches!(Tables::open(&file.0), Err(Error::Foreign(_) | Error::Tables(_))), "{other}");
+    }
     assert!(matches!(Tables::open(&file.0), Err(error @ Error::Foreign(_)) if error.is_damage()));
     let plan: Vec<String> =
         tables.all("explain query plan select job, at from sample where at < 5 limit 3", [], |row| row.get(3))?;
     assert!(plan.iter().all(|step| step.contains("sample_at")), "{plan:?}");
-    base.execute_batch("begin immediate")?;
     let other = File::new("other");
     std::fs::write(&other.0, "no database, and long enough".repeat(100)).unwrap_or_else(|why| panic!("{why}"));
     assert!(matches!(Tables::open(&other.0), Err(error @ Error::Tables(_)) if error.is_damage()));
+    Ok(())
+}
+
+/// A later version, which is made up, upgrades tables with what they have.
+#[test]
+fn tables_are_upgraded() -> Result<(), Error> {
+    let file = File::new("upgrade");
+    Tables::open(&file.0)?.run("insert into queue values(1, 2, 3, 4)", [])?;
+    let base = rusqlite::Connection::open(&file.0)?;
+    for _ in 0..2 {
+        upgrade(&base, &[STEPS[0], "alter table queue add column made_up integer not null default 7;"])?;
+        let row: (i64, i64, i64) =
+            base.query_row("select released, made_up, number from queue, version", [], |row| row.try_into())?;
+        assert_eq!(row, (3, 7, 2));
+    }
+    assert!(matches!(Tables::open(&file.0), Err(Error::Newer(2))));
     Ok(())
 }

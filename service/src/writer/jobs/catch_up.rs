@@ -40,6 +40,16 @@ impl Jobs {
         self.read_logs(behind.into_iter().collect(), reader, beat)
     }
 
+    /// Reads the phases of jobs, whose calls have all been made here.
+    fn take_phases(&mut self, reader: &mut dyn Reader) -> Result<(), StartError> {
+        for (number, phase) in reader.phases()? {
+            if let Some(place) = self.place_of(number) {
+                self.jobs[place].phase = phase;
+            }
+        }
+        Ok(())
+    }
+
     /// The next time all jobs and all logs are looked at. Where several processes wrote, neither the numbers of jobs nor the moments of calls
     /// rise in the order of the commits.
     pub fn look_at_all(&mut self) {
@@ -186,6 +196,7 @@ impl Jobs {
             let summaries = summaries.remove(&number).unwrap_or_default();
             job.kept = Kept::of(images, &summaries, firsts.get(&number).copied(), keeping);
         }
+        self.take_phases(reader)?;
         if keeping.keep_bytes > 0 {
             beat()?;
             self.take_means(reader.call_bytes(&numbers)?);

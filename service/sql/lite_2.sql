@@ -1,5 +1,0 @@
--- Version 2 of the tables, with the indexes of lite_history.sql.
--- Each time a process began to lead: the log's identity since, and how many calls each job had.
-create table if not exists log_start(number integer primary key, name text not null unique, lengths text not null) strict;
--- The last moment at which the service ran, which it notes now and then.
-create table if not exists clock(one integer primary key check (one = 1), at integer not null) strict;

@@ -1,1 +1,0 @@
--- Version 5 of the tables: in PostgreSQL jobs are spread over processes. Over SQLite there is one, and nothing changes.

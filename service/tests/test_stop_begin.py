@@ -1,0 +1,408 @@
+"""A job that stops with a savepoint and begins again, over the API, the client and the commands; and what an operator does, while the service is
+killed at each of its writes."""
+import json
+import os
+import shutil
+import sqlite3
+import subprocess
+import threading
+import time
+
+import requests
+
+from harness import BUSY, COMMAND, PROGRAM, Server, caught_up, folder, leader_and_standby, lease_of, served, until
+from postgres import postgres
+from preloaded import SHIM, Clocks, built, shim
+from relkvanu_service import Failed, Fenced, Refused, Service, ack, cancel, decline, restore
+from test_operate import NEVER, Tasks, ran, refused
+
+HOUR = 3600
+
+
+def stop_of(job):
+    state = job.state()
+    return state["phase"], state["stop"]
+
+
+def lines(job, after=0):
+    """The calls after a place, without their moments."""
+    return [[word for word in entry["line"].split() if word != str(entry["at"])] for entry in job.log(after)]
+
+
+def stops(tasks):
+    """Stops the job, whose two subtasks take part. Returns the savepoint."""
+    savepoint = tasks.job.stop_job()["id"]
+    take_part(tasks, savepoint)
+    return savepoint
+
+
+def take_part(tasks, savepoint, subtasks=("0.0", "0.1")):
+    term = tasks.start.term
+    answers = tasks.job.calls([ack(savepoint, subtask, [tasks.number()], term=term) for subtask in subtasks])
+    assert all("ack" in one for one in answers), answers
+    return answers
+
+
+def stopped_and_begun(names):
+    with served(names=names) as server:
+        tasks = Tasks(server, names)
+        job, done = tasks.job, tasks.complete()
+        assert stop_of(job) == ("running", None)
+        told = job.stop_job()
+        savepoint, before = told["id"], job.state()
+        assert told["savepoint"] == "triggered" and savepoint > done and before["phase"] == "stopping", told
+        assert before["stop"] == {"savepoint": savepoint, "at": before["stop"]["at"], "failed": None}, before
+        assert refused(job.stop_job) == "Stopping" and refused(job.begin_job) == "NotStopped"
+        take_part(tasks, savepoint, ["0.0"])
+        assert stop_of(job)[0] == "stopping"
+        # the timer, which triggers each 10 ms, rests
+        seq = job.state()["seq"]
+        time.sleep(0.1)
+        assert job.state()["seq"] == seq
+        [answer] = take_part(tasks, savepoint, ["0.1"])
+        assert answer["ack"] == "completed", answer
+        # the last acknowledgement and the restore are one commit
+        acknowledged, restored = list(job.log(answer["seq"] - 1))
+        assert restored["line"].split()[0::2] == ["restore", str(savepoint)] and restored["at"] == acknowledged["at"], restored
+        state = job.state()
+        assert (state["phase"], state["stop"]) == ("stopped", before["stop"]) and state["choice"] == {"kind": "savepoint", "id": savepoint}, state
+        if names:
+            assert refused_by_term(tasks, savepoint), "the term of the tasks goes on"
+        assert all(refused(make) == "Stopped" for make in (job.stop_job, job.checkpoint, job.begin, lambda: job.call({"call": "tick"}), lambda: job.go_back(done, True)))
+        seq = job.state()["seq"]
+        time.sleep(0.1)
+        assert job.state()["seq"] == seq == restored["seq"]
+        # settings and files change meanwhile, and an engine that starts waits
+        job.set(retained=2)
+        job.take()
+        waits = threading.Thread(target=lambda: tasks.take_over(begun(job)))
+        waits.start()
+        time.sleep(0.05)
+        assert waits.is_alive()
+        told = job.begin_job()
+        assert (told["restore"], told["id"], "term" in told) == ("savepoint", savepoint, names), told
+        waits.join(BUSY * 20)
+        assert stop_of(job) == ("running", None) and tasks.start.id == savepoint
+        assert tasks.complete() > savepoint
+        return job.state()["seq"]
+
+
+def begun(job):
+    """What an engine does that starts."""
+    job.until_begun()
+    return job.begin()
+
+
+def refused_by_term(tasks, record):
+    try:
+        tasks.job.call(ack(record, "0.0", term=tasks.start.term))
+    except Fenced as told:
+        return told.name == "OldTerm"
+    return False
+
+
+def test_a_job_stops_and_begins():
+    calls = [stopped_and_begun(names) for names in (False, True)]
+    return f"{calls[0]} calls without names and {calls[1]} with them"
+
+
+def test_a_stop_that_fails_says_why_and_the_timer_goes_on():
+    ends = {
+        "expired": lambda job, it: None,
+        "declined": lambda job, it: job.call(decline(it, "0.0")),
+        "restored": lambda job, it: job.call(restore()),
+        "failed": lambda job, it: job.call(decline(it - 1, "0.0")),
+    }
+    with served() as server:
+        for why, end in ends.items():
+            timeout = 300 if why == "expired" else 600_000
+            job = Service(server.url).open(why, {"interval": NEVER, "timeout": timeout, "tolerable": 0}, [1])
+            if why == "failed":
+                job.checkpoint()
+            savepoint = job.stop_job()["id"]
+            end(job, savepoint)
+            until(lambda: stop_of(job)[0] == "running", told=job.state)
+            state = job.state()
+            assert state["stop"]["savepoint"] == savepoint and state["stop"]["failed"] == why and not state["live"], (why, state)
+            if why == "failed":
+                assert state["mode"] == "failed" and refused(job.stop_job) == "NotRunning"
+                job.begin()
+                assert stop_of(job)[1]["failed"] == "failed"
+            job.set(interval=10)
+            until(lambda: job.state()["live"])
+            # the next stop takes the reason away
+            job.stop_job()
+            assert stop_of(job)[1]["failed"] is None
+            job.call(cancel())
+            assert stop_of(job)[1]["failed"] == "cancelled" and job.state()["mode"] == "cancelled"
+        caught_up(job)
+        return ", ".join(ends) + " and cancelled"
+
+
+def test_a_stopped_job_is_cancelled_and_deleted():
+    with served() as server:
+        tasks = Tasks(server, False)
+        stops(tasks)
+        tasks.job.call(cancel())
+        assert stop_of(tasks.job) == ("running", None) and tasks.job.state()["mode"] == "cancelled"
+        assert Service(server.url).delete("orders", abandon=True)
+        job = Service(server.url).open("orders", {"interval": NEVER}, [1])
+        assert stop_of(job) == ("running", None)
+        return "a job of the same name runs"
+
+
+def test_the_commands_of_a_stop():
+    with served() as server:
+        job = Service(server.url).open("orders", {"interval": NEVER}, [1])
+        assert ran(server, "stop", "orders") == "the job stops: savepoint 1 is triggered\n"
+        told = ran(server, "stop", "orders", "--wait", 1, status=75)
+        assert "savepoint 1 is not complete yet" in told, told
+        assert "stopping, savepoint 1" in ran(server, "show", "orders") and "stopping" in ran(server, "jobs")
+        waits = subprocess.Popen([PROGRAM, "stop", "orders", "--wait", "600", "--url", server.url], stdout=subprocess.PIPE, text=True)
+        job.call(ack(1, "0.0", [11]))
+        assert waits.communicate(timeout=COMMAND)[0] == "the job has stopped at savepoint 1\n" and waits.returncode == 0
+        assert json.loads(ran(server, "stop", "orders", "--wait", 1, "--json")) == {"stopped": 1}
+        assert "Stopped" in ran(server, "checkpoint", "orders", status=1)
+        told = ran(server, "begin", "orders")
+        assert told.startswith("the job begins again, from savepoint 1"), told
+        assert "NotStopped" in ran(server, "begin", "orders", status=1)
+        ran(server, "stop", "orders")
+        job.call(decline(2, "0.0"))
+        ran(server, "stop", "orders")
+        asked = server.log().count("calls=stop")
+        waits = subprocess.Popen([PROGRAM, "stop", "orders", "--wait", "600", "--url", server.url], stderr=subprocess.PIPE, text=True)
+        until(lambda: server.log().count("calls=stop") > asked)
+        job.call(decline(3, "0.0"))
+        assert "has not stopped at savepoint 3: declined" in waits.communicate(timeout=COMMAND)[1] and waits.returncode == 1
+        assert "its last stop failed: declined" in ran(server, "show", "orders")
+        assert "there is no job" in ran(server, "begin", "users", status=1)
+        done = [line.rpartition("calls=")[2] for line in server.log().splitlines() if "status=200" in line and "calls=" in line]
+        assert done == ["stop", "begin", "stop", "stop"], done
+        return "stop, begin, show and jobs"
+
+
+def test_a_stop_under_a_key_is_asked_for_once():
+    with served() as server:
+        job = Service(server.url).open("orders", {"interval": NEVER}, [1])
+        assert [job.stop_job("k")["id"] for _ in range(2)] == [1, 1] and len(list(job.log())) == 1
+        job.call(ack(1, "0.0"))
+        # its repeat after the job has begun again stops nothing
+        assert [job.begin_job("b")["id"] for _ in range(2)] == [1, 1] and job.stop_job("k")["id"] == 1 and stop_of(job)[0] == "running"
+        for path in ("stop", "begin"):
+            assert server.request("GET", f"/v1/jobs/orders/{path}")[0] == 405
+            assert server.request("POST", f"/v1/jobs/orders/{path}", {"wait": 1})[0] == 400
+            assert server.request("POST", f"/v1/jobs/users/{path}", {})[0] == 404
+        for call in ("stop", "begin"):
+            assert server.request("POST", "/v1/jobs/orders/calls", {"calls": [{"call": call}]})[0] == 400
+        return "2 keys"
+
+
+def test_an_hour_of_a_stop():
+    """Nothing expires, no call is made and no alert fires, while the same hour expires the record of a job that runs."""
+    with folder() as at:
+        clocks = Clocks(at)
+        server = Server(at, prefix=clocks.prefix).start()
+        try:
+            service = Service(server.url)
+            settings = {"interval": 10, "timeout": 60_000, "tolerable": 1000}
+            job, other = service.open("orders", settings, [1]), service.open("users", settings, [1])
+            until(lambda: other.state()["live"] and job.state()["live"])
+            savepoint = job.stop_job()["id"]
+            job.call(ack(savepoint, "0.0", [1]))
+            seq = job.state()["seq"]
+            assert server.stop() == 0
+            clocks.set(day=HOUR)
+            server.start()
+            until(lambda: any(entry["answer"].startswith("tick expired 1") for entry in other.log()))
+            state = job.state()
+            assert (state["phase"], state["seq"]) == ("stopped", seq) and state["now"] > state["stop"]["at"] + (HOUR - 60) * 1000, state
+            text = server.get("/metrics")[2]
+            assert 'relkvanu_phase{job_name="orders"} 3' in text and 'relkvanu_phase{job_name="users"} 1' in text
+            job.begin_job()
+            until(lambda: job.state()["live"])
+            caught_up(job)
+            assert not [one for one in job.records() if one["how"] == "expired"], job.records()
+            return f"{seq} calls before it and after it"
+        finally:
+            server.stop()
+
+
+def test_another_process_goes_on_with_the_phases():
+    with postgres() as database, folder() as at:
+        first, second = leader_and_standby(at, database.url, f"lease_seconds = {lease_of(4)}\n")
+        try:
+            service = Service(first.url, second.url)
+            stopping, stopped, failed = (service.open(name, {"interval": NEVER}, [1]) for name in ("stopping", "stopped", "failed"))
+            for job in (stopping, stopped, failed):
+                assert job.stop_job()["id"] == 1
+            stopped.call(ack(1, "0.0", [1]))
+            failed.call(decline(1, "0.0"))
+            told = [stop_of(job) for job in (stopping, stopped, failed)]
+            assert [phase for phase, _ in told] == ["stopping", "stopped", "running"], told
+            first.kill()
+            second.wait_ready(60)
+            assert [stop_of(job) for job in (stopping, stopped, failed)] == told
+            assert stopped.begin_job()["id"] == 1 and stopping.call(ack(1, "0.0", [1]))["ack"] == "completed"
+            assert [stop_of(job)[0] for job in (stopping, stopped, failed)] == ["stopped", "running", "running"]
+            assert database.sql("select job, phase, record, failed from phase order by job").split() == ["1|stopped|1|", "2|running||", "3|running|1|declined"]
+            return "3 phases"
+        finally:
+            second.stop()
+
+
+class Steps:
+    """A job before a step of an operator. Each trial makes the step over a copy of its files."""
+
+    def __init__(self, at, prepared, step):
+        self.at, self.step, self.library, self.trials = at, step, built(at, SHIM), 0
+        os.mkdir(f"{at}/base")
+        server = Server(f"{at}/base", args=["--history", f"{at}/base/history"]).start()
+        tasks = Tasks(server, True, interval=NEVER)
+        self.given = prepared(tasks)
+        caught_up(tasks.job)
+        # what the history saves in the database comes at any time: a trial shall have nothing to save
+        with sqlite3.connect(f"{at}/base/history") as history:
+            until(lambda: history.execute("select count(*) from record where gone is not null and saved = 0").fetchone() == (0,))
+        assert server.stop() == 0
+        self.before = found(f"{at}/base")
+
+    def trial(self, die):
+        """Makes the step while the service ends at a write. Returns when it has ended, and what the database has."""
+        self.trials += 1
+        at = f"{self.at}/{self.trials}"
+        shutil.copytree(f"{self.at}/base", at)
+        prefix = shim(self.library, f"{at}/relkvanu.db", die=die)
+        server = Server(at, args=["--history", f"{at}/history"], prefix=prefix).start(ready=False)
+        until(lambda: server.process.poll() is not None or server.get("/readyz")[0] == 200, each=0.005)
+        if server.process.poll() is not None:
+            return "at the start", found(at)
+        try:
+            self.step(Service(server.url).noticing(ends).job("orders"), self.given)
+        except (Failed, requests.RequestException):
+            server.ended()
+            return "in the step", found(at)
+        server.kill()
+        return "never", found(at)
+
+
+def found(at):
+    """The calls without their moments, and the phase of the job."""
+    with sqlite3.connect(f"{at}/relkvanu.db") as base:
+        calls = list(base.execute("select seq, record, substr(line, 1, instr(line || ' ', ' ')), ended, waiting from call order by seq"))
+        return calls, list(base.execute("select phase, record, failed from phase"))
+
+
+def at_each_write(prepared, step):
+    """Ends the service at each write of a step, and at some before it. Returns what the step leaves, and how many trials that ended in it found
+    nothing of the step, and how many all of it."""
+    with folder() as at:
+        steps = Steps(at, prepared, step)
+        # the writes of a start are before those of the step
+        first, last = 1, 256
+        while first < last:
+            middle = (first + last) // 2
+            first, last = (middle + 1, last) if steps.trial(middle)[0] == "at the start" else (first, middle)
+        counts, wanted, over = {"nothing": 0, "all": 0}, None, 0
+        # a start has some writes more or less
+        for write in range(max(1, first - 4), first + 64):
+            when, told = steps.trial(write)
+            is_all = told != steps.before
+            assert is_all == (when == "never") or when == "in the step", (write, when, told)
+            assert not is_all or wanted in (None, told), (write, told, wanted)
+            wanted = told if is_all else wanted
+            counts["all" if is_all else "nothing"] += when == "in the step"
+            over += when == "never"
+            if over == 2:
+                return wanted, counts
+        raise AssertionError(f"no end after write {first}: {counts}")
+
+
+def half_stopped(tasks):
+    """The acknowledgement that lacks."""
+    savepoint = tasks.job.stop_job()["id"]
+    take_part(tasks, savepoint, ["0.0"])
+    return ack(savepoint, "0.1", [tasks.number()], term=tasks.start.term)
+
+
+def with_three(tasks):
+    for _ in range(3):
+        tasks.job.checkpoint()
+        tasks.complete()
+    return min(tasks.files)
+
+
+STEPS = {
+    "stop": (with_three, lambda job, _: job.stop_job(), [("stopping", 4, None)]),
+    "its last acknowledgement": (half_stopped, lambda job, it: job.call(it), [("stopped", 1, None)]),
+    "begin": (stops, lambda job, _: job.begin_job(), [("running", None, None)]),
+    "set": (with_three, lambda job, _: job.set(retained=1, interval=NEVER - 1), []),
+    "the way back": (with_three, lambda job, it: job.go_back(it, True), []),
+    "an advance": (with_three, lambda job, _: job.advance(1 << 32, 1 << 40), []),
+}
+
+
+def test_a_step_is_made_whole_or_not_at_all_at_each_write():
+    told, ends = [], {"nothing": 0, "all": 0}
+    for name, (prepared, step, phase) in STEPS.items():
+        (_, phases), counts = at_each_write(prepared, step)
+        assert phases == phase, (name, phases)
+        ends = {found: ends[found] + count for found, count in counts.items()}
+        told.append(f"{name} {counts['nothing']} times not and {counts['all']} times")
+    assert ends["nothing"] >= len(STEPS) and ends["all"] > 1, told
+    return ", ".join(told)
+
+
+def test_kills_at_many_moments_of_a_stop():
+    with folder() as at:
+        server = Server(at, names=True).start()
+        try:
+            tasks, seen = Tasks(server, True), {}
+            job, kills = tasks.job, 40
+            for turn in range(kills):
+                going = threading.Thread(target=cycle, args=(Service(server.url).noticing(ends).job("orders"), tasks.start.term))
+                going.start()
+                # some kills come in each phase
+                until(lambda: stop_of(job)[0] == ("running", "stopping", "stopped")[turn % 3], each=0)
+                # (a job that is stopped begins again soon)
+                time.sleep(0 if turn % 3 == 2 else turn * 0.0005)
+                server.kill()
+                going.join(BUSY * 20)
+                server.start()
+                state = job.state()
+                (phase, stop), live = stop_of(job), {one["id"]: one["done"] for one in state["live"] if one["kind"] == "savepoint"}
+                if phase == "stopping":
+                    assert live[stop["savepoint"]] is False, (turn, state)
+                if phase == "stopped":
+                    assert live[stop["savepoint"]] is True and state["choice"] == {"kind": "savepoint", "id": stop["savepoint"]}, (turn, state)
+                # each complete savepoint was followed by the restore to it
+                made = [entry for entry in job.log() if entry["answer"].startswith(("restored savepoint", "ack completed"))]
+                kinds = {entry["record"] for entry in made if entry["line"].startswith("restore")}
+                assert set(savepoint for savepoint, done in live.items() if done) <= kinds, (turn, made)
+                seen[phase] = seen.get(phase, 0) + 1
+                if phase == "stopped":
+                    job.begin_job()
+                tasks.take_over(job.begin())
+                base = job.state()["choice"]["id"] if "id" in job.state()["choice"] else None
+                for savepoint in (it for it, done in live.items() if done and it != base):
+                    job.call({"call": "dispose", "id": savepoint})
+            assert len(seen) == 3, seen
+            return ", ".join(f"{phase} {count} times" for phase, count in seen.items())
+        finally:
+            server.stop()
+
+
+def ends(error):
+    """No request is made again."""
+    raise error
+
+
+def cycle(job, term):
+    """An operator and an engine: a stop, in which all take part, and the beginning after it. The service is killed meanwhile."""
+    try:
+        for _ in range(100):
+            savepoint, task = job.stop_job()["id"], job.session(term, block=2)
+            for subtask in ("0.0", "0.1"):
+                task.ack(savepoint, subtask, [task.name()])
+            term = job.begin_job()["term"]
+    except (Failed, Refused, Fenced, requests.RequestException):
+        pass
