@@ -1,7 +1,8 @@
 #!/usr/bin/env python3
-"""embed/kill_chained.py KILLS [SEED]: runs chained.py of docs/CUT.md, kills its driver or its worker KILLS times, and looks at what it published:
-each number of each source once, in its order, and the sums of one run. Then three wrong engines have to be found wrong: one that does not align,
-one that publishes at its cut, and one that does not publish again at its start. RELKVANU_LIB names the folder of the library."""
+"""embed/kill_chained.py KILLS [SEED]: runs chained.py of docs/CUT.md and mini.py of docs/RUNNER.md, kills a process of theirs KILLS times, and looks at
+what they published: each number of each source once, in its order, and the sums of one run. Then wrong engines have to be found wrong: of the
+first one that does not align, one that publishes at its cut, and one that does not publish again at its start, and of the second one that publishes what
+it prepared for records after the one that it begins from. RELKVANU_LIB names the folder of the library."""
 import json
 import pathlib
 import random
@@ -12,16 +13,23 @@ import time
 
 HERE = pathlib.Path(__file__).resolve().parent
 SECONDS = 300  # that a start may take to publish something, on a busy machine
+KEYS = {"chained.py": 1, "mini.py": 4}  # sums of a sample
 WRONG = {
     "it does not align": [
+        "chained.py",
         ("            self.held[source].append(item)\n",
          "            self.total += item['number']\n            self.sink.process([source, item['number'], self.total])\n"),
     ],
-    "it publishes at its cut": [("        return self.prepared\n", "        self.target.publish([id])\n        return self.prepared\n")],
+    "it publishes at its cut": ["chained.py", ("        return self.prepared\n", "        self.target.publish([id])\n        return self.prepared\n")],
     "it does not publish again": [
+        "chained.py",
         ("        target.publish(prepared)", "        pass"),
         ("        self.target.publish([it for it in self.prepared if it <= id])\n",
          "        import time; time.sleep(0.05 * (id % 3))\n        self.target.publish([it for it in self.prepared if it <= id])\n"),
+    ],
+    "it gives nothing up": [
+        "mini.py",
+        ("            it.unlink()  #", "            self.target.publish([int(it.stem)])  #"),
     ],
 }
 
@@ -29,11 +37,11 @@ WRONG = {
 class Job:
     """A job of the sample in a folder of its own."""
 
-    def __init__(self, folder, text):
-        self.folder = folder
+    def __init__(self, folder, sample, text):
+        self.folder, self.keys = folder, KEYS[sample]
         for it in ("state", "target"):
             (folder / it).mkdir(parents=True)
-        self.program = folder / "chained.py"
+        self.program = folder / sample
         self.program.write_text(text, encoding="utf-8")
 
     def published(self):
@@ -52,19 +60,18 @@ class Job:
             assert time.monotonic() < until, f"nothing was published in {SECONDS} s"
             time.sleep(0.005)
         time.sleep(dice.random() * 0.06)
-        if dice.random() < 0.5:
+        if dice.random() < 0.5 or subprocess.run(["pkill", "-KILL", "-P", str(process.pid)], check=False).returncode:
             process.kill()
-        else:
-            subprocess.run(["pkill", "-KILL", "-P", str(process.pid)], check=False)
         process.wait(SECONDS)
 
     def fault(self):
         """What is wrong with what it published; None: nothing."""
         lines = [json.loads(line) for id in self.published() for line in open(self.folder / "target" / f"{id}.published", encoding="utf-8")]
-        total = 0
+        totals = [0] * self.keys
         next_numbers = [0, 0]
         for source, number, told in lines:
-            total += number
+            totals[number % self.keys] += number
+            total = totals[number % self.keys]
             if number != next_numbers[source]:
                 return f"source {source}: {number} where {next_numbers[source]} is next"
             if told != total:
@@ -73,23 +80,25 @@ class Job:
         return None
 
 
-def is_right(folder, text, kills, dice):
-    job = Job(folder, text)
+def is_right(folder, sample, text, kills, dice):
+    job = Job(folder, sample, text)
     for _ in range(kills):
         job.kill_one(dice)
     # on to a checkpoint behind all that was begun: nothing that was killed is left to publish
     status = job.start(max(job.published(), default=0) + 5).wait(SECONDS)
     fault = f"status {status}" if status else job.fault() if len(job.published()) > kills // 2 else "too little was published"
-    print(f"{kills} kills: {fault or 'each number once'}")
+    print(f"{sample}, {kills} kills: {fault or 'each number once'}")
     return fault is None
 
 
-def is_found(folder, why, text, dice):
+def is_found(folder, why, texts, dice):
     """Whether a wrong engine publishes something wrong within 60 kills."""
-    for old, new in WRONG[why]:
+    sample, *swaps = WRONG[why]
+    text = texts[sample]
+    for old, new in swaps:
         assert text.count(old) == 1, old
         text = text.replace(old, new)
-    job = Job(folder, text)
+    job = Job(folder, sample, text)
     for kills in range(1, 61):
         job.kill_one(dice)
         fault = job.fault()
@@ -107,9 +116,9 @@ def main(kills, seed=None):
     with tempfile.TemporaryDirectory() as work:
         samples = pathlib.Path(work)
         subprocess.run([HERE / "samples", "--write", samples], check=True)
-        text = (samples / "chained.py").read_text(encoding="utf-8")
-        good = [is_right(samples / "right", text, int(kills), dice)]
-        good += [is_found(samples / f"wrong{place}", why, text, dice) for place, why in enumerate(WRONG)]
+        texts = {it: (samples / it).read_text(encoding="utf-8") for it in KEYS}
+        good = [is_right(samples / f"right {it}", it, text, int(kills), dice) for it, text in texts.items()]
+        good += [is_found(samples / f"wrong{place}", why, texts, dice) for place, why in enumerate(WRONG)]
     print(f"{good.count(True)} engines passed, {good.count(False)} failed")
     return 0 if all(good) else 1
 

@@ -250,10 +250,10 @@ class ReadmeJob(StoreJob):
 
 
 class PutBack:
-    """put_back.py, over the job of stored.py that has run on after back_up.py. Once it has told the record an engine goes on from that. A loss
-    before leaves what it can put back again."""
+    """`relkvanu-store put-back`, over the job of stored.py that has run on after back_up.py. Once it has told the record an engine goes on from that.
+    A loss before leaves what it can put back again."""
 
-    name = "put_back.py"
+    name = "relkvanu-store put-back"
     syncs = (("the new file", lambda path: path.startswith("job.db.new")), ("its folder", lambda path: path == ""))
 
     def __init__(self, samples):
@@ -267,9 +267,13 @@ class PutBack:
                              timeout=SECONDS)
         assert ran.returncode == 0, ran.stdout.decode()
 
+    def command(self, folder):
+        return [self.samples.library / "relkvanu-store", "put-back", self.copy, folder / "job.db", folder / "state"]
+
     def check(self, lost, folder):
-        if not any(b"goes on from record" in it for it in lost.told):
-            self.run("put_back.py", folder, self.copy)
+        if not any(b" goes on from " in it for it in lost.told):
+            ran = subprocess.run(self.command(folder), env=self.env, stdout=subprocess.PIPE, stderr=subprocess.STDOUT, timeout=SECONDS)
+            assert ran.returncode == 0, ran.stdout.decode()
         assert lost_jobs.opened(folder / "job.db", folder / "state").choice == 20, "it is the job that was set aside"
         self.run("stored.py", folder, "40")
         job = lost_jobs.opened(folder / "job.db", folder / "state")
@@ -282,7 +286,7 @@ class PutBack:
         self.run("back_up.py", self.root, self.copy)
         self.run("stored.py", self.root, "30")
         start = read_tree(self.root)
-        life([sys.executable, self.samples.work / self.name, self.root, self.copy], shimmed(self.samples, self.root, self.journal), self.journal, None)
+        life(self.command(self.root), shimmed(self.samples, self.root, self.journal), self.journal, None)
         journal = Journal.read(self.journal, self.root, start)
         trials = Trials(self.samples.work / f"losses of {self.name}", self.check)
         end = journal.points()[-len(Loss):]  # it has told the record

@@ -77,7 +77,11 @@ class Tests:
         counts = f"{self.folder.name}/counts"
         forget(counts)
         around = {"LD_PRELOAD": self.devices, "COUNTS": counts, **{key.upper(): str(it) for key, it in given.items()}}
-        run = subprocess.run([self.program], input=script, capture_output=True, env=around, timeout=MOST_SECONDS)
+        # (of a pipe, a busy machine may give the first bytes before the others, and then the program asks for memory another number of times)
+        with tempfile.TemporaryFile() as given_in:
+            given_in.write(script)
+            given_in.seek(0)
+            run = subprocess.run([self.program], stdin=given_in, capture_output=True, env=around, timeout=MOST_SECONDS)
         if not os.path.exists(counts):
             # it was killed, so nothing can be said of what it asked for
             sys.exit(f"{sys.argv[0]}: {given} of {script[:200]}: the program left no counts. It ended with {run.returncode}: {run.stderr[-300:]}")
