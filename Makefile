@@ -50,15 +50,22 @@ ARCHIVE = crates/relkvanu/out/librelkvanu.a
 PAGES = build/pages
 SOURCES := $(wildcard crates/*/src/*.rt crates/*/src/*/*.rt crates/*/specs/*.antt)
 
+# `make install` never proves: sources that git has just written are newer than a library that was proved of the same.
 $(ARCHIVE): $(SOURCES)
+ifneq ($(filter install,$(MAKECMDGOALS)),)
+	@echo 'install: $(ARCHIVE) $(if $(wildcard $(ARCHIVE)),is older than $(firstword $?). Run make, which proves it again (half an hour). If no source has changed since it was made, touch it,is not there. Run make, which proves it (half an hour)).' >&2
+	@exit 1
+else
+	@echo 'make: proving $(ARCHIVE), which $(if $(wildcard $(ARCHIVE)),is older than $(firstword $?),is not there)'
 	embed/archive
+endif
 
 build/librelkvanu.a: $(ARCHIVE) embed/archive embed/c/nulls.c embed/c/heap.c embed/c/text.c embed/c/version.c include/relkvanu.h include/relkvanu_alloc.h packaging/relkvanu.map packaging/link
 	embed/library build $(ARCHIVE)
 
 build/librelkvanu.so.0: build/librelkvanu.a
 
-build/librelkvanu-store.a: build/librelkvanu.a $(wildcard embed/store/src/*) include/relkvanu_store.h include/relkvanu_storage.h
+build/librelkvanu-store.a: build/librelkvanu.a $(wildcard embed/store/src/* embed/store/command/*) include/relkvanu_store.h include/relkvanu_storage.h
 	embed/store/library build
 
 $(PAGES)/docs: $(wildcard docs/*.md) $(wildcard packaging/man/*.3) $(HEADERS) embed/samples packaging/pages packaging/man_pages
@@ -79,13 +86,17 @@ install: $(LIBRARY) $(STORE) $(PAGES)/docs
 	if [ -n "$(STORE)" ]; then \
 	    $(INSTALL) -m 644 build/librelkvanu-store.a build/librelkvanu-store.so.0 $(libraries) && \
 	    ln -sf librelkvanu-store.so.0 $(libraries)/librelkvanu-store.so && \
-	    $(filled) packaging/relkvanu-store.pc.in | $(INSTALL) -m 644 /dev/stdin $(libraries)/pkgconfig/relkvanu-store.pc; \
+	    $(filled) packaging/relkvanu-store.pc.in | $(INSTALL) -m 644 /dev/stdin $(libraries)/pkgconfig/relkvanu-store.pc && \
+	    $(INSTALL) -m 755 build/relkvanu-store $(into)/bin && $(INSTALL) -d $(into)/share/man/man8 && \
+	    $(INSTALL) -m 644 packaging/man/relkvanu-store.8 $(into)/share/man/man8; \
 	fi
 	$(filled) packaging/relkvanu-config-version.cmake.in | $(INSTALL) -m 644 /dev/stdin $(libraries)/cmake/relkvanu/relkvanu-config-version.cmake
 	$(INSTALL) -m 644 packaging/relkvanu-config.cmake $(libraries)/cmake/relkvanu
 	$(INSTALL) -m 644 $(PAGES)/packaging/man/*.3 $(into)/share/man/man3
 	[ -n "$(STORE)" ] || rm -f $(into)/share/man/man3/relkvanu_store*.3 $(into)/share/man/man3/relkvanu_storage*.3
 	$(INSTALL) -m 644 $(PAGES)/docs/*.md $(into)/share/doc/relkvanu
+	$(INSTALL) -d $(into)/share/doc/relkvanu/protocol
+	$(INSTALL) -m 644 $(PAGES)/docs/protocol/* $(into)/share/doc/relkvanu/protocol
 	$(INSTALL) -m 644 examples/*.script examples/*.stdout $(into)/share/doc/relkvanu/examples
 	cp -R $(PAGES)/samples/. $(into)/share/doc/relkvanu/examples/engine
 	chmod -R u=rwX,go=rX $(into)/share/doc/relkvanu/examples/engine
@@ -100,6 +111,10 @@ install: $(LIBRARY) $(STORE) $(PAGES)/docs
 	    sed -e 's|"[./]*embed/rust/|"$(PREFIX)/share/relkvanu/rust/|' -e 's|=> [./]*embed/go$$|=> $(PREFIX)/share/gocode/src/relkvanu|' $(PAGES)/samples/$$it | \
 	        $(INSTALL) -m 644 /dev/stdin $(into)/share/doc/relkvanu/examples/engine/$$it || exit 1; \
 	done
+	if [ -f build/relkvanu.jar ]; then \
+	    $(INSTALL) -d $(into)/share/java && $(INSTALL) -m 644 build/relkvanu.jar $(into)/share/java && \
+	    cp -R build/api $(into)/share/doc/relkvanu/java-api && chmod -R u=rwX,go=rX $(into)/share/doc/relkvanu/java-api || exit 1; \
+	fi
 	for it in $(BUILT); do \
 	    $(INSTALL) -m 755 $$it $(into)/bin && $(INSTALL) -m 644 packaging/man/$${it##*/}.1 $(into)/share/man/man1 || exit 1; \
 	done
@@ -118,7 +133,9 @@ uninstall:
 	rm -f $(libraries)/librelkvanu-store.* $(libraries)/pkgconfig/relkvanu-store.pc $(into)/include/relkvanu_store.h $(into)/include/relkvanu_store.hpp
 	rm -f $(into)/include/relkvanu_storage.h $(into)/include/relkvanu_storage.hpp
 	rm -f $(into)/share/man/man3/relkvanu.3 $(into)/share/man/man3/relkvanu_*.3
-	rm -f $(patsubst %,$(into)/bin/%,$(PROGRAMS) relkvanu) $(PROGRAMS:%=$(into)/share/man/man1/%.1) $(into)/share/man/man1/relkvanu.1 $(into)/share/man/man1/relkvanu-*.1
+	rm -f $(into)/share/java/relkvanu.jar
+	rm -f $(into)/share/man/man8/relkvanu-store.8
+	rm -f $(patsubst %,$(into)/bin/%,$(PROGRAMS) relkvanu relkvanu-store) $(PROGRAMS:%=$(into)/share/man/man1/%.1) $(into)/share/man/man1/relkvanu.1 $(into)/share/man/man1/relkvanu-*.1
 	rm -rf $(libraries)/cmake/relkvanu $(into)/share/doc/relkvanu $(into)/share/relkvanu $(into)/share/gocode/src/relkvanu
 	@[ -n "$(DESTDIR)" ] || echo "If ldconfig was run after the install, run it again."
 
