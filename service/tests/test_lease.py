@@ -1,5 +1,4 @@
 """The lease of a leader over PostgreSQL: a process that takes over through a slow line, and standbys beside many jobs."""
-import signal
 import threading
 import time
 
@@ -155,46 +154,3 @@ def test_a_standby_beside_many_jobs():
         few, many = asked
         assert many < few * 1.5 + 1, asked
         return f"{few:.1f} statements each time beside 2 jobs, and {many:.1f} beside 200"
-
-
-def test_a_lease_counts_from_before_it_was_asked_for():
-    """Answers of the database take three quarters of the lease."""
-    with postgres() as database, folder() as at:
-        opened(at, database.url, 1)
-        slow, line = far(at, database, 0)
-        slow.start()
-        fast = near(at, database.url).stand_by()
-        line.delay = 0.75 * SECONDS
-        both, stale = looked(slow, fast, 4 * SECONDS)
-        slow.kill()
-        fast.kill()
-        assert (both, stale) == (0, 0), f"both ready in {both} looks, {stale} stale answers"
-        return f"answers after {0.75 * SECONDS:.0f} s with a lease of {SECONDS} s"
-
-
-def test_a_standby_with_a_shorter_lease_waits_for_that_of_the_leader():
-    with postgres() as database, folder() as at:
-        first = Server(at, database.url, configured(at, "lease_seconds = 12\n")).start()
-        second = Server(at, database.url, configured(at, "lease_seconds = 2\n")).stand_by()
-        before = epoch(database)
-        first.process.send_signal(signal.SIGSTOP)
-        time.sleep(6)
-        first.process.send_signal(signal.SIGCONT)
-        until(lambda: is_ready(first))
-        told = epoch(database), first.process.poll()
-        first.kill()
-        second.kill()
-        assert told == (before, None), (before, told)
-        return "a leader that was suspended for half of its lease of 12 s, beside a standby with one of 2 s"
-
-
-def test_a_commit_of_a_former_epoch_writes_nothing():
-    """A shard that was given anew, even to the same process."""
-    with postgres() as database, folder() as at:
-        server = Server(at, database.url).start()
-        Service(server.url).open("a", SETTINGS, [1])
-        database.sql("update shard set epoch = epoch + 1")
-        told = server.request("POST", "/v1/jobs/a/calls", {"calls": [{"call": "savepoint"}]}, headers=[("Idempotency-Key", "k")])
-        status, calls = told[0], database.sql("select count(*) from call")
-        assert status == 0 and calls == "0" and server.ended() == 75, (status, calls)
-        return "no answer, no call, and the process ends with status 75"

@@ -1,4 +1,5 @@
 """Writers that drive jobs as engines do, badly at times, and keep their answers."""
+import itertools
 import random
 import threading
 import time
@@ -172,7 +173,8 @@ def check_kept(whole, log, first):
     assert log[0]["seq"] == first, (log[0], first)
     last = log[-1]["seq"]
     rest = [{name: entry[name] for name in ("seq", "at", "line", "answer")} for entry in log]
-    assert whole[first - 1 : last] == rest, (len(whole), len(rest), first, last)
+    differ = [pair for pair in itertools.zip_longest(whole[first - 1 : last], rest) if pair[0] != pair[1]]
+    assert not differ, (len(whole), len(rest), first, last, differ[:3])
     return whole[:last]
 
 
