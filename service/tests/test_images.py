@@ -11,7 +11,7 @@ import time
 from harness import ACK_PENDING, COMMAND, PROGRAM, TOP, Archive, PgArchive, Server, caught_up, check_log, configured, folder, lose_history, over_copy, served, until
 from load import processor_times
 from postgres import postgres
-from relkvanu_service import Service, ack, deleted, dispose, savepoint
+from relkvanu_service import Gone, Service, ack, decline, deleted, dispose, savepoint
 from writers import check_kept
 
 KEEPING = ["--image-calls", "20", "--keep-calls", "30"]
@@ -255,6 +255,32 @@ def test_a_standby_that_is_slower_than_the_cuts():
         check_log(job.state(), [2], whole)
         standby.stop()
         return f"{len(whole)} calls; it went on from an image"
+
+
+def late(job, calls):
+    """Makes so many calls that change nothing. The log has each."""
+    for _ in range(0, calls, 500):
+        job.calls([ack(1, "0.0", [])] * 500)
+
+
+def test_a_log_that_is_cut_while_it_is_read():
+    """A reader has the first page. What is cut before it asks for the next one is missed with an error, and not in silence."""
+    with served(args=["--image-calls", "2000", "--keep-calls", "100"]) as server:
+        job = Service(server.url).open("orders", SETTINGS, [1])
+        job.calls([savepoint(), decline(1, "0.0")])
+        late(job, 1500)
+        reader = job.log()
+        read = [next(reader)["seq"] for _ in range(1000)]
+        late(job, 5000)
+        first = until(lambda: max(job.state()["first"] - 1001, 0)) + 1001
+        try:
+            missed = next(reader)["seq"]
+        except Gone as gone:
+            missed = gone
+        assert read == list(range(1, 1001)) and isinstance(missed, Gone), (read[-1], missed, first)
+        assert (missed.reason, missed.first >= first) == ("cut", True), (missed.reason, missed.first, first)
+        assert [entry["seq"] for entry in job.log()] == list(range(job.state()["first"], job.state()["seq"] + 1))
+        return f"the log began with call {missed.first} when call 1001 was asked for"
 
 
 def test_bad_settings_are_named():

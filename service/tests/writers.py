@@ -5,7 +5,7 @@ import threading
 import time
 
 import harness
-from relkvanu_service import Failed, OldTerm, Service, ack, decline, deleted, dispose, restore, savepoint, take, undeleted
+from relkvanu_service import Failed, Gone, OldTerm, Service, ack, decline, deleted, dispose, restore, savepoint, take, undeleted
 
 SETTINGS = {"interval": 40, "at_once": 2, "timeout": 1500, "tolerable": 2, "retained": 2}
 SHAPE = [2, 3]
@@ -196,12 +196,21 @@ def check_names(log):
     return next_name - 1, term
 
 
+def whole_log(job):
+    """What the log has. It may be cut while it is read: on a busy machine it is long until an image is made."""
+    while True:
+        try:
+            return list(job.log(terms=True))
+        except Gone:
+            time.sleep(0.1)
+
+
 def check(writers, service, job, shape, archive=None):
     """The writers' acknowledged calls are in the log, with what was cut from it, and the oracle answers it alike. Returns how many were
     acknowledged, how many the log has, and how many answers the oracle gave."""
     state = service.job(job).state()
     before = state["first"]
-    log = list(service.job(job).log(terms=True))
+    log = whole_log(service.job(job))
     if archive:
         # meanwhile an image may have been made, and the log cut behind it
         assert before <= log[0]["seq"] <= service.job(job).state()["first"], (before, log[0])

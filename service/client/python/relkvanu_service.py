@@ -531,10 +531,19 @@ class Job:
         return self._get("/files", limit=limit)
 
     def log(self, after=0, terms=False):
-        """Yields the log's entries after a place; with the terms in their lines if the token allows calls."""
-        while page := self._get("/log", after=after, limit=1000, **({"terms": 1} if terms else {}))["calls"]:
+        """Yields the log's entries after a place, or from its first one; with the terms in their lines if the token allows calls. Raises
+        `Gone` if entries behind those that were yielded are cut before they are read."""
+        begun = False
+        while True:
+            told = self._get("/log", after=after, limit=1000, **({"terms": 1} if terms else {}))
+            page = told["calls"]
+            first = page[0]["seq"] if page else told["first"]
+            if begun and first > after + 1:
+                raise Gone({"error": f"calls {after + 1} to {first - 1} were cut while the log was read", "reason": "cut", **told})
+            if not page:
+                return
             yield from page
-            after = page[-1]["seq"]
+            after, begun = page[-1]["seq"], True
 
     def events(self, after=0, wait=0):
         """The events after a place, once there is one or the seconds are over: the place to go on from, and a list. Raises `Gone`
