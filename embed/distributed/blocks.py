@@ -61,6 +61,7 @@ def check(steps, x, frame, bag, sum, blocks):
 
 builtin_sum = sum
 
+
 def main(folder, url, scheduler, *options):
     client = Client(scheduler, timeout=CONNECT)
     with Checkpoints(client, place_of(url, "blocks"), coordinator_of(folder, "blocks"), create="new" in options, begin="begin" in options) as checkpoints:
@@ -79,9 +80,9 @@ def main(folder, url, scheduler, *options):
 
 
 if __name__ == "__main__":
-    folder, url, steps, *more = sys.argv[1:]
+    folder, url, steps, *words = sys.argv[1:]
     LAST = int(steps)
     try:
-        main(folder, url, *more)
+        main(folder, url, *words)
     except Stopped as stopped:
         print(stopped, flush=True)

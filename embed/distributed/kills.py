@@ -223,7 +223,7 @@ def text_of(folder, chance, lines):
 
 def run_words(job, chance, kills, stops):
     lines = 700 * kills + 1200 * stops
-    text = text_of(job.folder, chance, 1000 + int(min(lines, 4000 * job.minutes)))  # no driver comes to its end before the last
+    text = text_of(job.folder, chance, 1000 + int(min(lines, 2400 * job.minutes)))  # no driver comes to its end before the last
     told = f"{job_of(job, chance, kills, stops, str(text))}"
     check_words(job.folder, text, job.last(str(text)))
     return told

@@ -614,7 +614,6 @@ class Outputs(Base):
             checkpoints.checkpoint()
             self.assertEqual(self.rows(), [1, 4])
 
-
     def test_a_stop_publishes_and_a_begin_goes_on(self):
         source, kept, table, checkpoints = self.opened()
         with checkpoints:
@@ -856,7 +855,7 @@ class Many(Base):
 
 HERE = pathlib.Path(__file__).resolve().parent
 PAGE = HERE.parent.parent / "docs/DASK.md"
-TOLD = "50 1225000000.0\n"
+TOLD = "50 1225000000.0\n"  # 0 + 1 + .. + 49 is 1225
 
 
 def block(language):
@@ -882,6 +881,19 @@ class Page(Base):
         """In a network of its own, where nobody has the page's port. The second time it goes on from its end."""
         commands = f"ip link set lo up; trap 'kill $(jobs -p); wait' EXIT\n{block('sh')}python3 first.py 127.0.0.1:8786\n"
         self.assertEqual(self.first("unshare", "-rn", "bash", "-ec", commands), TOLD * 2)
+
+    def test_the_stop_of_the_page(self):
+        """It stops some steps before its end, and goes on from there."""
+        (self.folder / "first").mkdir()
+        for name in ("first.py", "stopped.py"):
+            (self.folder / "first" / name).write_text(block(f"python {name}"))
+        starts = block("sh").rpartition("python3 first.py")[0]
+        commands = f"ip link set lo up; trap 'kill $(jobs -p); wait' EXIT\n{starts}{block('sh stop')}"
+        told = subprocess.run(("unshare", "-rn", "bash", "-ec", commands), cwd=self.folder / "first", stdout=subprocess.PIPE, stderr=subprocess.PIPE, text=True,
+                              timeout=900, env={**os.environ, "PATH": f"/usr/bin:/bin:{os.environ['PATH']}"})
+        self.assertEqual(told.returncode, 0, told.stderr[-2000:])
+        self.assertRegex(told.stdout, rf"\Athe job has stopped at savepoint [1-4]?\d: .*begin=True.*\n{TOLD}\Z")
+        self.assertEqual(len([it for it in os.listdir(self.folder / "first/state") if it.isdecimal()]), 11)
 
     @unittest.skipUnless(os.path.exists("/dev/net/tun"), "no /dev/net/tun: two machines")
     def test_the_first_program_on_two_machines(self):
