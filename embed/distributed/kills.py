@@ -170,19 +170,31 @@ class Job:
         return log.read_text()
 
 
+def victims_of(job):
+    return [it.split("+") for it in VICTIMS + (VICTIMS_TOO if job.cluster.service else [])]
+
+
+def kind_of(name):
+    return name.partition("-")[0]
+
+
+def kill_each(job, names, killed):
+    for it in names:
+        job.kill() if it == "driver" else job.cluster.kill(it)
+        killed[kind_of(it)] += 1
+
+
 def kill_some(job, chance, kills, size, end):
     """Until each kind was killed often enough, or a moment. Returns how often."""
     killed = {"driver": 0, "worker": 0, "scheduler": 0, **({"service": 0} if job.cluster.service else {})}
-    victims = [it.split("+") for it in VICTIMS + (VICTIMS_TOO if job.cluster.service else [])]
     while min(killed.values()) < kills and time.monotonic() < end:
         job.cluster.revive()
         job.start(size)
         if chance.random() < 0.7:
             job.takes_a_record()
         time.sleep(chance.uniform(0, SPAN))
-        for it in chance.choice(victims):
-            job.kill() if it == "driver" else job.cluster.kill(it)
-            killed[it.partition("-")[0]] += 1
+        left = [it for it in victims_of(job) if any(killed[kind_of(name)] < kills for name in it)]  # not those of kinds that are done
+        kill_each(job, chance.choice(left), killed)
         time.sleep(chance.uniform(0, 1))
     job.kill()
     job.cluster.revive()
@@ -192,7 +204,6 @@ def kill_some(job, chance, kills, size, end):
 def stop_some(job, chance, stops, size, end):
     """Until the job has stopped so often, or a moment. Returns how often each kind was killed."""
     killed = {"driver": 0, "worker": 0, "scheduler": 0, "service": 0}
-    victims = [it.split("+") for it in VICTIMS + (VICTIMS_TOO if job.cluster.service else [])]
     while len(job.stops) < stops and time.monotonic() < end:
         job.cluster.revive()
         job.begins = chance.random() < 0.7
@@ -204,9 +215,7 @@ def stop_some(job, chance, stops, size, end):
         job.ask_to_stop()
         if chance.random() < 0.7:
             time.sleep(chance.uniform(0, STOP))
-            for it in chance.choice(victims):
-                job.kill() if it == "driver" else job.cluster.kill(it)
-                killed[it.partition("-")[0]] += 1
+            kill_each(job, chance.choice(victims_of(job)), killed)
         job.ends_within(STOPS_IN)
     job.kill()
     job.cluster.revive()

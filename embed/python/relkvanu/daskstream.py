@@ -310,10 +310,9 @@ class Checkpoints(Resumable):
             self._begin()
         else:
             self._go_back(record, self._records.identity)
-        for output in self._outputs.values():
-            if self._origin is not None:
-                output.end(self._origin)
+        self._end_origin()
         self._due = time.monotonic() + self._every
+        self._records.check_stopped()
         return self.position
 
     def _restored(self) -> Optional[Record]:
@@ -321,7 +320,14 @@ class Checkpoints(Resumable):
             return self._records.restore()
         except Stopped:  # whoever has stopped it may have been killed before the outputs knew
             self._tell(self._records.last(), self._records.identity)
+            self._end_origin()
             raise
+
+    def _end_origin(self) -> None:
+        """The outputs take no more of the job whose place this one has taken."""
+        for output in self._outputs.values():
+            if self._origin is not None:
+                output.end(self._origin)
 
     def _begin(self) -> None:
         """From the last record of a job whose coordinator is lost, which is the first one of this job from here on."""
@@ -329,7 +335,7 @@ class Checkpoints(Resumable):
         origin = origin_of(self._begin_from)
         self._go_back(origin.record, origin.identity, self._begin_from)
         self._origin = origin.identity
-        self.checkpoint()
+        self._taken()
 
     def _go_back(self, record: Optional[Record], job: str, place: Optional[Place] = None) -> None:
         states = {name: self._loaded(name, record, place) for name in self._nodes}
