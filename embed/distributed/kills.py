@@ -26,6 +26,7 @@ VICTIMS_TOO = "service service service+driver service+worker-1".split()  # where
 SPAN = 3  # seconds before a kill, at most
 PACE = "0.3"  # seconds between two elements, or steps, of a driver that is to be killed
 LAST = 10  # steps of the last driver
+LAST_LINES = 1000  # that it has, and those of the last record, if that was not published
 STOP = 2  # seconds between the request of a stop and a kill, at most
 STOPS_IN = 15  # seconds until a driver has mostly stopped the job
 PATIENCE = 3600
@@ -231,11 +232,17 @@ def text_of(folder, chance, lines):
 
 
 def run_words(job, chance, kills, stops):
-    lines = 700 * kills + 1200 * stops
-    text = text_of(job.folder, chance, 1000 + int(min(lines, 2400 * job.minutes)))  # no driver comes to its end before the last
+    text = text_of(job.folder, chance, 2000 * (1 + kills + stops))  # no driver comes to its end before the last
     told = f"{job_of(job, chance, kills, stops, str(text))}"
+    cut(text, len(rows_of(job.folder)) + LAST_LINES)
     check_words(job.folder, text, job.last(str(text)))
     return told
+
+
+def cut(text, lines):
+    """What the last driver need not read."""
+    kept = text.read_text().splitlines(keepends=True)[:lines]
+    text.write_text("".join(kept))
 
 
 def run_blocks(job, chance, kills, stops):
@@ -258,16 +265,21 @@ def job_of(job, chance, kills, stops, size):
         f"; stopped {len(job.stops)} times, found so {job.found} times" if stops else "")
 
 
+def rows_of(folder):
+    from words import database, table
+    table(folder)
+    with contextlib.closing(database(folder)[0]()) as it:
+        at = it.cursor()
+        at.execute("SELECT number, words FROM lines ORDER BY number")
+        return [tuple(it) for it in at.fetchall()]
+
+
 def check_words(folder, text, told):
-    from words import database
     lines = text.read_text().splitlines()
     words = [word for line in lines for word in line.split()]
     wanted = f"{len(set(words))} words, {len(words)} of the text, {sum(len(it) + 1 for it in lines)} letters"
     assert wanted in told, (wanted, told[-2000:])
-    with contextlib.closing(database(folder)[0]()) as it:
-        at = it.cursor()
-        at.execute("SELECT number, words FROM lines ORDER BY number")
-        rows = [tuple(it) for it in at.fetchall()]
+    rows = rows_of(folder)
     assert rows == [(number, len(line.split())) for number, line in enumerate(lines)], (len(rows), len(lines), len(set(rows)))
     print(f"words: {len(rows)} rows, each once")
 
