@@ -181,8 +181,9 @@ def test_a_driver_over_dask_whose_job_is_stopped_and_begun():
         late.close()
         second = driver(server, at, begin=True)
         assert second.restore().meta == "two" and job.state()["phase"] == "running"
+        assert second.save("more", {"x": [1, 3]})[1:3] == (0, 2)
         old = driver(server, at)
-        assert old.restore().meta == "two"  # another driver, which takes the job
+        assert old.restore().meta == "more"  # another driver, which takes the job
         old.stops = True
         assert old.save("three", {"x": [1, 4]})[1:3] == (1, 1)
         # the driver before, which does not know of that
