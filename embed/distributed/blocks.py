@@ -1,5 +1,7 @@
-"""blocks.py FOLDER PLACE STEPS SCHEDULER [new]: an iteration over an array, a dataframe, a bag, a delayed value and a list. A step changes a quarter."""
+"""blocks.py FOLDER PLACE STEPS SCHEDULER [new] [begin]: an iteration over an array, a dataframe, a bag, a delayed value and a list. A step changes a
+quarter. SIGTERM stops the job, and `begin` begins one that has stopped."""
 import os
+import signal
 import sys
 import time
 
@@ -11,7 +13,7 @@ import numpy
 import pandas
 from distributed import Client
 
-from relkvanu.dask import Checkpoints
+from relkvanu.dask import Checkpoints, Stopped
 from where import CONNECT, coordinator_of, place_of
 
 BLOCKS = 16
@@ -59,19 +61,28 @@ def check(steps, x, frame, bag, sum, blocks):
 
 builtin_sum = sum
 
-if __name__ == "__main__":
-    folder, url, steps, scheduler, *is_new = sys.argv[1:]
-    LAST = int(steps)
-    client = Client(scheduler, timeout=CONNECT)
-    with Checkpoints(client, place_of(url, "blocks"), coordinator_of(folder, "blocks"), create=is_new == ["new"]) as checkpoints:
-        save = checkpoints.save
 
-        def told(meta, **collections):
-            saved = save(meta, **collections)
+def main(folder, url, scheduler, *options):
+    client = Client(scheduler, timeout=CONNECT)
+    with Checkpoints(client, place_of(url, "blocks"), coordinator_of(folder, "blocks"), create="new" in options, begin="begin" in options) as checkpoints:
+        signal.signal(signal.SIGTERM, lambda *_: checkpoints.ask_to_stop())
+        taken = checkpoints._taken
+
+        def told(meta, collections):
+            saved = taken(meta, collections)
             print(f"step {meta}: record {saved.id}, {saved.written} of {saved.written + saved.reused} parts written", flush=True)
             return saved
 
-        checkpoints.save = told
+        checkpoints._taken = told
         number, found = checkpoints.run(step, init)
         check(number, **found)
     print("exact", number, flush=True)
+
+
+if __name__ == "__main__":
+    folder, url, steps, *words = sys.argv[1:]
+    LAST = int(steps)
+    try:
+        main(folder, url, *words)
+    except Stopped as stopped:
+        print(stopped, flush=True)

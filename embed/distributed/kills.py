@@ -1,7 +1,10 @@
-"""kills.py JOB KILLS SEED FOLDER [URL] [--postgres] [--service PROGRAM] [--minutes N]: a scheduler and two workers as plain commands, and drivers of JOB (words or
+"""kills.py JOB KILLS SEED FOLDER [URL] [--postgres] [--service PROGRAM] [--minutes N] [--stops N]: a scheduler and two workers as plain commands, and drivers of JOB (words or
 blocks). The driver, the workers and the scheduler are killed (-9) KILLS times each at random moments, alone or with others, and started again, as
 systemd would do; with --minutes fewer times, if these are over. With --service the coordinator is this program, which is killed as often; then no driver has a file or a library of its own. At
-the end a driver comes to its end: the results are exact, each row is in the table once, and the storage has no other files than those in use."""
+the end a driver comes to its end: the results are exact, each row is in the table once, and the storage has no other files than those in use.
+
+With --stops the job is stopped and begun as often besides: by SIGTERM to the driver, or by `relkvanu stop`. Then most kills come in a stop, and a new
+driver either begins the job, or finds it stopped and ends, if `relkvanu begin` did not begin it before."""
 import argparse
 import contextlib
 import math
@@ -9,6 +12,7 @@ import os
 import pathlib
 import random
 import re
+import signal
 import socket
 import subprocess
 import sys
@@ -22,6 +26,9 @@ VICTIMS_TOO = "service service service+driver service+worker-1".split()  # where
 SPAN = 3  # seconds before a kill, at most
 PACE = "0.3"  # seconds between two elements, or steps, of a driver that is to be killed
 LAST = 10  # steps of the last driver
+LAST_LINES = 1000  # that it has, and those of the last record, if that was not published
+STOP = 2  # seconds between the request of a stop and a kill, at most
+STOPS_IN = 15  # seconds until a driver has mostly stopped the job
 PATIENCE = 3600
 
 
@@ -84,13 +91,14 @@ class Job:
 
     def __init__(self, name, folder, url, cluster, minutes=math.inf):
         self.name, self.folder, self.url, self.cluster, self.count, self.process = name, folder, url, cluster, 0, None
+        self.stops, self.found, self.begins = set(), 0, False  # savepoints of stops; drivers that found one; whether a driver begins a job that has stopped
         self.minutes = minutes  # until no more are killed
 
     def command(self, size):
         """With a service each driver is as the first one."""
-        is_new = [] if (self.folder / "job.db").exists() else ["new"]
+        options = ([] if (self.folder / "job.db").exists() else ["new"]) + (["begin"] if self.begins else [])
         return [*self.cluster.here.enter, sys.executable, "-W", "ignore", str(HERE / f"{self.name}.py"), str(self.folder), self.url, size,
-                self.cluster.address, *is_new]
+                self.cluster.address, *options]
 
     def environment(self):
         return {"SERVICE": f"http://{self.cluster.service}", "RELKVANU_LIB": "/nowhere"} if self.cluster.service else {}
@@ -99,11 +107,38 @@ class Job:
         """Starts a driver if none runs. Raises if the last one has come to an end by itself."""
         if self.process is not None and self.process.poll() is None:
             return
-        if self.process is not None and self.process.returncode >= 0:
+        if self.process is not None and self.process.returncode >= 0 and not self.notes_a_stop():
             raise AssertionError(f"driver {self.count} ended with {self.process.returncode}: {self.told()[-1][-2000:]}")
         self.count += 1
         with open(self.folder / f"driver-{self.count}.log", "wb") as log:
             self.process = subprocess.Popen(self.command(size), stdout=log, stderr=log, env={**os.environ, **self.environment(), "PACE": PACE})
+
+    def notes_a_stop(self):
+        """Whether the driver has ended because the job has stopped."""
+        told = re.search(r"^the job has stopped at savepoint (\d+): ", (self.folder / f"driver-{self.count}.log").read_text(), re.M)
+        if self.process.returncode != 0 or told is None:
+            return False
+        self.found += int(told[1]) in self.stops
+        self.stops.add(int(told[1]))
+        return True
+
+    def ask_to_stop(self):
+        """A driver that does not run yet ends by the signal. Another request may be under way, or no job be there."""
+        if self.cluster.service:
+            self.operate("stop")
+        elif self.process.poll() is None:
+            self.process.send_signal(signal.SIGTERM)
+
+    def operate(self, *words):
+        """A command of the service, which may be refused."""
+        subprocess.run([self.cluster.program, *words, self.name, "--url", f"http://{self.cluster.service}"], stdout=subprocess.PIPE, stderr=subprocess.PIPE,
+                       check=False, timeout=PATIENCE)
+
+    def ends_within(self, seconds):
+        end = time.monotonic() + seconds
+        while self.process.poll() is None and time.monotonic() < end:
+            self.cluster.revive()
+            time.sleep(0.1)
 
     def takes_a_record(self):
         """Waits until it has taken one from now on, or has ended."""
@@ -124,7 +159,7 @@ class Job:
 
     def last(self, size):
         """The driver that comes to its end. A worker ends by itself some time after its scheduler."""
-        log = self.folder / "driver-last.log"
+        log, self.begins = self.folder / "driver-last.log", True
         with open(log, "wb") as to:
             self.process = subprocess.Popen(self.command(size), stdout=to, stderr=to, env={**os.environ, **self.environment()})
         end = time.monotonic() + PATIENCE
@@ -136,20 +171,53 @@ class Job:
         return log.read_text()
 
 
+def victims_of(job):
+    return [it.split("+") for it in VICTIMS + (VICTIMS_TOO if job.cluster.service else [])]
+
+
+def kind_of(name):
+    return name.partition("-")[0]
+
+
+def kill_each(job, names, killed):
+    for it in names:
+        job.kill() if it == "driver" else job.cluster.kill(it)
+        killed[kind_of(it)] += 1
+
+
 def kill_some(job, chance, kills, size, end):
     """Until each kind was killed often enough, or a moment. Returns how often."""
     killed = {"driver": 0, "worker": 0, "scheduler": 0, **({"service": 0} if job.cluster.service else {})}
-    victims = [it.split("+") for it in VICTIMS + (VICTIMS_TOO if job.cluster.service else [])]
     while min(killed.values()) < kills and time.monotonic() < end:
         job.cluster.revive()
         job.start(size)
         if chance.random() < 0.7:
             job.takes_a_record()
         time.sleep(chance.uniform(0, SPAN))
-        for it in chance.choice(victims):
-            job.kill() if it == "driver" else job.cluster.kill(it)
-            killed[it.partition("-")[0]] += 1
+        left = [it for it in victims_of(job) if any(killed[kind_of(name)] < kills for name in it)]  # not those of kinds that are done
+        kill_each(job, chance.choice(left), killed)
         time.sleep(chance.uniform(0, 1))
+    job.kill()
+    job.cluster.revive()
+    return killed
+
+
+def stop_some(job, chance, stops, size, end):
+    """Until the job has stopped so often, or a moment. Returns how often each kind was killed."""
+    killed = {"driver": 0, "worker": 0, "scheduler": 0, "service": 0}
+    while len(job.stops) < stops and time.monotonic() < end:
+        job.cluster.revive()
+        job.begins = chance.random() < 0.7
+        if job.cluster.service and chance.random() < 0.3:
+            job.operate("begin")
+        job.start(size)
+        job.takes_a_record()
+        time.sleep(chance.uniform(0, 1))
+        job.ask_to_stop()
+        if chance.random() < 0.7:
+            time.sleep(chance.uniform(0, STOP))
+            kill_each(job, chance.choice(victims_of(job)), killed)
+        job.ends_within(STOPS_IN)
     job.kill()
     job.cluster.revive()
     return killed
@@ -163,37 +231,55 @@ def text_of(folder, chance, lines):
     return path
 
 
-def run_words(job, chance, kills):
-    text = text_of(job.folder, chance, 1000 + int(min(700 * kills, 1600 * job.minutes)))  # no driver comes to its end before the last
-    told = f"{job_of(job, chance, kills, str(text))}"
+def run_words(job, chance, kills, stops):
+    text = text_of(job.folder, chance, 2000 * (1 + kills + stops))  # no driver comes to its end before the last
+    told = f"{job_of(job, chance, kills, stops, str(text))}"
+    cut(text, len(rows_of(job.folder)) + LAST_LINES)
     check_words(job.folder, text, job.last(str(text)))
     return told
 
 
-def run_blocks(job, chance, kills):
-    told = job_of(job, chance, kills, str(1 << 30))
+def cut(text, lines):
+    """What the last driver need not read."""
+    kept = text.read_text().splitlines(keepends=True)[:lines]
+    text.write_text("".join(kept))
+
+
+def run_blocks(job, chance, kills, stops):
+    told = job_of(job, chance, kills, stops, str(1 << 30))
     done = [int(it) for log in job.told() for it in re.findall(r"^step (\d+): record ", log, re.M)]
     size = str(max(done, default=0) + LAST)
     assert f"exact {size}" in job.last(size)
     return f"{told}; exact after {size} steps"
 
 
-def job_of(job, chance, kills, size):
-    killed = kill_some(job, chance, kills, size, time.monotonic() + 60 * job.minutes)
+def job_of(job, chance, kills, stops, size):
+    end = time.monotonic() + 60 * job.minutes
+    killed = kill_some(job, chance, kills, size, end) if kills or not stops else {}
+    if stops:
+        more = stop_some(job, chance, stops, size, end)
+        killed = {it: killed.get(it, 0) + more[it] for it in more if killed.get(it, 0) + more[it]}
+        assert job.stops, job.told()[-1][-2000:]
     backs = sum(it.count("back to the last checkpoint") for it in job.told())
-    return f"killed {killed}; {job.count} drivers, which went back {backs} times besides"
+    return f"killed {killed}; {job.count} drivers, which went back {backs} times besides" + (
+        f"; stopped {len(job.stops)} times, found so {job.found} times" if stops else "")
+
+
+def rows_of(folder):
+    from words import database, table
+    table(folder)
+    with contextlib.closing(database(folder)[0]()) as it:
+        at = it.cursor()
+        at.execute("SELECT number, words FROM lines ORDER BY number")
+        return [tuple(it) for it in at.fetchall()]
 
 
 def check_words(folder, text, told):
-    from words import database
     lines = text.read_text().splitlines()
     words = [word for line in lines for word in line.split()]
     wanted = f"{len(set(words))} words, {len(words)} of the text, {sum(len(it) + 1 for it in lines)} letters"
     assert wanted in told, (wanted, told[-2000:])
-    with contextlib.closing(database(folder)[0]()) as it:
-        at = it.cursor()
-        at.execute("SELECT number, words FROM lines ORDER BY number")
-        rows = [tuple(it) for it in at.fetchall()]
+    rows = rows_of(folder)
     assert rows == [(number, len(line.split())) for number, line in enumerate(lines)], (len(rows), len(lines), len(set(rows)))
     print(f"words: {len(rows)} rows, each once")
 
@@ -240,7 +326,7 @@ def main(given):
         cluster = Cluster(folder, service=given.service)
         job = Job(given.job, folder, url, cluster, given.minutes)
         try:
-            told = {"words": run_words, "blocks": run_blocks}[given.job](job, chance, given.kills)
+            told = {"words": run_words, "blocks": run_blocks}[given.job](job, chance, given.kills, given.stops)
             told += f"; {check_files(job)}"
         finally:
             job.kill()
@@ -258,6 +344,7 @@ def parser():
     it.add_argument("--postgres", action="store_true")
     it.add_argument("--service", metavar="PROGRAM")
     it.add_argument("--minutes", type=float, default=math.inf)
+    it.add_argument("--stops", type=int, default=0)
     return it
 
 

@@ -22,7 +22,7 @@ from distributed import Client, LocalCluster
 
 import words
 from relkvanu import daskstream, outputs, records
-from relkvanu.dask import Checkpoints, NotPersisted, Place
+from relkvanu.dask import Checkpoints, NotPersisted, Place, Stopped
 from relkvanu.daskstream import GraphError
 from relkvanu.parts import (
     Failed, PartError, State, digest_of, get_part, part_of, pickled, pickled_in_pieces, place_of, put_part, take_step,
@@ -115,6 +115,64 @@ class Collections(Base):
             self.assertEqual((meta, list(found["x"].compute())), ("three", [0, 1, 2, 3, 4, 5, 6, 8]))
             self.assertEqual(checkpoints.save("four", x=found["x"])[1:3], (0, 8))
         self.assertEqual(len(self.files()), 9)
+
+    def test_a_stop_and_a_begin(self):
+        """A second stop comes before any checkpoint. Each savepoint is gone once a later record is complete."""
+        with self.opened() as checkpoints:
+            checkpoints.load()
+            x = da.arange(4, chunks=1).persist()
+            checkpoints.save("one", x=x)
+            self.assertEqual(checkpoints.stop("two", x=x)[:3], (2, 0, 4))
+            for refused in (checkpoints.load, lambda: checkpoints.save("three", x=x), lambda: checkpoints.stop("three", x=x)):
+                self.assertEqual(self.stopped_at(refused), 2)
+        for _ in range(2):
+            with self.opened() as checkpoints:
+                self.assertEqual(self.stopped_at(checkpoints.load), 2)
+                self.assertEqual(self.stopped_at(lambda: checkpoints.run(None, None)), 2)
+        with self.opened(begin=True) as checkpoints:
+            meta, found = checkpoints.load()
+            self.assertEqual((meta, list(found["x"].compute())), ("two", [0, 1, 2, 3]))
+            self.assertEqual(checkpoints.stop("three", x=da.concatenate([found["x"][:3], found["x"][3:] + 1]).persist())[1:3], (1, 3))
+            self.assertEqual(self.stopped_at(checkpoints.load), 3)  # it begins once
+        with self.opened(begin=True) as checkpoints:
+            meta, found = checkpoints.load()
+            self.assertEqual((meta, list(found["x"].compute())), ("three", [0, 1, 2, 4]))
+            checkpoints.save("four", x=found["x"])
+            self.assertEqual(checkpoints.load()[0], "four")
+            self.assertEqual(savepoints(checkpoints), 0)
+        self.assertEqual(len(self.files()), 5)
+
+    def stopped_at(self, work):
+        with self.assertRaisesRegex(Stopped, "begin=True") as found:
+            work()
+        return found.exception.savepoint
+
+    def test_a_stop_that_is_asked_for_while_it_runs(self):
+        """The first try fails, and so does its stop. The program ends without a way back after the second."""
+        fails = [OSError()]
+
+        def step(number, x):
+            if number == 3 and fails:
+                checkpoints.ask_to_stop()
+                x = x.map_blocks(self.falls, meta=x._meta)
+                fails.pop()
+            return number + 1, {"x": x + 1}
+
+        for first, last in ((0, 4), (4, 5)):
+            with self.opened(begin=first > 0) as checkpoints:
+                if first:
+                    checkpoints.ask_to_stop()
+                self.assertEqual(self.stopped_at(lambda: checkpoints.run(step, lambda: (0, {"x": da.zeros(2, chunks=1)}))), checkpoints._records._last.id)
+                self.assertEqual((checkpoints._records.last().id, checkpoints._records.stops), (checkpoints._records._last.id, False))
+            with self.opened(begin=True) as checkpoints:
+                meta, found = checkpoints.load()
+                self.assertEqual((meta, list(found["x"].compute())), (last, [last] * 2))
+                checkpoints.stop(meta, **found)
+        self.assertEqual(len(self.files()), 3)
+
+    @staticmethod
+    def falls(block):
+        raise OSError
 
     def test_the_same_partition_twice(self):
         with self.opened() as checkpoints:
@@ -556,6 +614,89 @@ class Outputs(Base):
             checkpoints.checkpoint()
             self.assertEqual(self.rows(), [1, 4])
 
+    def test_a_stop_publishes_and_a_begin_goes_on(self):
+        source, kept, table, checkpoints = self.opened()
+        with checkpoints:
+            checkpoints.emit(1, 1)
+            self.assertEqual(checkpoints.stop().id, 1)
+            self.assertEqual(self.rows(), [1])
+            for refused in (lambda: checkpoints.emit(2, 2), checkpoints.checkpoint, checkpoints.restore, checkpoints.stop):
+                self.assertRaises(daskstream.Stopped, refused)
+        self.assertRaisesRegex(daskstream.Stopped, "savepoint 1: .*begin=True", self.opened)
+        source, kept, table, checkpoints = self.opened(begin=True)
+        with checkpoints:
+            self.assertEqual((checkpoints.position, checkpoints.state("total")), (1, 1))
+            checkpoints.emit(2, 2)
+            checkpoints.checkpoint()
+            self.assertEqual((self.rows(), savepoints(checkpoints)), ([1, 3], 0))
+        self.assertEqual(len(self.files()), 2)
+
+    def test_a_stop_that_is_complete_and_not_published(self):
+        """The process ends between the commit and the publication: whoever finds the job stopped tells the outputs."""
+        source, kept, table, checkpoints = self.opened()
+        with checkpoints:
+            checkpoints.emit(1, 1)
+            table.publish = None
+            self.assertRaises(TypeError, checkpoints.stop)
+            self.assertEqual(self.rows(), [])
+        for _ in range(2):
+            self.assertRaises(daskstream.Stopped, self.opened)
+            self.assertEqual(self.rows(), [1])
+
+    def test_a_stop_whose_output_is_away_for_a_while(self):
+        """run() tells it again, and takes no record more."""
+        source, kept, table, checkpoints = self.opened()
+        publish, falls = table.publish, [OSError(), OSError()]
+
+        def late(*words):
+            if falls:
+                raise falls.pop()
+            publish(*words)
+
+        table.publish = late
+        with checkpoints:
+            checkpoints.ask_to_stop()
+            self.assertRaises(daskstream.Stopped, checkpoints.run, lambda _: [(1, 1), (2, 2)])
+            self.assertEqual((self.rows(), checkpoints._records.last().meta[0]), ([1], 1))
+
+    def test_a_stop_that_fails(self):
+        """A lost element declines its savepoint: nothing is published, and run() goes back, and stops the job after that."""
+        source, kept, table, checkpoints = self.opened()
+        with checkpoints:
+            checkpoints.emit(1, 1)
+            checkpoints.checkpoint()
+            with mock.patch.object(records, "wait", side_effect=OSError):
+                checkpoints.emit(2, 2)
+                self.assertRaises(OSError, checkpoints.stop)
+            self.assertEqual((self.rows(), checkpoints._records._job._store.phase().stop_failed.name), ([1], "DECLINED"))
+            self.assertRaises(daskstream.Stopped, checkpoints.run, lambda position: [(it, it) for it in range(position + 1, 9)])
+        self.assertEqual(self.rows(), [1, 3])  # with the next element, which comes again
+        self.assertEqual(len(self.files()), 2)
+
+    def test_a_driver_that_is_killed_in_a_stop(self):
+        """Before the savepoint is complete: nothing is published, and the job goes on from its last checkpoint."""
+        source, kept, table, checkpoints = self.opened()
+        with checkpoints:
+            checkpoints.emit(1, 1)
+            checkpoints.checkpoint()
+            checkpoints.emit(2, 2)
+            with mock.patch.object(checkpoints._records, "_acknowledge", side_effect=OSError), mock.patch.object(checkpoints._records, "_give_up"):
+                self.assertRaises(OSError, checkpoints.stop)
+        source, kept, table, checkpoints = self.opened()
+        with checkpoints:
+            self.assertEqual((checkpoints.position, self.rows(), savepoints(checkpoints)), (1, [1], 0))
+            self.assertEqual(checkpoints._records._job._store.phase().stop_failed.name, "RESTORED")
+        self.assertEqual(len(self.files()), 2)
+
+
+def savepoints(checkpoints):
+    """How many savepoints the coordinator has."""
+    count, next = 0, 0
+    with checkpoints._records._job._store.read() as reads:
+        while (live := reads.live_from(next)) is not None:
+            count, next = count + (live.kind.name == "SAVEPOINT"), live.id + 1
+    return count
+
 
 async def lost_after_a_move(key, dask_scheduler):
     """A result moves to another worker, as when Dask makes room on the first, and that other one dies."""
@@ -714,7 +855,7 @@ class Many(Base):
 
 HERE = pathlib.Path(__file__).resolve().parent
 PAGE = HERE.parent.parent / "docs/DASK.md"
-TOLD = "50 1225000000.0\n"
+TOLD = "50 1225000000.0\n"  # 0 + 1 + .. + 49 is 1225
 
 
 def block(language):
@@ -740,6 +881,19 @@ class Page(Base):
         """In a network of its own, where nobody has the page's port. The second time it goes on from its end."""
         commands = f"ip link set lo up; trap 'kill $(jobs -p); wait' EXIT\n{block('sh')}python3 first.py 127.0.0.1:8786\n"
         self.assertEqual(self.first("unshare", "-rn", "bash", "-ec", commands), TOLD * 2)
+
+    def test_the_stop_of_the_page(self):
+        """It stops some steps before its end, and goes on from there."""
+        (self.folder / "first").mkdir()
+        for name in ("first.py", "stopped.py"):
+            (self.folder / "first" / name).write_text(block(f"python {name}"))
+        starts = block("sh").rpartition("python3 first.py")[0]
+        commands = f"ip link set lo up; trap 'kill $(jobs -p); wait' EXIT\n{starts}{block('sh stop')}"
+        told = subprocess.run(("unshare", "-rn", "bash", "-ec", commands), cwd=self.folder / "first", stdout=subprocess.PIPE, stderr=subprocess.PIPE, text=True,
+                              timeout=900, env={**os.environ, "PATH": f"/usr/bin:/bin:{os.environ['PATH']}"})
+        self.assertEqual(told.returncode, 0, told.stderr[-2000:])
+        self.assertRegex(told.stdout, rf"\Athe job has stopped at savepoint [1-4]?\d: .*begin=True.*\n{TOLD}\Z")
+        self.assertEqual(len([it for it in os.listdir(self.folder / "first/state") if it.isdecimal()]), 11)
 
     @unittest.skipUnless(os.path.exists("/dev/net/tun"), "no /dev/net/tun: two machines")
     def test_the_first_program_on_two_machines(self):

@@ -1,7 +1,8 @@
-"""words.py FOLDER PLACE TEXT SCHEDULER [new]: counts the words of a text on a Dask cluster, and puts the words of each line into a table. The driver's own
-files are in FOLDER. PACE: so many seconds between two elements."""
+"""words.py FOLDER PLACE TEXT SCHEDULER [new] [begin]: counts the words of a text on a Dask cluster, and puts the words of each line into a table. The driver's own
+files are in FOLDER. PACE: so many seconds between two elements. SIGTERM stops the job, and `begin` begins one that has stopped."""
 import logging
 import os
+import signal
 import sqlite3
 import sys
 import time
@@ -9,7 +10,7 @@ import time
 import streamz
 from distributed import Client
 
-from relkvanu.daskstream import Checkpoints, keyed
+from relkvanu.daskstream import Checkpoints, Stopped, keyed
 from relkvanu.outputs import Table
 from where import CONNECT, coordinator_of, place_of
 
@@ -69,14 +70,15 @@ def table(folder):
     return Table(connect, f"INSERT INTO lines VALUES ({mark}, {mark})", name="lines", mark=mark)
 
 
-def main(folder, url, text, scheduler, is_new=""):
+def main(folder, url, text, scheduler, *options):
     lines, client, source = table(folder), Client(scheduler, timeout=CONNECT), streamz.Stream()
     on_workers = source.scatter()
     kept = [keyed(on_workers.map(words), count, start={}, parts=PARTS, name="words"),
             on_workers.accumulate(letter, start=[0], stream_name="letters"),
             on_workers.map(lengths).buffer(8).gather().flatten().sink(lines)]
-    with Checkpoints(source, place_of(url, "words"), coordinator_of(folder, "words"), client=client, create=is_new == "new", every=EVERY,
-                     outputs=[lines]) as checkpoints:
+    with Checkpoints(source, place_of(url, "words"), coordinator_of(folder, "words"), client=client, create="new" in options, every=EVERY,
+                     outputs=[lines], begin="begin" in options) as checkpoints:
+        signal.signal(signal.SIGTERM, lambda *_: checkpoints.ask_to_stop())
         print("begins at", checkpoints.position, flush=True)
         checkpoints.run(batches(text))
         found = [checkpoints.state(f"words-{it}") for it in range(PARTS)]
@@ -87,4 +89,7 @@ def main(folder, url, text, scheduler, is_new=""):
 if __name__ == "__main__":
     logging.basicConfig(format="%(asctime)s %(message)s")
     logging.getLogger("relkvanu.daskstream").setLevel(logging.INFO)
-    main(*sys.argv[1:])
+    try:
+        main(*sys.argv[1:])
+    except Stopped as stopped:
+        print(stopped, flush=True)

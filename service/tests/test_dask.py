@@ -9,9 +9,10 @@ import sys
 import time
 
 from harness import PROGRAM, TOP, Server, check_log, folder, until
-from relkvanu_service import Service
+from relkvanu_service import Service, savepoint
 from run import Skipped
 from test_events import Copy
+from test_operate import ran
 from writers import check_made
 
 FAULT_TEST = f"{TOP}/embed/dask/run"
@@ -76,11 +77,11 @@ def test_tasks_whose_coordinator_is_killed():
         return f"{kills} kills, {completed} checkpoints completed; {len(made)} acknowledged calls, {compared} answered alike by ckpt_job; the folder has the {len(files)} files in use"
 
 
-def driver(server, at, create=True):
+def driver(server, at, create=True, **more):
     """What a driver over Dask has of its job (relkvanu.records), here with parts of its own process."""
     from relkvanu.records import Records
 
-    return Records(None, f"{at}/state", Service(server.url).job("words"), create=create)
+    return Records(None, f"{at}/state", Service(server.url).job("words"), create=create, **more)
 
 
 def state_files(at):
@@ -141,13 +142,92 @@ def test_a_driver_over_dask_whose_job_another_one_has_begun():
         return f"the late driver is refused, and that before a restored backup; {len(names)} files stay"
 
 
+def stopped_at(work, *words):
+    from relkvanu.jobs import Stopped
+
+    try:
+        work(*words)
+    except Stopped as stopped:
+        assert "relkvanu begin words" in str(stopped) or "begin=True" in str(stopped), stopped
+        return stopped.savepoint
+    raise AssertionError("it has not stopped")
+
+
+def test_a_driver_over_dask_whose_job_is_stopped_and_begun():
+    """By commands, and by the driver. The service is killed in each phase."""
+    sys.path.append(f"{TOP}/embed/python")
+    try:
+        from relkvanu.parts import Failed
+    except ImportError as error:
+        raise Skipped("python3-distributed", str(error)) from error
+    with folder() as at:
+        os.mkdir(f"{at}/state")
+        server = Server(at, names=True).start()
+        job, first = Service(server.url).job("words"), driver(server, at)
+        assert first.restore() is None
+        assert first.save("one", {"x": [1, 2]}).id == 1
+        strange = job.call(savepoint())["id"]  # of a user, whose outputs could not be taken back
+        assert ran(server, "stop", "words") == f"the job stops: savepoint {strange + 1} is triggered\n"
+        server.kill()
+        server.start()
+        assert first.save("two", {"x": [1, 3]})[:3] == (strange + 1, 1, 1)
+        assert [stopped_at(work) for work in (first.check_stopped, lambda: first.save("no", {}), first.restore)] == [strange + 1] * 3
+        first.close()
+        assert ran(server, "stop", "words", "--wait", 1) == f"the job has stopped at savepoint {strange + 1}\n"
+        server.kill()
+        server.start()
+        late = driver(server, at)
+        assert stopped_at(late.restore) == strange + 1 and late.last().meta == "two"
+        late.close()
+        second = driver(server, at, begin=True)
+        assert second.restore().meta == "two" and job.state()["phase"] == "running"
+        assert second.save("more", {"x": [1, 3]})[1:3] == (0, 2)
+        old = driver(server, at)
+        assert old.restore().meta == "more"  # another driver, which takes the job
+        old.stops = True
+        assert old.save("three", {"x": [1, 4]})[1:3] == (1, 1)
+        # the driver before, which does not know of that
+        assert stopped_at(second.save, "no", {"x": [9, 9]}) == stopped_at(old.restore) == job.state()["stop"]["savepoint"]
+        for it in (second, old):
+            it.close()
+        assert ran(server, "begin", "words").startswith("the job begins again")
+        third = driver(server, at)
+        found = third.restore()
+        assert (found.meta, [third.value(it) for it in found.parts["x"]]) == ("three", [1, 4]), found
+        third.stops = True
+        third._acknowledge, acknowledge = lambda *_: third.value(None), third._acknowledge  # the stop fails before it is complete
+        refused(AttributeError, third.save, "four", {"x": [1, 5]})
+        assert (job.state()["phase"], job.state()["stop"]["failed"]) == ("running", "declined")
+        third._acknowledge = acknowledge
+        assert third.restore().meta == "three" and third.stops
+        refused(Failed, third._job.trigger, 9)
+        third.stops = False
+        assert third.restore().meta == "three"
+        fourth = third.save("four", {"x": [1, 5]}).id
+        until(lambda: third.counts() == (3, 0))
+        live = [(it["id"], it["kind"]) for it in job.state()["live"]]
+        assert live == [(fourth, "checkpoint")], live  # each savepoint is disposed of
+        third.close()
+        names = state_files(at)
+        assert names == in_use(job) and len(names) == 3, names
+        server.stop()
+        return "3 stops; no savepoint stays"
+
+
+def test_stops_of_a_stream_over_dask_while_all_are_killed():
+    return killed("0", "--stops", os.environ.get("RELKVANU_DASK_STOPS", "3"))
+
+
 def test_a_stream_over_dask_whose_driver_and_service_are_killed():
     """embed/distributed/kills.py: each driver begins without a file."""
+    return killed(os.environ.get("RELKVANU_DASK_KILLS", "1"))
+
+
+def killed(kills, *options):
     if subprocess.run(["/usr/bin/python3", "-c", "import streamz, distributed, pandas, xxhash"], stderr=subprocess.DEVNULL, check=False).returncode:
         raise Skipped("python3-streamz", "not all packages of embed/distributed/setup are here")
     with folder() as at:
-        words = ["/usr/bin/python3", f"{TOP}/embed/distributed/kills.py", "words", os.environ.get("RELKVANU_DASK_KILLS", "1"), "1", f"{at}/words",
-                 "--service", PROGRAM]
+        words = ["/usr/bin/python3", f"{TOP}/embed/distributed/kills.py", "words", kills, "1", f"{at}/words", "--service", PROGRAM, *options]
         paths = ("embed/python", "embed/distributed", "service/client/python")
         told = subprocess.run(words, stdout=subprocess.PIPE, stderr=subprocess.STDOUT, text=True, check=False, timeout=LONGEST,
                               env={**os.environ, "PYTHONPATH": ":".join(f"{TOP}/{it}" for it in paths), "RELKVANU_LIB": "/nowhere"})

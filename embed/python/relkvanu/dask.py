@@ -14,11 +14,11 @@ from dask.utils import key_split
 from distributed import Client, Future, wait
 
 from relkvanu.errors import Error
-from relkvanu.jobs import Superseded
+from relkvanu.jobs import Stopped, Superseded
 from relkvanu.parts import Failed, PartError, Place
 from relkvanu.records import Coordinator, Path, Record, Records, Resumable, Saved, Watch, losses, origin_of
 
-__all__ = ["Checkpoints", "Failed", "NotPersisted", "PartError", "Place", "Saved", "Superseded"]
+__all__ = ["Checkpoints", "Failed", "NotPersisted", "PartError", "Place", "Saved", "Stopped", "Superseded"]
 
 Step = Callable[..., Optional[Tuple[Any, Dict[str, Any]]]]
 
@@ -82,14 +82,14 @@ class Checkpoints(Resumable):
     """The checkpoints of a job over Dask. `with Checkpoints(..) as checkpoints:` closes it. One thread at a time may call."""
 
     def __init__(self, client: Client, storage: Union[Path, Place], coordinator: Coordinator, *, create: bool = False, patience: float = 300,
-                 watch: Optional[Watch] = None, begin_from: Optional[Place] = None) -> None:
+                 watch: Optional[Watch] = None, begin_from: Optional[Place] = None, begin: bool = False) -> None:
         """Recovers the job whose coordinator is this file, on a disk of the driver's machine, or this job of the service (relkvanu_service.Job), or
         makes one if `create` says so. `storage` has the partitions: `s3://bucket/prefix`, a folder that all machines have, or a Place. `patience` is how many seconds a checkpoint may take.
         `watch` is given the futures of each one's writes, as distributed.progress. A new job whose earlier coordinator is lost takes the last
-        checkpoint that is in another place, `begin_from`, as its first."""
+        checkpoint that is in another place, `begin_from`, as its first. `begin` begins a job that has stopped; without it load() raises Stopped."""
         self.client = self._client = client
         self._patience, self._begin_from = patience, begin_from
-        self._records = Records(client, storage, coordinator, create=create, patience=patience, watch=watch)
+        self._records = Records(client, storage, coordinator, create=create, patience=patience, watch=watch, begin=begin)
 
     def load(self) -> Optional[Tuple[Any, Dict[str, Any]]]:
         """The words and the collections of the last complete checkpoint, or None if there is none. What was computed since is given up."""
@@ -106,13 +106,24 @@ class Checkpoints(Resumable):
 
     def save(self, meta: Any = None, **collections: Any) -> Saved:
         """Takes a checkpoint of persisted collections, with some words of the caller, such as the number of a step. It is complete when this
-        returns. If it raises, load()."""
+        returns. If it raises, load(). After ask_to_stop(), and where somebody stops the job of the service, it stops the job and raises Stopped."""
+        saved = self._taken(meta, collections)
+        self._records.check_stopped()
+        return saved
+
+    def stop(self, meta: Any = None, **collections: Any) -> Saved:
+        """Stops the job with a savepoint of persisted collections: as save(), but the job goes on only from there, once it begins."""
+        self.ask_to_stop()
+        return self._taken(meta, collections)
+
+    def _taken(self, meta: Any, collections: Dict[str, Any]) -> Saved:
         parts = {name: _futures(it) for name, it in collections.items()}
         return self._records.save(cloudpickle.dumps((meta, {name: _shape(it) for name, it in collections.items()})), parts)
 
     def run(self, step: Step, init: Step, failures: int = 20) -> Tuple[Any, Dict[str, Any]]:
         """Takes a checkpoint after init() and after each step(meta, **collections). Both return words and collections; step returns None at the end,
-        and then run() returns what the last one had. After an exception it goes back to the last checkpoint, `failures` times without a new one."""
+        and then run() returns what the last one had. After an exception it goes back to the last checkpoint, `failures` times without a new one.
+        Raises Stopped once the job has stopped (see save())."""
         return self._resumed(lambda _: self._run(step, init), failures)
 
     def _run(self, step: Step, init: Step) -> Tuple[Any, Dict[str, Any]]:

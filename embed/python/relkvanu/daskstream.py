@@ -19,13 +19,13 @@ from distributed import Client, Future, default_client
 
 from relkvanu import outputs as published
 from relkvanu.graphs import STATELESS, GraphError, by_name, nodes_of, stateful_here
-from relkvanu.jobs import Superseded
+from relkvanu.jobs import Stopped, Superseded
 from relkvanu.parts import (
     Failed, Nothing, Part, PartError, Place, State, dumps_value, fold_all, loads_state, part_of, pickled, result_of, split, take_step, value_of,
 )
 from relkvanu.records import LOST, Coordinator, Path, Record, Records, Resumable, Saved, Watch, losses, origin_of
 
-__all__ = ["Checkpoints", "Failed", "GraphError", "PartError", "Place", "Saved", "Superseded", "keyed", "part_of"]
+__all__ = ["Checkpoints", "Failed", "GraphError", "PartError", "Place", "Saved", "Stopped", "Superseded", "keyed", "part_of"]
 
 LOG = logging.getLogger(__name__)
 ON_WORKERS = (streamz.dask.map, streamz.dask.starmap, streamz.dask.accumulate, streamz.dask.union, streamz.dask.scatter)
@@ -205,13 +205,14 @@ class Checkpoints(Resumable):
 
     def __init__(self, sources: Any, storage: Union[Path, Place], coordinator: Coordinator, *, client: Optional[Client] = None, create: bool = False,
                  every: float = 10, outputs: Sequence[published.Output] = (), patience: float = 300, watch: Optional[Watch] = None,
-                 begin_from: Optional[Place] = None) -> None:
+                 begin_from: Optional[Place] = None, begin: bool = False) -> None:
         """Recovers the job whose coordinator is this file, on a disk of this machine, or this job of the service (relkvanu_service.Job), or makes one
         if `create` says so. `storage` has the states:
         `s3://bucket/prefix`, a folder that all machines have, or a Place. With a client the graph's work is on its cluster. A checkpoint is
         taken `every` so many seconds, if elements come. `outputs` are sinks of the graph that are exactly once. An element and a
         checkpoint take at most `patience` seconds each. `watch` is given the futures of a checkpoint's writes. A new job whose earlier
-        coordinator is lost takes the last checkpoint that is in another place, `begin_from`, as its first: its outputs take no more of that job."""
+        coordinator is lost takes the last checkpoint that is in another place, `begin_from`, as its first: its outputs take no more of that job.
+        `begin` begins a job that has stopped; without it Stopped is raised."""
         self._sources = list(sources) if isinstance(sources, (list, tuple)) else [sources]
         self._client, self._every, self._patience, self._begin_from = client, every, patience, begin_from
         self._origin: Optional[str] = None  # the identity of the job in that place
@@ -223,7 +224,8 @@ class Checkpoints(Resumable):
         self._starts = {name: self._start(node) for name, node in self._nodes.items()}
         self.position: Any = None
         self.saved: Optional[Saved] = None
-        self._records = Records(client, storage, coordinator, create=create, patience=patience, dumps=dumps_value, loads=loads_state, watch=watch)
+        self._records = Records(client, storage, coordinator, create=create, patience=patience, dumps=dumps_value, loads=loads_state, watch=watch,
+                                begin=begin)
         try:
             self.restore()
         except BaseException:
@@ -243,7 +245,8 @@ class Checkpoints(Resumable):
 
     def run(self, read: Read, failures: int = 20) -> None:
         """Emits what read(position) has: elements, each with the position after it. At its end it takes a checkpoint. After an exception
-        it goes back to the last checkpoint and reads again from there, `failures` times without a new one."""
+        it goes back to the last checkpoint and reads again from there, `failures` times without a new one. Raises Stopped once the job has
+        stopped (see checkpoint())."""
         def work(again: bool) -> None:
             if again:
                 self.restore()
@@ -256,6 +259,7 @@ class Checkpoints(Resumable):
     def emit(self, x: Any, position: Any, source: Optional[Any] = None) -> None:
         """Gives an element to the graph. `position` is where the caller goes on after it. Takes a checkpoint if one is due. After an exception only
         restore() goes on."""
+        self._records.check_stopped()
         if self._flight.fault is not None:
             raise self._flight.fault
         to = self._sources[0] if source is None else source
@@ -264,11 +268,23 @@ class Checkpoints(Resumable):
         else:
             self._on_loop(self._emitted(to, x))
         self.position = position
-        if time.monotonic() >= self._due:
+        if time.monotonic() >= self._due or self._records.stops:
             self.checkpoint()
 
     def checkpoint(self) -> Saved:
-        """Takes a checkpoint now, and publishes what the outputs have. If it raises, the one before stands: restore()."""
+        """Takes a checkpoint now, and publishes what the outputs have. If it raises, the one before stands: restore(). After ask_to_stop(), and where
+        somebody stops the job of the service, it is the savepoint of the stop: once the outputs have it, Stopped is raised."""
+        saved = self._taken()
+        self._records.check_stopped()
+        return saved
+
+    def stop(self) -> Saved:
+        """Stops the job with a savepoint of now, and publishes what the outputs have. The job goes on only from there, once it begins."""
+        self.ask_to_stop()
+        return self._taken()
+
+    def _taken(self) -> Saved:
+        self._records.check_stopped()
         times = [time.monotonic()]
         self._flight.landed(self._patience)
         times.append(time.monotonic())
@@ -284,21 +300,34 @@ class Checkpoints(Resumable):
 
     def restore(self) -> Any:
         """Puts the states of the last checkpoint back, and tells the outputs of it again. What outputs had for a later one is given up. Returns the
-        position, or None if there is no checkpoint."""
+        position, or None if there is no checkpoint. Where the job has stopped, the outputs are told of its savepoint again, and Stopped is raised."""
         self._in_place(self._flight.end)
         if self._client is not None:
             with losses():
                 self._client.wait_for_workers(1, timeout=self._patience)
-        record = self._records.restore()
+        record = self._restored()
         if record is None and self._begin_from is not None:
             self._begin()
         else:
             self._go_back(record, self._records.identity)
+        self._end_origin()
+        self._due = time.monotonic() + self._every
+        self._records.check_stopped()
+        return self.position
+
+    def _restored(self) -> Optional[Record]:
+        try:
+            return self._records.restore()
+        except Stopped:  # whoever has stopped it may have been killed before the outputs knew
+            self._tell(self._records.last(), self._records.identity)
+            self._end_origin()
+            raise
+
+    def _end_origin(self) -> None:
+        """The outputs take no more of the job whose place this one has taken."""
         for output in self._outputs.values():
             if self._origin is not None:
                 output.end(self._origin)
-        self._due = time.monotonic() + self._every
-        return self.position
 
     def _begin(self) -> None:
         """From the last record of a job whose coordinator is lost, which is the first one of this job from here on."""
@@ -306,11 +335,15 @@ class Checkpoints(Resumable):
         origin = origin_of(self._begin_from)
         self._go_back(origin.record, origin.identity, self._begin_from)
         self._origin = origin.identity
-        self.checkpoint()
+        self._taken()
 
     def _go_back(self, record: Optional[Record], job: str, place: Optional[Place] = None) -> None:
         states = {name: self._loaded(name, record, place) for name in self._nodes}
         self._in_place(lambda: self._put_back(states))
+        self._tell(record, job)
+
+    def _tell(self, record: Optional[Record], job: str) -> None:
+        """The outputs have this record, which is the last one, and nothing after it."""
         for output in self._outputs.values():
             output.rows = []
         self.position, self._origin = None, None

@@ -6,7 +6,7 @@ import threading
 from typing import Any, Dict, Iterator, List, Optional, Sequence, Tuple
 
 from relkvanu.errors import Error
-from relkvanu.jobs import LONGEST, MOST_DELETED, SUBTASKS, TOLERABLE, Ack, Delete, Held, Superseded, lists_of
+from relkvanu.jobs import LONGEST, MOST_DELETED, SUBTASKS, TOLERABLE, Ack, Asked, Delete, Held, Stopped, Superseded, lists_of
 from relkvanu.parts import Failed, Place, digest_of
 from relkvanu.reads import Garbage
 from relkvanu.storage import NotThere
@@ -61,48 +61,99 @@ class ServiceJob:
         self.is_whole = False
         self._term = 0
         self._follower: Any = None  # of the events since this driver has begun the job
+        self._savepoint: Optional[int] = None  # that the job has begun from
         self._ends, self._due = threading.Event(), threading.Event()
 
-    def begin(self) -> Optional[Held]:
+    def begin(self, begins: bool = False) -> Optional[Held]:
+        self._begin_stopped(begins)
         with _answers():
             start = self._job.begin()
         self._term, self._follower = start.term, start.follower
+        self._savepoint = start.id if start.kind == "savepoint" else None
+        self._dispose_of_old(start.id)
         self._due.set()
         return None if start.id is None else Held(start.id, [start.files.get(f"0.{it}", ()) for it in range(SUBTASKS)])
+
+    def _begin_stopped(self, begins: bool) -> None:
+        """Begins a job that has stopped, if it is to. Somebody else may do so meanwhile."""
+        with _answers():
+            state = self._job.state()
+            if state.get("phase") != "stopped":
+                return
+            if not begins:
+                raise self._stopped(state)
+            try:
+                self._job.begin_job()
+            except service.Refused as refusal:
+                if refusal.name != "NotStopped":
+                    raise
+
+    def _stopped(self, state: Dict[str, Any]) -> Stopped:
+        return Stopped(state["stop"]["savepoint"], f", or run `relkvanu begin {self._job.name}` before")
+
+    def _dispose_of_old(self, choice: Optional[int]) -> None:
+        """Savepoints of stops before the last record, where the service was killed after that was complete."""
+        with _answers():
+            live = self._job.state()["live"]
+        self._calls([service.dispose(it["id"]) for it in live if it["kind"] == "savepoint" and it["done"] and it["id"] != choice])
+
+    def held(self) -> Optional[Held]:
+        with _answers():
+            choice = self._job.state()["choice"]
+            if "id" not in choice:
+                return None
+            found = self._job.record(choice["id"])["live"]
+        if found is None:
+            raise Failed("another record is the last one")
+        files = {it["subtask"]: [int(file) for file in it["files"]] for it in found["acks"]}
+        return Held(choice["id"], [files.get(f"0.{it}", ()) for it in range(SUBTASKS)])
 
     def reserve(self, count: int) -> Sequence[int]:
         with _answers():
             told = self._job.call(service.reserve(self._term, count))
         return range(int(told["first"]), int(told["first"]) + told["count"])
 
-    def trigger(self, last: int) -> int:
-        """A checkpoint that somebody else has triggered, as a driver that should have ended, is this one. The service does not look at the term here,
-        but in complete()."""
+    def trigger(self, last: int, stops: bool = False) -> Asked:
+        """A checkpoint that somebody else has triggered, as a driver that should have ended, is this one, and so is the savepoint with which somebody
+        stops the job. The service does not look at the term here, but in complete()."""
+        asked = self._asked(stops)
         with _answers():
-            try:
-                asked: Optional[int] = self._job.checkpoint()["id"]
-            except service.Refused as refusal:
-                if refusal.name != "AtOnce":
-                    raise
-                asked = None
             self._follower.next(wait=0)  # raises OtherLog if the service has lost them
             state = self._job.state()
         if state["choice"].get("id", 0) != last:
             raise Failed("another record is the last one")
+        stop = state["stop"]["savepoint"] if state.get("phase") == "stopping" else None
         pending = [it for it in state["live"] if not it["done"]]
-        savepoints = [it["id"] for it in pending if it["kind"] == "savepoint"]
+        savepoints = [it["id"] for it in pending if it["kind"] == "savepoint" and it["id"] != stop]
         self._calls([service.decline(it, "0.0", term=self._term) for it in savepoints])  # its outputs could not be taken back
         found: List[int] = [it["id"] for it in pending if it["kind"] == "checkpoint" and asked in (None, it["id"])]
-        if not found:
+        if stop is not None:
+            return Asked(stop, True)
+        if stops or not found:
             raise Failed("the record that was triggered has ended")
-        return found[0]
+        return Asked(found[0], False)
+
+    def _asked(self, stops: bool) -> Optional[int]:
+        """Asks for a record. Its number, or None if it is the one that somebody else has asked for, or the savepoint of a stop."""
+        with _answers():
+            try:
+                told: Optional[int] = (self._job.stop_job() if stops else self._job.checkpoint())["id"]
+            except service.Refused as refusal:
+                if refusal.name == "Stopped":
+                    raise self._stopped(self._job.state()) from refusal
+                if refusal.name not in ("AtOnce", "Stopping"):
+                    raise
+                return None
+        return told
 
     def complete(self, id: int, acks: Sequence[Ack], spare: Sequence[int]) -> None:
         calls = [service.forfeit(self._term, some) for some in lists_of(spare)]
         calls += [service.ack(id, f"0.{index}", it.fresh, it.reused, term=self._term) for index, it in enumerate(acks)]
-        answers = self._calls(calls)
-        if answers[-1].get("ack") != "completed":
-            raise Failed(f"record {id} was not completed: {answers[-1]}")
+        after = [] if self._savepoint is None else [service.dispose(self._savepoint)]
+        told = self._calls([*calls, *after])[len(calls) - 1]
+        if told.get("ack") != "completed":
+            raise Failed(f"record {id} was not completed: {told}")
+        self._savepoint = None
         self._due.set()
 
     def give_up(self, id: Optional[int], names: Sequence[int]) -> None:

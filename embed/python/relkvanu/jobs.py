@@ -21,11 +21,27 @@ class Superseded(Error):
     driver ends. What it does from here on has no effect on the job."""
 
 
+class Stopped(Error):
+    """The job has stopped at the savepoint of this number: this program has stopped it, or has found it so. The outputs have all that the savepoint
+    completed. The program ends."""
+
+    def __init__(self, savepoint: int, or_else: str = "") -> None:
+        super().__init__(f"the job has stopped at savepoint {savepoint}: start its program with begin=True{or_else}, and it goes on from there")
+        self.savepoint = savepoint
+
+
 class Held(NamedTuple):
     """A complete record, and the files of each subtask."""
 
     id: int
     files: List[Sequence[int]]
+
+
+class Asked(NamedTuple):
+    """A record that is pending. With `stops` it is the savepoint of a stop: once it is complete the job has stopped, in the same commit."""
+
+    id: int
+    stops: bool
 
 
 class Ack(NamedTuple):
@@ -46,17 +62,23 @@ class Job(Protocol):
     identity: str  # of 32 hexadecimal digits, which no other job has
     is_whole: bool  # no record and no task was before
 
-    def begin(self) -> Optional[Held]:
-        """Begins a new term, and returns the last complete record. Records that are pending end."""
+    def begin(self, begins: bool = False) -> Optional[Held]:
+        """Begins a new term, and returns the last complete record. Records that are pending end. A job that has stopped begins if `begins` says so,
+        and otherwise Stopped is raised."""
+
+    def held(self) -> Optional[Held]:
+        """The last complete record, of a job that goes on as it is."""
 
     def reserve(self, count: int) -> Sequence[int]:
         """Names for files that no file ever had."""
 
-    def trigger(self, last: int) -> int:
-        """Begins a record after the one that this process knows as the last, 0 for none."""
+    def trigger(self, last: int, stops: bool = False) -> Asked:
+        """Begins a record after the one that this process knows as the last, 0 for none. It is the savepoint of a stop if `stops` says so, or if
+        somebody else stops the job."""
 
     def complete(self, id: int, acks: Sequence[Ack], spare: Sequence[int]) -> None:
-        """Gives names up, and acknowledges for all subtasks. When it returns, the record is complete."""
+        """Gives names up, and acknowledges for all subtasks. When it returns, the record is complete. The savepoint that the job has begun from is
+        disposed of with it: otherwise its files would stay, and a job has at most 1000 savepoints."""
 
     def give_up(self, id: Optional[int], names: Sequence[int]) -> None:
         """Declines a record, and gives its names up. If this raises, begin() does so too."""

@@ -17,7 +17,7 @@ from typing import Any, Callable, Dict, Iterator, List, Mapping, NamedTuple, Opt
 from distributed import Client, Future, wait
 
 from relkvanu.errors import Error
-from relkvanu.jobs import MOST_FILES, SUBTASKS, Ack, Job, Superseded
+from relkvanu.jobs import MOST_FILES, SUBTASKS, Ack, Held, Job, Stopped, Superseded
 from relkvanu.parts import Dumps, Failed, Loads, Part, PartError, Place, digest_of, get_part, opened, pickled, pickled_in_pieces, place_of, put_part
 from relkvanu.sweep import Swept, sweep
 
@@ -118,8 +118,8 @@ class Records:
     """The records of a job. One thread at a time may call. After an exception of save() only restore() goes on."""
 
     def __init__(self, client: Optional[Client], storage: Union[Path, Place], coordinator: Coordinator, *, create: bool = False, patience: float = 300,
-                 dumps: Dumps = pickled_in_pieces, loads: Loads = pickle.loads, watch: Optional[Watch] = None) -> None:
-        """Opens the coordinator's file or its job in the service, or makes it if `create` says so. A storage that is given by its address is that
+                 dumps: Dumps = pickled_in_pieces, loads: Loads = pickle.loads, watch: Optional[Watch] = None, begin: bool = False) -> None:
+        """Opens the coordinator's file or its job in the service, or makes it if `create` says so. A job that has stopped begins if `begin` says so. A storage that is given by its address is that
         of the job with the name of this file, or of that job. `patience` is how many seconds a record may take: workers may all be gone. `watch` is given the futures of the
         writes, as distributed.progress. By default parts are pickled, so nobody else may write to the storage."""
         self._client, self._patience, self._dumps, self._loads, self._watch = client, patience, dumps, loads, watch
@@ -132,6 +132,9 @@ class Records:
             raise
         self.identity = self._job.identity
         self.taken = 0  # records, since it was opened
+        self.stops = False  # the next record is the savepoint of a stop
+        self._begins = begin
+        self._stopped: Optional[int] = None  # the savepoint with which this process has stopped the job
         self._whole = self._sweeps = self._job.is_whole
         self._last = Record(0, None, {})
         self._names: List[int] = []  # that are reserved, and that no put was given
@@ -155,13 +158,25 @@ class Records:
         self._job.close()
 
     def restore(self) -> Optional[Record]:
-        """Goes back to the last complete record, or returns None if there is none. All files are looked for before anything is deleted."""
+        """Goes back to the last complete record, or returns None if there is none. All files are looked for before anything is deleted. Raises Stopped
+        if the job has stopped, and was not opened to begin: it begins once."""
         self._whole, self._names = False, []
-        found = self._look()
+        held = self._job.begin(self._begins)
+        self._begins, self._stopped = False, None
+        found = self._found(held)
         self._last, self._sweeps = found or Record(0, None, {}), True
         self.sweep()
         self._whole = True
         return found
+
+    def last(self) -> Optional[Record]:
+        """The last complete record, of a job that has stopped and stays so."""
+        return self._found(self._job.held())
+
+    def check_stopped(self) -> None:
+        """Raises Stopped if this process has stopped the job."""
+        if self._stopped is not None:
+            raise Stopped(self._stopped)
 
     def load(self, parts: Sequence[Part], place: Optional[Place] = None) -> List[Future]:
         """Futures of parts, which workers read, of this job or of one in another place."""
@@ -174,7 +189,9 @@ class Records:
 
     def save(self, meta: Any, parts: Mapping[str, Sequence[Union[Future, Any]]]) -> Saved:
         """Takes a record of these parts: those that are futures are written by workers, others by this process. It is complete when this
-        returns. If it raises, the record before stands, and the caller has to restore()."""
+        returns. If it raises, the record before stands, and the caller has to restore(). If `stops` was set, or somebody stops the job of the service,
+        it is the savepoint of that stop: then check_stopped() raises."""
+        self.check_stopped()
         if not self._whole:
             raise Failed("restore() first")
         self._whole = False
@@ -184,7 +201,7 @@ class Records:
             id = None
             try:
                 puts = self._put(plans, names)
-                id = self._job.trigger(self._last.id)  # while workers write
+                id, is_stop = self._job.trigger(self._last.id, self.stops)  # while workers write
                 self._reserve(len(names))  # for the next record, which then need not wait for it
                 done = self._written(plans, names, puts)
                 record = Record(id, meta, self._listed(id, meta, done, names[-1]))
@@ -192,7 +209,8 @@ class Records:
             except BaseException:
                 self._give_up(id, names)
                 raise
-        self._last, self._whole, self.taken = record, True, self.taken + 1
+        self._last, self._whole, self.taken = record, not is_stop, self.taken + 1
+        self._stopped, self.stops = (id, False) if is_stop else (None, self.stops)
         fresh = set(names)
         wrote = {it.file: it.size for _, it in done if it.file in fresh}
         return Saved(id, len(wrote), sum(it.file not in fresh for _, it in done), sum(wrote.values()))
@@ -284,9 +302,8 @@ class Records:
         with contextlib.suppress(Error):
             self._job.give_up(id, names)
 
-    def _look(self) -> Optional[Record]:
-        """Begins a new term from the last complete record. Raises PartError if one of its files is not there."""
-        held = self._job.begin()
+    def _found(self, held: Optional[Held]) -> Optional[Record]:
+        """A complete record. Raises PartError if one of its files is not there."""
         if held is None:
             return None
         lost = {it for some in held.files for it in some} - {it for page in self.storage.pages() for it in page}
@@ -336,15 +353,19 @@ class Resumable:
         """How many files are in use, and how many wait for deletion."""
         return self._records.counts()
 
+    def ask_to_stop(self) -> None:
+        """Any thread calls it, or the handler of a signal: the next checkpoint, which comes with the next element or step, stops the job."""
+        self._records.stops = True
+
     def _resumed(self, work: Callable[[bool], T], failures: int) -> T:
         """Does work(False). After an exception work(True) goes back to the last checkpoint, `failures` times without a new one. A driver that has
-        lost its job, or its client, does not."""
+        lost its job, or its client, or has stopped it, does not."""
         again, left = False, failures
         while True:
             taken = self._records.taken
             try:
                 return work(again)
-            except Superseded:
+            except (Superseded, Stopped):
                 raise
             except (Exception, *LOST) as fault:
                 again, left = True, (failures if self._records.taken > taken else left) - 1
