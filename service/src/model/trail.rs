@@ -253,7 +253,15 @@ mod tests {
         assert_eq!(tried.job.engine().choice(), Choice::Savepoint(3));
         tried.is_itself();
         // a restore after the completion
-        tried.makes(&[Call::Savepoint, ack(2, 4)]);
+        let last = Call::Ack {
+            term: 2,
+            id: 4,
+            subtask: Subtask { vertex: 0, index: 0 },
+            fresh: vec![11],
+            reused: vec![],
+            bytes: vec![],
+        };
+        tried.makes(&[Call::Reserve { term: 2, count: 1 }, Call::Savepoint, last]);
         tried.makes(&[Call::Restore { target: Target::Savepoint(4), shape: None }]);
         tried.is_itself();
         Ok(())
