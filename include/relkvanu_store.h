@@ -217,6 +217,12 @@ int relkvanu_store_forfeit(relkvanu_store *store, uint64_t term, const uint64_t 
  * the token; then the answers are there. With another status than RELKVANU_STORE_OK nothing was submitted. */
 int relkvanu_store_submit(relkvanu_store *store, relkvanu_store_call *calls, size_t calls_len, uint64_t token);
 
+/* The same of relkvanu_store_stop_job and relkvanu_store_begin_job, which are no calls of a list: they write the whole call. The status of the completion is
+ * RELKVANU_STORE_NOT_NOW if the phase of the job does not allow it. RELKVANU_CALL_TRIGGER, RELKVANU_CALL_CONFIGURE (call.first: the seven numbers of the
+ * settings, in the order of relkvanu_settings) and RELKVANU_CALL_ADVANCE are calls of a list. relkvanu_store_go_back needs a thread. */
+int relkvanu_store_submit_stop_job(relkvanu_store *store, relkvanu_store_call *call, uint64_t token);
+int relkvanu_store_submit_begin_job(relkvanu_store *store, relkvanu_store_call *call, uint64_t token);
+
 typedef struct {
     uint64_t token;
     int status; /* as that of relkvanu_store_calls */

@@ -280,6 +280,14 @@ public:
         return store_code(relkvanu_store_submit(store_, list.data(), list.size(), token));
     }
 
+    /* The same of stop_job and begin_job, which write the call. go_back has no such form: give it a thread. */
+    [[nodiscard]] std::error_code submit_stop_job(relkvanu_store_call &call, std::uint64_t token) noexcept {
+        return store_code(relkvanu_store_submit_stop_job(store_, &call, token));
+    }
+    [[nodiscard]] std::error_code submit_begin_job(relkvanu_store_call &call, std::uint64_t token) noexcept {
+        return store_code(relkvanu_store_submit_begin_job(store_, &call, token));
+    }
+
     std::size_t completed(span<relkvanu_store_completion> list) noexcept {
         return relkvanu_store_completed(store_, list.data(), list.size());
     }

@@ -1,13 +1,13 @@
-//! `relkvanu check`: makes the calls of a database's log again, and compares each answer, and each image, with what the database has.
+//! `relkvanu check`: makes the calls of a database's log again, and compares each answer, each image and each phase with what the database has.
 use crate::cli;
 use crate::database::{Database, NoDatabase};
 use crate::exit::{NOT_TO_START, START_AGAIN};
 use crate::log;
-use crate::model::{Job, KeptImage, NoJob, Opening};
+use crate::model::{Job, KeptImage, NoJob, Opening, Phase, Trail};
 use crate::store::{DbError, LiteReader, PgReader, Reader, Unusable};
 use crate::writer::{replay, StartError};
 use serde_json::json;
-use std::collections::VecDeque;
+use std::collections::{BTreeMap, VecDeque};
 use std::io::{self, Write};
 use std::process::ExitCode;
 use thiserror::Error;
@@ -23,6 +23,9 @@ enum Unchecked {
     Database(#[from] NoDatabase),
     #[error(transparent)]
     Unusable(#[from] Unusable),
+    /// A row of a phase can't be read as one.
+    #[error("the phases can't be read: {0}")]
+    Phases(DbError),
     /// Memory ran out, or the log can't be read now.
     #[error(transparent)]
     Unread(StartError),
@@ -43,6 +46,7 @@ impl Unchecked {
         match self {
             Unchecked::Unusable(error) if error.may_pass() => START_AGAIN,
             Unchecked::Unread(_) => START_AGAIN,
+            Unchecked::Phases(_) => DIFFERS,
             Unchecked::Database(_) | Unchecked::Unusable(_) | Unchecked::NoJob(_) | Unchecked::Output(_) => {
                 NOT_TO_START
             }
@@ -68,7 +72,7 @@ pub fn run(given: &cli::Check) -> ExitCode {
     }
 }
 
-/// Prints a line for each job. Returns whether all answers and images are as the database has them.
+/// Prints a line for each job. Returns whether all answers, images and phases are as the database has them.
 fn checked(given: &cli::Check) -> Result<bool, Unchecked> {
     let mut reader = opened(&Database::of(&given.database)?)?;
     let mut jobs = reader.jobs()?;
@@ -78,10 +82,12 @@ fn checked(given: &cli::Check) -> Result<bool, Unchecked> {
             return Err(Unchecked::NoJob(name.clone()));
         }
     }
+    let phases = phases(reader.as_mut())?;
     let mut all_alike = true;
     for opening in jobs {
         let name = opening.name.clone();
-        match compare(reader.as_mut(), opening) {
+        let phase = phases.get(&opening.number).copied().unwrap_or_default();
+        match compare(reader.as_mut(), opening, phase) {
             Ok(Compared { calls, images }) => tell(given.json, &name, calls, images)?,
             Err(error) if error.may_pass() => return Err(Unchecked::Unread(error)),
             Err(error) => {
@@ -91,6 +97,15 @@ fn checked(given: &cli::Check) -> Result<bool, Unchecked> {
         }
     }
     Ok(all_alike)
+}
+
+/// The phases of the jobs that somebody has stopped.
+fn phases(reader: &mut dyn Reader) -> Result<BTreeMap<i64, Phase>, Unchecked> {
+    match reader.phases() {
+        Ok(phases) => Ok(phases.into_iter().collect()),
+        Err(error) if error.is_damage() => Err(Unchecked::Phases(error)),
+        Err(error) => Err(error.into()),
+    }
 }
 
 /// Opens a database to read it as it is now, whatever a service commits meanwhile.
@@ -105,7 +120,7 @@ fn opened(database: &Database) -> Result<Box<dyn Reader>, Unusable> {
 }
 
 /// Makes all calls again that the log has of a job: from its opening, or from the first image after the calls that were cut.
-fn compare(reader: &mut dyn Reader, opening: Opening) -> Result<Compared, StartError> {
+fn compare(reader: &mut dyn Reader, opening: Opening, phase: Phase) -> Result<Compared, StartError> {
     let (number, name) = (opening.number, opening.name.clone());
     let opened = Job::open(opening);
     let mut job = opened.map_err(|why: NoJob| StartError::NotOpened { job: name, why })?;
@@ -116,10 +131,11 @@ fn compare(reader: &mut dyn Reader, opening: Opening) -> Result<Compared, StartE
     }
     images.retain(|image| image.seq > job.seq);
     let mut images: VecDeque<u64> = images.into_iter().map(|image| image.seq).collect();
+    let mut trail = Trail::default();
     loop {
         let page = reader.log(number, job.seq, PAGE)?;
         if page.is_empty() && images.is_empty() {
-            return Ok(compared);
+            return as_logged(&trail, phase, &mut job).map(|()| compared);
         }
         if page.is_empty() {
             // an image of calls that the log does not have any more
@@ -128,6 +144,7 @@ fn compare(reader: &mut dyn Reader, opening: Opening) -> Result<Compared, StartE
         }
         page.iter().try_for_each(|entry| {
             replay::repeat(&mut job, entry)?;
+            trail.follow(entry);
             compared.calls += 1;
             if images.front() == Some(&job.seq) {
                 images.pop_front();
@@ -136,6 +153,14 @@ fn compare(reader: &mut dyn Reader, opening: Opening) -> Result<Compared, StartE
             }
             Ok::<_, StartError>(())
         })?;
+    }
+}
+
+/// The job is in a phase that its log allows.
+fn as_logged(trail: &Trail, phase: Phase, job: &mut Job) -> Result<(), StartError> {
+    match trail.contradicts(phase, job) {
+        Some(found) => Err(StartError::OtherPhase { job: job.opening.name.clone(), phase: phase.word(), found }),
+        None => Ok(()),
     }
 }
 

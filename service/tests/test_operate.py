@@ -174,8 +174,8 @@ def test_the_commands():
 class Tasks:
     """The two subtasks of a job whose timer triggers at once. Each checkpoint has a new file of each, and that of the first one."""
 
-    def __init__(self, server, names, **settings):
-        self.job = Service(server.url).open("orders", {"interval": 10, "retained": 3, "tolerable": 1000, **settings}, [2], names=names)
+    def __init__(self, server, names, name="orders", **settings):
+        self.job = Service(server.url).open(name, {"interval": 10, "retained": 3, "tolerable": 1000, **settings}, [2], names=names)
         self.files, self.count = {}, 0
         self.take_over(self.job.begin())
 

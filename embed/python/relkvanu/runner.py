@@ -156,6 +156,8 @@ class Runner:
     def _act(self, made: Made) -> Optional[Ended]:
         """What a tick, or a call of an operator, asks of the engine."""
         reply = made.reply
+        if isinstance(reply, (Triggered, SavepointTriggered)):
+            self._go_on()  # nobody may have said that the stop has failed for which tasks hold
         if isinstance(reply, Triggered):
             self._checkpoints.add(reply.id)
             self.engine.barrier(Barrier(reply.id, Kind.CHECKPOINT, made.choice, self.term, False))
@@ -179,10 +181,14 @@ class Runner:
             return Ended.CANCELLED
         if mode == Mode.FAILED:
             self._restore()
-        elif self._holds and phase.phase == Phase.RUNNING:
+        elif phase.phase == Phase.RUNNING:
+            self._go_on()
+        return None
+
+    def _go_on(self) -> None:
+        if self._holds:
             self._holds = False
             self.engine.go_on()
-        return None
 
     def _restore(self) -> None:
         self._restarts.clear()

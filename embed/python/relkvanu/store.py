@@ -18,6 +18,7 @@ from relkvanu import header, store_header
 from relkvanu.coordinator import (
     U64, BadArgument, Coordinator, Error, OutOfMemory, Settings, _done, _made, _settings, _told, _u64, _within, _words,
 )
+from relkvanu.lines import _numbers
 from relkvanu.reads import CHOSEN, Chosen, Garbage, Mode, RunningTerm
 from relkvanu.replies import Reply, Reserved, Taken
 from relkvanu.waits import Once, Task, is_main
@@ -211,6 +212,15 @@ class Call:
     @classmethod
     def forfeit(cls, term: int, names: Sequence[int]) -> "Call":
         return cls(header.CALL_FORFEIT, 0, first=names, term=term)
+
+    @classmethod
+    def configure(cls, settings: Settings, now: Optional[int] = None) -> "Call":
+        """For a list of calls. Store.configure() says which value is outside its limits."""
+        return cls(header.CALL_CONFIGURE, now, first=_numbers(settings))
+
+    @classmethod
+    def advance(cls, term: int, first_name: int, now: Optional[int] = None) -> "Call":
+        return cls(header.CALL_ADVANCE, now, first_name, term=term)
 
     @classmethod
     def restore(cls, savepoint: Optional[int] = None, shape: Optional[Sequence[int]] = None, now: Optional[int] = None) -> "Call":
@@ -727,13 +737,27 @@ class Store:
     def submit(self, calls: Sequence[Call]) -> int:
         """For event loops: as calls(), but returns a token at once. completed() returns it with the outcomes."""
         made = _List(calls)
+        return self._submitted(made, lambda store, token: _library.relkvanu_store_submit(store, made.calls, made.length, token))
 
+    def submit_stop_job(self) -> int:
+        """For event loops: as stop_job(). completed() returns the token with one outcome, or with StoreError("NotNow")."""
+        return self._submitted_verb(_library.relkvanu_store_submit_stop_job)
+
+    def submit_begin_job(self) -> int:
+        """For event loops: as begin_job(). completed() returns the token with one outcome, or with StoreError("NotNow")."""
+        return self._submitted_verb(_library.relkvanu_store_submit_begin_job)
+
+    def _submitted_verb(self, function: Callable[..., int]) -> int:
+        made = _List([Call.tick()])  # a place: the function writes the call
+        return self._submitted(made, lambda store, token: function(store, made.calls, token))
+
+    def _submitted(self, made: "_List", submit: Callable[[ctypes.c_void_p, int], int]) -> int:
         def work(store: ctypes.c_void_p) -> int:
             with self._lock:
                 self._token += 1
                 token = self._token
             self._submits[token] = made
-            fault = self._fault(_library.relkvanu_store_submit(store, made.calls, made.length, token), store)
+            fault = self._fault(submit(store, token), store)
             if fault is not None:
                 del self._submits[token]
                 raise fault

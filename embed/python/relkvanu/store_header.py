@@ -256,6 +256,8 @@ FUNCTIONS: Dict[str, Tuple[Any, List[Any]]] = {
     "relkvanu_store_reserve": (c_int, [c_void_p, c_uint64, c_uint64, POINTER(relkvanu_answer)]),
     "relkvanu_store_forfeit": (c_int, [c_void_p, c_uint64, POINTER(c_uint64), c_size_t, POINTER(relkvanu_answer)]),
     "relkvanu_store_submit": (c_int, [c_void_p, POINTER(relkvanu_store_call), c_size_t, c_uint64]),
+    "relkvanu_store_submit_stop_job": (c_int, [c_void_p, POINTER(relkvanu_store_call), c_uint64]),
+    "relkvanu_store_submit_begin_job": (c_int, [c_void_p, POINTER(relkvanu_store_call), c_uint64]),
     "relkvanu_store_completed": (c_size_t, [c_void_p, POINTER(relkvanu_store_completion), c_size_t]),
     "relkvanu_store_descriptor": (c_int, [c_void_p]),
     "relkvanu_store_read": (c_int, [c_void_p, POINTER(POINTER(relkvanu))]),

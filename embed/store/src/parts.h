@@ -339,6 +339,9 @@ int rks_call(relkvanu_store *s, relkvanu_store_call *calls, size_t calls_len, en
 int rks_write_line(const relkvanu_store_call *call, relkvanu_call made, struct rks_text *lines);
 int rks_write_lines(relkvanu_store *s, struct rks_waiter *w);
 
+/* verbs.c: a call of this kind, at the moment of the store's clock. */
+relkvanu_call rks_of_kind(uint32_t kind);
+
 /* reads.c */
 bool rks_has_names(relkvanu_store *s);
 

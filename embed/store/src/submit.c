@@ -55,7 +55,7 @@ static bool has_helper(relkvanu_store *s) {
     return is_there;
 }
 
-int relkvanu_store_submit(relkvanu_store *s, relkvanu_store_call *calls, size_t calls_len, uint64_t token) {
+static int submit(relkvanu_store *s, relkvanu_store_call *calls, size_t calls_len, enum rks_verb verb, uint64_t token) {
     if (rks_is_forked(s)) {
         return RELKVANU_STORE_FORKED;
     }
@@ -68,6 +68,7 @@ int relkvanu_store_submit(relkvanu_store *s, relkvanu_store_call *calls, size_t 
     }
     w->calls = calls;
     w->calls_len = calls_len;
+    w->verb = verb;
     w->token = token;
     w->is_submitted = true;
     w->ends = calls_len <= sizeof w->few / sizeof *w->few ? w->few : malloc(calls_len * sizeof *w->ends);
@@ -80,6 +81,20 @@ int relkvanu_store_submit(relkvanu_store *s, relkvanu_store_call *calls, size_t 
         rks_free_waiter(w);
     }
     return status;
+}
+
+int relkvanu_store_submit(relkvanu_store *s, relkvanu_store_call *calls, size_t calls_len, uint64_t token) {
+    return submit(s, calls, calls_len, RKS_CALLS, token);
+}
+
+int relkvanu_store_submit_stop_job(relkvanu_store *s, relkvanu_store_call *call, uint64_t token) {
+    *call = (relkvanu_store_call){.call = rks_of_kind(RELKVANU_CALL_SAVEPOINT)};
+    return submit(s, call, 1, RKS_STOPS, token);
+}
+
+int relkvanu_store_submit_begin_job(relkvanu_store *s, relkvanu_store_call *call, uint64_t token) {
+    *call = (relkvanu_store_call){.call = rks_of_kind(RELKVANU_CALL_RESTORE)};
+    return submit(s, call, 1, RKS_BEGINS, token);
 }
 
 /* The first completion, or NULL. Without any the eventfd can't be read any more. */

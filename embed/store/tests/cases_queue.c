@@ -50,6 +50,104 @@ static void submits(void) {
     CHECK(last[0].answer.code == RELKVANU_REFUSED && last[1].answer.code == RELKVANU_DONE && last[1].place == MANY + 1, "the last submit");
 }
 
+/* Waits for the next completion, which has this token. Returns its status. */
+static int completes(relkvanu_store *store, uint64_t token) {
+    relkvanu_store_completion one;
+    CHECK(is_readable(store, 300000) && relkvanu_store_completed(store, &one, 1) == 1, "no completion");
+    CHECK(one.token == token, "token %" PRIu64, one.token);
+    return one.status;
+}
+
+static relkvanu_store_job_phase phase_of(relkvanu_store *store) {
+    relkvanu_store_job_phase phase;
+    CHECK(relkvanu_store_phase(store, &phase) == RELKVANU_STORE_OK, "the phase");
+    return phase;
+}
+
+/* A checkpoint now and other settings are calls of a list, and a timer gets the checkpoint. */
+static void submits_a_list(relkvanu_store *store) {
+    const uint64_t settings[] = {1 << 30, 0, 2, 1 << 30, 7, 3, 0};
+    relkvanu_store_call tick,
+        list[2] = {{.call = {.kind = RELKVANU_CALL_TRIGGER, .now = RELKVANU_STORE_NOW}},
+            {.call = {.kind = RELKVANU_CALL_CONFIGURE, .now = RELKVANU_STORE_NOW}, .first = settings, .first_len = 7}};
+    relkvanu_settings found;
+    uint64_t shape[1];
+    size_t len = 1;
+    CHECK(relkvanu_store_submit(store, list, 2, 2) == RELKVANU_STORE_OK && completes(store, 2) == RELKVANU_STORE_OK, "a list");
+    CHECK(list[0].answer.what == RELKVANU_TICK_TRIGGERED && list[1].answer.what == RELKVANU_CONFIGURED, "%" PRIu32 " and %" PRIu32,
+        list[0].answer.what, list[1].answer.what);
+    CHECK(relkvanu_store_job(store, &found, shape, &len) == RELKVANU_STORE_OK && found.interval == 1 << 30 && found.tolerable == 7,
+        "interval %" PRIu64, found.interval);
+    CHECK(relkvanu_store_await_tick(store, 0, &tick) == RELKVANU_STORE_OK && tick.answer.b == list[0].answer.b, "it is handed over");
+    list[1].first_len = 6;
+    CHECK(relkvanu_store_submit(store, list, 2, 3) == RELKVANU_STORE_BAD_ARGUMENT && !is_readable(store, 10), "six settings");
+}
+
+/* Stops the job by a submit. Returns the savepoint, which a timer gets. */
+static uint64_t submits_a_stop(relkvanu_store *store, uint64_t token) {
+    relkvanu_store_call tick, call, again;
+    CHECK(relkvanu_store_submit_stop_job(store, &call, token) == RELKVANU_STORE_OK && completes(store, token) == RELKVANU_STORE_OK &&
+              call.answer.what == RELKVANU_SAVEPOINT_TRIGGERED,
+        "code %" PRIu32 ", what %" PRIu32, call.answer.code, call.answer.what);
+    CHECK(phase_of(store).phase == RELKVANU_STORE_PHASE_STOPPING && phase_of(store).savepoint == call.answer.a, "the phase");
+    CHECK(relkvanu_store_submit_stop_job(store, &again, token + 1) == RELKVANU_STORE_OK &&
+              completes(store, token + 1) == RELKVANU_STORE_NOT_NOW && again.answer.code == RELKVANU_STORE_NOT_MADE,
+        "a second stop");
+    CHECK(relkvanu_store_await_tick(store, 60000, &tick) == RELKVANU_STORE_OK && tick.answer.what == RELKVANU_SAVEPOINT_TRIGGERED &&
+              tick.answer.a == call.answer.a,
+        "it is handed over");
+    return call.answer.a;
+}
+
+static void takes_part(relkvanu_store *store, uint64_t id) {
+    relkvanu_answer answer = {0};
+    for (uint16_t i = 0; i < SUBTASKS; i++) {
+        uint64_t file = id * 100 + i;
+        CHECK(relkvanu_store_ack(store, 0, id, 0, i, &file, 1, NULL, 0, &answer) == RELKVANU_STORE_OK, "an acknowledgement");
+    }
+    CHECK(answer.what == RELKVANU_ACK_COMPLETED, "what %" PRIu32, answer.what);
+}
+
+/* Two begins of one group: the first is made. */
+static void submits_two_begins(relkvanu_store *store, uint64_t savepoint) {
+    relkvanu_store_call calls[2], tick;
+    relkvanu *handle;
+    CHECK(relkvanu_store_read(store, &handle) == RELKVANU_STORE_OK, "read");
+    for (uint64_t i = 0; i < 2; i++) {
+        CHECK(relkvanu_store_submit_begin_job(store, &calls[i], 20 + i) == RELKVANU_STORE_OK, "a begin");
+    }
+    relkvanu_store_read_end(store);
+    CHECK(completes(store, 20) == RELKVANU_STORE_OK && completes(store, 21) == RELKVANU_STORE_NOT_NOW, "two begins");
+    CHECK(calls[0].answer.what == RELKVANU_RESTORED_SAVEPOINT && calls[0].answer.b == savepoint && calls[0].place != 0, "what %" PRIu32,
+        calls[0].answer.what);
+    CHECK(calls[1].answer.code == RELKVANU_STORE_NOT_MADE && calls[1].place == 0, "code %" PRIu32, calls[1].answer.code);
+    CHECK(phase_of(store).phase == RELKVANU_STORE_PHASE_RUNNING, "the phase");
+    CHECK(relkvanu_store_await_tick(store, 60000, &tick) == RELKVANU_STORE_OK && tick.answer.what == RELKVANU_RESTORED_SAVEPOINT,
+        "it is handed over");
+}
+
+static void submitted_commands(void) {
+    relkvanu_store_options options = job_options(RELKVANU_STORE_CREATE, 0);
+    options.settings.interval = 1 << 30;
+    relkvanu_store *store = opens(&options, RELKVANU_STORE_OK);
+    relkvanu_store_call call;
+    CHECK(relkvanu_store_submit_begin_job(store, &call, 1) == RELKVANU_STORE_OK && completes(store, 1) == RELKVANU_STORE_NOT_NOW,
+        "a job that runs can't begin");
+    CHECK(call.answer.code == RELKVANU_STORE_NOT_MADE && call.place == 0, "code %" PRIu32, call.answer.code);
+    submits_a_list(store);
+    uint64_t savepoint = submits_a_stop(store, 10);
+    takes_part(store, savepoint);
+    CHECK(phase_of(store).phase == RELKVANU_STORE_PHASE_STOPPED, "the phase");
+    submits_two_begins(store, savepoint);
+    CHECK(relkvanu_store_submit_stop_job(store, &call, 30) == RELKVANU_STORE_OK, "a stop");
+    relkvanu_store_close(store); /* which waits for it */
+    CHECK(call.answer.what == RELKVANU_SAVEPOINT_TRIGGERED && call.place != 0, "what %" PRIu32, call.answer.what);
+    options.flags = RELKVANU_STORE_RECOVER;
+    store = opens(&options, RELKVANU_STORE_OK);
+    CHECK(report.phase == RELKVANU_STORE_PHASE_STOPPING && report.savepoint == call.answer.a, "phase %" PRIu32, report.phase);
+    relkvanu_store_close(store);
+}
+
 struct caller {
     pthread_t thread;
     relkvanu_store *store;
@@ -133,5 +231,5 @@ static void a_woken_timer(void) {
     relkvanu_store_close(store);
 }
 
-const struct test queue_cases[] = {
-    {"submits", submits}, {"callers_and_readers", callers_and_readers}, {"a_woken_timer", a_woken_timer}, {NULL, NULL}};
+const struct test queue_cases[] = {{"submits", submits}, {"submitted_commands", submitted_commands},
+    {"callers_and_readers", callers_and_readers}, {"a_woken_timer", a_woken_timer}, {NULL, NULL}};

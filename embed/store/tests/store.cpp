@@ -142,6 +142,24 @@ static void submits(const std::string &path) {
     CHECK(list[19].answer.what == RELKVANU_SAVEPOINT_TRIGGERED && list[19].place == 20);
 }
 
+/* Waits for one completion, and returns its status. */
+static int completion(ckpt::Store &job, std::uint64_t token) {
+    pollfd it = {job.descriptor(), POLLIN, 0};
+    CHECK(poll(&it, 1, 60000) == 1);
+    relkvanu_store_completion one[1];
+    CHECK(job.completed(one) == 1 && one[0].token == token);
+    return one[0].status;
+}
+
+static void submitted_commands(const std::string &path) {
+    ckpt::Store job = opened(path + "7", RELKVANU_STORE_CREATE);
+    relkvanu_store_call call = {};
+    CHECK(!job.submit_begin_job(call, 1) && completion(job, 1) == RELKVANU_STORE_NOT_NOW);
+    CHECK(!job.submit_stop_job(call, 2) && completion(job, 2) == RELKVANU_STORE_OK && call.answer.what == RELKVANU_SAVEPOINT_TRIGGERED);
+    acknowledge(job, call.answer.a, 1);
+    CHECK(!job.submit_begin_job(call, 3) && completion(job, 3) == RELKVANU_STORE_OK && call.answer.what == RELKVANU_RESTORED_SAVEPOINT);
+}
+
 /* What the function throws ends the discarder, which throws it; the file waits again. */
 static void discarder(const std::string &path) {
     ckpt::Store job = opened(path + "4", RELKVANU_STORE_CREATE);
@@ -370,6 +388,7 @@ int main(int argc, char **argv) {
     recovery(path);
     choices(path + "12");
     submits(path);
+    submitted_commands(path);
     discarder(path);
     files(path);
     storage(path);

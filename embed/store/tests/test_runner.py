@@ -18,7 +18,7 @@ class Words:
 
     def __init__(self):
         self.said, self.changed = [], threading.Condition()
-        self.runner, self.declined = None, None
+        self.runner, self.declined, self.then = None, None, lambda: None
 
     def note(self, *words):
         with self.changed:
@@ -50,6 +50,7 @@ class Words:
             if self.declined == it.kind:
                 self.declined = None
                 self.runner.decline(it.term, it.id, 0, index)
+                self.then()
                 return
             [name] = self.runner.store.reserve(it.term, 1)
             self.runner.store.put(name, b"state")
@@ -173,6 +174,19 @@ class Running(unittest.TestCase):
         engine.runner.close()
         self.assertEqual(await_end(), Ended.CLOSED)
         self.assertEqual(sum(it == ("go on",) for it in engine.said), 1)
+
+    def test_a_stop_right_after_one_that_fails(self):
+        """The loop is never told that the first one has failed."""
+        store, engine, await_end = self.begin(tolerable=10)
+        engine.await_more("complete")
+        again = []
+        engine.then = lambda: again.append(store.stop_job().reply.id)
+        engine.declined = Kind.SAVEPOINT
+        first = store.stop_job().reply.id
+        self.assertEqual(await_end(), Ended.STOPPED)
+        [second] = again
+        said = engine.said[engine.said.index(("barrier", first, Kind.SAVEPOINT, True)) + 1:]
+        self.assertEqual(said, [("go on",), ("barrier", second, Kind.SAVEPOINT, True), ("complete", second), ("end",)])
 
     def test_commands_of_an_operator(self):
         store, engine, await_end = self.begin(interval=1 << 39)

@@ -477,6 +477,33 @@ class Threads(Folder):
             self.assertEqual([results[it][0].place for it in tokens], list(range(1, 101)))
             self.assertIsInstance(results[tokens[5]][1], Refused)
 
+    def test_commands_of_an_event_loop(self):
+        def completion(token):
+            while not (found := job.completed()):
+                time.sleep(0.001)
+            self.assertEqual([it[0] for it in found], [token])
+            return found[0][1]
+        with self.open() as job:
+            settings = dataclasses.replace(SETTINGS, interval=1 << 30, tolerable=7)
+            told = completion(job.submit([Call.trigger(), Call.configure(settings)]))
+            self.assertEqual([it.reply for it in told], [Triggered(0, 1), Configured(0, 0)])
+            self.assertEqual(job.job()[0], settings)
+            [told] = completion(job.submit_stop_job())
+            self.assertEqual((told.reply, job.phase().phase), (SavepointTriggered(2), Phase.STOPPING))
+            for submit in (job.submit_stop_job, job.submit_begin_job):
+                self.assertEqual(completion(submit()).name, "NotNow")
+            for index in range(2):
+                job.ack(2, 0, index, [index + 1])
+            [told] = completion(job.submit_begin_job())
+            self.assertIsInstance(told.reply, RestoredSavepoint)
+            self.assertEqual((told.place, job.phase().phase), (7, Phase.RUNNING))
+            # a timer gets what they made, but for what came before the restore
+            self.assertEqual(job.await_tick(60_000).reply, told.reply)
+        self.path = self.folder / "named.db"
+        with self.open(plain=False, storage=self.storage) as job:
+            [told] = completion(job.submit([Call.advance(7, 500)]))
+            self.assertEqual((told.term, job.term().next_name), (8, 500))
+
     def test_a_discarder(self):
         job = self.open(storage=self.storage)
         tries = []

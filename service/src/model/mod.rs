@@ -20,6 +20,7 @@ mod starts;
 mod stop;
 mod summary;
 mod told;
+mod trail;
 
 pub use bases::Bases;
 pub use call::{Call, Subtask, Target};
@@ -42,3 +43,4 @@ pub use sizes::{parse_sizes, sizes_text, AckBytes, Bytes, FileBytes};
 pub use starts::{length_in, lengths_text};
 pub use summary::{KeptSummary, PastRecord, SummaryPart};
 pub use told::Told;
+pub use trail::Trail;

@@ -18,6 +18,9 @@ pub enum StartError {
     /// An image is not as it was written, or the library refuses it.
     #[error("job {job}, the image after call {seq}: {why}; without its row in the table image the start goes from the image before it")]
     BadImage { job: String, seq: u64, why: String },
+    /// The row of a job's phase is not what the log says.
+    #[error("job {job}: the table phase says {phase:?}, and its log says that {found}")]
+    OtherPhase { job: String, phase: &'static str, found: String },
     /// Memory ran out. A later start may have more.
     #[error("job {job}, call {seq}: memory ran out")]
     NoMemory { job: String, seq: u64 },
@@ -36,7 +39,10 @@ impl StartError {
             StartError::Unread(error) => !error.is_damage(),
             StartError::NoMemory { .. } | StartError::NotLeading(_) => true,
             StartError::NotOpened { why, .. } => why.is_memory(),
-            StartError::Differs { .. } | StartError::Damaged { .. } | StartError::BadImage { .. } => false,
+            StartError::Differs { .. }
+            | StartError::Damaged { .. }
+            | StartError::BadImage { .. }
+            | StartError::OtherPhase { .. } => false,
         }
     }
 }

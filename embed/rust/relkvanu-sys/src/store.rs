@@ -288,6 +288,16 @@ extern "C" {
         calls_len: usize,
         token: u64,
     ) -> c_int;
+    pub fn relkvanu_store_submit_stop_job(
+        store: *mut relkvanu_store,
+        call: *mut relkvanu_store_call,
+        token: u64,
+    ) -> c_int;
+    pub fn relkvanu_store_submit_begin_job(
+        store: *mut relkvanu_store,
+        call: *mut relkvanu_store_call,
+        token: u64,
+    ) -> c_int;
     pub fn relkvanu_store_completed(
         store: *mut relkvanu_store,
         completions: *mut relkvanu_store_completion,

@@ -4,7 +4,8 @@ mod common;
 
 use common::{new_job, triggered, Place, SETTINGS};
 use relkvanu::store::{
-    CallError, Options, Outcome, Phase, Step, StopFailed, Store, StoreError, StoreErrorKind, NOW,
+    CallError, Made, Options, Outcome, Phase, Step, StopFailed, Store, StoreError, StoreErrorKind,
+    NOW,
 };
 use relkvanu::{Answer, Call, Choice, Fault, Fenced, Mode, Refusal, Settings};
 use std::collections::BTreeSet;
@@ -293,6 +294,35 @@ fn submits() {
         .map(|it| it.1.as_ref().unwrap()[0].as_ref().unwrap().place);
     assert!(places.eq(1..=100));
     store.submit(&[Call::Savepoint { now: NOW }]).unwrap(); // the drop waits for it
+}
+
+/// Waits for one completion.
+fn completion(store: &Store, token: u64) -> Result<Vec<Result<Made, Fault>>, StoreError> {
+    loop {
+        if let Some((found, outcomes)) = store.completed().pop() {
+            assert_eq!(found, token);
+            return outcomes;
+        }
+        thread::sleep(Duration::from_millis(1));
+    }
+}
+
+#[test]
+fn submitted_commands() {
+    let folder = Place::new("submitted-commands");
+    let store = plain(&folder);
+    let why = completion(&store, store.submit_begin_job().unwrap()).unwrap_err();
+    assert_eq!(why.kind, StoreErrorKind::NotNow);
+    let stop = completion(&store, store.submit_stop_job().unwrap()).unwrap();
+    let answer = stop[0].as_ref().unwrap().called();
+    assert_eq!(answer, Some(Answer::SavepointTriggered(1)));
+    assert_eq!(store.phase().unwrap().phase, Phase::Stopping);
+    for index in 0..2 {
+        ack(&store, 1, index, 1 + u64::from(index));
+    }
+    let begun = completion(&store, store.submit_begin_job().unwrap()).unwrap();
+    assert_eq!(begun[0].as_ref().unwrap().place, 4);
+    assert_eq!(store.phase().unwrap().phase, Phase::Running);
 }
 
 #[test]

@@ -85,6 +85,11 @@ impl List {
         list
     }
 
+    /// A place for a call that the library writes.
+    pub(super) fn place() -> List {
+        List::of(&[Call::Tick { now: super::NOW }])
+    }
+
     pub(super) fn outcomes(self) -> Vec<Result<Made, Fault>> {
         let List { calls, files, .. } = self;
         calls

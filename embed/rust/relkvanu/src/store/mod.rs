@@ -251,15 +251,44 @@ impl Store {
 
     /// For event loops: as [`calls`](Self::calls), but returns a token at once. [`completed`](Self::completed) returns it with the outcomes.
     pub fn submit(&self, calls: &[Call<'_>]) -> Result<u64, StoreError> {
-        let mut list = List::of(calls);
+        self.submitted(List::of(calls), |store, at, len, token| {
+            // SAFETY: the calls and all that they point to are in vectors that stay in the map until the completion.
+            unsafe { sys::store::relkvanu_store_submit(store, at, len, token) }
+        })
+    }
+
+    /// For event loops: as [`stop_job`](Self::stop_job). The completion has one outcome, or is `NotNow`.
+    pub fn submit_stop_job(&self) -> Result<u64, StoreError> {
+        self.submitted(List::place(), |store, at, _, token| {
+            // SAFETY: the place of the call stays in the map until the completion.
+            unsafe { sys::store::relkvanu_store_submit_stop_job(store, at, token) }
+        })
+    }
+
+    /// For event loops: as [`begin_job`](Self::begin_job). The completion has one outcome, or is `NotNow`.
+    pub fn submit_begin_job(&self) -> Result<u64, StoreError> {
+        self.submitted(List::place(), |store, at, _, token| {
+            // SAFETY: the place of the call stays in the map until the completion.
+            unsafe { sys::store::relkvanu_store_submit_begin_job(store, at, token) }
+        })
+    }
+
+    fn submitted(
+        &self,
+        mut list: List,
+        submit: impl Fn(
+            *mut sys::store::relkvanu_store,
+            *mut sys::store::relkvanu_store_call,
+            usize,
+            u64,
+        ) -> c_int,
+    ) -> Result<u64, StoreError> {
         let (at, len) = (list.calls.as_mut_ptr(), list.calls.len());
         let mut submits = self.submits.lock().unwrap_or_else(|it| it.into_inner());
         submits.last += 1;
         let token = submits.last;
         submits.lists.insert(token, list);
-        // SAFETY: the calls and all that they point to are in vectors that stay in the map until the completion.
-        let status = unsafe { sys::store::relkvanu_store_submit(self.at(), at, len, token) };
-        if let Err(why) = self.check(status) {
+        if let Err(why) = self.check(submit(self.at(), at, len, token)) {
             submits.lists.remove(&token);
             return Err(why);
         }

@@ -140,7 +140,7 @@ impl Store {
         make: impl Fn(*mut sys::store::relkvanu_store, *mut sys::store::relkvanu_store_call) -> c_int,
     ) -> Result<Made, CallError> {
         self.outside()?;
-        let mut list = List::of(&[Call::Tick { now: NOW }]);
+        let mut list = List::place();
         let status = make(self.at(), list.calls.as_mut_ptr());
         if let Err(mut why) = self.check(status) {
             if matches!(
