@@ -4,11 +4,7 @@ package relkvanu
 
 // #include <relkvanu_store.h>
 // #include <stdlib.h>
-// #include <stdint.h>
-// bool relkvanu_go_record(void *with, relkvanu_store_record *record); /* exported below */
-// static int records_of(const char *folder, uintptr_t with, char *message, size_t len) {
-//     return relkvanu_store_records(folder, (relkvanu_store_each_record)relkvanu_go_record, (void *)with, message, len);
-// }
+// bool relkvanu_go_record(void *with, relkvanu_store_record *record);
 import "C"
 
 import (
@@ -62,15 +58,18 @@ func Records(folder string) ([]StoredRecord, error) {
 	var message [C.RELKVANU_STORE_MESSAGE]C.char
 	with := cgo.NewHandle(&found)
 	defer with.Delete()
-	if status := C.records_of(name, C.uintptr_t(with), &message[0], C.size_t(len(message))); status != C.RELKVANU_STORE_OK {
+	each := C.relkvanu_store_each_record(C.relkvanu_go_record)
+	if status := C.relkvanu_store_records(name, each, unsafe.Pointer(&with), &message[0], C.size_t(len(message))); status != C.RELKVANU_STORE_OK {
 		return nil, storeError(status, C.GoString(&message[0]))
 	}
 	return found, nil
 }
 
+// relkvanu_go_record notes a record for Records.
+//
 //export relkvanu_go_record
 func relkvanu_go_record(with unsafe.Pointer, it *C.relkvanu_store_record) C.bool {
-	found := cgo.Handle(uintptr(with)).Value().(*[]StoredRecord)
+	found := (*(*cgo.Handle)(with)).Value().(*[]StoredRecord)
 	*found = append(*found, StoredRecord{
 		ID: uint64(it.id), Damage: StoreFault(it.status), IsSavepoint: bool(it.is_savepoint), IsOfJob: bool(it.is_of_job), IsNext: bool(it.is_next),
 		Written: uint64(it.written), Files: uint64(it.files), Bytes: uint64(it.bytes), Missing: uint64(it.missing),
