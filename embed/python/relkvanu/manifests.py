@@ -543,23 +543,24 @@ def tell(job: str, made: Recovered) -> None:
 
 
 def parser() -> argparse.ArgumentParser:
-    it = argparse.ArgumentParser(prog="relkvanu-store", description="a folder may be s3://BUCKET/PREFIX")
-    it.add_argument("--endpoint", help="another S3 server than that of AWS")
-    it.add_argument("--region", help="its region")
+    server = argparse.ArgumentParser(add_help=False, argument_default=argparse.SUPPRESS)
+    server.add_argument("--endpoint", metavar="URL", help="another S3 server than that of AWS")
+    server.add_argument("--region", help="its region")
+    it = argparse.ArgumentParser(prog="relkvanu-store", description="A folder may be s3://BUCKET/PREFIX.", parents=[server])
     commands = it.add_subparsers(dest="command", required=True)
-    commands.add_parser("show", help="the records in a place").add_argument("place")
-    for name, words in (("recover", ("job", "place")), ("export", ("source", "target")), ("import", ("source", "job", "target"))):
-        command = commands.add_parser(name)
+    for name, words in (("show", ("place",)), ("recover", ("job", "place")), ("export", ("source", "target")), ("import", ("source", "job", "target"))):
+        command = commands.add_parser(name, parents=[server])
         for word in words:
             command.add_argument(word)
-        command.add_argument("record", nargs="?", type=int, default=0)
+        if name != "show":
+            command.add_argument("record", nargs="?", type=int, default=0)
         if name == "import":
             command.add_argument("--claim", action="store_true", help="the files leave SOURCE, whose job is refused from then on")
     return it
 
 
 def run(given: argparse.Namespace) -> None:
-    s3 = client(given.endpoint or os.environ.get("AWS_ENDPOINT_URL"), given.region)
+    s3 = client(getattr(given, "endpoint", os.environ.get("AWS_ENDPOINT_URL")), getattr(given, "region", None))
     at = functools.partial(place, s3=s3)
     if given.command == "show":
         show(at(given.place))

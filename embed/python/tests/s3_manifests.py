@@ -313,9 +313,9 @@ class Kills(OnAServer):
         self.assertGreater(ends, 1)
 
     def again(self, given, is_killed):
-        """Whether the same command has to be given again, and then does it."""
+        """Gives the same command again: it goes on, or says that all is there."""
         ran = subprocess.run([sys.executable, __file__, *map(str, given)], env=dict(os.environ), stdout=subprocess.PIPE, stderr=subprocess.STDOUT, text=True)
-        assert is_killed or ran.returncode != 0, ran.stdout
+        assert (is_killed and ran.returncode == 0) or "there" in ran.stdout, (given, is_killed, ran.stdout)
         return ran.returncode, ran.stdout
 
     def test_recover(self):
