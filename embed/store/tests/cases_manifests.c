@@ -701,7 +701,7 @@ static struct object {
     char *text;
     size_t len;
 } objects[MOST_OBJECTS];
-static int place_status, puts_made;
+static int check_status, place_status, puts_made;
 
 static struct object *object_of(const char *name) {
     for (size_t i = 0; i < MOST_OBJECTS; i++) {
@@ -714,7 +714,7 @@ static struct object *object_of(const char *name) {
 
 static int check_place(void *with) {
     CHECK(with == objects, "the pointer");
-    return place_status;
+    return check_status != RELKVANU_STORAGE_OK ? check_status : place_status;
 }
 
 static int put_object(void *with, const char *name, const void *contents, size_t len) {
@@ -816,6 +816,11 @@ static void manifests_elsewhere(void) {
     place_status = RELKVANU_STORAGE_OK;
     uint64_t last = completes_elsewhere(store, 1);
     CHECK(manifest_elsewhere(last) != NULL && count_objects() == 1, "%zu objects", count_objects());
+    check_status = RELKVANU_STORAGE_OTHER_JOB;
+    puts_made = 0;
+    completes_elsewhere(store, 1);
+    CHECK(puts_made == 0 && manifest_elsewhere(last) != NULL, "it puts into the place of another opening");
+    check_status = RELKVANU_STORAGE_OK;
     relkvanu_store_close(store);
     CHECK(unlink(in("x.db")) == 0, "the job");
     relkvanu_store_options options = storage_options(RELKVANU_STORE_CREATE, 0);
