@@ -505,6 +505,25 @@ int relkvanu_store_backup(relkvanu_store *store, const char *path, char *message
  * full, the calls go on: failed_manifests counts it. Manifests of records that ended are deleted, also by relkvanu_store_sweep, which deletes all of them if
  * this opening has not the flag. docs/DURABLE-RECOVERY.md has their format. */
 
+/* Functions of an engine that keeps manifests in a place of its own, such as a bucket. `with` is the pointer that it gave beside them. Each returns a status of
+ * relkvanu_storage.h, and calls no function of the store. check: is the place there, and this opening's? put: makes or replaces an object of this name,
+ * whole and durable. remove: one that is not there is removed. list: calls `each` with the names that begin with "record-". */
+typedef bool (*relkvanu_store_each_name)(void *with, const char *name);
+typedef int (*relkvanu_store_check_place)(void *with);
+typedef int (*relkvanu_store_put_named)(void *with, const char *name, const void *contents, size_t contents_len);
+typedef int (*relkvanu_store_remove_named)(void *with, const char *name);
+typedef int (*relkvanu_store_list_named)(void *with, relkvanu_store_each_name each, void *with_each);
+
+/* Keeps manifests by these functions, in place of RELKVANU_STORE_MANIFESTS: for a job without options.storage, right after each opening and before its other
+ * calls. Those of all complete records are put anew, one put for each, and those of other records are removed. They have no lengths of files. While one is
+ * put the calls of all threads wait. One that can't be put is counted and tried again, as in a folder. check is called before each put: it should look
+ * at a marker that names the job and its opening (report.job, report.epoch), so that an old opening puts nothing.
+ *
+ * RELKVANU_STORE_STORAGE: a function has failed, and no manifests are kept; RELKVANU_STORE_BAD_ARGUMENT: a function is missing, there is a folder, or they
+ * are kept already; RELKVANU_STORE_NO_MEMORY, or as relkvanu_store_read. */
+int relkvanu_store_keep_manifests(relkvanu_store *store, relkvanu_store_check_place check, relkvanu_store_put_named put,
+    relkvanu_store_remove_named remove, relkvanu_store_list_named list, void *with);
+
 /* A record, as its manifest says it. */
 typedef struct {
     uint64_t id;
@@ -552,6 +571,11 @@ typedef struct {
  * statuses after it, RELKVANU_STORE_NO_MEMORY. Nothing has changed then. */
 int relkvanu_store_recover(const char *path, const char *folder, uint64_t record, relkvanu_store_recovered *recovered);
 
+/* The same for a job whose manifests relkvanu_store_keep_manifests has kept, so that no folder is opened with it. `listing` is a folder that stands for the place:
+ * it has the marker of a storage folder with the job's identity and its last opening, the manifests, and for each state file that is in the place a file of its
+ * number and its length, which may be a hole. Afterwards its marker says from which opening on the place is the new job's: write that into the place. */
+int relkvanu_store_recover_listed(const char *path, const char *listing, uint64_t record, relkvanu_store_recovered *recovered);
+
 typedef struct {
     uint64_t record;
     bool is_savepoint; /* otherwise it is a checkpoint */
@@ -574,6 +598,16 @@ int relkvanu_store_export(const char *folder, uint64_t record, const char *to, r
  * exports the record to the folder, and then does what relkvanu_store_recover does. The job has an identity of its own, and each goes its own way.
  * Killed at any moment it has done nothing, a part that the same call finishes, or all. Statuses as those of the two. */
 int relkvanu_store_import(const char *from, uint64_t record, const char *path, const char *folder, relkvanu_store_recovered *recovered);
+
+/* Takes a record over, with its files. A storage folder's old job is fenced first, before the record is chosen: its file is refused from then on, and a process that
+ * still has it puts and deletes nothing more. If `folder` is `from`, its files stay in place: a job that has a marker there keeps its identity, as by
+ * relkvanu_store_recover; a job over an exported folder gets one of its own. Otherwise it is relkvanu_store_import, after which the files leave `from`, but
+ * for those that another record there has, and last of all the manifest. An exported folder that is empty then is removed. Other records of `from` stay
+ * there, without a job.
+ *
+ * Killed at any moment it has done nothing, a part that the same call finishes, or all. If the old job was fenced and nothing else is done, the same call goes
+ * on too. Statuses as those of relkvanu_store_import: RELKVANU_STORE_PRESENT and RELKVANU_STORE_ABSENT come before anything is fenced. */
+int relkvanu_store_claim(const char *from, uint64_t record, const char *path, const char *folder, relkvanu_store_recovered *recovered);
 
 /* Puts a backup of relkvanu_store_backup back in the place of a job's file, which may be damaged, lost, or a later one. Each process and task of the job has
  * ended, also on other hosts. The new file begins from the choice of the backup if its files are all in the storage folder, or else from the last

@@ -103,6 +103,87 @@ struct no_backup {
     std::string message;
 };
 
+/* Why nothing was made of manifests, and where. */
+using not_made = not_opened;
+
+/* A record of a storage folder, as its manifest says it: relkvanu_store_record. */
+using stored_record = relkvanu_store_record;
+
+/* The records of a storage folder that have a manifest, in the order of their numbers. It needs no job, and may be called at any time. */
+[[nodiscard]] inline std::variant<std::vector<stored_record>, not_made> records(const std::string &folder) {
+    struct listing {
+        std::vector<stored_record> found;
+        bool has_memory = true;
+    } all;
+    char message[RELKVANU_STORE_MESSAGE] = "";
+    auto note = [](void *with, const relkvanu_store_record *record) -> bool {
+        auto *it = static_cast<listing *>(with);
+        try {
+            it->found.push_back(*record);
+        } catch (const std::bad_alloc &) { /* nothing may be thrown through C */
+            it->has_memory = false;
+        }
+        return it->has_memory;
+    };
+    int status = relkvanu_store_records(folder.c_str(), note, &all, message, sizeof message);
+    if (status == RELKVANU_STORE_OK && all.has_memory) {
+        return std::move(all.found);
+    }
+    return not_made{store_code(status == RELKVANU_STORE_OK ? RELKVANU_STORE_NO_MEMORY : status), message};
+}
+
+namespace detail {
+inline std::variant<relkvanu_store_recovered, not_made> told(int status, const relkvanu_store_recovered &made) {
+    if (status != RELKVANU_STORE_OK) {
+        return not_made{store_code(status), made.message};
+    }
+    return made;
+}
+} // namespace detail
+
+/* Makes the job at the path again, whose file was lost, from the manifests in its storage folder: relkvanu_store_recover. record: 0 for the last one. */
+[[nodiscard]] inline std::variant<relkvanu_store_recovered, not_made> recover(
+    const std::string &path, const std::string &folder, std::uint64_t record = 0) {
+    relkvanu_store_recovered made;
+    int status = relkvanu_store_recover(path.c_str(), folder.c_str(), record, &made);
+    return detail::told(status, made);
+}
+
+/* Makes the folder `to` of a record that has a manifest in a storage folder, whose job may run: relkvanu_store_export. */
+[[nodiscard]] inline std::variant<relkvanu_store_carried, not_made> export_record(
+    const std::string &folder, const std::string &to, std::uint64_t record = 0) {
+    relkvanu_store_carried made;
+    int status = relkvanu_store_export(folder.c_str(), record, to.c_str(), &made);
+    if (status != RELKVANU_STORE_OK) {
+        return not_made{store_code(status), made.message};
+    }
+    return made;
+}
+
+/* Makes another job, at the path over the folder that it makes, of a record in `from`: relkvanu_store_import. */
+[[nodiscard]] inline std::variant<relkvanu_store_recovered, not_made> import_record(
+    const std::string &from, const std::string &path, const std::string &folder, std::uint64_t record = 0) {
+    relkvanu_store_recovered made;
+    int status = relkvanu_store_import(from.c_str(), record, path.c_str(), folder.c_str(), &made);
+    return detail::told(status, made);
+}
+
+/* The same; the files leave `from`, or stay in place, and a job that has the folder is refused from then on: relkvanu_store_claim. */
+[[nodiscard]] inline std::variant<relkvanu_store_recovered, not_made> claim_record(
+    const std::string &from, const std::string &path, const std::string &folder, std::uint64_t record = 0) {
+    relkvanu_store_recovered made;
+    int status = relkvanu_store_claim(from.c_str(), record, path.c_str(), folder.c_str(), &made);
+    return detail::told(status, made);
+}
+
+/* Puts a backup back in the place of a job's file: relkvanu_store_put_back. `message` has what was set aside. */
+[[nodiscard]] inline std::variant<relkvanu_store_recovered, not_made> put_back(
+    const std::string &backup, const std::string &path, const std::string &folder) {
+    relkvanu_store_recovered made;
+    int status = relkvanu_store_put_back(backup.c_str(), path.c_str(), folder.c_str(), &made);
+    return detail::told(status, made);
+}
+
 namespace detail {
 /* The alternatives of an answer with others before them. */
 template <class Answer, class... Others> struct before;

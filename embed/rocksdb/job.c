@@ -17,7 +17,7 @@ void job_open(struct job *job, const char *folder, struct death death) {
     path_of(path, "%.400s/storage", folder);
     path_of(job->local, "%.400s/local", folder);
     storage_make(path);
-    coordinator_open(&job->coordinator, folder, 0, death);
+    coordinator_open(&job->coordinator, folder, job->flags, death);
     job->storage.folder = relkvanu_store_folder(job->coordinator.store);
     job->discarder = (struct discarder){.coordinator = &job->coordinator, .storage = &job->storage, .chance = {mixed(job->seed + 1)}};
     job->sweeper = (struct sweeper){.coordinator = &job->coordinator, .chance = {mixed(job->seed + 2)}};

@@ -18,6 +18,7 @@ struct job {
     uint64_t seed;
     uint64_t started, seconds; /* of this process */
     bool is_endless;           /* the process is to be killed */
+    uint32_t flags;            /* of the opening */
     struct chance chance;
     unsigned parallelism;
     struct task tasks[TASKS];

@@ -1,9 +1,11 @@
-/* engine FOLDER SEED SECONDS [KILLS], or engine FOLDER SEED stops STOPS: runs a job of four tasks with a RocksDB each for this many seconds over a folder of
+/* engine FOLDER SEED SECONDS [KILLS], engine FOLDER SEED stops STOPS, or engine FOLDER SEED losses LOSSES: runs a job of four tasks with a RocksDB each for this many seconds over a folder of
  * its own, and checks its end. With KILLS the process that runs it is first killed this many times, and started again over
  * its job: at places and moments that the seed chooses, in turn each kind of place and a moment. With stops the tasks have sinks, and the job is
- * stopped and begins again this many times, in processes of which most are killed. */
+ * stopped and begins again this many times, in processes of which most are killed. With losses too, and each process is killed at a moment; then the job's
+ * file is lost, and is made again from the manifests, this many times. */
 #define _GNU_SOURCE
 #include "check.h"
+#include "lost.h"
 #include "stops.h"
 
 #include <signal.h>
@@ -17,6 +19,7 @@ enum {
     MOST_RESERVATIONS = 40,
     MOST_WRITES = 400,
     MOST_MS = 1200,
+    LEAST_MS = 200,
     GUARD_MS = 900000,
     MOST_STOPS = 3,
     MOST_AFTER_A_STOP = 60
@@ -116,9 +119,11 @@ static void run_and_kill(const char *folder, uint64_t seed, uint64_t nth) {
 }
 
 /* Runs the job with sinks until it is stopped so many times more. It dies at the place that is counted from its first stop on. */
-static void run_stops(const char *folder, uint64_t seed, uint64_t choices, unsigned stops, struct death death, bool is_last) {
+static void run_stops(
+    const char *folder, uint64_t seed, uint64_t choices, unsigned stops, uint32_t flags, struct death death, bool is_last) {
     static struct job job;
     job.seed = seed;
+    job.flags = flags;
     job.is_endless = true;
     job.chance.state = mixed(choices);
     path_of(job.target, "%.400s/target", folder);
@@ -146,7 +151,7 @@ static bool stop_some(const char *folder, uint64_t seed, uint64_t nth) {
         if (place <= AFTER_A_WRITE) {
             die_in_a_write(death);
         }
-        run_stops(folder, seed, chance.state, 1 + (unsigned)chance_below(&chance, MOST_STOPS), death, false);
+        run_stops(folder, seed, chance.state, 1 + (unsigned)chance_below(&chance, MOST_STOPS), 0, death, false);
         _exit(0);
     }
     int status = awaited(child, ms);
@@ -159,14 +164,41 @@ static void run_all_stops(const char *folder, uint64_t seed, size_t stops) {
     for (; stops_count(folder) + 1 < stops; nth++) {
         kills += stop_some(folder, seed, nth);
     }
-    run_stops(folder, seed, seed, 1, (struct death){PLACES, 0}, true);
+    run_stops(folder, seed, seed, 1, 0, (struct death){PLACES, 0}, true);
     printf("rocksdb: of %" PRIu64 " processes %" PRIu64 " were killed\n", nth + 1, kills);
+}
+
+/* Starts a process that runs and stops the job until it is killed at a moment, and loses the job's file. Returns whether it was made again. */
+static bool lose_one(const char *folder, uint64_t seed, uint64_t nth) {
+    struct chance chance = {mixed(seed ^ mixed(nth))};
+    uint64_t ms = LEAST_MS + chance_below(&chance, MOST_MS);
+    pid_t child = fork();
+    if (child == 0) {
+        run_stops(folder, seed, chance.state, UINT32_MAX, RELKVANU_STORE_MANIFESTS, (struct death){PLACES, 0}, false);
+        _exit(1);
+    }
+    int status = awaited(child, ms);
+    CHECK(was_killed(status), "process %" PRIu64 " was not killed, but ended with %x", nth, (unsigned)status);
+    return lose_log(folder);
+}
+
+static void run_losses(const char *folder, uint64_t seed, uint64_t losses) {
+    uint64_t lost = 0, nth = 0;
+    for (; lost < losses; nth++) {
+        lost += lose_one(folder, seed, nth);
+    }
+    run_stops(folder, seed, seed, 1, RELKVANU_STORE_MANIFESTS, (struct death){PLACES, 0}, true);
+    printf("rocksdb: the log was lost %" PRIu64 " times, after kills of %" PRIu64 " processes\n", lost, nth);
 }
 
 int main(int argc, char **argv) {
     if (argc != 4 && argc != 5) {
-        fprintf(stderr, "engine FOLDER SEED SECONDS [KILLS] | engine FOLDER SEED stops STOPS\n");
+        fprintf(stderr, "engine FOLDER SEED SECONDS [KILLS] | engine FOLDER SEED stops STOPS | engine FOLDER SEED losses LOSSES\n");
         return 2;
+    }
+    if (argc == 5 && strcmp(argv[3], "losses") == 0) {
+        run_losses(argv[1], strtoull(argv[2], NULL, 10), strtoull(argv[4], NULL, 10));
+        return 0;
     }
     if (argc == 5 && strcmp(argv[3], "stops") == 0) {
         run_all_stops(argv[1], strtoull(argv[2], NULL, 10), strtoull(argv[4], NULL, 10));

@@ -386,6 +386,89 @@ JNIEXPORT jint JNICALL Java_relkvanu_StoreNative_backup(JNIEnv *env, jclass of, 
     return status;
 }
 
+/* The records of a folder, as numbers. */
+enum { RECORD = 9, RECOVERED = 9 };
+struct records {
+    jlong *at;
+    size_t len, room;
+};
+
+static bool note_record(void *with, const relkvanu_store_record *it) {
+    struct records *found = with;
+    if (found->len == found->room) {
+        size_t room = 2 * found->room + 16 * RECORD;
+        jlong *at = realloc(found->at, room * sizeof *at);
+        if (at == NULL) {
+            found->room = 0;
+            return false;
+        }
+        found->at = at;
+        found->room = room;
+    }
+    const jlong numbers[RECORD] = {(jlong)it->id, it->status, it->is_savepoint, it->is_of_job, it->is_next, (jlong)it->written,
+        (jlong)it->files, (jlong)it->bytes, (jlong)it->missing};
+    memcpy(found->at + found->len, numbers, sizeof numbers);
+    found->len += RECORD;
+    return true;
+}
+
+JNIEXPORT jint JNICALL Java_relkvanu_StoreNative_records(JNIEnv *env, jclass of, jbyteArray folder, jobjectArray told, jbyteArray message) {
+    (void)of;
+    char *name = text_of(env, folder), text[RELKVANU_STORE_MESSAGE] = "";
+    struct records found = {.room = 16 * RECORD, .at = malloc(16 * RECORD * sizeof *found.at)};
+    bool has_memory = name != NULL && found.at != NULL;
+    int status = has_memory ? relkvanu_store_records(name, note_record, &found, text, sizeof text) : RELKVANU_STORE_NO_MEMORY;
+    status = found.room == 0 ? RELKVANU_STORE_NO_MEMORY : status;
+    jlongArray numbers = status == RELKVANU_STORE_OK ? (*env)->NewLongArray(env, (jsize)found.len) : NULL;
+    if (numbers != NULL) {
+        tell(env, numbers, found.at, found.len);
+        (*env)->SetObjectArrayElement(env, told, 0, numbers);
+    } else if (status == RELKVANU_STORE_OK) {
+        status = RELKVANU_STORE_NO_MEMORY; /* an exception of the JVM is pending */
+    } else {
+        (*env)->SetByteArrayRegion(env, message, 0, sizeof text, (const jbyte *)text);
+    }
+    free(found.at);
+    free(name);
+    return status;
+}
+
+static int exported(const char *from, uint64_t record, const char *to, relkvanu_store_recovered *made) {
+    relkvanu_store_carried carried;
+    int status = relkvanu_store_export(from, record, to, &carried);
+    *made = (relkvanu_store_recovered){
+        .record = carried.record, .is_savepoint = carried.is_savepoint, .files = carried.files, .bytes = carried.bytes};
+    memcpy(made->message, carried.message, sizeof made->message);
+    return status;
+}
+
+static int carried(int what, const char *from, uint64_t record, const char *path, const char *folder, relkvanu_store_recovered *made) {
+    switch (what) {
+    case 0: return relkvanu_store_recover(path, folder, record, made);
+    case 1: return exported(from, record, path, made);
+    case 2: return relkvanu_store_import(from, record, path, folder, made);
+    case 3: return relkvanu_store_claim(from, record, path, folder, made);
+    default: return relkvanu_store_put_back(from, path, folder, made);
+    }
+}
+
+JNIEXPORT jint JNICALL Java_relkvanu_StoreNative_carry(JNIEnv *env, jclass of, jint what, jbyteArray from, jlong record, jbyteArray path,
+    jbyteArray folder, jlongArray told, jbyteArray message) {
+    (void)of;
+    char *source = text_of(env, from), *name = text_of(env, path), *place = text_of(env, folder);
+    relkvanu_store_recovered it = {0};
+    bool has_memory = source != NULL && name != NULL && place != NULL;
+    int status = has_memory ? carried(what, source, (uint64_t)record, name, place, &it) : RELKVANU_STORE_NO_MEMORY;
+    const jlong numbers[RECOVERED] = {(jlong)it.record, it.is_savepoint, (jlong)it.files, (jlong)it.bytes, (jlong)it.passed,
+        (jlong)it.savepoints, (jlong)it.term, (jlong)it.next_name, (jlong)it.next_number};
+    tell(env, told, numbers, RECOVERED);
+    (*env)->SetByteArrayRegion(env, message, 0, sizeof it.message, (const jbyte *)it.message);
+    free(source);
+    free(name);
+    free(place);
+    return status;
+}
+
 JNIEXPORT jint JNICALL Java_relkvanu_StoreNative_sweep(JNIEnv *env, jclass of, jlong store, jlongArray told) {
     (void)of;
     size_t left = 0;

@@ -2,16 +2,20 @@
 as it does everywhere: in the environment, ~/.aws, or the role of the machine."""
 import errno
 import posixpath
+import re
 import threading
-from typing import Any, Callable, Dict, Iterable, Iterator, List, Optional
+from typing import TYPE_CHECKING, Any, Callable, Dict, Iterable, Iterator, List, Optional
 
 import boto3  # type: ignore[import]
 from botocore.config import Config  # type: ignore[import]
 from botocore.exceptions import BotoCoreError, ClientError  # type: ignore[import]
 
-from relkvanu.storage import PAGE, Contents, Exists, KeepsVersions, Marker, Names, NotThere, StorageError, check_marker
+from relkvanu.storage import PAGE, Contents, Exists, KeepsVersions, Marker, Names, NotThere, OtherJob, StorageError, check_marker
 
-__all__ = ["Bucket", "KeepsVersions", "client"]
+if TYPE_CHECKING:
+    from relkvanu.store import Store
+
+__all__ = ["Bucket", "KeepsVersions", "StateBucket", "client"]
 
 MOST_KEYS = 1000  # in a DeleteObjects, and on a page of a listing
 GONE = ("NoSuchBucket",)  # not NoSuchKey: that is an object that is not there
@@ -163,6 +167,10 @@ class Bucket:
         """Makes or replaces an object beside the marker."""
         self._ask(self._s3.put_object, Key=posixpath.join(posixpath.dirname(self.marker.name), name), Body=contents)
 
+    def remove_beside(self, name: str) -> None:
+        """Removes an object beside the marker. One that is not there is removed."""
+        self._ask(self._s3.delete_object, Key=posixpath.join(posixpath.dirname(self.marker.name), name))
+
     def _objects(self, prefix: str, most: int) -> Iterator[List[Any]]:
         after: Dict[str, str] = {}
         while True:
@@ -207,3 +215,43 @@ class Bucket:
             raise StorageError(errno.ENOENT if code in ABSENT else OTHERS.get(code, errno.EIO), str(error), where) from error
         except (BotoCoreError, OSError) as error:
             raise StorageError(errno.EIO, str(error), where) from error
+
+
+OWNER = re.compile(rb"relkvanu job ([0-9a-f]{32})\nepoch ([1-9][0-9]{0,18})\n")  # a marker of a store
+
+
+class StateBucket(Bucket):
+    """The state files of a job of relkvanu.store that has no `storage`, with its manifests: of them `relkvanu-store recover JOB s3://BUCKET/PREFIX` makes
+    the job again if its file is lost. Made right after each opening. Its marker names the opening, so what an earlier one deletes is refused. The prefix ends
+    with a slash, or is empty. Raises OtherJob for the place of another job, or of a later opening: then the job's file is an older copy."""
+
+    def __init__(self, store: "Store", bucket: str, prefix: str = "", s3: Any = None, keeps_versions: bool = False) -> None:
+        if prefix and not prefix.endswith("/"):
+            raise ValueError("the prefix of a job's manifests ends with a slash")
+        self._report = store.report
+        super().__init__(bucket, store.report.job, True, prefix, s3=s3, keeps_versions=keeps_versions, marker=store.marker())
+        store.keep_manifests(self)
+
+    def _begin(self) -> None:
+        """The marker of this opening. A process that was killed between the job and its first marker has no files yet."""
+        found, where = self._read(self.marker.name), f"{self.bucket}/{self.names.prefix}"
+        if found is None and self._report.choice is not None:
+            check_marker(None, self.marker, self.job, where)
+        if found is None and any(self.pages(1)):
+            raise StorageError(errno.ENOTEMPTY, "a job needs a place of its own, and there are files", where)
+        if found is not None:
+            owner = OWNER.fullmatch(found)
+            if owner is None or owner[1].decode() != self.job:
+                raise OtherJob(errno.EEXIST, f"not the storage of the job {self.job}", where)
+            if int(owner[2]) > self._report.epoch:
+                raise OtherJob(errno.EEXIST, "a later opening of the job has used it, and the job's file is an older copy", where)
+        self._ask(self._s3.put_object, Key=self.marker.name, Body=self.marker.text.encode())
+
+    def put_manifest(self, name: str, contents: bytes) -> None:
+        self.write_beside(name, contents)
+
+    def remove_manifest(self, name: str) -> None:
+        self.remove_beside(name)
+
+    def manifests(self) -> List[str]:
+        return self.beside("record-")

@@ -12,7 +12,7 @@ import pathlib
 import threading
 import time
 from dataclasses import dataclass
-from typing import Any, Callable, Container, ContextManager, Dict, List, NoReturn, Optional, Sequence, Set, Tuple, Union
+from typing import Any, Callable, Container, ContextManager, Dict, Iterable, List, NoReturn, Optional, Protocol, Sequence, Set, Tuple, Union
 
 from relkvanu import header, store_header
 from relkvanu.coordinator import (
@@ -21,6 +21,7 @@ from relkvanu.coordinator import (
 from relkvanu.lines import _numbers
 from relkvanu.reads import CHOSEN, Chosen, Garbage, Mode, RunningTerm
 from relkvanu.replies import Reply, Reserved, Taken
+from relkvanu.storage import Marker
 from relkvanu.waits import Once, Task, is_main
 
 LIBRARY = "librelkvanu-store.so.0"
@@ -121,6 +122,22 @@ class Record:
     bytes: int
     missing: int  # files that are not there, or have another length
     damage: Optional[str] = None
+
+
+class Manifests(Protocol):
+    """A place for manifests that is no folder of a store, such as a bucket. None of its methods calls the store."""
+
+    def check(self) -> None:
+        """Raises unless the place is there and this opening's."""
+
+    def put_manifest(self, name: str, contents: bytes) -> None:
+        """Makes or replaces an object, whole and durable."""
+
+    def remove_manifest(self, name: str) -> None:
+        """Removes an object. One that is not there is removed."""
+
+    def manifests(self) -> Iterable[str]:
+        """The names of the objects that begin with "record-"."""
 
 
 @dataclass(frozen=True)
@@ -470,6 +487,8 @@ class Store:
         self._lock = threading.Lock()
         self._submits: Dict[int, _List] = {}
         self._token = 0
+        self._place: Tuple[Any, ...] = ()  # the functions of keep_manifests(), which C calls
+        self.manifest_fault: Optional[BaseException] = None
         flags = create * store_header.CREATE | only_create * store_header.CREATE_ONLY | adopt * store_header.ADOPT
         words, found = _words(shape), store_header.relkvanu_store_report()
         options = store_header.relkvanu_store_options(
@@ -903,6 +922,46 @@ class Store:
         if status != store_header.OK:
             raise StoreError(store_header.STATUSES[status], message.value.decode(errors="replace"), _closes(status), number)
 
+    def marker(self) -> Marker:
+        """What a storage of this opening has as its marker: a folder or a bucket with it takes no deletion of an earlier opening."""
+        return Marker(".relkvanu-job", f"relkvanu job {self.report.job}\nepoch {self.report.epoch}\n")
+
+    def keep_manifests(self, place: Manifests) -> None:
+        """Keeps manifests in a place of the engine's, for a store without `storage`: right after each opening. relkvanu.s3.StateBucket does it. Those of all
+        complete records are put anew. While one is put the calls of all threads wait. If one can't be put, `manifest_fault` has the reason, measures() counts
+        it, and it is tried again. Raises what the place has raised: then no manifests are kept."""
+        def guarded(work: Callable[..., None]) -> Callable[..., int]:
+            def done(_: object, *words: Any) -> int:
+                try:
+                    work(*words)
+                except BaseException as error:  # nothing passes through C
+                    self.manifest_fault = error
+                    return 9  # RELKVANU_STORAGE_FAILED
+                return 0
+            return done
+
+        def tell_names(each: Callable[..., bool], with_each: Any) -> None:
+            for name in place.manifests():
+                each(with_each, name.encode())
+
+        self._place = (
+            store_header.relkvanu_store_check_place(guarded(place.check)),
+            store_header.relkvanu_store_put_named(guarded(lambda name, at, length: place.put_manifest(name.decode(), ctypes.string_at(at, length)))),
+            store_header.relkvanu_store_remove_named(guarded(lambda name: place.remove_manifest(name.decode()))),
+            store_header.relkvanu_store_list_named(guarded(tell_names)))
+        self.manifest_fault = None
+        try:
+            self._made(_library.relkvanu_store_keep_manifests, *self._place, None)
+        except StoreError as error:
+            raise (self.manifest_fault or error) from None
+
+    @staticmethod
+    def recover_listed(path: Path, listing: Path, record: int = 0) -> Recovered:
+        """recover() for a job whose manifests keep_manifests() has kept: `listing` is a folder that stands for the place. relkvanu.manifests makes one."""
+        found = store_header.relkvanu_store_recovered()
+        _check(_library.relkvanu_store_recover_listed(_bytes(path), _bytes(listing), _u64(record), ctypes.byref(found)), found.message)
+        return Recovered(**{name: getattr(found, name) for name, *_ in found._fields_[:-2]})
+
     @staticmethod
     def recover(path: Path, storage: Path, record: int = 0) -> Recovered:
         """Makes the job at `path` again, whose file was lost, from the manifests in its storage folder: from the last record that was the choice and has
@@ -927,11 +986,13 @@ class Store:
         return Carried(**{name: getattr(found, name) for name, *_ in found._fields_[:-2]})
 
     @staticmethod
-    def import_job(source: Path, path: Path, storage: Path, record: int = 0) -> Recovered:
+    def import_job(source: Path, path: Path, storage: Path, record: int = 0, claim: bool = False) -> Recovered:
         """Makes another job, at `path` over the folder `storage`, of a record in `source`: an exported folder, or the storage folder of a job, which may run.
+        With `claim` the record's files leave `source`, or stay in place if `storage` is the same folder, and a job that has the folder is refused from then on.
         Raises StoreError as export() and recover()."""
         found = store_header.relkvanu_store_recovered()
-        status = _library.relkvanu_store_import(_bytes(source), _u64(record), _bytes(path), _bytes(storage), ctypes.byref(found))
+        function = _library.relkvanu_store_claim if claim else _library.relkvanu_store_import
+        status = function(_bytes(source), _u64(record), _bytes(path), _bytes(storage), ctypes.byref(found))
         _check(status, found.message)
         return Recovered(**{name: getattr(found, name) for name, *_ in found._fields_[:-2]})
 

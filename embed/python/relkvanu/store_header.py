@@ -231,6 +231,11 @@ class relkvanu_store_measures(Structure):
 relkvanu_store_delete = CFUNCTYPE(None, c_void_p, POINTER(c_uint64), c_size_t, POINTER(c_uint8))
 relkvanu_store_delete_some = CFUNCTYPE(c_bool, c_void_p, POINTER(c_uint64), c_size_t, POINTER(c_uint8))
 relkvanu_store_source = CFUNCTYPE(c_int64, c_void_p, c_void_p, c_size_t)
+relkvanu_store_each_name = CFUNCTYPE(c_bool, c_void_p, c_char_p)
+relkvanu_store_check_place = CFUNCTYPE(c_int, c_void_p)
+relkvanu_store_put_named = CFUNCTYPE(c_int, c_void_p, c_char_p, c_void_p, c_size_t)
+relkvanu_store_remove_named = CFUNCTYPE(c_int, c_void_p, c_char_p)
+relkvanu_store_list_named = CFUNCTYPE(c_int, c_void_p, relkvanu_store_each_name, c_void_p)
 relkvanu_store_each_record = CFUNCTYPE(c_bool, c_void_p, POINTER(relkvanu_store_record))
 
 # Of each function, its result and its parameters. A store is a pointer that nobody looks into.
@@ -287,10 +292,13 @@ FUNCTIONS: Dict[str, Tuple[Any, List[Any]]] = {
     "relkvanu_store_sweep": (c_int, [c_void_p, POINTER(c_size_t)]),
     "relkvanu_store_stop": (None, [c_void_p]),
     "relkvanu_store_backup": (c_int, [c_void_p, c_char_p, c_char_p, c_size_t]),
+    "relkvanu_store_keep_manifests": (c_int, [c_void_p, relkvanu_store_check_place, relkvanu_store_put_named, relkvanu_store_remove_named, relkvanu_store_list_named, c_void_p]),
     "relkvanu_store_records": (c_int, [c_char_p, relkvanu_store_each_record, c_void_p, c_char_p, c_size_t]),
     "relkvanu_store_recover": (c_int, [c_char_p, c_char_p, c_uint64, POINTER(relkvanu_store_recovered)]),
+    "relkvanu_store_recover_listed": (c_int, [c_char_p, c_char_p, c_uint64, POINTER(relkvanu_store_recovered)]),
     "relkvanu_store_export": (c_int, [c_char_p, c_uint64, c_char_p, POINTER(relkvanu_store_carried)]),
     "relkvanu_store_import": (c_int, [c_char_p, c_uint64, c_char_p, c_char_p, POINTER(relkvanu_store_recovered)]),
+    "relkvanu_store_claim": (c_int, [c_char_p, c_uint64, c_char_p, c_char_p, POINTER(relkvanu_store_recovered)]),
     "relkvanu_store_put_back": (c_int, [c_char_p, c_char_p, c_char_p, POINTER(relkvanu_store_recovered)]),
     "relkvanu_store_count": (None, [c_void_p, POINTER(relkvanu_store_counts)]),
     "relkvanu_store_measure": (None, [c_void_p, POINTER(relkvanu_store_measures), c_size_t]),

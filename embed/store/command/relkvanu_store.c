@@ -7,14 +7,19 @@
 #include <stdlib.h>
 #include <string.h>
 #include <time.h>
+#include <unistd.h>
 
 static const char USAGE[] =
     "relkvanu-store show FOLDER                    the records in a storage folder, and which one a recovery begins from\n"
     "relkvanu-store recover JOB FOLDER [RECORD]    makes the job file JOB again, which was lost, from its storage folder\n"
-    "relkvanu-store put-back BACKUP JOB FOLDER         puts a backup in the place of JOB, whose file is set aside\n"
+    "relkvanu-store export FOLDER TO [RECORD]      copies a record into the folder TO, which it makes\n"
+    "relkvanu-store import FROM JOB FOLDER [RECORD]          begins another job, JOB over FOLDER, from a record in FROM\n"
+    "relkvanu-store import --claim FROM JOB FOLDER [RECORD]  the same; the files leave FROM, whose job is refused from then on\n"
+    "relkvanu-store put-back BACKUP JOB FOLDER     puts a backup in the place of JOB, whose file is set aside\n"
+    "A folder may be s3://BUCKET/PREFIX. That needs python3 with the package relkvanu and boto3.\n"
     "relkvanu-store --version\n";
 
-enum { DONE = 0, FAILED = 1, BAD_USAGE = 2 };
+enum { DONE = 0, FAILED = 1, BAD_USAGE = 2, MOST_WORDS = 16 };
 
 static int usage(void) {
     fputs(USAGE, stderr);
@@ -100,9 +105,9 @@ static int recover(const char *job, const char *folder, uint64_t record) {
     return status == RELKVANU_STORE_OK ? tell(job, &made) : told(job, status, made.message);
 }
 
-static int import(const char *from, const char *job, const char *folder, uint64_t record) {
+static int import(bool is_claim, const char *from, const char *job, const char *folder, uint64_t record) {
     relkvanu_store_recovered made;
-    int status = relkvanu_store_import(from, record, job, folder, &made);
+    int status = (is_claim ? relkvanu_store_claim : relkvanu_store_import)(from, record, job, folder, &made);
     return status == RELKVANU_STORE_OK ? tell(job, &made) : told(job, status, made.message);
 }
 
@@ -138,8 +143,30 @@ static bool takes(int argc, char **argv, const char *command, int words, uint64_
     return is(argv[1], command) && (argc == words + 2 || (argc == words + 3 && is_number(argv[words + 2], record)));
 }
 
+/* The client of S3 is in Python. */
+static int over_s3(char **argv) {
+    static char python[] = "python3", flag[] = "-m", module[] = "relkvanu.manifests";
+    char *words[MOST_WORDS + 3] = {python, flag, module};
+    for (size_t i = 1; i < MOST_WORDS && argv[i] != NULL; i++) {
+        words[i + 2] = argv[i];
+    }
+    execvp(python, words);
+    return told("python3", RELKVANU_STORE_FAILED, strerror(errno));
+}
+
+static bool has_s3(int argc, char **argv) {
+    bool has_s3 = false;
+    for (int i = 2; i < argc && argc <= MOST_WORDS; i++) {
+        has_s3 = has_s3 || strncmp(argv[i], "s3://", 5) == 0;
+    }
+    return has_s3;
+}
+
 int main(int argc, char **argv) {
     uint64_t record = 0;
+    if (has_s3(argc, argv)) {
+        return over_s3(argv);
+    }
     if (argc == 2 && is(argv[1], "--version")) {
         printf("relkvanu-store %s\n", relkvanu_version());
         return DONE;
@@ -157,8 +184,11 @@ int main(int argc, char **argv) {
     if (argc > 3 && takes(argc, argv, "export", 2, &record)) {
         return export(argv[2], argv[3], record);
     }
+    if (argc > 5 && is(argv[2], "--claim") && takes(argc, argv, "import", 4, &record)) {
+        return import(true, argv[3], argv[4], argv[5], record);
+    }
     if (argc > 4 && takes(argc, argv, "import", 3, &record)) {
-        return import(argv[2], argv[3], argv[4], record);
+        return import(false, argv[2], argv[3], argv[4], record);
     }
     if (argc == 5 && is(argv[1], "put-back")) {
         return put_back(argv[2], argv[3], argv[4]);

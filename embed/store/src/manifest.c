@@ -1,4 +1,5 @@
-/* Writes the manifests of complete records into the storage folder, after the commit that completes them and before anybody is told. */
+/* Writes the manifests of complete records into the storage folder, or by the functions of an engine into a bucket, say: after the commit that completes
+ * them and before anybody is told. */
 #include "manifest.h"
 
 #include <errno.h>
@@ -135,20 +136,43 @@ static bool has_text(struct writing *w, bool is_savepoint, bool is_chosen) {
     return is_added && add(&w->text, ",\"sum\":\"%08" PRIx32 "\"}\n", sum);
 }
 
-/* Writes beside the name, syncs, and renames. The folder is not synced yet. Returns 0, or what is wrong as errno. */
-static int write_text(const relkvanu_store *s, uint64_t id, const struct rks_text *text) {
+/* Whose the place of the manifests is, as rks_owner says it of the folder. */
+static int owner_of(const relkvanu_store *s) {
+    const struct rks_place *place = &s->kept.place;
+    return place->put != NULL ? place->check(place->with) : rks_owner(s);
+}
+
+/* A manifest elsewhere is whole and durable once its put has returned. */
+static bool is_put(const relkvanu_store *s, uint64_t id, const struct rks_text *text) {
+    const struct rks_place *place = &s->kept.place;
+    char name[RKS_MANIFEST_NAME];
+    rks_manifest_name(id, "", name);
+    return place->put(place->with, name, text->at, text->len) == RELKVANU_STORAGE_OK;
+}
+
+/* Removes a manifest. One that could not be removed is left to a sweep, or to the next opening. */
+static void drop(const relkvanu_store *s, const char *name) {
+    const struct rks_place *place = &s->kept.place;
+    if (place->put != NULL) {
+        (void)place->remove(place->with, name);
+    } else {
+        unlinkat(s->folder, name, 0);
+    }
+}
+
+int rks_put_manifest(int folder, uint64_t id, const struct rks_text *text) {
     char name[RKS_MANIFEST_NAME], part[RKS_MANIFEST_NAME];
     rks_manifest_name(id, "", name);
     rks_manifest_name(id, PART, part);
-    int file = openat(s->folder, part, O_WRONLY | O_CREAT | O_TRUNC | O_NOFOLLOW | O_NONBLOCK | O_CLOEXEC, 0600);
+    int file = openat(folder, part, O_WRONLY | O_CREAT | O_TRUNC | O_NOFOLLOW | O_NONBLOCK | O_CLOEXEC, 0600);
     if (file < 0) {
         return errno;
     }
     int error = rks_write_whole(file, text->at, text->len, 0) && fsync(file) == 0 ? 0 : errno;
     error = close(file) != 0 && error == 0 ? errno : error;
-    error = error == 0 && renameat(s->folder, part, s->folder, name) != 0 ? errno : error;
+    error = error == 0 && renameat(folder, part, folder, name) != 0 ? errno : error;
     if (error != 0) {
-        unlinkat(s->folder, part, 0);
+        unlinkat(folder, part, 0);
     }
     return error;
 }
@@ -160,7 +184,9 @@ static bool is_written(relkvanu_store *s, relkvanu_answer live, bool is_chosen) 
     }
     w->s = s;
     w->id = live.a;
-    bool is_written = has_text(w, live.what == RELKVANU_LIVE_SAVEPOINT, is_chosen) && write_text(s, live.a, &w->text) == 0;
+    bool is_written = has_text(w, live.what == RELKVANU_LIVE_SAVEPOINT, is_chosen);
+    is_written =
+        is_written && (s->kept.place.put != NULL ? is_put(s, live.a, &w->text) : rks_put_manifest(s->folder, live.a, &w->text) == 0);
     free(w->text.at);
     free(w);
     return is_written;
@@ -283,7 +309,7 @@ static bool are_written(relkvanu_store *s, uint64_t *written) {
             *written += is_whole;
         }
     }
-    return is_whole && (*written == 0 || fsync(s->folder) == 0);
+    return is_whole && (*written == 0 || s->kept.place.put != NULL || fsync(s->folder) == 0);
 }
 
 /* Removes the manifests of records that have ended, once those of the others are on the disk. */
@@ -296,7 +322,7 @@ static void drop_ended(relkvanu_store *s) {
         if (is_done(s, kept->ids[at])) {
             kept->ids[left++] = kept->ids[at];
         } else {
-            unlinkat(s->folder, name, 0); /* if that fails, a sweep does it */
+            drop(s, name);
         }
     }
     kept->len = left;
@@ -315,7 +341,7 @@ void rks_keep_manifests(relkvanu_store *s) {
     if (!kept->is_on || !kept->is_due || (kept->tries != 0 && rks_clock_ns() < kept->tries)) {
         return;
     }
-    bool is_whole = rks_owner(s) == RELKVANU_STORAGE_OK && are_written(s, &written);
+    bool is_whole = owner_of(s) == RELKVANU_STORAGE_OK && are_written(s, &written);
     kept->is_due = kept->has_failed = !is_whole; /* then what was written may not be on the disk, and all are written again */
     kept->tries = is_whole ? 0 : rks_clock_ns() + RETRY;
     if (is_whole) {
@@ -371,10 +397,11 @@ void rks_begin_manifests(relkvanu_store *s) {
     }
 }
 
-/* The manifests that a folder has. */
+/* The manifests that a folder has, or another place. */
 struct listed {
     uint64_t *ids;
     size_t len, room;
+    bool lacks_memory;
 };
 
 /* Notes an entry of the folder, if it is a manifest, also in part. Returns false without memory. */
@@ -450,5 +477,55 @@ int rks_sweep_manifests(relkvanu_store *s, size_t *left) {
         status = is_owner ? RELKVANU_STORE_OK : RELKVANU_STORE_STORAGE;
     }
     free(listed.ids);
+    return status;
+}
+
+static bool note_name(void *with, const char *name) {
+    struct listed *listed = with;
+    listed->lacks_memory = !is_listed(listed, name);
+    return !listed->lacks_memory;
+}
+
+/* Writes those of all complete records anew, and removes what records that ended have left there. */
+static int begin_elsewhere(relkvanu_store *s) {
+    struct rks_kept *kept = &s->kept;
+    struct listed listed = {0};
+    int told = kept->place.list(kept->place.with, note_name, &listed);
+    int status = listed.lacks_memory ? RELKVANU_STORE_NO_MEMORY : told == RELKVANU_STORAGE_OK ? RELKVANU_STORE_OK : RELKVANU_STORE_STORAGE;
+    if (status == RELKVANU_STORE_OK) {
+        kept->is_on = kept->is_due = true;
+        rks_keep_manifests(s);
+        status = kept->is_due ? RELKVANU_STORE_STORAGE : status;
+    }
+    for (size_t at = 0; status == RELKVANU_STORE_OK && at < listed.len; at++) {
+        char name[RKS_MANIFEST_NAME];
+        rks_manifest_name(listed.ids[at], "", name);
+        if (!is_done(s, listed.ids[at])) {
+            drop(s, name);
+        }
+    }
+    free(listed.ids);
+    return status;
+}
+
+int relkvanu_store_keep_manifests(relkvanu_store *s, relkvanu_store_check_place check, relkvanu_store_put_named put,
+    relkvanu_store_remove_named remove, relkvanu_store_list_named names, void *with) {
+    relkvanu *handle;
+    if (check == NULL || put == NULL || remove == NULL || names == NULL) {
+        return RELKVANU_STORE_BAD_ARGUMENT;
+    }
+    int status = relkvanu_store_read(s, &handle);
+    if (status != RELKVANU_STORE_OK) {
+        return status;
+    }
+    if (s->folder >= 0 || s->kept.is_on) {
+        status = RELKVANU_STORE_BAD_ARGUMENT;
+    } else {
+        s->kept.place = (struct rks_place){.check = check, .put = put, .remove = remove, .list = names, .with = with};
+        status = check(with) == RELKVANU_STORAGE_OK ? begin_elsewhere(s) : RELKVANU_STORE_STORAGE;
+        s->kept.is_on = status == RELKVANU_STORE_OK;
+        s->kept.place.put = s->kept.is_on ? put : NULL;
+    }
+    relkvanu_store_read_end(s);
     return status;
 }

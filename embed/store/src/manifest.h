@@ -6,6 +6,7 @@
 #include <dirent.h>
 
 enum { RKS_VERTICES = 256, RKS_MANIFEST_NAME = 48, RKS_MOST_FILES = 4096 }; /* of a shape; of a name; of a subtask */
+enum { RKS_UNMARKED = 1024 };                                               /* openings that a full folder has no mark of */
 
 /* What a manifest says beside its files. A number, a term or a name that somebody was told is below `below`; the term and the name are 0 if the job
  * has no names. */
@@ -54,6 +55,9 @@ int rks_manifest_parts(struct rks_manifests *all, int folder, uint64_t id, rks_e
 
 /* The text of a manifest as it is, or if there is a job, as that of a record of this job which was carried. To be freed. */
 int rks_manifest_text(struct rks_manifests *all, int folder, uint64_t id, const char *job, struct rks_text *text);
+
+/* Writes a manifest into an open folder, beside its name, syncs it and renames it. The folder is not synced yet. Returns 0, or what is wrong as errno. */
+int rks_put_manifest(int folder, uint64_t id, const struct rks_text *text);
 
 /* Which of them a recovery of this job (NULL: any) begins from: the last one that was the choice and has all its files, else the last such savepoint. NULL:
  * none. `wanted`: the record with this number alone; 0: any. */

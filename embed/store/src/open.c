@@ -232,7 +232,8 @@ static int create(relkvanu_store *s, const relkvanu_store_options *o) {
     int status = rks_check_new_folder(s, o->storage);
     status = status == RELKVANU_STORE_OK ? opened(s, o, opening_lines(o, lines)) : status;
     status = status == RELKVANU_STORE_OK ? begin_job(s, o, lines) : status;
-    int storage = s->birth != NULL ? MARKED : o->storage == NULL ? NO_STORAGE : TO_MARK;
+    bool is_marked = s->birth != NULL && !s->birth->is_elsewhere;
+    int storage = is_marked ? MARKED : o->storage == NULL ? NO_STORAGE : TO_MARK;
     return status == RELKVANU_STORE_OK ? write_job(s, lines, storage) : status;
 }
 

@@ -174,6 +174,13 @@ struct relkvanu_store {
         uint64_t chosen, carrier;           /* the records whose manifest says that it is the choice; that has the numbers below. 0: none */
         uint64_t number, term, name, tries; /* what somebody was told is below these; when a failed one is tried again, by rks_clock_ns */
         bool is_on, is_due, has_failed;
+        struct rks_place { /* where they go if it is not the folder: put is NULL otherwise */
+            relkvanu_store_check_place check;
+            relkvanu_store_put_named put;
+            relkvanu_store_remove_named remove;
+            relkvanu_store_list_named list;
+            void *with;
+        } place;
     } kept;
     const struct rks_birth *birth; /* NULL: a new job is born as usual */
 
@@ -187,9 +194,11 @@ struct relkvanu_store {
     relkvanu_store *older; /* in the list of all stores of the process */
 };
 
-/* What a new job has of an earlier one: the number of its first record, its opening and its identity. It has a storage whose marker is there. */
+/* What a new job has of an earlier one: the number of its first record, its opening and its identity. It has a storage folder whose marker is there, or its
+ * storage is elsewhere. */
 struct rks_birth {
     uint64_t first, epoch;
+    bool is_elsewhere;
     char identity[RKS_IDENTITY + 1];
 };
 

@@ -13,8 +13,7 @@
 #include <string.h>
 #include <unistd.h>
 
-/* Openings that a full folder has no mark of; calls, and files, of a list. */
-enum { UNMARKED = 1024, LIST = 4096, LIST_FILES = 65536 };
+enum { LIST = 4096, LIST_FILES = 65536 }; /* calls, and files, of a list */
 
 /* The acknowledgement of a subtask: its files that no record has had, and the others. */
 struct ack {
@@ -34,7 +33,8 @@ struct recovery {
     struct rks_manifests all;
     struct rks_below below;
     uint64_t epoch;
-    void *known; /* the files that its records have: a tree of search.h */
+    bool is_elsewhere; /* the storage: the folder only says what is in it */
+    void *known;       /* the files that its records have: a tree of search.h */
     struct numbers fresh, reused;
     struct ack *acks;
     size_t acks_len, acks_room;
@@ -272,7 +272,7 @@ static int close_job(struct recovery *r) {
 
 /* Writes the calls of the new job into its file. */
 static int write_job(struct recovery *r, const struct rks_manifest *choice) {
-    struct rks_birth birth = {.first = choice->id, .epoch = r->epoch};
+    struct rks_birth birth = {.first = choice->id, .epoch = r->epoch, .is_elsewhere = r->is_elsewhere};
     relkvanu_store_report report;
     relkvanu_store_options options = {.flags = RELKVANU_STORE_CREATE_ONLY | RELKVANU_STORE_PLAIN,
         .settings = choice->settings,
@@ -339,7 +339,7 @@ static void gather(struct recovery *r) {
             r->told->passed += it->status == RELKVANU_STORE_DAMAGED;
         }
     }
-    r->epoch += UNMARKED;
+    r->epoch += RKS_UNMARKED;
 }
 
 static int recover(struct recovery *r, uint64_t record) {
@@ -401,10 +401,10 @@ static int recover_at(struct recovery *r, const char *path, const char *folder, 
     return status;
 }
 
-int relkvanu_store_recover(const char *path, const char *folder, uint64_t record, relkvanu_store_recovered *recovered) {
+static int recover_job(const char *path, const char *folder, uint64_t record, bool is_elsewhere, relkvanu_store_recovered *recovered) {
     *recovered = (relkvanu_store_recovered){0};
     relkvanu_store *old = calloc(1, sizeof *old);
-    struct recovery r = {.old = old, .told = recovered};
+    struct recovery r = {.old = old, .is_elsewhere = is_elsewhere, .told = recovered};
     int status = old == NULL ? RELKVANU_STORE_NO_MEMORY : rks_begin_store(old);
     if (status != RELKVANU_STORE_OK) {
         free(old);
@@ -426,4 +426,12 @@ int relkvanu_store_recover(const char *path, const char *folder, uint64_t record
     rks_release_store(old);
     errno = error;
     return status;
+}
+
+int relkvanu_store_recover(const char *path, const char *folder, uint64_t record, relkvanu_store_recovered *recovered) {
+    return recover_job(path, folder, record, false, recovered);
+}
+
+int relkvanu_store_recover_listed(const char *path, const char *listing, uint64_t record, relkvanu_store_recovered *recovered) {
+    return recover_job(path, listing, record, true, recovered);
 }

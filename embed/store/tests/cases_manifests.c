@@ -607,9 +607,272 @@ static void an_import_that_goes_on(void) {
     CHECK(!has("y.db") && has_bytes("elsewhere", first, 1), "the folder of another job");
 }
 
+static void claims(const char *from, uint64_t record, const char *folder, int status) {
+    int got = relkvanu_store_claim(in(from), record, in("y.db"), in(folder), &recovered);
+    CHECK(got == status, "status %d, not %d: %s", got, status, recovered.message);
+    CHECK(!has("elsewhere.part") && !has("y.db.new") && (recovered.message[0] == 0) == (status == RELKVANU_STORE_OK), "%s",
+        recovered.message);
+}
+
+/* The files leave, but for those of another record, and a process that still has the old job puts nothing more. */
+static void a_claim(void) {
+    relkvanu_store_options options = manifests(RELKVANU_STORE_CREATE);
+    relkvanu_store *store = opens(&options, RELKVANU_STORE_OK);
+    uint64_t first = 0, shared = 0, savepoint = completes(store, 1, RELKVANU_CALL_SAVEPOINT, &shared);
+    completes(store, 1, RELKVANU_CALL_TRIGGER, &first);
+    relkvanu_answer last = trigger(store, RELKVANU_CALL_TRIGGER);
+    for (uint16_t i = 0; i < SUBTASKS; i++) { /* the first file of the savepoint is also one of this record */
+        takes_part(store, 1, last.b, i, i + 1u, i == 0 ? first : 0);
+    }
+    claims("storage", 99, "elsewhere", RELKVANU_STORE_ABSENT);
+    CHECK(relkvanu_store_put(store, 5000, "x", 1) == RELKVANU_STORE_OK, "it was fenced by a claim that was refused");
+    claims("storage", 0, "elsewhere", RELKVANU_STORE_OK);
+    CHECK(recovered.record == last.b && recovered.files == 9, "record %" PRIu64 ", %" PRIu64 " files", recovered.record, recovered.files);
+    CHECK(has_bytes("elsewhere", first, 1) && !has_bytes("storage", first, 1) && has_bytes("storage", shared, 1), "the files");
+    CHECK(relkvanu_store_put(store, 5001, "x", 1) == RELKVANU_STORE_STORAGE, "the old job puts a file");
+    relkvanu_store_close(store);
+    options = manifests(RELKVANU_STORE_RECOVER);
+    opens(&options, RELKVANU_STORE_STORAGE);
+    CHECK(says("later opening"), "%s", report.message);
+    CHECK(list_records() == 1 && records[0].id == savepoint && records[0].missing == 0, "%zu records", records_len);
+    relkvanu_store *other = opens_other();
+    CHECK(choice_of(other) == last.b, "the choice");
+    relkvanu_store_close(other);
+    claims("storage", 0, "elsewhere", RELKVANU_STORE_PRESENT);
+    CHECK(list_records() == 1, "a claim over a job took another record");
+}
+
+/* A record keeps what it shares with the one that leaves. */
+static void a_claim_of_shared_files(void) {
+    relkvanu_store_options options = manifests(RELKVANU_STORE_CREATE);
+    relkvanu_store *store = opens(&options, RELKVANU_STORE_OK);
+    uint64_t first = 0;
+    completes(store, 1, RELKVANU_CALL_TRIGGER, &first);
+    relkvanu_answer savepoint = trigger(store, RELKVANU_CALL_SAVEPOINT);
+    for (uint16_t i = 0; i < SUBTASKS; i++) {
+        takes_part(store, 1, savepoint.a, i, i + 1u, i == 0 ? first : 0);
+    }
+    relkvanu_store_close(store);
+    claims("storage", savepoint.a - 1, "elsewhere", RELKVANU_STORE_OK);
+    CHECK(has_bytes("elsewhere", first, 1) && has_bytes("storage", first, 1) && !has_bytes("storage", first + 1, 2), "the files");
+    CHECK(list_records() == 1 && records[0].id == savepoint.a && records[0].missing == 0, "%zu records", records_len);
+}
+
+/* The same call goes on where one ended: after the job was made, and before anything has left. An exported folder goes with its last file. */
+static void a_claim_that_goes_on(void) {
+    relkvanu_store_options options = manifests(RELKVANU_STORE_CREATE);
+    relkvanu_store *store = opens(&options, RELKVANU_STORE_OK);
+    uint64_t first = 0, id = completes(store, 1, RELKVANU_CALL_TRIGGER, &first);
+    exports(0, "out", RELKVANU_STORE_OK);
+    relkvanu_store_close(store);
+    imports("out", 0, RELKVANU_STORE_OK);
+    claims("out", 0, "elsewhere", RELKVANU_STORE_OK);
+    CHECK(recovered.record == id && recovered.files == 8 && !has("out"), "record %" PRIu64, recovered.record);
+    relkvanu_store *other = opens_other();
+    CHECK(has_files(other, id, first), "its files");
+    relkvanu_store_close(other);
+}
+
+/* In place: the job of a storage folder keeps its identity, that of an exported one gets its own. */
+static void a_claim_in_place(void) {
+    relkvanu_store_options options = manifests(RELKVANU_STORE_CREATE);
+    relkvanu_store *store = opens(&options, RELKVANU_STORE_OK);
+    uint64_t first = 0, job[2], id = completes(store, 1, RELKVANU_CALL_TRIGGER, &first);
+    memcpy(job, report.job, sizeof job);
+    exports(0, "elsewhere", RELKVANU_STORE_OK);
+    claims("elsewhere", 0, "elsewhere", RELKVANU_STORE_OK);
+    relkvanu_store *other = opens_other();
+    CHECK(memcmp(job, report.job, sizeof job) != 0 && has_files(other, id, first), "the exported one");
+    relkvanu_store_close(other);
+    CHECK(unlink(in("y.db")) == 0, "the job");
+    claims("storage", 0, "storage", RELKVANU_STORE_OK);
+    CHECK(relkvanu_store_put(store, 5001, "x", 1) == RELKVANU_STORE_STORAGE, "the old job puts a file");
+    relkvanu_store_close(store);
+    options = manifests(RELKVANU_STORE_RECOVER);
+    int status = relkvanu_store_open(&other, in("y.db"), &options, &report);
+    CHECK(status == RELKVANU_STORE_OK && memcmp(job, report.job, sizeof job) == 0 && has_files(other, id, first), "%s", report.message);
+    relkvanu_store_close(other);
+}
+
+/* A place of an engine, in memory. */
+enum { MOST_OBJECTS = 16 };
+static struct object {
+    char name[48];
+    char *text;
+    size_t len;
+} objects[MOST_OBJECTS];
+static int check_status, place_status, puts_made;
+
+static struct object *object_of(const char *name) {
+    for (size_t i = 0; i < MOST_OBJECTS; i++) {
+        if (strcmp(objects[i].name, name) == 0) {
+            return &objects[i];
+        }
+    }
+    return NULL;
+}
+
+static int check_place(void *with) {
+    CHECK(with == objects, "the pointer");
+    return check_status != RELKVANU_STORAGE_OK ? check_status : place_status;
+}
+
+static int put_object(void *with, const char *name, const void *contents, size_t len) {
+    CHECK(with == objects, "the pointer");
+    struct object *it = object_of(name) != NULL ? object_of(name) : object_of("");
+    CHECK(it != NULL, "no room for %s", name);
+    if (place_status != RELKVANU_STORAGE_OK) {
+        return place_status;
+    }
+    snprintf(it->name, sizeof it->name, "%s", name);
+    free(it->text);
+    it->text = malloc(len);
+    CHECK(it->text != NULL, "no memory");
+    memcpy(it->text, contents, len);
+    it->len = len;
+    puts_made++;
+    return RELKVANU_STORAGE_OK;
+}
+
+static int remove_object(void *with, const char *name) {
+    CHECK(with == objects, "the pointer");
+    struct object *it = object_of(name);
+    if (it != NULL) {
+        free(it->text);
+        *it = (struct object){.text = NULL};
+    }
+    return RELKVANU_STORAGE_OK;
+}
+
+static int list_objects(void *with, relkvanu_store_each_name each, void *with_each) {
+    CHECK(with == objects, "the pointer");
+    for (size_t i = 0; i < MOST_OBJECTS && place_status == RELKVANU_STORAGE_OK; i++) {
+        if (strncmp(objects[i].name, "record-", 7) == 0 && !each(with_each, objects[i].name)) {
+            return RELKVANU_STORAGE_ENDED;
+        }
+    }
+    return place_status;
+}
+
+static int keeps(relkvanu_store *store) {
+    return relkvanu_store_keep_manifests(store, check_place, put_object, remove_object, list_objects, objects);
+}
+
+static relkvanu_store *opens_without_folder(uint32_t flags) {
+    relkvanu_store *store;
+    relkvanu_store_options options = manifests(flags);
+    options.storage = NULL;
+    options.flags &= ~RELKVANU_STORE_MANIFESTS;
+    int status = relkvanu_store_open(&store, in("x.db"), &options, &report);
+    CHECK(status == RELKVANU_STORE_OK, "status %d: %s", status, report.message);
+    return store;
+}
+
+/* A record of 8 files that are elsewhere. */
+static uint64_t completes_elsewhere(relkvanu_store *store, uint64_t term) {
+    relkvanu_answer answer, triggered = trigger(store, RELKVANU_CALL_TRIGGER);
+    for (uint16_t i = 0; i < SUBTASKS; i++) {
+        CHECK(relkvanu_store_reserve(store, term, 1, &answer) == RELKVANU_STORE_OK && answer.code == RELKVANU_DONE, "no name");
+        int status = relkvanu_store_ack_in(store, term, RELKVANU_STORE_NOW, triggered.b, 0, i, &answer.a, 1, NULL, 0, &answer);
+        CHECK(status == RELKVANU_STORE_OK && answer.code == RELKVANU_DONE, "status %d", status);
+    }
+    return triggered.b;
+}
+
+static size_t count_objects(void) {
+    size_t len = 0;
+    for (size_t i = 0; i < MOST_OBJECTS; i++) {
+        len += objects[i].name[0] != 0;
+    }
+    return len;
+}
+
+static const struct object *manifest_elsewhere(uint64_t id) {
+    char name[48];
+    snprintf(name, sizeof name, "record-%" PRIu64 ".manifest", id);
+    return object_of(name);
+}
+
+/* One put for each record, before it is answered. One that fails is counted, and made again. */
+static void manifests_elsewhere(void) {
+    relkvanu_store_measures measures;
+    relkvanu_store *store = opens_without_folder(RELKVANU_STORE_CREATE);
+    CHECK(put_object(objects, "record-7.manifest", "of a record that ended", 1) == RELKVANU_STORAGE_OK, "an old one");
+    place_status = RELKVANU_STORAGE_NOT_THERE;
+    CHECK(keeps(store) == RELKVANU_STORE_STORAGE, "a place that is not there");
+    place_status = RELKVANU_STORAGE_OK;
+    CHECK(relkvanu_store_keep_manifests(store, check_place, NULL, remove_object, list_objects, objects) == RELKVANU_STORE_BAD_ARGUMENT,
+        "a function is missing");
+    CHECK(keeps(store) == RELKVANU_STORE_OK && keeps(store) == RELKVANU_STORE_BAD_ARGUMENT && count_objects() == 0, "%zu objects",
+        count_objects());
+    puts_made = 0;
+    uint64_t id = completes_elsewhere(store, 1);
+    CHECK(puts_made == 1 && manifest_elsewhere(id) != NULL && count_objects() == 1, "%d puts", puts_made);
+    place_status = RELKVANU_STORAGE_FAILED;
+    uint64_t next = completes_elsewhere(store, 1);
+    CHECK(manifest_elsewhere(next) == NULL && manifest_elsewhere(id) != NULL, "the manifest before stays");
+    relkvanu_store_measure(store, &measures, sizeof measures);
+    CHECK(measures.manifests == 1 && measures.failed_manifests >= 1, "%" PRIu64 " failed", measures.failed_manifests);
+    place_status = RELKVANU_STORAGE_OK;
+    uint64_t last = completes_elsewhere(store, 1);
+    CHECK(manifest_elsewhere(last) != NULL && count_objects() == 1, "%zu objects", count_objects());
+    check_status = RELKVANU_STORAGE_OTHER_JOB;
+    puts_made = 0;
+    completes_elsewhere(store, 1);
+    CHECK(puts_made == 0 && manifest_elsewhere(last) != NULL, "it puts into the place of another opening");
+    check_status = RELKVANU_STORAGE_OK;
+    relkvanu_store_close(store);
+    CHECK(unlink(in("x.db")) == 0, "the job");
+    relkvanu_store_options options = storage_options(RELKVANU_STORE_CREATE, 0);
+    store = opens(&options, RELKVANU_STORE_OK);
+    CHECK(keeps(store) == RELKVANU_STORE_BAD_ARGUMENT, "it has a folder");
+    relkvanu_store_close(store);
+}
+
+/* Writes a folder that stands for the place, with its files, but for one. */
+static void list_place(uint64_t epoch, uint64_t first, uint64_t lacking) {
+    char name[PATHS];
+    CHECK(mkdir(in("listing"), 0700) == 0 || errno == EEXIST, "a folder");
+    FILE *to = fopen(in("listing/.relkvanu-job"), "w");
+    CHECK(to != NULL, "the marker");
+    fprintf(to, "relkvanu job %016" PRIx64 "%016" PRIx64 "\nepoch %" PRIu64 "\n", report.job[0], report.job[1], epoch);
+    CHECK(fclose(to) == 0, "the marker");
+    for (size_t i = 0; i < MOST_OBJECTS; i++) {
+        snprintf(name, sizeof name, "listing/%.47s", objects[i].name);
+        to = objects[i].name[0] == 0 ? NULL : fopen(in(name), "w");
+        CHECK(to == NULL || (fwrite(objects[i].text, 1, objects[i].len, to) == objects[i].len && fclose(to) == 0), "%s", name);
+    }
+    for (uint64_t file = first; file < first + SUBTASKS; file++) {
+        snprintf(name, sizeof name, "listing/%" PRIu64, file);
+        to = file == lacking ? NULL : fopen(in(name), "w");
+        CHECK(to == NULL || fclose(to) == 0, "%s", name);
+    }
+}
+
+/* A job whose manifests are elsewhere is made again of them, and is opened without a folder. */
+static void a_lost_job_elsewhere(void) {
+    relkvanu_store *store = opens_without_folder(RELKVANU_STORE_CREATE);
+    CHECK(keeps(store) == RELKVANU_STORE_OK, "it keeps none");
+    uint64_t id = completes_elsewhere(store, 1), epoch = report.epoch;
+    relkvanu_store_close(store);
+    lose_job();
+    list_place(epoch, 1, 3);
+    CHECK(relkvanu_store_recover_listed(in("x.db"), in("listing"), 0, &recovered) == RELKVANU_STORE_ABSENT, "a file is missing");
+    list_place(epoch, 1, 0);
+    int status = relkvanu_store_recover_listed(in("x.db"), in("listing"), 0, &recovered);
+    CHECK(status == RELKVANU_STORE_OK && recovered.record == id && recovered.files == SUBTASKS, "status %d: %s", status, recovered.message);
+    store = opens_without_folder(RELKVANU_STORE_RECOVER);
+    CHECK(report.is_recovered && report.epoch > epoch + 1000 && report.term > 1 && choice_of(store) == id, "the job");
+    CHECK(keeps(store) == RELKVANU_STORE_OK && completes_elsewhere(store, report.term) > id, "it goes on");
+    relkvanu_store_close(store);
+}
+
 const struct test manifest_cases[] = {{"manifests_of_records", manifests_of_records}, {"manifests_are_asked_for", manifests_are_asked_for},
     {"a_sweep_of_manifests", a_sweep_of_manifests}, {"manifests_that_fail", manifests_that_fail}, {"a_lost_job", a_lost_job},
     {"lost_again", lost_again}, {"nothing_to_recover", nothing_to_recover}, {"damaged_manifests", damaged_manifests},
     {"savepoints_live_on", savepoints_live_on}, {"a_rolled_back_job", a_rolled_back_job}, {"numbers_that_failed", numbers_that_failed},
     {"a_plain_job_that_is_lost", a_plain_job_that_is_lost}, {"another_jobs_manifest", another_jobs_manifest}, {"an_export", an_export},
-    {"an_import", an_import}, {"an_import_that_goes_on", an_import_that_goes_on}, {NULL, NULL}};
+    {"an_import", an_import}, {"an_import_that_goes_on", an_import_that_goes_on}, {"a_claim", a_claim},
+    {"a_claim_of_shared_files", a_claim_of_shared_files}, {"a_claim_that_goes_on", a_claim_that_goes_on},
+    {"a_claim_in_place", a_claim_in_place}, {"manifests_elsewhere", manifests_elsewhere}, {"a_lost_job_elsewhere", a_lost_job_elsewhere},
+    {NULL, NULL}};

@@ -385,6 +385,38 @@ static unsigned recovers_without_memory(enum kind kind, bool is_for_good) {
     return (unsigned)nth;
 }
 
+/* A claim without memory can be made again, and what it takes over is whole then. */
+static unsigned claims_without_memory(enum kind kind, bool is_for_good) {
+    relkvanu_store_recovered recovered;
+    char from[PATHS + 20], to[PATHS + 40], job[PATHS + 60];
+    uint64_t id = lose_job();
+    unsigned long nth = 0, taken = 0;
+    snprintf(from, sizeof from, "%s", storage);
+    snprintf(to, sizeof to, "%s-%d-%d-0", storage, kind, is_for_good);
+    for (bool is_reached = true; is_reached;) {
+        nth += 1 + nth / 20;
+        snprintf(job, sizeof job, "%s.db", to);
+        set_refused(kind, nth, is_for_good);
+        int status = relkvanu_store_claim(from, 0, job, to, &recovered);
+        is_reached = kind == COORDINATOR ? heap_requests() >= nth : requests >= nth;
+        set_none();
+        bool is_there = access(job, F_OK) == 0;
+        CHECK(is_reached || status == RELKVANU_STORE_OK, "status %d without a refusal: %s", status, recovered.message);
+        if (status != RELKVANU_STORE_OK && is_there) { /* the job was made, and not all files have left */
+            status = relkvanu_store_claim(from, 0, job, to, &recovered);
+            CHECK(status == RELKVANU_STORE_OK, "status %d: %s", status, recovered.message);
+        }
+        CHECK(status == RELKVANU_STORE_OK || access(from, F_OK) == 0, "status %d: %s", status, recovered.message);
+        if (status == RELKVANU_STORE_OK) { /* the next one takes it from there */
+            CHECK(recovered.record == id && recovered.files != 0, "record %" PRIu64, recovered.record);
+            snprintf(from, sizeof from, "%.*s", PATHS + 10, to);
+            snprintf(to, sizeof to, "%s-%d-%d-%lu", storage, kind, is_for_good, ++taken);
+        }
+    }
+    CHECK(nth > 20 && taken != 0, "no claim after %lu requests", nth);
+    return (unsigned)nth;
+}
+
 /* A way back to an older checkpoint for which there is no memory changes nothing, and can be made later. */
 static void way_back_waits(enum kind kind) {
     relkvanu_store *store;
@@ -553,7 +585,9 @@ int main(int argc, char **argv) {
             unsigned tried = recovers_without_memory((enum kind)kind, is_for_good != 0);
             printf("store: memory of %s, %s, of a job that was lost: up to request %u\n", names[kind], is_for_good ? "for good" : "once",
                 tried);
-            passed++;
+            tried = claims_without_memory((enum kind)kind, is_for_good != 0);
+            printf("store: memory of %s, %s, of a claim: up to request %u\n", names[kind], is_for_good ? "for good" : "once", tried);
+            passed += 2;
         }
     }
     images_wait(COORDINATOR);

@@ -4,10 +4,10 @@
 - An engine (publishes.py) is killed at a random moment, LOSSES times. Each time its file is gone, and a job is made again. It goes on from the last
   record that was complete, and in the end each input was published once. So are the engines of the pages, whose folders are exact then.
 - A recovery ends before or after each call that writes, or power is lost there: it did nothing or all, and the same command again makes the job.
-- So do an export and an import. The first job is as it was.
+- So do an export and an import. The first job is as it was. So does a claim, after which the first job is refused.
 - What a command says when there is nothing to do.
 
-LOSSES in the environment is 10 unless it says another number. SEED chooses the moments; it is printed."""
+LOSSES in the environment is 10 unless it says another number. ONLY has the names of some of the tests. SEED chooses the moments; it is printed."""
 import os
 import pathlib
 import random
@@ -207,6 +207,65 @@ def imports_at_each_end(it):
         shutil.rmtree(folder)
 
 
+def claims_at_each_end(it):
+    """The files leave the first job's folder once those of the second one are there, and not before. In the end that folder has none of them, and its job is
+    refused."""
+    base, complete = base_of(it)
+
+    def claim(folder):
+        return "import", "--claim", folder / "state", folder / "new.db", folder / "new"
+
+    for place, after in places_of(it, base, ENDS, claim):
+        folder = it.work / f"{place}-{after}"
+        shutil.copytree(base, folder)
+        told = it.runs(*claim(folder), LD_PRELOAD=it.shim, STORE_IN=str(folder), STORE_DIE=str(place), STORE_DIE_AFTER=after)
+        assert told.returncode != 0, f"no end at call {place}"
+        ended, told = (folder / "new.db").exists(), it.runs(*claim(folder))
+        assert told.returncode == 0 or (ended and "there is a job" in told.stdout), told.stdout  # it had done all but say so
+        assert not list(folder.glob("new.db.new*")) and not (folder / "new.part").exists(), list(folder.iterdir())
+        with Store(folder / "new.db", Settings(interval=10), [2], storage=folder / "new", manifests=True) as job, job.read() as reads:
+            assert reads.choice().id in (complete, complete + 1), reads.choice()
+            used = [file for task in range(2) for file in reads.files_of(reads.choice().id, 0, task)]
+        assert all((folder / "new" / str(file)).stat().st_size > 0 for file in used), used
+        assert not [file for file in used if (folder / "state" / str(file)).exists()], used
+        told = it.recovers(folder)
+        assert told.returncode == 1 and "no record" in told.stdout, told.stdout  # it has left
+        shutil.rmtree(folder)
+
+
+def claims_in_place_at_each_end(it):
+    base, complete = base_of(it)
+    assert it.runs("export", base / "state", base / "out").returncode == 0
+
+    def claim(folder):
+        return "import", "--claim", folder / "out", folder / "new.db", folder / "out"
+
+    for place, after in places_of(it, base, ENDS // 2, claim):
+        folder = it.work / f"{place}-{after}"
+        shutil.copytree(base, folder)
+        told = it.runs(*claim(folder), LD_PRELOAD=it.shim, STORE_IN=str(folder), STORE_DIE=str(place), STORE_DIE_AFTER=after)
+        assert told.returncode != 0, f"no end at call {place}"
+        is_there, told = (folder / "new.db").exists(), it.runs(*claim(folder))
+        assert told.returncode == is_there, told.stdout
+        with Store(folder / "new.db", Settings(interval=10), [2], storage=folder / "out", manifests=True) as job, job.read() as reads:
+            assert reads.choice().id in (complete, complete + 1), reads.choice()
+            for task in range(2):
+                assert (folder / "out" / str(*reads.files_of(reads.choice().id, 0, task))).stat().st_size > 0
+        shutil.rmtree(folder)
+
+
+def the_old_job_of_a_claim(it):
+    """Its file is there, and is refused for ever."""
+    folder = it.work / "claimed"
+    folder.mkdir()
+    complete = it.killed(folder, 0.1)
+    told = it.runs("import", "--claim", folder / "state", folder / "new.db", folder / "new")
+    assert told.returncode == 0 and record_of(told.stdout) in (complete, complete + 1), told.stdout
+    for _ in range(2):
+        told = subprocess.run([*ENGINE, folder, "10"], stdout=subprocess.PIPE, stderr=subprocess.STDOUT, text=True, timeout=LONGEST)
+        assert told.returncode != 0 and "older copy" in told.stdout, told.stdout
+
+
 def at_each_loss(it):
     """Power is lost where the recovery ends: what was not synced is gone, or part of it is."""
     base, complete = base_of(it)
@@ -258,12 +317,13 @@ def what_it_says(it):
     assert told.returncode == 1 and "there is a job" in told.stdout, told.stdout
 
 
-TESTS = (what_it_says, after_a_whole_one, at_each_end, at_each_loss, exports_at_each_end, imports_at_each_end, lost_logs, lost_engines)
+TESTS = (what_it_says, after_a_whole_one, at_each_end, at_each_loss, exports_at_each_end, imports_at_each_end, claims_at_each_end,
+         claims_in_place_at_each_end, the_old_job_of_a_claim, lost_logs, lost_engines)
 
 
 def main(command, shim, *engines):
-    failed = 0
-    for test in TESTS:
+    failed, only = 0, os.environ.get("ONLY", "").split()
+    for test in [it for it in TESTS if not only or it.__name__ in only]:
         with tempfile.TemporaryDirectory() as name:
             try:
                 test(Recoveries(pathlib.Path(command).resolve(), str(pathlib.Path(shim).resolve()), [it.split() for it in engines], pathlib.Path(name)))
@@ -271,7 +331,7 @@ def main(command, shim, *engines):
                 print(f"{test.__name__}: {wrong}")
                 failed += 1
     print(f"store: the recoveries have SEED={SEED}")
-    print(f"{len(TESTS) - failed} passed, {failed} failed")
+    print(f"{len(only or TESTS) - failed} passed, {failed} failed")
     return failed != 0
 
 

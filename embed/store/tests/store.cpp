@@ -380,6 +380,48 @@ static void commands(const std::string &path) {
     CHECK(why(job.await(10, base)) == ckpt::store_error::timed_out);
 }
 
+template <class Made> static std::error_code why_not(const Made &made) {
+    const auto *it = std::get_if<ckpt::not_made>(&made);
+    CHECK(it == nullptr || !it->message.empty());
+    return it ? it->why : std::error_code();
+}
+
+/* Manifests: a job that lost its file is made again, and a record is carried elsewhere. */
+static void portable(const std::string &folder) {
+    const std::string state = folder + "/state", path = folder + "/y.db", out = folder + "/out";
+    auto given = options(RELKVANU_STORE_CREATE | RELKVANU_STORE_MANIFESTS);
+    given.storage = state.c_str();
+    CHECK(mkdir(folder.c_str(), 0700) == 0 && mkdir(state.c_str(), 0700) == 0);
+    {
+        auto opened = ckpt::Store::open(path, given);
+        auto &job = std::get<ckpt::Store>(opened);
+        CHECK(!job.put(1, "state") && !job.put(2, "state"));
+        complete(job, 1);
+        CHECK(!job.backup(folder + "/copy.db"));
+    }
+    auto found = std::get<std::vector<ckpt::stored_record>>(ckpt::records(state));
+    CHECK(
+        found.size() == 1 && found[0].id == 1 && found[0].is_next && found[0].files == 2 && found[0].bytes == 10 && found[0].missing == 0);
+    CHECK(why_not(ckpt::records(folder + "/nowhere")) == ckpt::store_error::storage);
+    CHECK(why_not(ckpt::recover(path, state)) == ckpt::store_error::present && unlink(path.c_str()) == 0);
+    CHECK(why_not(ckpt::recover(path, state, 9)) == ckpt::store_error::absent);
+    CHECK(std::get<relkvanu_store_recovered>(ckpt::recover(path, state)).record == 1);
+    CHECK(std::get<relkvanu_store_carried>(ckpt::export_record(state, out)).bytes == 10);
+    CHECK(why_not(ckpt::export_record(state, out)) == ckpt::store_error::present);
+    CHECK(std::get<relkvanu_store_recovered>(ckpt::import_record(out, folder + "/a.db", folder + "/a")).record == 1);
+    CHECK(std::get<relkvanu_store_recovered>(ckpt::claim_record(out, folder + "/b.db", folder + "/b")).record == 1);
+    CHECK(access(out.c_str(), F_OK) != 0);
+    given.flags = RELKVANU_STORE_RECOVER;
+    for (const char *name : {"/a", "/b", "/state"}) {
+        const std::string storage = folder + name;
+        given.storage = storage.c_str();
+        auto opened = ckpt::Store::open(storage == state ? path : storage + ".db", given);
+        CHECK(std::get<ckpt::Store>(opened).report().is_recovered);
+    }
+    CHECK(std::get<relkvanu_store_recovered>(ckpt::put_back(folder + "/copy.db", path, state)).record == 1);
+    CHECK(why_not(ckpt::put_back(folder + "/none.db", path, state)) == ckpt::store_error::failed);
+}
+
 int main(int argc, char **argv) {
     CHECK(argc == 2);
     std::string path = std::string(argv[1]) + "/x.db";
@@ -396,5 +438,6 @@ int main(int argc, char **argv) {
     limits(path + "11");
     backups(path + "10");
     commands(path + "13");
+    portable(std::string(argv[1]) + "/portable");
     return 0;
 }

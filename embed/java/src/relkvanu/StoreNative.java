@@ -9,6 +9,14 @@ final class StoreNative {
     static final int MOST_STEPS = StoreHeader.MOST_STEPS;
     static final int MESSAGE = StoreHeader.MESSAGE;
     static final int COUNTS = 10;
+    static final int RECORD = 9;
+    static final int RECOVERED = 9;
+    /** What {@link #carry} does. */
+    static final int RECOVER = 0;
+    static final int EXPORT = 1;
+    static final int IMPORT = 2;
+    static final int CLAIM = 3;
+    static final int PUT_BACK = 4;
 
     private StoreNative() {}
 
@@ -60,6 +68,10 @@ final class StoreNative {
     static native int getTask(long task, long file, byte[] contents, long[] length, byte[] why);
 
     static native int backup(long store, byte[] path, byte[] message);
+
+    static native int records(byte[] folder, long[][] found, byte[] message);
+
+    static native int carry(int what, byte[] from, long record, byte[] path, byte[] folder, long[] made, byte[] message);
 
     static native int sweep(long store, long[] left);
 

@@ -222,6 +222,27 @@ pub type relkvanu_store_delete_some = unsafe extern "C" fn(
 pub type relkvanu_store_source =
     unsafe extern "C" fn(with: *mut c_void, to: *mut c_void, room: usize) -> i64;
 
+pub type relkvanu_store_each_name =
+    unsafe extern "C" fn(with: *mut c_void, name: *const c_char) -> bool;
+
+pub type relkvanu_store_check_place = unsafe extern "C" fn(with: *mut c_void) -> c_int;
+
+pub type relkvanu_store_put_named = unsafe extern "C" fn(
+    with: *mut c_void,
+    name: *const c_char,
+    contents: *const c_void,
+    contents_len: usize,
+) -> c_int;
+
+pub type relkvanu_store_remove_named =
+    unsafe extern "C" fn(with: *mut c_void, name: *const c_char) -> c_int;
+
+pub type relkvanu_store_list_named = unsafe extern "C" fn(
+    with: *mut c_void,
+    each: relkvanu_store_each_name,
+    with_each: *mut c_void,
+) -> c_int;
+
 pub type relkvanu_store_each_record =
     unsafe extern "C" fn(with: *mut c_void, record: *const relkvanu_store_record) -> bool;
 
@@ -425,6 +446,14 @@ extern "C" {
         message: *mut c_char,
         message_len: usize,
     ) -> c_int;
+    pub fn relkvanu_store_keep_manifests(
+        store: *mut relkvanu_store,
+        check: relkvanu_store_check_place,
+        put: relkvanu_store_put_named,
+        remove: relkvanu_store_remove_named,
+        list: relkvanu_store_list_named,
+        with: *mut c_void,
+    ) -> c_int;
     pub fn relkvanu_store_records(
         folder: *const c_char,
         each: relkvanu_store_each_record,
@@ -438,6 +467,12 @@ extern "C" {
         record: u64,
         recovered: *mut relkvanu_store_recovered,
     ) -> c_int;
+    pub fn relkvanu_store_recover_listed(
+        path: *const c_char,
+        listing: *const c_char,
+        record: u64,
+        recovered: *mut relkvanu_store_recovered,
+    ) -> c_int;
     pub fn relkvanu_store_export(
         folder: *const c_char,
         record: u64,
@@ -445,6 +480,13 @@ extern "C" {
         carried: *mut relkvanu_store_carried,
     ) -> c_int;
     pub fn relkvanu_store_import(
+        from: *const c_char,
+        record: u64,
+        path: *const c_char,
+        folder: *const c_char,
+        recovered: *mut relkvanu_store_recovered,
+    ) -> c_int;
+    pub fn relkvanu_store_claim(
         from: *const c_char,
         record: u64,
         path: *const c_char,

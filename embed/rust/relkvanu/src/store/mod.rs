@@ -3,6 +3,7 @@ mod calls;
 mod error;
 mod opening;
 mod phase;
+pub mod records;
 
 pub use calls::{Made, Outcome};
 pub use error::{CallError, StoreError, StoreErrorKind};

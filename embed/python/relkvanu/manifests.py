@@ -1,0 +1,589 @@
+"""python3 -m relkvanu.manifests show|recover|export|import ..: what relkvanu-store does with manifests, where a place is s3://BUCKET/PREFIX. It calls this
+then. Its functions are for engines. Without a bucket, use those of relkvanu.store.Store.
+
+What is carried into a bucket has an object .relkvanu-part there until it is whole: so a command that was killed goes on when it is given again.
+"""
+import argparse
+import concurrent.futures
+import contextlib
+import dataclasses
+import errno
+import fcntl
+import functools
+import json
+import os
+import pathlib
+import secrets
+import shutil
+import sys
+import tempfile
+import time
+import urllib.parse
+import zlib
+from typing import Any, Dict, Iterator, List, NamedTuple, Optional, Set, Union
+
+from relkvanu.errors import Error
+from relkvanu.s3 import OWNER, Bucket, client
+from relkvanu.storage import Marker, NotThere, StorageError
+from relkvanu.store import Carried, Record, Recovered, Store, StoreError
+
+MARKER, PART = ".relkvanu-job", ".relkvanu-part"
+OPENINGS = 1024  # that a marker may lack, as in relkvanu_store_recover
+TRIES = 100  # a record may end while it is carried
+THREADS = 16  # requests at once
+PIECE = 1 << 20
+Path = Union[str, "os.PathLike[str]"]
+
+
+class Owner(NamedTuple):
+    """What a marker says."""
+
+    job: str
+    epoch: int
+
+    def text(self) -> bytes:
+        return f"relkvanu job {self.job}\nepoch {self.epoch}\n".encode()
+
+
+class Gone(Exception):
+    """A file of the record is not there any more: the record has ended."""
+
+
+@contextlib.contextmanager
+def ended() -> Iterator[None]:
+    """An object that is not there was one of a record that has ended."""
+    try:
+        yield
+    except StorageError as error:
+        if error.errno != errno.ENOENT or isinstance(error, NotThere):
+            raise
+        raise Gone from error
+
+
+def owner_in(text: Optional[bytes]) -> Optional[Owner]:
+    found = None if text is None else OWNER.fullmatch(text)
+    return None if found is None else Owner(found[1].decode(), int(found[2]))
+
+
+def files_in(manifest: bytes) -> Dict[int, Optional[int]]:
+    """The files that a manifest names, each with its length, or none if the text is damaged: the library says so of it."""
+    with contextlib.suppress(ValueError, KeyError, TypeError):
+        return {int(file): size for it in json.loads(manifest)["subtasks"] for file, size in it["files"].items()}
+    return {}
+
+
+def of_job(manifest: bytes, job: str) -> bytes:
+    """The text anew for another job, in which the record is the choice."""
+    found = json.loads(manifest)
+    del found["sum"]
+    found.update(origin=found["job"], job=job, epoch=1, chosen=True)
+    body = json.dumps(found, separators=(",", ":"))[:-1].encode()
+    return body + b',"sum":"%08x"}\n' % zlib.crc32(body)
+
+
+class _Bucket(Bucket):
+    """A bucket without a look at its marker: what it has there is what is asked for."""
+
+    def check(self) -> None:
+        pass
+
+
+class InBucket:
+    """Manifests and files below s3://BUCKET/PREFIX."""
+
+    def __init__(self, url: str, s3: Any) -> None:
+        where = urllib.parse.urlsplit(url)
+        prefix = where.path.strip("/")
+        self.url, self.bucket, self.prefix, self.s3 = url, where.netloc, f"{prefix}/" if prefix else "", s3
+        self._bucket = _Bucket(self.bucket, "any", prefix=self.prefix, s3=s3, keeps_versions=True, marker=Marker(MARKER, "any"))
+
+    def owner(self) -> Optional[Owner]:
+        return owner_in(self._bucket.read_beside(MARKER))
+
+    def mark(self, owner: Owner) -> None:
+        self._bucket.write_beside(MARKER, owner.text())
+
+    def names(self) -> List[str]:
+        return [it for it in self._bucket.beside("record-") if it.endswith(".manifest")]
+
+    def read(self, name: str) -> Optional[bytes]:
+        return self._bucket.read_beside(name)
+
+    def write(self, name: str, contents: bytes) -> None:
+        self._bucket.write_beside(name, contents)
+
+    def remove(self, name: str) -> None:
+        self._bucket.remove_beside(name)
+
+    def sizes(self) -> Dict[int, int]:
+        return {file: size for page in self._bucket.sizes() for file, size in page.items()}
+
+    def is_empty(self) -> bool:
+        return not self._bucket.beside("")
+
+    def drop(self, files: List[int]) -> None:
+        failed = self._bucket.delete(files)
+        if failed:
+            file, why = next(iter(failed.items()))
+            raise StoreError("NotDone", f"{self.url}{file}: {why}", False)
+
+    def key(self, file: int) -> str:
+        return f"{self.prefix}{file}"
+
+    def copy(self, file: int, source: "InBucket") -> None:
+        self._bucket._ask(self.s3.copy_object, Key=self.key(file), CopySource={"Bucket": source.bucket, "Key": source.key(file)})
+
+    def put(self, file: int, contents: Any) -> None:
+        self._bucket._ask(self.s3.put_object, Key=self.key(file), Body=contents)
+
+    def remove_itself(self) -> None:
+        """A prefix is there as long as it has objects."""
+
+    def opened(self, file: int) -> Any:
+        """The contents of a file, to be read."""
+        with ended():
+            return self._bucket._ask(self.s3.get_object, Key=self.key(file))["Body"]
+
+
+class InFolder:
+    """Manifests and files in a folder."""
+
+    def __init__(self, path: Path) -> None:
+        self.url, self.path = os.fspath(path), pathlib.Path(path)
+
+    def owner(self) -> Optional[Owner]:
+        return owner_in(self.read(MARKER))
+
+    def mark(self, owner: Owner) -> None:
+        make_file(self.path / f"{MARKER}.new", [owner.text()])
+        os.rename(self.path / f"{MARKER}.new", self.path / MARKER)
+        sync(self.path)
+
+    def names(self) -> List[str]:
+        return [it.name for it in self.path.glob("record-*.manifest")]
+
+    def read(self, name: str) -> Optional[bytes]:
+        try:
+            return (self.path / name).read_bytes()
+        except FileNotFoundError:
+            return None
+
+    def remove(self, name: str) -> None:
+        sync(self.path)  # the files that left are gone before it
+        (self.path / name).unlink(missing_ok=True)
+
+    def sizes(self) -> Dict[int, int]:
+        with os.scandir(self.path) as entries:
+            return {int(it.name): it.stat().st_size for it in entries if it.name.isdecimal() and it.is_file(follow_symlinks=False)}
+
+    def is_empty(self) -> bool:
+        return not self.path.exists() or not any(self.path.iterdir())
+
+    def drop(self, files: List[int]) -> None:
+        for file in files:
+            (self.path / str(file)).unlink(missing_ok=True)
+
+    def remove_itself(self) -> None:
+        """An exported folder that has nothing more."""
+        if not any(self.path.iterdir()):
+            self.path.rmdir()
+
+    def opened(self, file: int) -> Any:
+        try:
+            return open(os.open(self.path / str(file), os.O_RDONLY | os.O_NOFOLLOW), "rb")
+        except FileNotFoundError as error:
+            raise Gone from error
+
+
+Place = Union[InFolder, InBucket]
+
+
+def place(url: Path, s3: Any = None) -> Place:
+    text = os.fspath(url)
+    return InBucket(text, client() if s3 is None else s3) if text.startswith("s3://") else InFolder(text)
+
+
+def sync(folder: pathlib.Path) -> None:
+    descriptor = os.open(folder, os.O_RDONLY | os.O_DIRECTORY)
+    try:
+        os.fsync(descriptor)
+    finally:
+        os.close(descriptor)
+
+
+def make_file(path: pathlib.Path, pieces: Any) -> int:
+    """Writes and syncs a file. Returns its length."""
+    with open(path, "wb") as file:
+        length = sum(file.write(it) for it in pieces)
+        file.flush()
+        os.fsync(file.fileno())
+    return length
+
+
+@contextlib.contextmanager
+def listed(source: Place) -> Iterator[pathlib.Path]:
+    """A folder that the library reads in place of a bucket: with the marker, the manifests, and for each file that they name, and that is there, one of its
+    length, which is a hole."""
+    if isinstance(source, InFolder):
+        yield source.path
+        return
+    with tempfile.TemporaryDirectory(prefix="relkvanu-") as name:
+        folder, owner, wanted = pathlib.Path(name), source.owner(), set()
+        for it in source.names():
+            text = source.read(it)
+            if text is not None:
+                (folder / it).write_bytes(text)
+                wanted |= set(files_in(text))
+        for file, size in source.sizes().items():
+            if file in wanted:
+                with open(folder / str(file), "wb") as hole:
+                    hole.truncate(size)
+        if owner is not None:
+            (folder / MARKER).write_bytes(owner.text())
+        yield folder
+
+
+def chosen(source: Place, folder: pathlib.Path, record: int) -> Record:
+    """The record that a recovery begins from, or the one with this number."""
+    for it in Store.records(folder):
+        is_whole = it.damage is None and it.is_of_job and it.missing == 0
+        if is_whole and (it.id == record if record else it.is_next):
+            return it
+    raise StoreError("Absent", f"{source.url}: no record that has a manifest there has all its files", False)
+
+
+def name_of(record: int) -> str:
+    return f"record-{record}.manifest"
+
+
+def records(source: Place) -> List[Record]:
+    """The records of a place that have a manifest. Those in a bucket have the bytes of the objects that are there."""
+    sizes = source.sizes() if isinstance(source, InBucket) else {}
+    with listed(source) as folder:
+        found = Store.records(folder)
+        texts = {it.id: (folder / name_of(it.id)).read_bytes() for it in found} if sizes else {}
+    return [dataclasses.replace(it, bytes=sum(sizes.get(file, 0) for file in files_in(texts[it.id]))) if sizes and it.damage is None else it for it in found]
+
+
+def recover(job: Path, source: Place, record: int = 0) -> Recovered:
+    """Makes the file of a job again from the manifests in its place. Killed at any moment it has done nothing, or all."""
+    if isinstance(source, InFolder):
+        return Store.recover(job, source.path, record)
+    if source.owner() is None:
+        raise StoreError("Storage", f"{source.url}: it has no marker of a job", False)
+    with listed(source) as folder:
+        found = Store.recover_listed(job, folder, record)
+        owner = InFolder(folder).owner()
+    assert owner is not None
+    source.mark(owner)  # from now on an old file is refused. The next opening does it too
+    return found
+
+
+# To carry a record.
+
+
+def carry_file(source: Place, target: Place, part: pathlib.Path, file: int, size: Optional[int]) -> None:
+    """Into a bucket, or into the folder `part`. From bucket to bucket the server copies."""
+    if isinstance(source, InBucket) and isinstance(target, InBucket):
+        with ended():
+            target.copy(file, source)
+        return
+    with contextlib.closing(source.opened(file)) as contents:
+        if isinstance(target, InBucket):
+            target.put(file, contents)
+            return
+        length = make_file(part / str(file), iter(functools.partial(contents.read, PIECE), b""))
+    if size is not None and length != size:
+        raise StoreError("Damaged", f"{source.url}: file {file} is not as long as its manifest says", False)
+
+
+def carry_files(source: Place, target: Place, part: pathlib.Path, files: Dict[int, Optional[int]]) -> None:
+    with concurrent.futures.ThreadPoolExecutor(THREADS) as pool:
+        tasks = [pool.submit(carry_file, source, target, part, file, size) for file, size in files.items()]
+        for it in concurrent.futures.as_completed(tasks):
+            if it.exception() is not None:
+                pool.shutdown(wait=True, cancel_futures=True)
+                it.result()
+
+
+def manifest_of(source: Place, record: Record, job: Optional[str]) -> bytes:
+    text = source.read(name_of(record.id))
+    if text is None:
+        raise Gone
+    return text if job is None else of_job(text, job)
+
+
+@contextlib.contextmanager
+def part_folder(target: InFolder) -> Iterator[pathlib.Path]:
+    """A folder beside the target that nobody else makes meanwhile. It is removed unless it was given its name."""
+    part = pathlib.Path(f"{target.url.rstrip('/')}.part")
+    with contextlib.suppress(FileExistsError):
+        part.mkdir(mode=0o700)
+    lock = os.open(part, os.O_RDONLY | os.O_DIRECTORY | os.O_NOFOLLOW)
+    try:
+        try:
+            fcntl.flock(lock, fcntl.LOCK_EX | fcntl.LOCK_NB)
+        except BlockingIOError:
+            raise StoreError("InUse", f"{part}: another export or import writes it", False) from None
+        for it in part.iterdir():
+            it.unlink()
+        yield part
+    finally:
+        if part.exists() and os.path.samestat(os.fstat(lock), os.stat(part)):
+            shutil.rmtree(part)
+        os.close(lock)
+
+
+def into_folder(source: Place, target: InFolder, record: Record, job: Optional[str]) -> int:
+    """The folder gets its name once all is on the disk. Returns the bytes."""
+    text = manifest_of(source, record, job)
+    with part_folder(target) as part:
+        carry_files(source, target, part, files_in(text))
+        make_file(part / name_of(record.id), [text])
+        if job is not None:
+            make_file(part / MARKER, [Owner(job, 1).text()])
+        sync(part)
+        size = sum(it.stat().st_size for it in part.iterdir() if it.name.isdecimal())
+        try:
+            os.rename(part, target.url.rstrip("/"))
+        except OSError as error:
+            raise StoreError("Present", f"{target.url}: {error.strerror}", False) from error
+    sync(target.path.resolve().parent)
+    return size
+
+
+def begun(target: InBucket, origin: str, job: Optional[str]) -> Dict[str, Any]:
+    """What an earlier try has begun in an empty place, or this one begins. The same record has the same files, so it goes on where that one was."""
+    found = target.read(PART)
+    if found is None:
+        if not target.is_empty():
+            raise StoreError("Present", f"{target.url}: there are objects", False)
+        new = {"origin": origin, "job": job}
+        target.write(PART, json.dumps(new).encode())
+        return new
+    part: Dict[str, Any] = json.loads(found)
+    if part["origin"] != origin or (part["job"] is None) != (job is None):
+        raise StoreError("Present", f"{target.url}: something else is carried there", False)
+    return part
+
+
+def into_bucket(source: Place, target: InBucket, record: Record, job: Optional[str]) -> int:
+    """The manifest comes last: with it the record is there. What another record has left there goes before."""
+    text = manifest_of(source, record, None)
+    part = begun(target, json.loads(text)["job"], job)
+    files = files_in(text)
+    carry_files(source, target, pathlib.Path(), files)
+    sizes = target.sizes()
+    target.drop([file for file in sizes if file not in files])
+    if target.read(PART) is None:
+        raise StoreError("Present", f"{target.url}: another command has carried it there", False)
+    for it in target.names():
+        target.remove(it)
+    if part["job"] is not None:
+        target.mark(Owner(part["job"], 1))
+    target.write(name_of(record.id), text if part["job"] is None else of_job(text, part["job"]))
+    target.remove(PART)
+    return sum(sizes.get(file, 0) for file in files)
+
+
+def carry(source: Place, target: Place, record: int, job: Optional[str]) -> Carried:
+    """Chooses a record and carries it. While its job runs it may end meanwhile: then there is a later one."""
+    for _ in range(TRIES):
+        with listed(source) as folder:
+            one = chosen(source, folder, record)
+        with contextlib.suppress(Gone):
+            size = into_folder(source, target, one, job) if isinstance(target, InFolder) else into_bucket(source, target, one, job)
+            return Carried(one.id, one.is_savepoint, one.files, size)
+    raise StoreError("Absent", f"{source.url}: its records end too soon", False)
+
+
+def export(source: Place, target: Place, record: int = 0) -> Carried:
+    """Carries a record into an empty place, with its manifest. The job of the source may run meanwhile."""
+    if isinstance(source, InFolder) and isinstance(target, InFolder):
+        return Store.export(source.path, target.path, record)
+    if isinstance(target, InFolder) and not target.is_empty():
+        raise StoreError("Present", f"{target.url}: it is there, and is no empty folder", False)
+    return carry(source, target, record, None)
+
+
+# To begin another job.
+
+
+def has_job(path: Path) -> bool:
+    return os.path.exists(path) and os.path.getsize(path) != 0
+
+
+def manifests_of(source: Place) -> Dict[int, bytes]:
+    found = {it: source.read(it) for it in source.names()}
+    return {int(name[len("record-"):-len(".manifest")]): text for name, text in found.items() if text is not None}
+
+
+def members(text: bytes) -> Dict[str, Any]:
+    with contextlib.suppress(ValueError):
+        found = json.loads(text)
+        return found if isinstance(found, dict) else {}
+    return {}
+
+
+def imported(source: Place, target: Place) -> Optional[int]:
+    """The record of the source of which the target has an import that no engine has opened yet."""
+    if target.owner() is None or (isinstance(target, InBucket) and target.read(PART) is not None):
+        return None
+    there = {(id, members(text).get("job")) for id, text in manifests_of(source).items()}
+    return next((id for id, text in manifests_of(target).items() if (id, members(text).get("origin")) in there), None)
+
+
+def begin(source: Place, job: Path, target: Place, record: int) -> Recovered:
+    if imported(source, target) is None:
+        if isinstance(target, InFolder) and not target.is_empty():
+            raise StoreError("Present", f"{target.url}: it is there, and is no empty folder", False)
+        carry(source, target, record, secrets.token_hex(16))
+    return recover(job, target)
+
+
+def import_job(source: Place, job: Path, target: Place, record: int = 0) -> Recovered:
+    """Makes another job, at `job` over the target, of a record in the source, whose job may run."""
+    if has_job(job):
+        raise StoreError("Present", f"{os.fspath(job)}: there is a job", False)
+    return begin(source, job, target, record)
+
+
+def leave(source: Place, record: int) -> None:
+    """The files of the record leave the source, but for those that another record has, and then its manifest."""
+    texts = manifests_of(source)
+    others: Set[int] = set()
+    for id, text in texts.items():
+        if id != record:
+            if not files_in(text):
+                raise StoreError("Damaged", f"{source.url}: another manifest can't be read: the files of the record stay there too", False)
+            others |= set(files_in(text))
+    if record in texts:
+        source.drop(sorted(set(files_in(texts[record])) - others))
+        source.remove(name_of(record))
+    if source.owner() is None:
+        source.remove_itself()
+
+
+def fence(source: Place) -> None:
+    owner = source.owner()
+    if owner is not None:
+        epochs = [it.get("epoch", 0) for it in map(members, manifests_of(source).values()) if it.get("job") == owner.job]
+        source.mark(Owner(owner.job, max([owner.epoch, *epochs]) + OPENINGS))
+
+
+def own(source: InBucket, record: Record) -> None:
+    """Gives the job of an exported record an identity, in place."""
+    text, job = manifest_of(source, record, None), secrets.token_hex(16)
+    source.write(name_of(record.id), of_job(text, job))
+    source.mark(Owner(job, 1))
+
+
+def claim(source: Place, job: Path, target: Place, record: int = 0) -> Recovered:
+    """import_job() by which the record's files leave the source, or stay in place if the target is the same. The source's old job is fenced first."""
+    if isinstance(source, InFolder) and isinstance(target, InFolder):
+        return Store.import_job(source.path, job, target.path, record, claim=True)
+    is_in_place = isinstance(source, InBucket) and isinstance(target, InBucket) and (source.bucket, source.prefix) == (target.bucket, target.prefix)
+    if has_job(job):
+        return go_on(source, job, target)
+    with listed(source) as folder:
+        one = chosen(source, folder, record)
+    if is_in_place:
+        if source.owner() is None and isinstance(source, InBucket):
+            own(source, one)
+        return recover(job, source, record)
+    is_begun = isinstance(target, InBucket) and target.read(PART) is not None
+    if not is_begun and imported(source, target) is None and not target.is_empty():
+        raise StoreError("Present", f"{target.url}: it is there, and is not empty", False)
+    fence(source)  # before the record is chosen, so that none is lost that the old job completes meanwhile
+    found = begin(source, job, target, record)
+    leave(source, found.record)
+    return found
+
+
+def go_on(source: Place, job: Path, target: Place) -> Recovered:
+    """A claim whose job is there already, as the same call has left it before it ended."""
+    record = imported(source, target)
+    if record is None:
+        raise StoreError("Present", f"{os.fspath(job)}: there is a job", False)
+    it = members(manifests_of(target)[record])
+    leave(source, record)
+    return Recovered(record, it["kind"] == "savepoint", it["files"], it["bytes"], 0, 0, 0, 0, max(it["below"]["number"], record + 1))
+
+
+# The command.
+
+
+def state_of(it: Record) -> str:
+    if it.damage is not None:
+        return "written by a later version" if it.damage == "NotAStore" else "the manifest is damaged"
+    if not it.is_of_job:
+        return "of another job than the folder"
+    if it.missing:
+        return f"{it.missing} files are missing or have another length"
+    return "whole; a recovery or an import begins from it" if it.is_next else "whole"
+
+
+def show(source: Place) -> None:
+    found = records(source)
+    print(f"{'record':<12} {'kind':<10} {'written':<20} {'files':>10} {'bytes':>16}  state" if found else "no record has a manifest")
+    for it in found:
+        written = "?" if it.damage else time.strftime("%Y-%m-%dT%H:%M:%SZ", time.gmtime(it.written // 1000))
+        kind = "?" if it.damage else "savepoint" if it.is_savepoint else "checkpoint"
+        print(f"{it.id:<12} {kind:<10} {written:<20} {it.files:>10} {it.bytes:>16}  {state_of(it)}")
+
+
+def tell(job: str, made: Recovered) -> None:
+    kind = "savepoint" if made.is_savepoint else "checkpoint"
+    print(f"{job} goes on from {kind} {made.record}, which has {made.files} files of {made.bytes} bytes")
+    print(f"later records have numbers from {made.next_number} on")
+    if made.savepoints:
+        print(f"{made.savepoints} other savepoints live on, under new numbers")
+    if made.passed:
+        print(f"{made.passed} manifests were passed over, since they are damaged or lack files")
+
+
+def parser() -> argparse.ArgumentParser:
+    server = argparse.ArgumentParser(add_help=False, argument_default=argparse.SUPPRESS)
+    server.add_argument("--endpoint", metavar="URL", help="another S3 server than that of AWS")
+    server.add_argument("--region", help="its region")
+    it = argparse.ArgumentParser(prog="relkvanu-store", description="A folder may be s3://BUCKET/PREFIX.", parents=[server])
+    commands = it.add_subparsers(dest="command", required=True)
+    for name, words in (("show", ("place",)), ("recover", ("job", "place")), ("export", ("source", "target")), ("import", ("source", "job", "target"))):
+        command = commands.add_parser(name, parents=[server])
+        for word in words:
+            command.add_argument(word)
+        if name != "show":
+            command.add_argument("record", nargs="?", type=int, default=0)
+        if name == "import":
+            command.add_argument("--claim", action="store_true", help="the files leave SOURCE, whose job is refused from then on")
+    return it
+
+
+def run(given: argparse.Namespace) -> None:
+    s3 = client(getattr(given, "endpoint", os.environ.get("AWS_ENDPOINT_URL")), getattr(given, "region", None))
+    at = functools.partial(place, s3=s3)
+    if given.command == "show":
+        show(at(given.place))
+    elif given.command == "recover":
+        tell(given.job, recover(given.job, at(given.place), given.record))
+    elif given.command == "export":
+        made = export(at(given.source), at(given.target), given.record)
+        print(f"{given.target} has {'savepoint' if made.is_savepoint else 'checkpoint'} {made.record}, with {made.files} files of {made.bytes} bytes")
+    else:
+        begins = claim if given.claim else import_job
+        tell(given.job, begins(at(given.source), given.job, at(given.target), given.record))
+
+
+def main(words: Optional[List[str]] = None) -> int:
+    given = parser().parse_args(words)
+    try:
+        run(given)
+        sys.stdout.flush()
+    except (Error, OSError) as error:
+        print(f"relkvanu-store: {error}", file=sys.stderr)
+        return 1
+    return 0
+
+
+if __name__ == "__main__":
+    sys.exit(main())
