@@ -188,7 +188,9 @@ class Checker:
             self.broken(3, f"{event.line} came from {sender}, which was replaced")
         if word == "start":
             self.durable.logged.add(("restore", 0))
-        self.note(reply, sender, rest[2:] if word == "in" else rest)
+        if word == "in":
+            _, word, *rest = rest
+        self.note(reply, sender, rest)
         if isinstance(reply, (RestoredCheckpoint, RestoredSavepoint, RestoredFresh)):
             self.elements.was_restored(getattr(reply, "id", 0), word == "restore" and rest[1:2] not in ([], ["latest"]))
         if self.elements.stop:

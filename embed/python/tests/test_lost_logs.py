@@ -22,6 +22,14 @@ def recovered(record, files, more=(), number=2, swept=()):
             "task 0.0 2 starts"]
 
 
+def published(element, record=0, task="0.0 1", term=1):
+    """A sink reads an element, prepares it for a record, and publishes it."""
+    record = record or element
+    lines = [*read(element, task=task), *with_sink(record, [f"tick {10 * element}", "log synced"], task)]
+    lines = told([f"in {term} {line}" if line.startswith("ack") else line for line in lines], record)
+    return [*lines, f"complete {record} to {task}", f"task {task} publishes {record}"]
+
+
 ONE = told([*OPENING, *checkpoint(1, 1)], 1)
 TWO = told([*ONE, *checkpoint(2, 2)], 2)
 AGAIN = [*LOST, *recovered(2, " +2", swept=[1])]
@@ -74,6 +82,13 @@ class Lost(Judging):
     def test_17_an_older_record(self):
         kept = ["config 10 0 1 1000 0 2 delete" if line.startswith("config") else line for line in TWO]
         self.breaks([*kept, *LOST, *recovered(1, " +1")], 17, len(kept) + 4)
+
+    def test_17_an_older_record_with_a_sink(self):
+        """What was published since comes again. Nobody has chosen that: an advance is no restore to a savepoint."""
+        lines = [*NAMED, *published(1), *published(2), *LOST]
+        again = recovered(1, "", ["savepoint 0", "decline 0 2 0.0", "fence 1", "advance 0 1 1"])
+        lines = ["config 10 0 1 1000 0 2 delete" if line.startswith("config") else line for line in [*lines, *again, *published(2, 3, "0.0 2", 3)]]
+        self.breaks(lines, 17, lines.index("log lost") + 2, "element 2 of 0.0 is published twice")
 
     def test_17_a_number_comes_again(self):
         """Record 2 was told, and not completed."""
