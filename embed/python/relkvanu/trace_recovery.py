@@ -35,8 +35,8 @@ class Recoveries:
 
     def acts(self, what: str) -> None:
         """Somebody acts on what the process said. A job has manifests from its first one on."""
-        record = self.choice()
-        if self.manifests and record and record not in self.manifests:
+        record = self.choice() if self.manifests else 0
+        if record and record not in self.manifests:
             self.broken(16, f"{what}, and record {record} has no manifest yet")
 
     def lose_log(self) -> None:
