@@ -6,7 +6,7 @@ import tempfile
 from pathlib import Path
 
 FOLDER = Path(__file__).resolve().parent.parent / "docs/protocol"
-PROCESS = re.compile(r"process ([0-9]+) (starts|ends|goes on)")
+PROCESS = re.compile(r"process ([0-9]+) (starts|ends|goes on|recovers [0-9]+)")
 TASK = re.compile(r"task ([0-9.]+) ([0-9]+) (.*)")
 BARRIER = re.compile(r"barrier ([0-9]+) to ([0-9.]+) ([0-9]+)")
 ANSWER = re.compile(r"answer to ([0-9.]+) ([0-9]+) (.*)")
@@ -75,8 +75,12 @@ class Picture:
             self.arc(found[1], "=>", "storage", found[2] + found[3])
         elif line.startswith("storage "):
             self.note("storage", line.removeprefix("storage "), ', textbgcolour="#ffd0a0"')
+        elif line.startswith("manifest "):
+            self.arc(self.process, "=>", "storage", line)
         elif line == "folder synced":
             self.note("storage", line)
+        elif line in ("log lost", "log comes back"):
+            self.note(self.process, line, ', textbgcolour="#ffd0a0"')
         elif line in ("log synced", "log cut", "log copied", "log put back"):
             self.note(self.process, line)
         elif line.startswith("term "):

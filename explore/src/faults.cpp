@@ -58,6 +58,9 @@ std::string fault_of(const State &state) {
     if (state.is_down && !scope.is_on[ONE_LOG]) {
         return ""; // the other process has not read the log yet
     }
+    if (state.is_lost) {
+        return ""; // no process knows a record
+    }
     const Facts &facts = library.facts(state.current.image);
     const std::string fault = scope.has_elements() ? wrong_output(state, facts) : lost(state, facts);
     if (!fault.empty() || !scope.checks_leaks || state.is_down) {

@@ -61,6 +61,9 @@ static relkvanu_answer make_plain(relkvanu *handle, const Facts &facts, const Ca
     case UNDELETE: return relkvanu_undeleted(handle, call.file);
     case TRIGGER: return relkvanu_trigger(handle, now);
     case CONFIGURE: return configure(handle, now, call.record);
+    case GIVE_NAMES: return relkvanu_fence(handle, call.file);
+    case ADVANCE: return relkvanu_advance(handle, now, call.term, call.file);
+    case ADOPT: return relkvanu_ack(handle, now, call.record, 0, call.subtask, reused.data(), reused.size(), nullptr, 0);
     default: die("an unknown call");
     }
 }
@@ -75,6 +78,9 @@ static std::vector<u64> first_list(const Call &call) {
         const relkvanu_settings all = settings_of(call.record);
         return {all.interval, all.pause, all.at_once, all.timeout, all.tolerable, all.retained, all.keep_on_cancel};
     }
+    if (call.kind == ADOPT) {
+        return list_of(call.reused);
+    }
     const bool has_file = call.file && (call.kind == ACK || call.kind == FORFEIT || call.kind == RESTORE);
     return has_file ? std::vector<u64>{call.file} : std::vector<u64>();
 }
@@ -83,11 +89,12 @@ std::string Library::line(u32 image, const Call &call) {
     static const u32 kinds[] = {0, RELKVANU_CALL_TICK, RELKVANU_CALL_TICK, RELKVANU_CALL_SAVEPOINT, RELKVANU_CALL_ACK,
         RELKVANU_CALL_DECLINE, RELKVANU_CALL_DISPOSE, RELKVANU_CALL_RESTORE, RELKVANU_CALL_CANCEL, RELKVANU_CALL_TAKE,
         RELKVANU_CALL_DELETED, RELKVANU_CALL_UNDELETED, RELKVANU_CALL_RESERVE, RELKVANU_CALL_FORFEIT, RELKVANU_CALL_TRIGGER,
-        RELKVANU_CALL_CONFIGURE};
-    const bool is_report = call.kind == DELETE || call.kind == UNDELETE, is_of_one = call.kind == TAKE || call.kind == RESERVE;
-    const u64 number = is_of_one ? 1 : is_report ? call.file : call.record;
+        RELKVANU_CALL_CONFIGURE, RELKVANU_CALL_FENCE, RELKVANU_CALL_ADVANCE, RELKVANU_CALL_ACK};
+    const bool is_of_file = call.kind == DELETE || call.kind == UNDELETE || call.kind == GIVE_NAMES || call.kind == ADVANCE;
+    const bool is_of_one = call.kind == TAKE || call.kind == RESERVE;
+    const u64 number = is_of_one ? 1 : is_of_file ? call.file : call.record;
     const std::vector<u64> first = first_list(call), reused = call.kind == ACK ? list_of(call.reused) : std::vector<u64>();
-    const u64 term = scope.names && has_term(call) ? call.term : 0;
+    const u64 term = scope.names && (has_term(call) || call.kind == ADVANCE) ? call.term : 0;
     const relkvanu_call said = {kinds[call.kind], 0, call.subtask, moment_of(facts(image), call.kind), number, term};
     u8 text[512];
     const relkvanu_answer written = relkvanu_call_line(&said, first.data(), first.size(), reused.data(), reused.size(), text, sizeof text);
@@ -97,14 +104,14 @@ std::string Library::line(u32 image, const Call &call) {
     return std::string(text, text + written.a);
 }
 
-std::string Library::opening_lines() {
+std::string Library::opening_lines(bool has_names) {
     const std::vector<u64> vertices = shape();
     u8 text[512];
     const relkvanu_answer written = relkvanu_opening_lines(&settings(), vertices.data(), vertices.size(), 0, text, sizeof text);
     if (written.code != RELKVANU_DONE) {
         die("the library writes no opening");
     }
-    return std::string(text, text + written.a) + (scope.names ? std::string(FENCE_LINE) + "\n" : "");
+    return std::string(text, text + written.a) + (has_names ? std::string(FENCE_LINE) + "\n" : "");
 }
 
 // Makes the call of a line of the log.
@@ -115,11 +122,15 @@ static void make_line(relkvanu *handle, const std::string &line) {
     }
 }
 
-static void open_new(relkvanu *handle, u64 word) {
+static void open_plain(relkvanu *handle, u64 first, u64 word) {
     const std::vector<u64> vertices = shape();
-    if (relkvanu_open(handle, &settings(), vertices.data(), vertices.size(), 0, 1, word, word + 1).code != RELKVANU_DONE) {
+    if (relkvanu_open(handle, &settings(), vertices.data(), vertices.size(), 0, first, word, word + 1).code != RELKVANU_DONE) {
         die("the library opens no coordinator");
     }
+}
+
+static void open_new(relkvanu *handle, u64 word) {
+    open_plain(handle, 1, word);
     if (scope.names) {
         make_line(handle, FENCE_LINE);
     }
@@ -155,9 +166,20 @@ u32 Library::opening() {
     return handle_at;
 }
 
-std::string Library::replayed(const std::vector<std::string> &lines, u64 word) {
+u32 Library::opening_of_recovery(u8 first) {
+    relkvanu_close(&handle);
+    open_plain(&handle, first, 1);
+    handle_at = number_of(saved(&handle));
+    return handle_at;
+}
+
+std::string Library::replayed(const std::vector<std::string> &lines, u8 first, u64 word) {
     relkvanu again = {};
-    open_new(&again, word);
+    if (first == 0) {
+        open_new(&again, word);
+    } else {
+        open_plain(&again, first, word);
+    }
     for (const std::string &line : lines) {
         make_line(&again, line);
     }
@@ -201,10 +223,10 @@ void Library::grow() {
     }
 }
 
-// The call in one word: 4, 1, 8, 6, 32 and 13 bits.
+// The call in one word: 5, 1, 8, 6, 32 and 12 bits.
 static u64 code_of(const Call &call) {
-    const u64 numbers = call.kind | u64(call.subtask) << 4 | u64(call.record) << 5 | u64(call.file) << 13;
-    return numbers | u64(call.reused) << 19 | u64(call.term) << 51;
+    const u64 numbers = call.kind | u64(call.subtask) << 5 | u64(call.record) << 6 | u64(call.file) << 14;
+    return numbers | u64(call.reused) << 20 | u64(call.term) << 52;
 }
 
 Answer Library::call(u32 image, const Call &call) {

@@ -25,7 +25,10 @@ enum Kind : u8 {
     RESERVE,
     FORFEIT,
     TRIGGER,
-    CONFIGURE
+    CONFIGURE,
+    GIVE_NAMES, // `file`: the first name
+    ADVANCE,    // the same, and a term above `term` begins
+    ADOPT       // an acknowledgement of a recovery, before the job has names: the files of `reused` are fresh
 };
 
 struct Call {
@@ -55,6 +58,7 @@ struct Facts {
     Files done;       // of live records that are done
     u32 done_records; // their numbers, as bits
     bool is_running, is_cancelled;
+    u8 next_record;                                     // the number that the next record gets
     u8 choice;                                          // the number of the record that a restore would begin from, or 0
     Files base[2];                                      // its files, by subtask
     u8 pending[MOST_RECORDS], savepoints[MOST_RECORDS]; // numbers, of done savepoints
@@ -74,9 +78,10 @@ struct Drained {
 
 class Library {
 public:
-    // The image of a new coordinator, and the lines that open its log.
+    // The image of a new coordinator, and the lines that open its log. That of a recovery begins with the number `first`, and has no names yet.
     u32 opening();
-    std::string opening_lines();
+    u32 opening_of_recovery(u8 first);
+    std::string opening_lines(bool has_names);
     Answer call(u32 image, const Call &call);
     // The line of the call for the log.
     std::string line(u32 image, const Call &call);
@@ -87,8 +92,8 @@ public:
     u64 made() const { return calls; }
     // After a restore (RESTORE), a cancel (CANCEL), or at once (0).
     const Drained &drained(u32 image, u8 after);
-    // The image of a coordinator that makes the calls of these lines.
-    std::string replayed(const std::vector<std::string> &lines, u64 word);
+    // The image of a coordinator that makes the calls of these lines. `first`: 0, or the first number of the log of a recovery.
+    std::string replayed(const std::vector<std::string> &lines, u8 first, u64 word);
     // Forgets all images. Their numbers mean nothing then.
     void clear();
 

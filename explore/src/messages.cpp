@@ -4,6 +4,10 @@
 
 #include <algorithm>
 
+static bool is_completed(const Answer &answer) {
+    return answer.is_done() && answer.what == RELKVANU_ACK_COMPLETED;
+}
+
 Answer Steps::accept(Process *who, Message message) {
     // Without the rule the engine does not carry the term.
     const u8 term = scope.is_on[FENCE] ? message.term() : term_of(*who);
@@ -16,13 +20,8 @@ Answer Steps::accept(Process *who, Message message) {
         return {who->image, RELKVANU_REFUSED, 0, 0, 0};
     }
     const Answer answer = call(who, made);
-    const bool is_completed = answer.is_done() && answer.what == RELKVANU_ACK_COMPLETED;
-    if (is_completed && scope.is_on[STOP_IN_ONE] && message.record() == stop_record(who->stop)) {
+    if (is_completed(answer) && scope.is_on[STOP_IN_ONE] && message.record() == stop_record(who->stop)) {
         stop_with(message.record());
-    }
-    sync_log();
-    if (is_completed) {
-        note_completed(message.record());
     }
     return answer;
 }
@@ -72,6 +71,12 @@ void Steps::deliver(unsigned place, bool is_copy, bool to_old) {
     }
     tell("from 0.%u %u", message.subtask(), message.incarnation());
     const Answer answer = accept(who, message);
+    if (answer.what != 0) {
+        sync_log(); // else it was dropped
+    }
+    if (is_completed(answer)) {
+        note_completed(message.record());
+    }
     seen[!answer.is_done()                       ? answer.what == 0 || is_old_term(answer) ? DROPPED_MESSAGES : REFUSED_MESSAGES
          : answer.what == RELKVANU_ACK_PENDING   ? PENDING_ACKS
          : answer.what == RELKVANU_ACK_COMPLETED ? COMPLETED_ACKS
@@ -98,6 +103,9 @@ void Steps::of_messages() {
         }
         if (offer(from->has_old && !scope.is_on[ONE_LOG])) {
             deliver(place, false, true);
+        }
+        if (offer_fault(!from->is_down && scope.has_manifests() && may_use(CRASHES))) {
+            end_behind(place);
         }
         if (offer_fault(loses)) {
             drop_message(&next, place);

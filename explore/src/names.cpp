@@ -24,6 +24,9 @@ bool is_old_term(const Answer &answer) {
 
 void read_names(relkvanu *handle, Facts *facts) {
     const relkvanu_answer term = relkvanu_term(handle);
+    if (term.code == RELKVANU_FENCED && term.what == RELKVANU_NO_NAMES) {
+        return; // a recovery makes its first calls without names
+    }
     u64 all[LAST_FILE], garbage[LAST_FILE], unissued[LAST_FILE];
     for (unsigned file = 1; file <= LAST_FILE; file++) {
         all[file - 1] = file;

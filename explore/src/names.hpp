@@ -6,7 +6,7 @@
 
 // Whether the call says in which term its task runs.
 inline bool has_term(const Call &call) {
-    return call.kind == ACK || call.kind == DECLINE || call.kind == RESERVE || call.kind == FORFEIT;
+    return call.term != 0 && (call.kind == ACK || call.kind == DECLINE || call.kind == RESERVE || call.kind == FORFEIT);
 }
 relkvanu_answer make_named(relkvanu *handle, const Call &call, const std::vector<u64> &reused);
 // Whether a call was refused for its term or its names.

@@ -133,7 +133,7 @@ void Steps::report_taken() {
 
 // The new process has replayed the log.
 void Steps::recover() {
-    next.is_down = 0;
+    next.is_down = next.is_lost = 0;
     seen[RECOVERIES]++;
     next.current.number = ++next.processes;
     tell("process %u starts", next.current.number);
@@ -151,6 +151,20 @@ void Steps::recover() {
     }
 }
 
+// What is not durable is lost with it.
+void Steps::end_process() {
+    if (scope.is_on[ONE_LOG]) {
+        tell("process %u ends", next.current.number);
+        tell("log cut");
+    }
+    next.current = next.durable;
+    next.back_to = next.back_with = 0;
+    next.is_down = 1;
+    if (log) {
+        log->lines.resize(log->durable);
+    }
+}
+
 void Steps::of_crashes() {
     if (offer(memcmp(&from->current, &from->durable, sizeof(Process)) != 0 && !from->is_down && scope.is_on[ONE_LOG])) {
         sync_now();
@@ -158,22 +172,14 @@ void Steps::of_crashes() {
     }
     if (offer_fault(!from->is_down && may_use(CRASHES))) {
         use(CRASHES);
-        if (scope.is_on[ONE_LOG]) {
-            tell("process %u ends", next.current.number);
-            tell("log cut");
-        } else {
+        if (!scope.is_on[ONE_LOG]) {
             next.old = from->current;
             next.has_old = 1;
         }
-        next.current = from->durable;
-        next.back_to = next.back_with = 0;
-        next.is_down = 1;
-        if (log) {
-            log->lines.resize(log->durable);
-        }
+        end_process();
         made();
     }
-    if (offer(from->is_down)) {
+    if (offer(from->is_down && from->is_lost != 1)) {
         recover();
         made();
     }

@@ -49,7 +49,7 @@ private:
 };
 
 void Run::check_replay() {
-    if (library.replayed(log.lines, random.word()) != library.text(state.durable.image)) {
+    if (library.replayed(log.lines, log.first, random.word()) != library.text(state.durable.image)) {
         die("the log's replay gives another coordinator");
     }
     ++*replays;

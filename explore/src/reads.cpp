@@ -84,6 +84,14 @@ static void read_records(relkvanu *handle, Facts *facts) {
     }
 }
 
+static u8 next_record(relkvanu *handle) {
+    u8 number = 1;
+    while (relkvanu_standing(handle, number).what != RELKVANU_STANDS_NOT_YET) {
+        number++;
+    }
+    return number;
+}
+
 Facts facts_of(relkvanu *handle) {
     Facts facts = {};
     read_records(handle, &facts);
@@ -92,6 +100,7 @@ Facts facts_of(relkvanu *handle) {
     facts.taken = taken(handle);
     facts.is_running = relkvanu_mode(handle).what == RELKVANU_MODE_RUNNING;
     facts.is_cancelled = relkvanu_mode(handle).what == RELKVANU_MODE_CANCELLED;
+    facts.next_record = next_record(handle);
     facts.due = relkvanu_due(handle).a;
     facts.expiry = relkvanu_oldest_expiry(handle).a;
     const relkvanu_answer choice = relkvanu_choice(handle);

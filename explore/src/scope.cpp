@@ -38,6 +38,13 @@ static const Named RULE[RULES] = {
     {"hold", "14: a task holds after its snapshot for the savepoint of a stop"},
     {"go-back-alone", "15: the savepoint of a go back reaches no task: it is one commit with its acknowledgements and the restore"},
     {"target-fence", "3: the target of a sink takes nothing of a task that was replaced"},
+    {"commit-first", "16: a manifest is written after the commit that completes its record"},
+    {"manifest-first", "16: nobody is told of a complete record before its manifest is in the storage"},
+    {"newest-record", "17: a recovery begins from the newest record that was the choice"},
+    {"new-numbers", "17: the records of a recovered job have numbers above all that the lost log told"},
+    {"new-terms", "17: the terms of a recovered job are above all that the lost log told"},
+    {"new-names", "17: the names that a recovered job gives out are above all that the lost log told"},
+    {"lost-log", "18: a log that was lost is refused if it comes back"},
 };
 
 static const Named BUDGET[BUDGETS] = {
@@ -62,6 +69,7 @@ static const Named BUDGET[BUDGETS] = {
     {"back", "ways back to a checkpoint that is retained"},
     {"elem",
         "elements of the source, at most 7, with a sink that publishes them, and without files. Of two subtasks the first is the source"},
+    {"lose", "losses of the log, after which the job is made again from the manifests"},
 };
 
 Scope scope;
@@ -141,8 +149,8 @@ static void check_scope() {
         die("out of range: --subtasks 1 or 2, --at-once 1 to 3, msg up to 6, name up to 30, trig, save, now, stop and back up to 30 "
             "together");
     }
-    if (limit[SCALES] > 0 && scope.subtasks != 2) {
-        die("scale is for --subtasks 2, with which a job begins");
+    if (limit[SCALES] > 0 && (scope.subtasks != 2 || limit[LOSSES] > 0)) {
+        die("scale is for --subtasks 2, with which a job begins, and not with lose");
     }
 }
 

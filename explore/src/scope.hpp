@@ -30,6 +30,13 @@ enum Rule {
     HOLD,
     GO_BACK_ALONE,
     TARGET_FENCE,
+    COMMIT_FIRST,
+    MANIFEST_FIRST,
+    NEWEST_RECORD,
+    NEW_NUMBERS,
+    NEW_TERMS,
+    NEW_NAMES,
+    LOST_LOG,
     RULES
 };
 
@@ -55,6 +62,7 @@ enum Budget {
     STOPS,
     BACKS,
     ELEMENTS,
+    LOSSES,
     BUDGETS
 };
 
@@ -63,7 +71,7 @@ constexpr unsigned LAST_RECORD = 7;
 
 struct Scope {
     bool is_on[RULES];
-    unsigned limit[BUDGETS] = {3, 0, 0, 1, 0, 1, 0, 0, 1, 0, 0, 0, 4, 3, 0, 0, 0, 0, 0, 0};
+    unsigned limit[BUDGETS] = {3, 0, 0, 1, 0, 1, 0, 0, 1, 0, 0, 0, 4, 3, 0, 0, 0, 0, 0, 0, 0};
     bool names = false;       // the coordinator has terms and gives the names
     bool checks_leaks = true; // else only lost files and mixed records are looked for
     bool may_write_nothing = true, may_keep = true;
@@ -74,6 +82,8 @@ struct Scope {
     bool prints_trace = false; // a random run that finds nothing prints its trace too
     // Tasks read elements and a sink publishes them. No task has files then.
     bool has_elements() const { return limit[ELEMENTS] > 0; }
+    // The storage has manifests, from which a job that lost its log is made again.
+    bool has_manifests() const { return limit[LOSSES] > 0; }
     bool has_operations() const { return limit[NOW] + limit[CONFIGURES] + limit[STOPS] + limit[BACKS] > 0; }
     Scope();
 };

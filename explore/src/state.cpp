@@ -114,6 +114,7 @@ State first_state() {
     state.current.term = state.current.number = state.processes = 1;
     state.current.width = u8(scope.subtasks);
     state.durable = state.current;
+    state.manifests = scope.has_manifests() ? state.current : Process{};
     start_tasks(&state);
     return state;
 }

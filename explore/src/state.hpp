@@ -113,11 +113,13 @@ public:
 // It has no padding, because the hash reads all of it.
 struct State {
     Process current, durable, old; // the process, what its log holds, and an older process that goes on (without ONE_LOG; has_old), or what
-                                   // a copy of the log holds (without NEWEST_LOG)
+                                   // a copy of the log holds (without NEWEST_LOG), or a lost log (without LOST_LOG), or a manifest
+                                   // that is ahead of the log (without COMMIT_FIRST)
+    Process manifests;             // what the log held when the manifests in the storage were written
     Files visible, kept;           // what the storage shows, and what it shows after a loss of power
     Files may_sweep;               // files that a sweeper has leave to delete, for ever
     Files may_unlink;              // files that a discarder was ever given: one that should be dead deletes them at any time
-    Files accepted;                // files that an accepted acknowledgement named
+    Files accepted;                // files that an accepted acknowledgement named, of the log that the job has
     u32 mixed;                     // records with a part of a task that was replaced
     Files wrong;                   // accepted files that another task has written over
     u32 unused_word;
@@ -126,15 +128,16 @@ struct State {
     u64 messages[MOST_MESSAGES]; // descending
     u8 used[24];                 // by Budget
     u8 is_down, incarnation, name, is_away, messages_len, has_old, processes;
+    u8 is_lost; // 1: the log; `durable` is what it held, and `current` what the manifests say; 2: a new log is there, and no process yet
     u8 back_to, back_with; // without GO_BACK_ALONE: a way back that is not done, its checkpoint and its savepoint
-    u8 unused[7];
+    u8 unused[6];
     // With elements:
     Flow flows[MOST_TASKS];
     Target target;
 };
 static_assert(
     BUDGETS <= 24 && sizeof(Process) == 8 && sizeof(Task) == 24 && sizeof(Flow) == 16 && sizeof(Target) == 48, "there is no padding");
-static_assert(sizeof(State) == 3 * 8 + 8 * 4 + 32 + 4 * 24 + 6 * 8 + 24 + 16 + 4 * 16 + 48, "there is no padding");
+static_assert(sizeof(State) == 4 * 8 + 8 * 4 + 32 + 4 * 24 + 6 * 8 + 24 + 16 + 4 * 16 + 48, "there is no padding");
 constexpr size_t WORDS_WITHOUT_ELEMENTS = (sizeof(State) - 4 * sizeof(Flow) - sizeof(Target)) / 8;
 
 State first_state();

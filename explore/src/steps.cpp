@@ -9,9 +9,10 @@ u64 seen[SEEN];
 void print_seen() {
     static const char *const what[SEEN] = {"acks pending", "completed", "late", "messages dropped", "refused", "sweeps", "discards",
         "late writes", "recoveries", "checkpoints asked for", "settings", "stops", "failed stops", "begins", "ways back", "published",
-        "given up"};
+        "given up", "lost logs", "records that nobody was told"};
     printf("# seen");
-    for (int place = 0; place < (scope.has_operations() ? SEEN : SEEN_ALWAYS); place++) {
+    const int most = scope.has_manifests() ? SEEN : scope.has_operations() ? SEEN_WITH_LOG : SEEN_ALWAYS;
+    for (int place = 0; place < most; place++) {
         printf("%s %s %llu", place == 0 ? "" : ",", what[place], static_cast<unsigned long long>(seen[place]));
     }
     printf("\n");
@@ -19,7 +20,7 @@ void print_seen() {
 
 void Steps::tell_opening(const State &state) {
     tell("process 1 starts");
-    std::string opening = library.opening_lines();
+    std::string opening = library.opening_lines(scope.names);
     opening.pop_back();
     tell("%s", opening.c_str());
     tell("log synced");
@@ -57,6 +58,7 @@ unsigned Steps::of(const State &state, const std::function<void(unsigned)> &visi
     number = 0;
     of_process();
     of_operations();
+    of_recoveries();
     for (unsigned place = 0; place < MOST_TASKS; place++) {
         if (state.tasks[place].incarnation) {
             of_elements(place);
@@ -100,6 +102,9 @@ void Steps::sync_now() {
         log->durable = log->lines.size();
     }
     tell("log synced");
+    if (scope.has_manifests() && (scope.is_on[MANIFEST_FIRST] || !untold())) {
+        write_manifests();
+    }
 }
 
 void Steps::sync_log() {

@@ -12,6 +12,9 @@
 struct Log {
     std::vector<std::string> lines;
     size_t durable = 0, copied = 0;
+    u8 first = 0; // of the log of a recovery: the number of its first record
+    std::vector<std::string> lost;
+    u8 first_of_lost = 0;
 };
 
 class Steps {
@@ -63,6 +66,7 @@ private:
     void of_endings();
     void of_crashes();
     void of_copies();
+    void end_process();
     void recover();
     void report_taken();
     void sweep_known();
@@ -81,6 +85,18 @@ private:
     void end_way_back();
     void acknowledge_as(u8 checkpoint, u8 record, const Files *parts);
     void take_back(u8 record);
+
+    // recovery.cpp: manifests, and a log that is lost
+    void of_recoveries();
+    void end_behind(unsigned place);
+    u32 untold() const;
+    void write_manifests();
+    void lose_log();
+    void put_lost_log_back();
+    void make_again(u8 choice, const Files *parts);
+    void must(const Call &call);
+    void adopt(u8 choice, const Files *parts, u8 below);
+    void pass_names(const Files *parts);
 
     // elements.cpp: a source, a channel, and a sink with its target
     void of_elements(unsigned place);
@@ -156,6 +172,9 @@ enum Seen {
     WAYS_BACK,
     PUBLISHED,
     GIVEN_UP,
+    SEEN_WITH_LOG,
+    MADE_AGAIN = SEEN_WITH_LOG,
+    UNTOLD,
     SEEN
 };
 extern u64 seen[SEEN];

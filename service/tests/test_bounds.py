@@ -1,5 +1,6 @@
 """What the service refuses when too much comes at once, and what it does not: bodies, answers, requests that wait, connections, one key twice."""
 import http.client
+import socket
 import sqlite3
 import threading
 
@@ -66,6 +67,34 @@ def test_an_answer_larger_than_all_room():
         server.stop()
         assert status == 200 and int(head["content-length"]) > MEGABYTE, (status, head)
         return f"{int(head['content-length']) >> 10} KiB in a room of 1 MiB"
+
+
+def unread(server, path):
+    """A reader that has asked, has its answer begun, and reads nothing."""
+    reader = socket.socket()
+    reader.setsockopt(socket.SOL_SOCKET, socket.SO_RCVBUF, 1 << 12)
+    reader.settimeout(COMMAND)
+    reader.connect(("127.0.0.1", server.port))
+    reader.sendall(f"GET {path} HTTP/1.1\r\nHost: localhost\r\n\r\n".encode())
+    assert reader.recv(1, socket.MSG_PEEK)
+    return reader
+
+
+def test_other_large_answers_take_all_room():
+    """While nobody reads a large answer, it keeps its room: another one is refused, a small one is given. When the reader has gone, it comes."""
+    with folder() as at:
+        server = limited(at, all_answers_bytes=MEGABYTE)
+        filled(server, 1)
+        path = "/v1/jobs/large/records/2"
+        reader = unread(server, path)
+        status, head, told = server.get(path)
+        small = server.get("/v1/jobs/a")[0]
+        reader.close()
+        until(lambda: server.get(path)[0] == 200)
+        server.stop()
+        assert (status, told) == (503, {"error": "other large answers take all room"}) and head["retry-after"] == "1", (status, head, told)
+        assert small == 200, small
+        return "503 beside an answer that nobody reads, and 200 for a small one"
 
 
 def test_more_requests_than_may_wait():

@@ -7,7 +7,7 @@ import sqlite3
 import threading
 import time
 
-from harness import COMMAND, Server, caught_up, configured, folder, served, until
+from harness import COMMAND, Server, caught_up, configured, folder, served, slowed, until
 from relkvanu_service import Service, ack, cancel, deleted, dispose, restore, savepoint, undeleted
 from test_api import JOB
 from test_bytes import filled
@@ -254,7 +254,7 @@ def test_a_commit_is_measured():
         more = {name: metric(server, name) - before[name] for name in MEASURED}
         assert more["relkvanu_commit_seconds_count"] == more["relkvanu_commit_calls_count"] == 5, more
         assert more["relkvanu_commit_calls_sum"] == 6, more
-        assert 0.5 < more["relkvanu_commit_seconds_sum"] < 60, more
+        assert 0.5 < more["relkvanu_commit_seconds_sum"] < 60 * slowed(), more
         assert metric(server, "relkvanu_commit_under_way_seconds") == 0
         return f"5 commits of 6 calls in {more['relkvanu_commit_seconds_sum']:.2f} s"
 
@@ -276,7 +276,7 @@ def test_moments_are_those_of_what_happened():
         began = time.time()
         job = Service(server.url).open("a", SETTINGS, [1])
         opened = job.state()["opened"] / 1000
-        assert metric(server, 'relkvanu_job_opened_timestamp_seconds{job_name="a"}') == opened and abs(opened - began) < 30
+        assert metric(server, 'relkvanu_job_opened_timestamp_seconds{job_name="a"}') == opened and abs(opened - began) < 30 * slowed()
         assert metric(server, 'relkvanu_image_timestamp_seconds{job_name="a"}') == opened
         for _ in range(6):
             time.sleep(0.01)

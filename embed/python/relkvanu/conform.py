@@ -12,6 +12,7 @@ from relkvanu.replies import (
 from relkvanu.storage import unknown
 from relkvanu.trace import Event, NoTrace, Task, World, drained, live_files, read
 from relkvanu.trace_elements import Elements
+from relkvanu.trace_recovery import Recoveries
 
 # As docs/PROTOCOL.md says them: explore/run compares.
 RULES = {
@@ -30,6 +31,9 @@ RULES = {
     13: "a sink publishes up to a completed checkpoint, or what the record has that the job was restored to",
     14: "a task holds after its snapshot for the savepoint of a stop",
     15: "the savepoint of a way back reaches no task",
+    16: "write a record's manifest after its commit, and before anybody is told",
+    17: "a recovery begins from the newest choice, with numbers, terms and names above all that were told",
+    18: "a log that was lost is refused if it comes back",
 }
 # Of a job with names these rules are others.
 NAMED_RULES = {
@@ -99,6 +103,7 @@ class Checker:
         self.refused: Dict[Task, Set[int]] = {}  # the files of the message that was refused last
         self.early: Dict[int, int] = {}  # with names: files that were reported while they were there, and the line
         self.elements = Elements(self.broken, self.came, self.world.running)
+        self.recoveries = Recoveries(self.broken, self.world)
 
     def broken(self, rule: int, what: str, line: Optional[int] = None) -> None:
         self.findings.append(Finding(self.line if line is None else line, rule, what, self.world.has_names))
@@ -125,6 +130,7 @@ class Checker:
             self.world.start_process(event.number)
         except Error as fault:
             raise NoTrace(f"the log can't be replayed: {fault}") from fault
+        self.recoveries.process_starts(event.number)
         self.may_sweep = False
 
     def on_process_ends(self, event: Event) -> None:
@@ -138,6 +144,7 @@ class Checker:
     def on_log_synced(self, _: Event) -> None:
         self.world.log.synced = len(self.world.log.lines)
         self.durable.sync()
+        self.recoveries.note_choice()
 
     def on_log_cut(self, _: Event) -> None:
         del self.world.log.lines[self.world.log.synced:]
@@ -156,6 +163,21 @@ class Checker:
         del log.lines[log.copied:]
         log.synced, self.durable.logged = log.copied, set()
 
+    def on_manifest(self, event: Event) -> None:
+        self.recoveries.manifest(event.number, ("complete", event.number) in self.durable.synced)
+
+    def on_log_lost(self, _: Event) -> None:
+        self.recoveries.lose_log()
+        self.durable.logged = set()
+
+    def on_process_recovers(self, event: Event) -> None:
+        self.recoveries.recover(event.number, event.other)
+        self.elements.stop = 0  # a recovered job runs
+
+    def on_log_comes_back(self, _: Event) -> None:
+        self.recoveries.put_back()
+        self.durable.logged = set()
+
     def on_call(self, event: Event) -> None:
         sender, self.world.sender = self.world.sender, None
         word, *rest = event.line.split()
@@ -166,7 +188,11 @@ class Checker:
             self.broken(3, f"{event.line} came from {sender}, which was replaced")
         if word == "start":
             self.durable.logged.add(("restore", 0))
-        self.note(reply, sender, rest[2:] if word == "in" else rest)
+        if word == "in":
+            _, word, *rest = rest
+        self.note(reply, sender, rest)
+        if isinstance(reply, (RestoredCheckpoint, RestoredSavepoint, RestoredFresh)):
+            self.elements.was_restored(getattr(reply, "id", 0), word == "restore" and rest[1:2] not in ([], ["latest"]))
         if self.elements.stop:
             self.elements.stopped(self.world.core())
 
@@ -174,6 +200,7 @@ class Checker:
         """What the answer of a call entitles others to."""
         if isinstance(reply, Reserved):
             self.durable.logged |= {("name", name) for name in reply.names}
+            self.recoveries.gives_names(reply.names)
         elif isinstance(reply, (Triggered, SavepointTriggered)):
             self.durable.logged.add(("record", reply.id))
             self.mixed.discard(reply.id)
@@ -184,7 +211,6 @@ class Checker:
             self.durable.synced.discard(("restore", 0))
             self.may_sweep = True
             self.restored_since = dict.fromkeys(self.restored_since, True)
-            self.elements.was_restored(getattr(reply, "id", 0), words[1:2] not in ([], ["latest"]))
         elif sender is not None and len(words) >= 3 and not isinstance(reply, DeclineLate):
             self.durable.logged.add(("message", sender))
             self.durable.synced.discard(("message", sender))
@@ -222,11 +248,14 @@ class Checker:
         assert event.task is not None
         self.rests_on("record", event.number, f"the barrier of record {event.number} is sent")
         self.elements.tells_barrier(event.task, event.number)
+        self.recoveries.acts(f"the barrier of record {event.number} is sent")
+        self.recoveries.tells_record(event.number)
 
     def on_answer(self, event: Event) -> None:
         assert event.task is not None
         if event.word != "refused":
             self.rests_on("message", event.task, f"{event.task} is told")
+            self.recoveries.acts(f"{event.task} is told")
         else:
             self.drop(event.task, f"{event.task} is refused", self.refused.pop(event.task, set()), is_over=False)
         for key in [it for it in self.under_way if it[0] == event.task]:
@@ -243,6 +272,7 @@ class Checker:
             self.rests_on("restore", 0, f"{event.task} starts")
         self.restored_since[subtask] = False
         self.world.running[subtask] = event.task
+        self.recoveries.task_starts(event.task)
         self.may_sweep = False
         self.elements.starts(event.task)
 
@@ -286,6 +316,7 @@ class Checker:
 
     def on_complete(self, event: Event) -> None:
         self.rests_on("complete", event.number, f"{event.task} is told that record {event.number} is complete")
+        self.recoveries.acts(f"{event.task} is told that record {event.number} is complete")
 
     def on_stop(self, event: Event) -> None:
         self.elements.stop = event.number
@@ -355,6 +386,7 @@ class Checker:
         elif event.word == "discarder":
             for file in event.files:
                 self.rests_on("taken", file, f"a discarder deletes file {file}")
+                self.recoveries.acts(f"a discarder deletes file {file}")
         elif self.world.has_names:
             self.deleted_as_garbage(event.files)
             for file in event.files:
@@ -449,10 +481,10 @@ class Checker:
 
     def left(self, core: Coordinator, files: Set[int]) -> Set[int]:
         """Those of the files that no record uses. With names a sweeper deletes the garbage of them. Without, the sweep of the next recovery deletes
-        those that no accepted acknowledgement named."""
+        those that no accepted acknowledgement of the job's log named."""
         if self.world.has_names:
             return unknown(core, files) - set(core.garbage(list(files)).garbage)
-        return unknown(core, files & set(self.world.accepted))
+        return unknown(core, (files & set(self.world.accepted)) - self.recoveries.forgotten)
 
 
 def check(trace: Iterable[str]) -> List[Finding]:

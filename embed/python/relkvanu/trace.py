@@ -55,6 +55,10 @@ FORMS: Tuple[Tuple[str, str, str], ...] = (
     (r"log cut", "log cut", ""),
     (r"log copied", "log copied", ""),
     (r"log put back", "log put back", ""),
+    (rf"manifest {NUMBER}", "manifest", "number"),
+    (r"log lost", "log lost", ""),
+    (rf"process {NUMBER} recovers {NUMBER}", "process recovers", "number other"),
+    (r"log comes back", "log comes back", ""),
     (rf"barrier {NUMBER} to {TASK}", "barrier", "number task"),
     (rf"answer to {TASK} (accepted|late|refused)", "answer", "task word"),
     (rf"from {TASK}", "from", "task"),
@@ -165,6 +169,7 @@ class Log:
     lines: List[str] = field(default_factory=list)
     synced: int = 0
     copied: Optional[int] = None  # how many lines the last copy has
+    first: int = 1  # the number of its first record
 
 
 class World:
@@ -192,6 +197,12 @@ class World:
         self.processes[number] = self.replayed(len(self.log.lines)) if self.log.lines else None
         self.newest = self.speaker = number
 
+    def recover(self, number: int, record: int) -> None:
+        """A process makes the job again in a new log, whose first record is this one."""
+        self.log = Log(first=record)
+        self.opening, self.has_names = [], False
+        self.start_process(number)
+
     def replayed(self, count: int) -> Coordinator:
         """A coordinator that makes the calls of so many lines of the log."""
         core = self._opened(self.log.lines[:3])
@@ -201,17 +212,17 @@ class World:
 
     def not_garbage(self, files: Sequence[int]) -> Set[int]:
         """Those of the files that nobody may delete, as the durable lines of the log say."""
-        if self.log.synced == len(self.log.lines):
-            return set(files) - set(self.core().garbage(files).garbage)
+        core = self.processes.get(self.newest)
+        if core is not None and self.log.synced == len(self.log.lines):
+            return set(files) - set(core.garbage(files).garbage)
         with self.replayed(self.log.synced) as durable:
             return set(files) - set(durable.garbage(files).garbage)
 
-    @staticmethod
-    def _opened(opening: List[str]) -> Coordinator:
+    def _opened(self, opening: List[str]) -> Coordinator:
         settings, shape, start = (lines.line_says(line.encode()) for line in opening)
         if not (isinstance(settings, Settings) and isinstance(shape, lines.Job) and isinstance(start, lines.Start)):
             raise NoTrace("a log begins with the lines config, job and start")
-        return Coordinator(settings, shape.shape, start.now)
+        return Coordinator(settings, shape.shape, start.now, self.log.first)
 
     def call(self, line: str) -> Optional[Reply]:
         """Makes a call, as the process did, and appends it to the log. Raises NoTrace if the library refuses it."""

@@ -23,6 +23,12 @@ impl Moment {
         Moment(Duration::new(seconds, u32::try_from(time.tv_nsec).unwrap_or(0)))
     }
 
+    /// The machine's start.
+    #[cfg(test)]
+    pub fn first() -> Moment {
+        Moment(Duration::ZERO)
+    }
+
     pub fn elapsed(self) -> Duration {
         Moment::now().0.saturating_sub(self.0)
     }

@@ -57,3 +57,31 @@ impl Lease {
         Ok(())
     }
 }
+
+#[cfg(test)]
+mod tests {
+    use super::*;
+
+    /// Renewed at the machine's start, and so many tenths as long as the time since. So no pause of a busy machine matters.
+    fn renewed_long_ago(tenths: u32) -> Lease {
+        let since = Moment::first();
+        Lease { length: Some(since.elapsed() * tenths / 10), since }
+    }
+
+    #[test]
+    fn a_leader_is_sure_for_two_thirds_of_its_lease() {
+        assert!(renewed_long_ago(16).is_sure());
+        assert!(!renewed_long_ago(14).is_sure());
+        assert!(!renewed_long_ago(9).is_sure());
+        assert!(Lease { length: None, since: Moment::first() }.is_sure());
+    }
+
+    #[test]
+    fn only_a_commit_that_renews_the_lease_counts() {
+        let mut lease = renewed_long_ago(14);
+        lease.committed(Committed { renews: false }, Moment::now());
+        assert!(!lease.is_sure());
+        lease.committed(Committed { renews: true }, Moment::now());
+        assert!(lease.is_sure());
+    }
+}
