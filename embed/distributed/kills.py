@@ -254,10 +254,9 @@ def run_blocks(job, chance, kills, stops):
 
 
 def job_of(job, chance, kills, stops, size):
-    end = time.monotonic() + 60 * job.minutes
-    killed = kill_some(job, chance, kills, size, end) if kills or not stops else {}
+    killed = kill_some(job, chance, kills, size, time.monotonic() + 60 * job.minutes) if kills or not stops else {}
     if stops:
-        more = stop_some(job, chance, stops, size, end)
+        more = stop_some(job, chance, stops, size, time.monotonic() + 60 * job.minutes)
         killed = {it: killed.get(it, 0) + more[it] for it in more if killed.get(it, 0) + more[it]}
         assert job.stops, job.told()[-1][-2000:]
     backs = sum(it.count("back to the last checkpoint") for it in job.told())
