@@ -342,7 +342,8 @@ typedef struct {
  * they publish what they prepared for it. It may end, or wait in relkvanu_store_await_tick. The phase is in the job's file: the next opening reports it.
  *
  * If the savepoint ends otherwise, relkvanu_store_await_tick returns RELKVANU_STORE_NOT_STOPPED: the tasks that hold go on, the timer too, and the
- * phase says why. A process that ends before the job is stopped leaves a job that goes on from its last checkpoint, after the next restore.
+ * phase says why. A stop right after that may come before anybody has heard of it: so what is handed over while tasks hold says the same, and lets them
+ * go on first. A process that ends before the job is stopped leaves a job that goes on from its last checkpoint, after the next restore.
  *
  * RELKVANU_STORE_NOT_NOW: the job is being stopped, or is stopped. RELKVANU_REFUSED as relkvanu_savepoint. */
 int relkvanu_store_stop_job(relkvanu_store *store, relkvanu_store_call *call);

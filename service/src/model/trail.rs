@@ -42,7 +42,7 @@ impl Trail {
         match call {
             Call::Ack { .. } if is_completion(entry) => self.completed = Some(place),
             Call::Restore { target: Target::Savepoint(id), .. } => {
-                self.begin(self.stops(id, place).then_some(id), call)
+                self.begin(self.stops(id, place).then_some(id), call);
             }
             Call::Savepoint => {
                 self.triggered.insert(place.record, place.at);
@@ -154,7 +154,9 @@ mod tests {
                 self.now += 10;
                 let (_, made) = self.job.operate(call, self.now);
                 assert!(!made.is_empty(), "{call:?}");
-                made.iter().for_each(|logged| self.trail.follow(&logged.entry));
+                for logged in &made {
+                    self.trail.follow(&logged.entry);
+                }
             }
         }
 
