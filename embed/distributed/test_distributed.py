@@ -126,7 +126,8 @@ class Collections(Base):
             for refused in (checkpoints.load, lambda: checkpoints.save("three", x=x), lambda: checkpoints.stop("three", x=x)):
                 self.assertEqual(self.stopped_at(refused), 2)
         for _ in range(2):
-            with self.opened() as checkpoints:
+            with self.opened() as checkpoints, self.assertNoLogs("relkvanu.dask"):  # no way back
+                self.assertRaises(Failed, checkpoints.sweep)  # what it would delete may be all that is left
                 self.assertEqual(self.stopped_at(checkpoints.load), 2)
                 self.assertEqual(self.stopped_at(lambda: checkpoints.run(None, None)), 2)
         with self.opened(begin=True) as checkpoints:
@@ -169,6 +170,13 @@ class Collections(Base):
                 self.assertEqual((meta, list(found["x"].compute())), (last, [last] * 2))
                 checkpoints.stop(meta, **found)
         self.assertEqual(len(self.files()), 3)
+
+    def test_a_stop_that_is_asked_for_in_a_checkpoint(self):
+        """The next one is its savepoint."""
+        with self.opened(watch=lambda _: checkpoints.ask_to_stop()) as checkpoints:
+            checkpoints.load()
+            self.assertEqual(checkpoints.save("one", x=self.client.submit(add, 1, 2)).id, 1)
+            self.assertEqual(self.stopped_at(lambda: checkpoints.save("two", x=self.client.submit(add, 2, 2))), 2)
 
     @staticmethod
     def falls(block):
