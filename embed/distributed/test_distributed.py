@@ -502,8 +502,14 @@ class Streams(Base):
             checkpoints.emit(3, 3)
             checkpoints.checkpoint()
             self.assertEqual((checkpoints.state("total"), checkpoints.state("none")), (6, 6))
-        self.assertEqual([it.read_text() for it in sorted(self.folder.glob("*.jsonl"))], ["1\n3\n", "6\n"])
+            checkpoints.emit(4, 4)
+            checkpoints.stop()
+        self.assertEqual([it.read_text() for it in sorted(self.folder.glob("*.jsonl"))], ["1\n3\n", "6\n", "10\n"])
         self.assertEqual(len(self.files()), 3)
+        source, rows, kept = graph()
+        self.assertRaises(daskstream.Stopped, self.opened, source, client=None, outputs=[rows])
+        with self.opened(source, client=None, outputs=[rows], begin=True) as checkpoints:
+            self.assertEqual((checkpoints.position, checkpoints.state("total")), (4, 10))
 
 
 class Outputs(Base):
