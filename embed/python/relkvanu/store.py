@@ -770,7 +770,7 @@ class Store:
         made = _List([Call.tick()])  # a place: the function writes the call
         return self._submitted(made, lambda store, token: function(store, made.calls, token))
 
-    def _submitted(self, made: "_List", submit: Callable[[ctypes.c_void_p, int], int]) -> int:
+    def _submitted(self, made: "_List", submit: Callable[[ctypes.c_void_p, int], Any]) -> int:
         def work(store: ctypes.c_void_p) -> int:
             with self._lock:
                 self._token += 1

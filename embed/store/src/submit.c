@@ -55,13 +55,7 @@ static bool has_helper(relkvanu_store *s) {
     return is_there;
 }
 
-static int submit(relkvanu_store *s, relkvanu_store_call *calls, size_t calls_len, enum rks_verb verb, uint64_t token) {
-    if (rks_is_forked(s)) {
-        return RELKVANU_STORE_FORKED;
-    }
-    if (calls_len == 0 || calls_len > RELKVANU_STORE_MOST_CALLS) {
-        return RELKVANU_STORE_BAD_ARGUMENT;
-    }
+static int submit_list(relkvanu_store *s, relkvanu_store_call *calls, size_t calls_len, enum rks_verb verb, uint64_t token) {
     struct rks_waiter *w = has_helper(s) ? calloc(1, sizeof *w) : NULL;
     if (w == NULL) {
         return RELKVANU_STORE_NO_MEMORY;
@@ -77,8 +71,19 @@ static int submit(relkvanu_store *s, relkvanu_store_call *calls, size_t calls_le
         status = rks_enter(s, w);
     }
     if (status != RELKVANU_STORE_OK) {
-        rks_drop_answers(calls, calls_len);
         rks_free_waiter(w);
+    }
+    return status;
+}
+
+static int submit(relkvanu_store *s, relkvanu_store_call *calls, size_t calls_len, enum rks_verb verb, uint64_t token) {
+    bool is_forked = rks_is_forked(s);
+    if (calls_len == 0 || calls_len > RELKVANU_STORE_MOST_CALLS) {
+        return is_forked ? RELKVANU_STORE_FORKED : RELKVANU_STORE_BAD_ARGUMENT;
+    }
+    int status = is_forked ? RELKVANU_STORE_FORKED : submit_list(s, calls, calls_len, verb, token);
+    if (status != RELKVANU_STORE_OK) {
+        rks_drop_answers(calls, calls_len);
     }
     return status;
 }

@@ -453,6 +453,50 @@ static void way_back_waits(enum kind kind) {
     printf("store: memory of a way back, of %s: up to request %lu\n", names[kind], nth);
 }
 
+/* Submits a stop. Returns its status, or RELKVANU_STORE_NO_MEMORY if the call had none. */
+static int submit_stop(relkvanu_store *store, relkvanu_store_call *call) {
+    relkvanu_store_completion one;
+    int status = relkvanu_store_submit_stop_job(store, call, 7);
+    if (status != RELKVANU_STORE_OK) {
+        CHECK(call->answer.code == RELKVANU_STORE_NOT_MADE, "code %" PRIu32, call->answer.code);
+        return status;
+    }
+    while (relkvanu_store_completed(store, &one, 1) == 0) {
+        usleep(100);
+    }
+    bool has_none = one.status == RELKVANU_STORE_OK && call->answer.code == RELKVANU_NO_MEMORY;
+    return has_none ? RELKVANU_STORE_NO_MEMORY : one.status;
+}
+
+/* A stop that is submitted, and for which there is no memory, changes nothing, and can be submitted later. */
+static void submits_wait(enum kind kind) {
+    relkvanu_store *store;
+    relkvanu_store_report report;
+    relkvanu_store_call call;
+    relkvanu_store_counts counts;
+    relkvanu_store_job_phase phase;
+    relkvanu_store_options options = job_options(RELKVANU_STORE_CREATE, 0);
+    remove_job();
+    options.storage = storage;
+    CHECK(relkvanu_store_open(&store, path, &options, &report) == RELKVANU_STORE_OK, "%s", report.message);
+    int status = RELKVANU_STORE_NO_MEMORY;
+    unsigned long nth = 0;
+    while (status == RELKVANU_STORE_NO_MEMORY) {
+        set_refused(kind, ++nth, false);
+        status = submit_stop(store, &call);
+        set_none();
+        relkvanu_store_count(store, &counts);
+        CHECK(relkvanu_store_phase(store, &phase) == RELKVANU_STORE_OK, "the phase");
+        bool is_made = status == RELKVANU_STORE_OK;
+        CHECK((is_made || status == RELKVANU_STORE_NO_MEMORY) && counts.calls == is_made &&
+                  phase.phase == (is_made ? RELKVANU_STORE_PHASE_STOPPING : RELKVANU_STORE_PHASE_RUNNING),
+            "status %d at request %lu: phase %" PRIu32, status, nth, phase.phase);
+    }
+    CHECK(nth > 1 && call.answer.what == RELKVANU_SAVEPOINT_TRIGGERED, "request %lu, what %" PRIu32, nth, call.answer.what);
+    relkvanu_store_close(store);
+    printf("store: memory of a submitted stop, of %s: up to request %lu\n", names[kind], nth);
+}
+
 static bool no_page(void *with, const relkvanu_storage_file *files, size_t len) {
     (void)with;
     return files != NULL && len != 0;
@@ -559,7 +603,7 @@ static void gives_up_in_parts(void) {
 }
 
 int main(int argc, char **argv) {
-    unsigned passed = 7;
+    unsigned passed = 9;
     CHECK(argc == 2, "memory FOLDER");
     snprintf(path, sizeof path, "%s/x.db", argv[1]);
     snprintf(storage, sizeof storage, "%s/storage", argv[1]);
@@ -595,6 +639,8 @@ int main(int argc, char **argv) {
     folder_waits(argv[1]);
     way_back_waits(OWN);
     way_back_waits(COORDINATOR);
+    submits_wait(OWN);
+    submits_wait(COORDINATOR);
     stops_without_memory();
     rests_without_memory();
     gives_up_in_parts();
