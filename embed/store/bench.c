@@ -4,7 +4,8 @@
  * refused and ask again), which have nothing to do. By turns again a job of 16 threads without and with manifests. A job of 4096 subtasks, 3 files
  * in each acknowledgement, and an image every 10,000 calls.
  *
- * bench FOLDER manifests SECONDS: those turns alone. bench FOLDER recover FILES: how long a manifest of so many files of 4096 subtasks takes, and to
+ * bench FOLDER manifests SECONDS: those turns alone, and how long the acknowledgement took that completed a record, without and with its manifest:
+ * all callers wait for that one, so the difference is what a manifest costs them. bench FOLDER recover FILES: how long a manifest of so many files of 4096 subtasks takes, and to
  * make the job again of it. */
 #define _GNU_SOURCE
 #include "../../include/relkvanu_store.h"
@@ -23,6 +24,7 @@
 #include <unistd.h>
 
 enum { SUBTASKS = 4096, FILES = 3, VERTICES = 4, AHEAD = 4, MOST_THREADS = 256, MOST_TIMES = 1 << 22, WATCHERS = 8, TURNS = 5 };
+enum { MOST_COMPLETED = 4096 };
 enum { STEP = 1000000 }; /* ms between two triggers: no timer of the bench ever has a tick to make */
 
 static relkvanu_store *store;
@@ -30,6 +32,11 @@ static atomic_uint_fast64_t next_ack, times_len;
 static atomic_bool is_over;
 static uint64_t term;              /* 0: the job has no names */
 static uint32_t times[MOST_TIMES]; /* in units of 0.1 us */
+
+/* How long the acknowledgements took that completed a record, in ms, without and with manifests. */
+static double completed[2][MOST_COMPLETED];
+static atomic_uint_fast64_t completed_len[2];
+static atomic_int turn; /* which of the two; -1: none is noted */
 
 static void check(const char *what, bool is_so, const char *why) {
     if (!is_so) {
@@ -55,6 +62,13 @@ static void note(uint64_t began) {
     times[atomic_fetch_add(&times_len, 1) % MOST_TIMES] = (uint32_t)((now_ns() - began) / 100);
 }
 
+static void note_completed(bool is_completed, uint64_t began) {
+    int which = atomic_load(&turn);
+    if (is_completed && which >= 0) {
+        completed[which][atomic_fetch_add(&completed_len[which], 1) % MOST_COMPLETED] = (double)(now_ns() - began) / 1e6;
+    }
+}
+
 static void trigger(uint64_t record) {
     relkvanu_store_call call = {.call = {.kind = RELKVANU_CALL_TICK, .now = record * STEP}};
     check("tick", relkvanu_store_calls(store, &call, 1) == RELKVANU_STORE_OK && call.answer.what == RELKVANU_TICK_TRIGGERED, "no trigger");
@@ -76,6 +90,7 @@ static void *acknowledges(void *unused) {
             store, term, record * STEP, record, (uint16_t)(subtask / 1024), (uint16_t)(subtask % 1024), fresh, FILES, NULL, 0, &answer);
         check("ack", status == RELKVANU_STORE_OK && answer.code == RELKVANU_DONE, "not accepted");
         note(began);
+        note_completed(answer.what == RELKVANU_ACK_COMPLETED, began);
     }
     return unused;
 }
@@ -223,13 +238,27 @@ static int by_size(const void *one, const void *other) {
     return (a > b) - (a < b);
 }
 
+static double median_of(double *numbers, size_t len) {
+    qsort(numbers, len, sizeof *numbers, by_size);
+    return len == 0 ? 0 : numbers[len / 2];
+}
+
+static void tell_completed(void) {
+    double without = median_of(completed[0], completed_len[0]), with = median_of(completed[1], completed_len[1]);
+    printf("half of %" PRIu64 " acknowledgements that completed a record took %.2f ms, and of %" PRIu64 " with its manifest %.2f ms\n",
+        completed_len[0], without, completed_len[1], with);
+}
+
 /* By turns, so that both have the same machine. */
 static void measure_turns(const char *path, unsigned threads, unsigned seconds, enum kind kind, const char *words) {
     double shares[TURNS];
     for (unsigned i = 0; i < TURNS; i++) {
+        turn = 0;
         double without = measure(path, threads, seconds, kind - 1);
+        turn = 1;
         shares[i] = measure(path, threads, seconds, kind) / without;
     }
+    turn = -1;
     qsort(shares, TURNS, sizeof *shares, by_size);
     printf("%u threads: with %s %.2f of those without (%.2f to %.2f)\n", threads, words, shares[TURNS / 2], shares[0], shares[TURNS - 1]);
 }
@@ -337,6 +366,7 @@ int main(int argc, char **argv) {
     snprintf(path, sizeof path, "%s/bench-%d.db", argv[1], (int)getpid());
     if (argc == 4 && strcmp(argv[2], "manifests") == 0) {
         measure_turns(path, 16, (unsigned)atoi(argv[3]), MANIFESTS, "manifests");
+        tell_completed();
         return 0;
     }
     if (argc == 4 && strcmp(argv[2], "recover") == 0) {

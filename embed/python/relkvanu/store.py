@@ -487,7 +487,7 @@ class Store:
         self._lock = threading.Lock()
         self._submits: Dict[int, _List] = {}
         self._token = 0
-        self._place: Tuple[Any, ...] = ()  # the functions of keep_manifests(), which C calls
+        self._places: List[Tuple[Any, ...]] = []  # the functions of keep_manifests(), which C calls
         self.manifest_fault: Optional[BaseException] = None
         flags = create * store_header.CREATE | only_create * store_header.CREATE_ONLY | adopt * store_header.ADOPT
         words, found = _words(shape), store_header.relkvanu_store_report()
@@ -944,14 +944,15 @@ class Store:
             for name in place.manifests():
                 each(with_each, name.encode())
 
-        self._place = (
+        functions = (
             store_header.relkvanu_store_check_place(guarded(place.check)),
             store_header.relkvanu_store_put_named(guarded(lambda name, at, length: place.put_manifest(name.decode(), ctypes.string_at(at, length)))),
             store_header.relkvanu_store_remove_named(guarded(lambda name: place.remove_manifest(name.decode()))),
             store_header.relkvanu_store_list_named(guarded(tell_names)))
+        self._places.append(functions)  # a refused call changes nothing: those that are kept stay
         self.manifest_fault = None
         try:
-            self._made(_library.relkvanu_store_keep_manifests, *self._place, None)
+            self._made(_library.relkvanu_store_keep_manifests, *functions, None)
         except StoreError as error:
             raise (self.manifest_fault or error) from None
 
@@ -995,6 +996,14 @@ class Store:
         status = function(_bytes(source), _u64(record), _bytes(path), _bytes(storage), ctypes.byref(found))
         _check(status, found.message)
         return Recovered(**{name: getattr(found, name) for name, *_ in found._fields_[:-2]})
+
+    @staticmethod
+    def put_back(backup: Path, path: Path, storage: Path) -> Tuple[Recovered, str]:
+        """Puts a backup of backup() back in the place of the job's file. Read docs/DURABLE-BACKUP.md, A backup, first. Returns what the job goes on from, and
+        the folder that has what was there before."""
+        found = store_header.relkvanu_store_recovered()
+        _check(_library.relkvanu_store_put_back(_bytes(backup), _bytes(path), _bytes(storage), ctypes.byref(found)), found.message)
+        return Recovered(**{name: getattr(found, name) for name, *_ in found._fields_[:-2]}), found.message.decode(errors="replace")
 
     @staticmethod
     def records(storage: Path) -> List[Record]:

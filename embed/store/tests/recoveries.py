@@ -207,51 +207,86 @@ def imports_at_each_end(it):
         shutil.rmtree(folder)
 
 
+def claim(folder):
+    return "import", "--claim", folder / "state", folder / "new.db", folder / "new"
+
+
+def is_claimed(it, folder, complete):
+    """The same command goes on. The record is in the new folder, and nowhere else."""
+    ended, told = (folder / "new.db").exists(), it.runs(*claim(folder))
+    assert told.returncode == 0 or (ended and "there is a job" in told.stdout), told.stdout  # it had done all but say so
+    assert not list(folder.glob("new.db.new*")) and not (folder / "new.part").exists(), list(folder.iterdir())
+    with Store(folder / "new.db", Settings(interval=10), [2], storage=folder / "new", manifests=True) as job, job.read() as reads:
+        assert reads.choice().id in (complete, complete + 1), reads.choice()
+        used = [file for task in range(2) for file in reads.files_of(reads.choice().id, 0, task)]
+    assert all((folder / "new" / str(file)).stat().st_size > 0 for file in used), used
+    assert not [file for file in used if (folder / "state" / str(file)).exists()], used
+    told = it.recovers(folder)
+    assert told.returncode == 1 and "no record" in told.stdout, told.stdout  # it has left
+
+
 def claims_at_each_end(it):
     """The files leave the first job's folder once those of the second one are there, and not before. In the end that folder has none of them, and its job is
     refused."""
     base, complete = base_of(it)
-
-    def claim(folder):
-        return "import", "--claim", folder / "state", folder / "new.db", folder / "new"
-
     for place, after in places_of(it, base, ENDS, claim):
         folder = it.work / f"{place}-{after}"
         shutil.copytree(base, folder)
         told = it.runs(*claim(folder), LD_PRELOAD=it.shim, STORE_IN=str(folder), STORE_DIE=str(place), STORE_DIE_AFTER=after)
         assert told.returncode != 0, f"no end at call {place}"
-        ended, told = (folder / "new.db").exists(), it.runs(*claim(folder))
-        assert told.returncode == 0 or (ended and "there is a job" in told.stdout), told.stdout  # it had done all but say so
-        assert not list(folder.glob("new.db.new*")) and not (folder / "new.part").exists(), list(folder.iterdir())
-        with Store(folder / "new.db", Settings(interval=10), [2], storage=folder / "new", manifests=True) as job, job.read() as reads:
-            assert reads.choice().id in (complete, complete + 1), reads.choice()
-            used = [file for task in range(2) for file in reads.files_of(reads.choice().id, 0, task)]
-        assert all((folder / "new" / str(file)).stat().st_size > 0 for file in used), used
-        assert not [file for file in used if (folder / "state" / str(file)).exists()], used
-        told = it.recovers(folder)
-        assert told.returncode == 1 and "no record" in told.stdout, told.stdout  # it has left
+        is_claimed(it, folder, complete)
         shutil.rmtree(folder)
+
+
+def claim_in_place(folder):
+    return "import", "--claim", folder / "out", folder / "new.db", folder / "out"
+
+
+def is_claimed_in_place(it, folder, complete):
+    """The same command makes the job, unless it is there."""
+    is_there, told = (folder / "new.db").exists(), it.runs(*claim_in_place(folder))
+    assert told.returncode == is_there, told.stdout
+    with Store(folder / "new.db", Settings(interval=10), [2], storage=folder / "out", manifests=True) as job, job.read() as reads:
+        assert reads.choice().id in (complete, complete + 1), reads.choice()
+        for task in range(2):
+            assert (folder / "out" / str(*reads.files_of(reads.choice().id, 0, task))).stat().st_size > 0
+
+
+def exported_base(it):
+    base, complete = base_of(it)
+    assert it.runs("export", base / "state", base / "out").returncode == 0
+    return base, complete
 
 
 def claims_in_place_at_each_end(it):
-    base, complete = base_of(it)
-    assert it.runs("export", base / "state", base / "out").returncode == 0
-
-    def claim(folder):
-        return "import", "--claim", folder / "out", folder / "new.db", folder / "out"
-
-    for place, after in places_of(it, base, ENDS // 2, claim):
+    base, complete = exported_base(it)
+    for place, after in places_of(it, base, ENDS // 2, claim_in_place):
         folder = it.work / f"{place}-{after}"
         shutil.copytree(base, folder)
-        told = it.runs(*claim(folder), LD_PRELOAD=it.shim, STORE_IN=str(folder), STORE_DIE=str(place), STORE_DIE_AFTER=after)
+        told = it.runs(*claim_in_place(folder), LD_PRELOAD=it.shim, STORE_IN=str(folder), STORE_DIE=str(place), STORE_DIE_AFTER=after)
         assert told.returncode != 0, f"no end at call {place}"
-        is_there, told = (folder / "new.db").exists(), it.runs(*claim(folder))
-        assert told.returncode == is_there, told.stdout
-        with Store(folder / "new.db", Settings(interval=10), [2], storage=folder / "out", manifests=True) as job, job.read() as reads:
-            assert reads.choice().id in (complete, complete + 1), reads.choice()
-            for task in range(2):
-                assert (folder / "out" / str(*reads.files_of(reads.choice().id, 0, task))).stat().st_size > 0
+        is_claimed_in_place(it, folder, complete)
         shutil.rmtree(folder)
+
+
+def claims_in_place_at_each_loss(it):
+    """Power is lost where the claim ends. (power.py knows no links and no folders that get another name, so a claim elsewhere is not tried.)"""
+    base, complete = exported_base(it)
+    for place, after in places_of(it, base, ENDS // 2, claim_in_place):
+        for loss in (Loss.SYNCED, it.chance.choice(list(Loss))):
+            folder, journal = it.work / f"{place}-{after}", it.work / "journal"
+            journal.unlink(missing_ok=True)
+            shutil.copytree(base, folder)
+            on_disk = read_tree(folder)
+            it.runs(*claim_in_place(folder), LD_PRELOAD=it.shim, STORE_IN=str(folder), STORE_DIE=str(place), STORE_DIE_AFTER=after,
+                    STORE_JOURNAL=str(journal))
+            journal.touch()
+            records = Journal.read(journal, folder, on_disk)
+            (lost,) = records.losses([(len(records.records), loss)], it.chance)
+            shutil.rmtree(folder)
+            write_tree(lost.tree, folder)
+            is_claimed_in_place(it, folder, complete)
+            shutil.rmtree(folder)
 
 
 def the_old_job_of_a_claim(it):
@@ -318,7 +353,7 @@ def what_it_says(it):
 
 
 TESTS = (what_it_says, after_a_whole_one, at_each_end, at_each_loss, exports_at_each_end, imports_at_each_end, claims_at_each_end,
-         claims_in_place_at_each_end, the_old_job_of_a_claim, lost_logs, lost_engines)
+         claims_in_place_at_each_end, claims_in_place_at_each_loss, the_old_job_of_a_claim, lost_logs, lost_engines)
 
 
 def main(command, shim, *engines):

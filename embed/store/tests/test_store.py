@@ -584,14 +584,69 @@ class Threads(Folder):
             self.assertEqual((other.report.choice, other.report.is_recovered), (Chosen(1, Kind.CHECKPOINT), True))
             self.assertNotEqual(other.report.job, job.report.job)
         self.raises("Present", Store.import_job, self.storage, self.folder / "other.db", self.folder / "third")
+        claimed = Store.import_job(self.folder / "out", self.folder / "third.db", self.folder / "third", claim=True)
+        self.assertEqual((claimed.record, (self.folder / "out").exists(), sorted(os.listdir(self.folder / "third"))),
+                         (1, False, [".relkvanu-job", "1", "2", "record-1.manifest"]))
         damaged = self.storage / "record-1.manifest"
         damaged.write_bytes(damaged.read_bytes()[:-1])
         self.assertEqual([(it.id, it.damage) for it in Store.records(self.storage)], [(1, "Damaged")])
+
+    def test_a_backup_that_is_put_back(self):
+        with self.open(storage=self.storage, manifests=True, plain=False) as job:
+            id = job.savepoint().reply.id
+            for index, file in enumerate(job.reserve(job.report.term, 2)):
+                job.put(file, b"state")
+                job.ack_in(job.report.term, id, 0, index, [file])
+            job.backup(self.folder / "backup.db")
+            job.call(Call.trigger())
+        made, aside = Store.put_back(self.folder / "backup.db", self.path, self.storage)
+        self.assertEqual((made.record, made.is_savepoint, os.path.isdir(aside)), (id, True, True))
+
+    def test_manifests_in_a_place_of_the_engine(self):
+        place = Objects()
+        with self.open(plain=False) as job:
+            place.fails = OSError("not there")
+            with self.assertRaisesRegex(OSError, "not there"):
+                job.keep_manifests(place)
+            place.fails = None
+            place.found["record-9.manifest"] = b"of a record that ended"
+            job.keep_manifests(place)
+            self.raises("BadArgument", job.keep_manifests, place)
+            for fails in (None, OSError("no network"), None):
+                place.fails = fails
+                id = job.call(Call.trigger()).reply.id
+                for index, file in enumerate(job.reserve(job.report.term, 2)):
+                    job.ack_in(job.report.term, id, 0, index, [file])
+                self.assertEqual(list(place.found) == [f"record-{id}.manifest"], fails is None)
+            self.assertRegex(str(job.manifest_fault), "no network")
+            self.assertGreaterEqual(job.measures()["failed_manifests"], 1)
+        self.assertIn(b'"files":{"', place.found[f"record-{id}.manifest"])
 
     def counts(self, job):
         with job.read() as reads:
             counts = reads.file_counts()
             return counts.in_use, counts.waiting, counts.taken
+
+
+class Objects:
+    """Manifests in memory."""
+
+    def __init__(self):
+        self.found, self.fails = {}, None
+
+    def check(self):
+        if self.fails is not None:
+            raise self.fails
+
+    def put_manifest(self, name, contents):
+        self.check()
+        self.found[name] = contents
+
+    def remove_manifest(self, name):
+        self.found.pop(name, None)
+
+    def manifests(self):
+        return list(self.found)
 
 
 class Commands(Folder):

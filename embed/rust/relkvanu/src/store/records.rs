@@ -98,7 +98,7 @@ pub fn records(folder: &Path) -> Result<Vec<Record>, StoreError> {
         sys::relkvanu_store_records(
             folder.as_ptr(),
             note,
-            std::ptr::from_mut(&mut found).cast(),
+            (&mut found as *mut Vec<Record>).cast(),
             message.as_mut_ptr(),
             message.len(),
         )
