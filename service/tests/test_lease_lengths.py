@@ -12,16 +12,20 @@ SETTINGS = {"interval": 1 << 40}
 
 
 def test_a_lease_counts_from_before_it_was_asked_for():
-    """Answers of the database take three quarters of the lease: a leader that counted from their arrival would serve beside the next one."""
+    """Answers of the database take three quarters of the lease: a leader that counted from their arrival would serve beside the next one. One commit
+    that renews it has a call, and the others have none."""
     with postgres() as database, folder() as at:
         opened(at, database.url, 1)
         slow, line = far(at, database, 0)
         slow.start()
         fast = near(at, database.url).stand_by()
         line.delay = 0.75 * SECONDS
+        call = threading.Thread(target=slow.request, args=("POST", "/v1/jobs/j0/calls", {"calls": [{"call": "tick"}]}))
+        call.start()
         both, stale = looked(slow, fast, 4 * SECONDS)
         slow.kill()
         fast.kill()
+        call.join()
         assert (both, stale) == (0, 0), f"both ready in {both} looks, {stale} stale answers"
         return f"answers after {0.75 * SECONDS:.1f} s of a lease of {SECONDS} s"
 
