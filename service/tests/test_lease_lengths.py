@@ -1,5 +1,6 @@
 """What a lease counts from, whose lease a standby waits for, and that a commit of an epoch that is over writes nothing."""
 import signal
+import threading
 import time
 
 from harness import Server, configured, folder, until
@@ -11,16 +12,20 @@ SETTINGS = {"interval": 1 << 40}
 
 
 def test_a_lease_counts_from_before_it_was_asked_for():
-    """Answers of the database take three quarters of the lease: a leader that counted from their arrival would serve beside the next one."""
+    """Answers of the database take three quarters of the lease: a leader that counted from their arrival would serve beside the next one. One commit
+    that renews it has a call, and the others have none."""
     with postgres() as database, folder() as at:
         opened(at, database.url, 1)
         slow, line = far(at, database, 0)
         slow.start()
         fast = near(at, database.url).stand_by()
         line.delay = 0.75 * SECONDS
+        call = threading.Thread(target=slow.request, args=("POST", "/v1/jobs/j0/calls", {"calls": [{"call": "tick"}]}))
+        call.start()
         both, stale = looked(slow, fast, 4 * SECONDS)
         slow.kill()
         fast.kill()
+        call.join()
         assert (both, stale) == (0, 0), f"both ready in {both} looks, {stale} stale answers"
         return f"answers after {0.75 * SECONDS:.1f} s of a lease of {SECONDS} s"
 
@@ -54,6 +59,31 @@ def test_a_commit_of_an_earlier_epoch_writes_nothing():
         calls = database.sql("select count(*) from call").strip()
         assert told[0] == 0 and calls == "0" and server.ended() == 75, (told, calls)
         return "no answer, no row, status 75"
+
+
+def test_a_commit_that_renews_the_lease_of_an_earlier_epoch_writes_nothing():
+    """A commit waits for the member's row for longer than a beat, so the next one renews the lease. Meanwhile the shards are given anew."""
+    with postgres() as database, folder() as at:
+        server, statuses = Server(at, database.url, configured(at, "lease_seconds = 12\n")).start(), {}
+        Service(server.url).open("a", SETTINGS, [1])
+
+        def ask(key):
+            statuses[key] = server.request("POST", "/v1/jobs/a/calls", {"calls": [{"call": "savepoint"}]}, headers=[("Idempotency-Key", key)])[0]
+
+        beats = database.sql("select sum(beat) from member")
+        until(lambda: database.sql("select sum(beat) from member") != beats)
+        holds = "begin; select 1 from member for update; select pg_sleep(5.5); update shard set epoch = epoch + 1; commit"
+        threads = [threading.Thread(target=database.sql, args=(holds,)), *(threading.Thread(target=ask, args=(key,)) for key in ("first", "second"))]
+        threads[0].start()
+        until(lambda: database.sql("select count(*) from pg_stat_activity where wait_event = 'PgSleep'").strip() == "1")
+        threads[1].start()
+        until(lambda: metric(server, "relkvanu_commit_under_way_seconds") > 0.1)
+        threads[2].start()
+        for it in threads:
+            it.join()
+        calls = database.sql("select count(*) from call").strip()
+        assert statuses == {"first": 200, "second": 0} and calls == "1" and server.ended() == 75, (statuses, calls)
+        return "the commit before it is answered; of it there is no row and no answer"
 
 
 def metric(server, name):
