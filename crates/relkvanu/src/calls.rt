@@ -173,7 +173,7 @@ pub(crate) fn ack_of(
     fresh: &[u64],
     reused: &[u64],
 ) -> Result<Call, AllocError>
-    ensures { IfOk result (λ made. made ≡ ack_of now id subtask fresh.now reused.now) }
+    ensures call { IfOk result (λ made. made ≡ ack_of now id subtask fresh.now reused.now) }
     ensures refused { OnErr result (IsRefused requests.new) }
 {
     Ok(Call::Ack {
@@ -222,7 +222,7 @@ pub(crate) fn files_of(
     alloc: Global,
     list: &[u64],
 ) -> Result<Files, AllocError>
-    ensures { IfOk result (λ files. files ≡ ascending list.now) }
+    ensures files { IfOk result (λ files. files ≡ ascending list.now) }
     ensures refused { OnErr result (IsRefused requests.new) }
 {
     Ok(Files::of(requests.files(alloc, list)?))
