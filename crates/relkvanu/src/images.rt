@@ -310,6 +310,7 @@ pub(crate) fn boxed(
 /// Condition: if that is for want of memory, a request was refused.
 fn fault_of(requests: &Requests, why: ImageFault) -> Answer
     requires { why ≡ fault.Memory → IsRefused requests.now }
+    ensures cause { result.code ≡ no_memory → IsRefused requests.now }
     ensures damaged { result.code ≢ no_memory → (why ≡ fault.Damaged) × (result ≡ bad_argument bad_image) }
     ensures numbers { HasNoNumbers result }
     ensures code { result.code ≢ 0 }
